@@ -1,5 +1,5 @@
 -- What reads and writes promise.
-use Rattle.std.specs.Prelude.{⊤, ◌≡◌, ℕ, zero, suc, ◌<◌, ◌≤◌, List, [], length, Option, IfSome, Result, Ok, Err}
+use Rattle.std.specs.Prelude.{⊤, ◌≡◌, ℕ, zero, suc, ◌<◌, ◌≤◌, [], length, Option, IfSome, Result, Ok, Err}
 use Rattle.pv_model.specs.declared.stream.Failed.{Failed}
 use Rattle.pv_model.specs.Bytes.{Bytes}
 
