@@ -2,6 +2,8 @@
 use Rattle.std.specs.Prelude.{ℕ, List, [], ◌∷◌, ◌++◌, length, take, map, codes, decimal, Option, None, Some}
 use Rattle.pv_model.specs.declared.call.Call.{Call}
 use Rattle.pv_model.specs.declared.call.Call.TheVariants.{Write}
+use Rattle.pv_model.specs.declared.errno.Errno.{Errno}
+use Rattle.pv_model.specs.declared.errno.Errno.TheVariants.{ENOSYS}
 use Rattle.pv_model.specs.declared.open_flags.OpenFlags.{OpenFlags}
 use Rattle.pv_model.specs.declared.outcome.Outcome.{Outcome}
 use Rattle.pv_model.specs.declared.outcome.Outcome.TheVariants.{Value, Text}
@@ -39,8 +41,16 @@ moved_by front call _ = []
 abbrev pub call_lines_of : ℕ → Call → List Line
 call_lines_of pid call = line pid (codes "CALL") (call_line call) ∷ []
 
+abbrev pub path_line : ℕ → Bytes → Line
+path_line pid path = line pid (codes "NAMI") (quote path)
+
 abbrev pub path_lines_of : ℕ → Call → ℕ → List Line
-path_lines_of pid call walks = map (λ path. line pid (codes "NAMI") (quote path)) (take walks (walked_paths call))
+path_lines_of pid call walks = map (path_line pid) (take walks (walked_paths call))
+
+-- what was refused for a promise: a call that lacks it, or a promise that may not be had again
+abbrev pub promise_verdict : Errno → Bytes
+promise_verdict ENOSYS = codes "refused"
+promise_verdict _ = codes "increase"
 
 abbrev pub promise_lines_of : ℕ → Call → Outcome → List Line
 promise_lines_of pid call outcome = map (line pid (codes "PLDG")) (promise_texts call outcome)

@@ -2,11 +2,14 @@
 ghost use Rattle.std.specs.Prelude.{◌≡◌, ◌++◌, ◌+◌, ◌<◌, ◌≤◌, replicate, [], ◌∷◌, length, take, drop, map, codes, decimal, flat_map, OnOk, IfOk};
 ghost use Rattle.std.specs.Fmt.{signed_decimal};
 ghost use Rattle.std.specs.List.{join_by};
-ghost use Rattle.pv_model.specs.Trace.{quote, quote_byte, quote_or_null, hex, hex_byte, hex_digit, pad_left, pad_right, flag_text, start_text, call_name, call_text, call_line, mode_text as trace_mode_text, whence_text as trace_whence_text};
-ghost use Rattle.pv_run.specs.Lines.{word_text, line_front, flags_bytes};
+ghost use Rattle.pv_model.specs.Trace.{quote, quote_byte, quote_or_null, hex, hex_byte, hex_digit, pad_left, pad_right, flag_text, start_text, call_name, call_text, call_line, line, line_bytes, trace_bytes, promise_text, mode_text as trace_mode_text, whence_text as trace_whence_text};
+ghost use Rattle.pv_model.specs.Perms.{letters_text};
+ghost use Rattle.pv_run.specs.Lines.{word_text, line_front, flags_bytes, call_lines_of, path_line, path_lines_of, promise_verdict, promise_lines_of};
 
 use itoa::Buffer;
-use pv_model::{Call, Mode, OpenFlags, Start, Text, Whence};
+use pv_model::{
+    Call, Cause, Errno, Mode, OpenFlags, Outcome, Perms, Promise, Start, Text, Whence,
+};
 use std::alloc::AllocError;
 
 /// The word of a line.
@@ -345,4 +348,184 @@ fn push_call(out: &mut Vec<u8>, call: &Call) -> Result<(), AllocError>
     out.extend_from_slice(b"(")?;
     push_arguments(out, call)?;
     out.extend_from_slice(b")")
+}
+
+// Ends a line.
+fn end_line(out: &mut Vec<u8>) -> Result<(), AllocError>
+    ensures { OnOk result (out.new.items ≡ out.old.items ++ 10 ∷ []) }
+{
+    out.extend_from_slice(b"\n")
+}
+
+// A whole line.
+#[tactic(auto, unfolding(pv_model::specs::Trace::line_bytes))]
+fn push_line(out: &mut Vec<u8>, pid: u32, word: Word, text: &[u8]) -> Result<(), AllocError>
+    ensures { OnOk result (out.new.items ≡ out.old.items ++ line_bytes (line pid (word_text word) text.now)) }
+{
+    begin_line(out, pid, word)?;
+    out.extend_from_slice(text)?;
+    end_line(out)
+}
+
+// The line of the call.
+#[tactic(auto, unfolding(pv_model::specs::Trace::line_bytes))]
+fn push_call_line(out: &mut Vec<u8>, pid: u32, call: &Call) -> Result<(), AllocError>
+    ensures { OnOk result (out.new.items ≡ out.old.items ++ trace_bytes (call_lines_of pid call.now)) }
+{
+    begin_line(out, pid, Word::Call)?;
+    push_call(out, call)?;
+    end_line(out)
+}
+
+// The line of a path that was walked.
+#[tactic(auto, unfolding(pv_model::specs::Trace::line_bytes))]
+fn push_path_line(out: &mut Vec<u8>, pid: u32, path: &Text) -> Result<(), AllocError>
+    ensures { OnOk result (out.new.items ≡ out.old.items ++ trace_bytes (path_line pid path.now ∷ [])) }
+{
+    begin_line(out, pid, Word::Nami)?;
+    push_quoted(out, path.as_slice())?;
+    end_line(out)
+}
+
+// The lines of the walks along one path, of which there is at most one.
+#[tactic(auto, using(crate::proofs::Writing::take_one))]
+fn push_one_path(
+    out: &mut Vec<u8>,
+    pid: u32,
+    path: &Text,
+    walks: u8,
+) -> Result<(), AllocError>
+    ensures { OnOk result (out.new.items ≡ out.old.items ++ trace_bytes (map (path_line pid) (take walks (path.now ∷ [])))) }
+{
+    if walks == 0 {
+        return Ok(());
+    }
+    push_path_line(out, pid, path)
+}
+
+// The lines of the walks along two paths.
+#[tactic(auto, using(crate::proofs::Writing::take_two))]
+fn push_two_paths(
+    out: &mut Vec<u8>,
+    pid: u32,
+    first: &Text,
+    second: &Text,
+    walks: u8,
+) -> Result<(), AllocError>
+    ensures { OnOk result (out.new.items ≡ out.old.items ++ trace_bytes (map (path_line pid) (take walks (first.now ∷ second.now ∷ [])))) }
+{
+    if walks < 2 {
+        return push_one_path(out, pid, first, walks);
+    }
+    push_path_line(out, pid, first)?;
+    push_path_line(out, pid, second)
+}
+
+// The lines of the walks that a call began.
+#[tactic(auto, unfolding(pv_model::specs::Trace::walked_paths))]
+fn push_path_lines(
+    out: &mut Vec<u8>,
+    pid: u32,
+    call: &Call,
+    walks: u8,
+) -> Result<(), AllocError>
+    ensures { OnOk result (out.new.items ≡ out.old.items ++ trace_bytes (path_lines_of pid call.now walks)) }
+{
+    match call {
+        Call::Unveil(Some(path), _)
+        | Call::Execve(path)
+        | Call::Open(path, _)
+        | Call::OpenAt(_, path, _)
+        | Call::Chdir(path)
+        | Call::Stat(path)
+        | Call::Lstat(path)
+        | Call::Readlink(path)
+        | Call::Mkdir(path)
+        | Call::Symlink(_, path)
+        | Call::Unlink(path)
+        | Call::Rmdir(path) => push_one_path(out, pid, path, walks),
+        Call::Link(first, second) | Call::Rename(first, second) => {
+            push_two_paths(out, pid, first, second, walks)
+        }
+        _ => Ok(()),
+    }
+}
+
+// What a trace says of a promise.
+fn push_promise(
+    out: &mut Vec<u8>,
+    call: &Call,
+    promise: Promise,
+    verdict: &[u8],
+) -> Result<(), AllocError>
+    ensures { OnOk result (out.new.items ≡ out.old.items ++ promise_text call.now promise verdict.now) }
+{
+    out.extend_from_slice(name(call))?;
+    out.extend_from_slice(b", ")?;
+    push_quoted(out, promise.name().as_bytes())?;
+    out.extend_from_slice(b", ")?;
+    out.extend_from_slice(verdict)
+}
+
+// The line of a promise.
+#[tactic(auto, unfolding(pv_model::specs::Trace::line_bytes))]
+fn push_promise_line(
+    out: &mut Vec<u8>,
+    pid: u32,
+    call: &Call,
+    promise: Promise,
+    verdict: &[u8],
+) -> Result<(), AllocError>
+    ensures { OnOk result (out.new.items ≡ out.old.items ++ line_bytes (line pid (codes "PLDG") (promise_text call.now promise verdict.now))) }
+{
+    begin_line(out, pid, Word::Pldg)?;
+    push_promise(out, call, promise, verdict)?;
+    end_line(out)
+}
+
+// What was refused for a promise: a call that lacks it, or a promise that may not be had again.
+fn verdict_of(errno: Errno) -> &'static [u8]
+    ensures { result.now ≡ promise_verdict errno }
+{
+    match errno {
+        Errno::ENOSYS => b"refused",
+        _ => b"increase",
+    }
+}
+
+// The line of a promise that decided.
+fn push_promise_lines(
+    out: &mut Vec<u8>,
+    pid: u32,
+    call: &Call,
+    outcome: Outcome,
+) -> Result<(), AllocError>
+    ensures { OnOk result (out.new.items ≡ out.old.items ++ trace_bytes (promise_lines_of pid call.now outcome)) }
+{
+    match outcome {
+        Outcome::Killed(promise) => push_promise_line(out, pid, call, promise, b"killed"),
+        Outcome::Failed(errno, Cause::Promise(promise)) => {
+            push_promise_line(out, pid, call, promise, verdict_of(errno))
+        }
+        _ => Ok(()),
+    }
+}
+
+// The letters, in the order rwxc.
+fn push_letters(out: &mut Vec<u8>, letters: Perms) -> Result<(), AllocError>
+    ensures { OnOk result (out.new.items ≡ out.old.items ++ letters_text letters) }
+{
+    if letters.r {
+        out.extend_from_slice(b"r")?;
+    }
+    if letters.w {
+        out.extend_from_slice(b"w")?;
+    }
+    if letters.x {
+        out.extend_from_slice(b"x")?;
+    }
+    if letters.c {
+        out.extend_from_slice(b"c")?;
+    }
+    Ok(())
 }
