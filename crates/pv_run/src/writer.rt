@@ -1,10 +1,10 @@
 //! The text of a trace, line by line.
-ghost use Rattle.std.specs.Prelude.{◌≡◌, ◌++◌, ◌+◌, ◌<◌, ◌≤◌, replicate, [], ◌∷◌, length, take, drop, map, codes, decimal, flat_map, OnOk, IfOk};
+ghost use Rattle.std.specs.Prelude.{◌≡◌, ◌++◌, ◌+◌, ◌^◌, ◌<◌, ◌≤◌, replicate, [], ◌∷◌, length, take, drop, map, codes, decimal, flat_map, OnOk, IfOk};
 ghost use Rattle.std.specs.Fmt.{signed_decimal};
 ghost use Rattle.std.specs.List.{join_by};
-ghost use Rattle.pv_model.specs.Trace.{quote, quote_byte, quote_or_null, hex, hex_byte, hex_digit, pad_left, pad_right, flag_text, start_text, call_name, call_text, call_line, line, line_bytes, trace_bytes, promise_text, mode_text as trace_mode_text, whence_text as trace_whence_text};
-ghost use Rattle.pv_model.specs.Perms.{letters_text};
-ghost use Rattle.pv_run.specs.Lines.{word_text, line_front, flags_bytes, call_lines_of, path_line, path_lines_of, promise_verdict, promise_lines_of};
+ghost use Rattle.pv_model.specs.Trace.{quote, quote_byte, quote_or_null, hex, hex_byte, hex_digit, pad_left, pad_right, flag_text, start_text, call_name, call_text, call_line, line, line_bytes, trace_bytes, promise_text, letters_or_none, asked_letters as letters_asked, bytes_text, return_text, end_lines, gone_lines, mode_text as trace_mode_text, whence_text as trace_whence_text};
+ghost use Rattle.pv_model.specs.Perms.{read_letters};
+ghost use Rattle.pv_run.specs.Lines.{word_text, line_front, flags_bytes, call_lines_of, path_line, path_lines_of, promise_verdict, promise_lines_of, needed_text, unveil_lines_of, moved_lines_of, errno_text, letters_bytes, lines_by};
 
 use itoa::Buffer;
 use pv_model::{
@@ -512,8 +512,9 @@ fn push_promise_lines(
 }
 
 // The letters, in the order rwxc.
+#[tactic(auto, unfolding(crate::specs::Lines::letters_bytes))]
 fn push_letters(out: &mut Vec<u8>, letters: Perms) -> Result<(), AllocError>
-    ensures { OnOk result (out.new.items ≡ out.old.items ++ letters_text letters) }
+    ensures { OnOk result (out.new.items ≡ out.old.items ++ letters_bytes letters) }
 {
     if letters.r {
         out.extend_from_slice(b"r")?;
@@ -528,4 +529,247 @@ fn push_letters(out: &mut Vec<u8>, letters: Perms) -> Result<(), AllocError>
         out.extend_from_slice(b"c")?;
     }
     Ok(())
+}
+
+// The letters that a text asks for, or none.
+fn letters_of(text: &Text) -> Perms
+    ensures { result ≡ letters_or_none (read_letters text.now) }
+{
+    Perms::read(text.as_slice()).unwrap_or(Perms::NONE)
+}
+
+// The letters that a call asks of the last place that it walked to.
+#[tactic(auto, unfolding(pv_model::specs::Trace::asked_letters))]
+fn asked_letters(call: &Call, walks: u8) -> Perms
+    ensures { result ≡ letters_asked call.now walks }
+{
+    match call {
+        Call::Unveil(_, Some(text)) => letters_of(text),
+        Call::Execve(_) => Perms::X,
+        Call::Open(_, flags) | Call::OpenAt(_, _, flags) => flags.letters(),
+        Call::Chdir(_) | Call::Stat(_) | Call::Lstat(_) | Call::Readlink(_) => Perms::R,
+        Call::Link(_, _) => {
+            if walks == 1 {
+                Perms::R
+            } else {
+                Perms::C
+            }
+        }
+        _ => Perms::C,
+    }
+}
+
+fn push_entry(out: &mut Vec<u8>, number: u8) -> Result<(), AllocError>
+    ensures { OnOk result (out.new.items ≡ out.old.items ++ (codes "entry " ++ decimal number)) }
+{
+    out.extend_from_slice(b"entry ")?;
+    push_decimal(out, u32::from(number))
+}
+
+// What a trace says of the letters that an entry lacks, or that no entry gives.
+fn push_needed(out: &mut Vec<u8>, entry: Option<u8>, letters: Perms) -> Result<(), AllocError>
+    ensures { OnOk result (out.new.items ≡ out.old.items ++ needed_text entry letters) }
+{
+    match entry {
+        None => {
+            out.extend_from_slice(b"none, needs ")?;
+            push_letters(out, letters)
+        }
+        Some(number) => {
+            push_entry(out, number)?;
+            out.extend_from_slice(b", needs ")?;
+            push_letters(out, letters)
+        }
+    }
+}
+
+// The line of an unveil table that decided.
+#[tactic(auto, unfolding(pv_model::specs::Trace::line_bytes, crate::specs::Lines::letters_bytes))]
+fn push_unveil_lines(
+    out: &mut Vec<u8>,
+    pid: u32,
+    call: &Call,
+    walks: u8,
+    outcome: Outcome,
+) -> Result<(), AllocError>
+    ensures { OnOk result (out.new.items ≡ out.old.items ++ trace_bytes (unveil_lines_of pid call.now walks outcome)) }
+{
+    match outcome {
+        Outcome::Failed(_, Cause::Unveil(entry)) => {
+            begin_line(out, pid, Word::Unvl)?;
+            push_needed(out, entry, asked_letters(call, walks))?;
+            end_line(out)
+        }
+        Outcome::Failed(_, Cause::Locked) => push_line(out, pid, Word::Unvl, b"locked"),
+        _ => Ok(()),
+    }
+}
+
+// What a trace says of bytes that were moved.
+fn push_bytes(out: &mut Vec<u8>, verb: &[u8], bytes: &[u8]) -> Result<(), AllocError>
+    requires { length bytes.now < 2 ^ 32 }
+    ensures { OnOk result (out.new.items ≡ out.old.items ++ bytes_text verb.now bytes.now) }
+{
+    out.extend_from_slice(verb)?;
+    if bytes.is_empty() {
+        return out.extend_from_slice(b" 0");
+    }
+    out.extend_from_slice(b" ")?;
+    push_decimal(out, bytes.len() as u32)?;
+    out.extend_from_slice(b" ")?;
+    push_hex(out, bytes)
+}
+
+// The front of some bytes: all where there are fewer.
+fn front_of(bytes: &[u8], count: usize) -> &[u8]
+    ensures { result.now ≡ take count bytes.now }
+{
+    if count < bytes.len() {
+        &bytes[..count]
+    } else {
+        bytes
+    }
+}
+
+// The line of bytes that were moved.
+#[tactic(auto, unfolding(pv_model::specs::Trace::line_bytes))]
+fn push_bytes_line(
+    out: &mut Vec<u8>,
+    pid: u32,
+    verb: &[u8],
+    bytes: &[u8],
+) -> Result<(), AllocError>
+    requires { length bytes.now < 2 ^ 32 }
+    ensures { OnOk result (out.new.items ≡ out.old.items ++ trace_bytes (line pid (codes "GIO") (bytes_text verb.now bytes.now) ∷ [])) }
+{
+    begin_line(out, pid, Word::Gio)?;
+    push_bytes(out, verb, bytes)?;
+    end_line(out)
+}
+
+// The line of the bytes that a call gave or took.
+fn push_moved_lines(
+    out: &mut Vec<u8>,
+    pid: u32,
+    front: &[u8],
+    call: &Call,
+    outcome: Outcome,
+) -> Result<(), AllocError>
+    requires { length front.now < 2 ^ 32 }
+    ensures { OnOk result (out.new.items ≡ out.old.items ++ trace_bytes (moved_lines_of pid front.now call.now outcome)) }
+{
+    match (outcome, call) {
+        (Outcome::Text(taken), _) => {
+            push_bytes_line(out, pid, b"read", front_of(front, taken.len as usize))
+        }
+        (Outcome::Value(count), Call::Write(_, _)) => {
+            push_bytes_line(out, pid, b"wrote", front_of(front, count as usize))
+        }
+        _ => Ok(()),
+    }
+}
+
+// What a trace says of a value that a call answered.
+fn push_value(out: &mut Vec<u8>, call: &Call, value: u32) -> Result<(), AllocError>
+    ensures { OnOk result (out.new.items ≡ out.old.items ++ return_text call.now (decimal value)) }
+{
+    out.extend_from_slice(name(call))?;
+    out.extend_from_slice(b" ")?;
+    push_decimal(out, value)
+}
+
+// The line of a call's answer.
+#[tactic(auto, unfolding(pv_model::specs::Trace::line_bytes))]
+fn push_value_line(out: &mut Vec<u8>, pid: u32, call: &Call, value: u32) -> Result<(), AllocError>
+    ensures { OnOk result (out.new.items ≡ out.old.items ++ trace_bytes (line pid (codes "RET") (return_text call.now (decimal value)) ∷ [])) }
+{
+    begin_line(out, pid, Word::Ret)?;
+    push_value(out, call, value)?;
+    end_line(out)
+}
+
+// What a trace says of an error.
+#[tactic(auto, unfolding(crate::specs::Lines::errno_text))]
+fn push_errno(out: &mut Vec<u8>, errno: Errno) -> Result<(), AllocError>
+    ensures { OnOk result (out.new.items ≡ out.old.items ++ errno_text errno) }
+{
+    out.extend_from_slice(b"-1 errno ")?;
+    push_decimal(out, u32::from(errno.number()))?;
+    out.extend_from_slice(b" ")?;
+    out.extend_from_slice(errno.name().as_bytes())
+}
+
+// What a trace says of a call's failure.
+fn push_failure(out: &mut Vec<u8>, call: &Call, errno: Errno) -> Result<(), AllocError>
+    ensures { OnOk result (out.new.items ≡ out.old.items ++ return_text call.now (errno_text errno)) }
+{
+    out.extend_from_slice(name(call))?;
+    out.extend_from_slice(b" ")?;
+    push_errno(out, errno)
+}
+
+// The line of a call's failure.
+#[tactic(auto, unfolding(pv_model::specs::Trace::line_bytes))]
+fn push_failure_line(
+    out: &mut Vec<u8>,
+    pid: u32,
+    call: &Call,
+    errno: Errno,
+) -> Result<(), AllocError>
+    ensures { OnOk result (out.new.items ≡ out.old.items ++ trace_bytes (line pid (codes "RET") (return_text call.now (errno_text errno)) ∷ [])) }
+{
+    begin_line(out, pid, Word::Ret)?;
+    push_failure(out, call, errno)?;
+    end_line(out)
+}
+
+// The last line of a call.
+#[tactic(auto, unfolding(crate::specs::Lines::errno_text))]
+fn push_end_lines(
+    out: &mut Vec<u8>,
+    pid: u32,
+    call: &Call,
+    outcome: Outcome,
+) -> Result<(), AllocError>
+    ensures { OnOk result (out.new.items ≡ out.old.items ++ trace_bytes (end_lines pid call.now outcome)) }
+{
+    match outcome {
+        Outcome::Value(value) => push_value_line(out, pid, call, value),
+        Outcome::Text(taken) => push_value_line(out, pid, call, taken.value),
+        Outcome::Failed(errno, _) => push_failure_line(out, pid, call, errno),
+        Outcome::Killed(_) => push_line(out, pid, Word::Psig, b"SIGABRT"),
+        Outcome::Blocked => push_line(out, pid, Word::Wait, b"blocked"),
+        Outcome::Exited | Outcome::Gone => Ok(()),
+    }
+}
+
+/// Writes the lines of a call at the end of a trace.
+///
+/// `front` has the bytes that the call gave or took at its front: the buffer of its process.
+/// `walks` is how many walks the call began.
+#[tactic(auto, unfolding(crate::specs::Lines::lines_by))]
+pub(crate) fn push_call_lines(
+    out: &mut Vec<u8>,
+    pid: u32,
+    front: &[u8],
+    call: &Call,
+    outcome: Outcome,
+    walks: u8,
+) -> Result<(), AllocError>
+    requires { length front.now < 2 ^ 32 }
+    ensures { OnOk result (out.new.items ≡ out.old.items ++ trace_bytes (lines_by pid front.now call.now outcome walks)) }
+{
+    push_call_line(out, pid, call)?;
+    push_path_lines(out, pid, call, walks)?;
+    push_promise_lines(out, pid, call, outcome)?;
+    push_unveil_lines(out, pid, call, walks, outcome)?;
+    push_moved_lines(out, pid, front, call, outcome)?;
+    push_end_lines(out, pid, call, outcome)
+}
+
+/// Writes the line of a step by a process that is not live.
+pub(crate) fn push_gone_line(out: &mut Vec<u8>, pid: u32) -> Result<(), AllocError>
+    ensures { OnOk result (out.new.items ≡ out.old.items ++ trace_bytes (gone_lines pid)) }
+{
+    push_line(out, pid, Word::Gone, b"no such process")
 }
