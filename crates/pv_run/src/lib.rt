@@ -1,4 +1,2 @@
 //! Runs of the machine, from bytes to bytes.
 #![tactic(auto)]
-
-mod writer;

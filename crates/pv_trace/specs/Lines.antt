@@ -1,5 +1,5 @@
 -- The lines of a step, as they are written.
-use Rattle.std.specs.Prelude.{ℕ, List, [], ◌∷◌, ◌++◌, length, take, map, codes, decimal, Option, None, Some}
+use Rattle.std.specs.Prelude.{ℕ, List, [], ◌∷◌, ◌++◌, take, map, codes, decimal, Option, None, Some}
 use Rattle.pv_model.specs.declared.call.Call.{Call}
 use Rattle.pv_model.specs.declared.call.Call.TheVariants.{Write}
 use Rattle.pv_model.specs.declared.errno.Errno.{Errno}
@@ -12,8 +12,8 @@ use Rattle.pv_model.specs.Bytes.{Bytes}
 use Rattle.pv_model.specs.Errno.{errno_number, errno_name}
 use Rattle.pv_model.specs.Perms.{letters_text}
 use Rattle.pv_model.specs.Trace.{Line, line, pad_left, pad_right, quote, call_line, walked_paths, promise_texts, unveil_texts, bytes_text, end_lines, flags_text}
-use Rattle.pv_run.specs.declared.writer.Word.{Word}
-use Rattle.pv_run.specs.declared.writer.Word.TheVariants.{Call as CallWord, Nami, Pldg, Unvl, Gio, Ret, Psig, Wait, Gone}
+use Rattle.pv_trace.specs.declared.text.Word.{Word}
+use Rattle.pv_trace.specs.declared.text.Word.TheVariants.{Call as CallWord, Nami, Pldg, Unvl, Gio, Ret, Psig, Wait, Gone}
 
 -- the word of a line
 abbrev pub word_text : Word → Bytes

@@ -1,6 +1,6 @@
 use Rattle.std.specs.Prelude.{codes}
-use Rattle.pv_run.proofs.Writing.{behind_front}
-use Rattle.pv_run.proofs.writer.push_needed.Goals as goal
+use Rattle.pv_trace.proofs.Writing.{behind_front}
+use Rattle.pv_trace.proofs.lines.push_needed.Goals as goal
 
 pub returns-in_ok-extend_from_slice-in-None : goal.returns-in_ok-extend_from_slice-in-None
 returns-in_ok-extend_from_slice-in-None c =
