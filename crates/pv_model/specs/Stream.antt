@@ -1,5 +1,5 @@
 -- What reads and writes promise.
-use Rattle.std.specs.Prelude.{⊤, ◌≡◌, ℕ, zero, suc, ◌<◌, ◌≤◌, [], length, Option, IfSome, Result, Ok, Err}
+use Rattle.std.specs.Prelude.{⊤, ◌++◌, take, option_map, ◌≡◌, ℕ, zero, suc, ◌<◌, ◌≤◌, [], length, Option, IfSome, Result, Ok, Err}
 use Rattle.pv_model.specs.declared.stream.Failed.{Failed}
 use Rattle.pv_model.specs.Bytes.{Bytes}
 
@@ -24,3 +24,11 @@ abbrev pub CountsNothingTaken : ℕ → ℕ → Result ℕ Failed → Bytes → 
 CountsNothingTaken before after (Ok zero) buffer = 0 < length buffer → before < after
 CountsNothingTaken before after (Ok (suc n)) buffer = after ≡ before
 CountsNothingTaken before after (Err e) buffer = before < after
+
+-- what was told before, and then the front of a buffer
+abbrev pub and_front : Option Bytes → ℕ → Bytes → Option Bytes
+and_front told n buffer = option_map (λ had. had ++ take n buffer) told
+
+-- the front of a buffer, and then what remains
+abbrev pub front_and : ℕ → Bytes → Option Bytes → Option Bytes
+front_and n buffer remaining = option_map (λ rest. take n buffer ++ rest) remaining

@@ -1,6 +1,6 @@
 //! What a run reads from and writes to.
-ghost use Rattle.std.specs.Prelude.{◌≡◌, ℕ, ◌++◌, ◌<◌, List, take, option_map, None, IfOk, OnOk, OnErr, Option};
-ghost use Rattle.pv_model.specs.Stream.{ReadsAtMost, EndsWhereEmpty, WritesAtMost, CountsNothingTaken};
+ghost use Rattle.std.specs.Prelude.{◌≡◌, ℕ, ◌<◌, List, IfOk, OnOk, OnErr, Option};
+ghost use Rattle.pv_model.specs.Stream.{and_front, front_and, ReadsAtMost, EndsWhereEmpty, WritesAtMost, CountsNothingTaken};
 
 /// A read or a write did not succeed. What went wrong is the stream's to tell: it counts its failures.
 #[derive(Clone, Copy, Debug, PartialEq, Eq)]
@@ -21,7 +21,7 @@ pub trait Source {
     /// where the buffer has room for a byte. On `Err` the failure has been counted.
     fn read(&mut self, buffer: &mut [u8]) -> Result<usize, Failed>
         ensures bound { ReadsAtMost result buffer.new }
-        ensures bytes { IfOk result (λ n. remaining self.old ≡ option_map (λ rest. take n buffer.new ++ rest) (remaining self.new)) }
+        ensures bytes { IfOk result (λ n. remaining self.old ≡ front_and n buffer.new (remaining self.new)) }
         ensures end { EndsWhereEmpty (remaining self.new) result buffer.new }
         ensures quiet { OnOk result (failures self.new ≡ failures self.old) }
         ensures failed { OnErr result (failures self.old < failures self.new) };
@@ -42,7 +42,7 @@ pub trait Sink {
     /// that has some counts as a failure. On `Err` nothing was taken, and the failure has been counted.
     fn write(&mut self, buffer: &[u8]) -> Result<usize, Failed>
         ensures bound { WritesAtMost result buffer.now }
-        ensures bytes { IfOk result (λ n. told self.new ≡ option_map (λ had. had ++ take n buffer.now) (told self.old)) }
+        ensures bytes { IfOk result (λ n. told self.new ≡ and_front (told self.old) n buffer.now) }
         ensures kept { OnErr result (told self.new ≡ told self.old) }
         ensures failed { CountsNothingTaken (failures self.old) (failures self.new) result buffer.now };
 }
