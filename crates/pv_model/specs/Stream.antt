@@ -3,6 +3,10 @@ use Rattle.std.specs.Prelude.{⊤, ◌++◌, take, option_map, ◌≡◌, ℕ, z
 use Rattle.pv_model.specs.declared.stream.Failed.{Failed}
 use Rattle.pv_model.specs.Bytes.{Bytes}
 
+-- a count of failures rose; it stops at 2^64 - 1
+abbrev pub Rose : ℕ → ℕ → Type 0
+Rose before after = before < 18446744073709551615 → before < after
+
 -- a read gives at most as many bytes as the buffer has room for
 abbrev pub ReadsAtMost : Result ℕ Failed → Bytes → Type 0
 ReadsAtMost (Ok n) buffer = n ≤ length buffer
@@ -21,9 +25,9 @@ WritesAtMost (Err e) buffer = ⊤
 
 -- a write that takes nothing where there is something counts as failed, and so does an error; no other does
 abbrev pub CountsNothingTaken : ℕ → ℕ → Result ℕ Failed → Bytes → Type 0
-CountsNothingTaken before after (Ok zero) buffer = 0 < length buffer → before < after
+CountsNothingTaken before after (Ok zero) buffer = 0 < length buffer → Rose before after
 CountsNothingTaken before after (Ok (suc n)) buffer = after ≡ before
-CountsNothingTaken before after (Err e) buffer = before < after
+CountsNothingTaken before after (Err e) buffer = Rose before after
 
 -- what was told before, and then the front of a buffer
 abbrev pub and_front : Option Bytes → ℕ → Bytes → Option Bytes

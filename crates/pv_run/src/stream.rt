@@ -1,6 +1,6 @@
 //! Whole sources and whole sinks, and those that stand in memory.
-ghost use Rattle.std.specs.Prelude.{◌≡◌, ◌++◌, ◌<◌, ◌≤◌, [], length, take, drop, option_map, Some, None, IfOk, IfErr, IfSome, OnOk, OnErr};
-ghost use Rattle.pv_model.specs.Stream.{and_front, front_and};
+ghost use Rattle.std.specs.Prelude.{◌≡◌, ◌⊎◌, ◌++◌, ◌<◌, ◌≤◌, [], length, take, drop, option_map, Some, None, IfOk, IfErr, IfSome, OnOk, OnErr};
+ghost use Rattle.pv_model.specs.Stream.{Rose, and_front, front_and};
 ghost use Rattle.pv_run.specs.Streams.{and_all, TellsBeginning, GivesMoreThan, IsReadOrMemory};
 
 use pv_model::{Failed, RunFault, Sink, Source};
@@ -39,6 +39,42 @@ impl<'a> Source for Bytes<'a> {
 }
 
 
+/// A sink that gathers bytes in memory. Where memory is refused, a write fails.
+#[derive(Drop)]
+pub struct Gathered {
+    /// The bytes that it was given so far.
+    pub bytes: Vec<u8>,
+    failures: u64,
+}
+
+impl Gathered {
+    /// A sink that was given nothing yet.
+    pub fn new(alloc: Global) -> Gathered
+        ensures { result.bytes.items ≡ [] }
+    {
+        Gathered {
+            bytes: Vec::new(alloc),
+            failures: 0,
+        }
+    }
+}
+
+impl Sink for Gathered {
+    ghost told = { λ s. Some s.bytes.items };
+
+    ghost failures = { λ s. s.failures };
+
+    fn write(&mut self, buffer: &[u8]) -> Result<usize, Failed> {
+        match self.bytes.extend_from_slice(buffer) {
+            Ok(()) => Ok(buffer.len()),
+            Err(_) => {
+                self.failures = self.failures.saturating_add(1);
+                Err(Failed)
+            }
+        }
+    }
+}
+
 // Writes some of the bytes, at least one.
 #[tactic(auto, using(crate::proofs::Streaming::told_nothing))]
 fn write_some<W: Sink>(sink: &mut W, bytes: &[u8]) -> Result<usize, Failed>
@@ -48,7 +84,7 @@ fn write_some<W: Sink>(sink: &mut W, bytes: &[u8]) -> Result<usize, Failed>
     ensures told { IfOk result (λ n. W.told sink.new ≡ and_front (W.told sink.old) n bytes.now) }
     ensures quiet { OnOk result (W.failures sink.new ≡ W.failures sink.old) }
     ensures kept { OnErr result (W.told sink.new ≡ W.told sink.old) }
-    ensures failed { OnErr result (W.failures sink.old < W.failures sink.new) }
+    ensures failed { OnErr result (Rose (W.failures sink.old) (W.failures sink.new)) }
 {
     match sink.write(bytes)? {
         0 => Err(Failed),
@@ -61,7 +97,7 @@ fn write_some<W: Sink>(sink: &mut W, bytes: &[u8]) -> Result<usize, Failed>
 pub(crate) fn write_whole<W: Sink>(sink: &mut W, bytes: &[u8]) -> Result<(), Failed>
     ensures whole { OnOk result (W.told sink.new ≡ and_all (W.told sink.old) bytes.now) }
     ensures beginning { OnErr result (TellsBeginning bytes.now (W.told sink.old) (W.told sink.new)) }
-    ensures failed { OnErr result (W.failures sink.old < W.failures sink.new) }
+    ensures failed { OnErr result (Rose (W.failures sink.old) (W.failures sink.new)) }
     ensures quiet { OnOk result (W.failures sink.new ≡ W.failures sink.old) }
 {
     let mut at = 0;
@@ -78,7 +114,7 @@ fn read_some<S: Source>(source: &mut S, chunk: &mut [u8]) -> Result<usize, RunFa
     ensures read { IfOk result (λ n. S.remaining source.old ≡ front_and n chunk.new (S.remaining source.new)) }
     ensures end { IfOk result (λ n. n ≡ 0 → IfSome (S.remaining source.new) (λ rest. rest ≡ [])) }
     ensures quiet { OnOk result (S.failures source.new ≡ S.failures source.old) }
-    ensures failed { OnErr result (S.failures source.old < S.failures source.new) }
+    ensures failed { OnErr result (Rose (S.failures source.old) (S.failures source.new)) }
     ensures fault { IfErr result (λ fault. fault ≡ RunFault.Read) }
 {
     match source.read(chunk) {
@@ -91,7 +127,7 @@ fn read_some<S: Source>(source: &mut S, chunk: &mut [u8]) -> Result<usize, RunFa
 #[tactic(auto, using(crate::proofs::Streaming::read_more, crate::proofs::Streaming::read_all, crate::proofs::Streaming::gives_more))]
 pub(crate) fn read_whole<S: Source>(alloc: Global, source: &mut S) -> Result<Vec<u8>, RunFault>
     ensures whole { IfOk result (λ bytes. IfSome (S.remaining source.old) (λ all. all ≡ bytes.items)) }
-    ensures read { result ≡ Err RunFault.Read → S.failures source.new ≤ S.failures source.old → GivesMoreThan SOURCE_BYTES (S.remaining source.old) }
+    ensures read { result ≡ Err RunFault.Read → Rose (S.failures source.old) (S.failures source.new) ⊎ GivesMoreThan SOURCE_BYTES (S.remaining source.old) }
     ensures fault { IfErr result IsReadOrMemory }
 {
     let mut bytes = Vec::new(alloc);
