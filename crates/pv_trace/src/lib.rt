@@ -9,4 +9,4 @@ mod calls;
 mod lines;
 mod text;
 
-pub use lines::{push_call_lines, push_gone_line};
+pub use lines::{call_line_count, push_call_lines, push_gone_line};

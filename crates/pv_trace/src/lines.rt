@@ -1,7 +1,7 @@
 //! The lines of a step.
-ghost use Rattle.std.specs.Prelude.{◌≡◌, ◌++◌, ◌^◌, ◌<◌, [], ◌∷◌, length, take, map, codes, decimal, OnOk};
+ghost use Rattle.std.specs.Prelude.{◌≡◌, ◌++◌, ◌^◌, ◌<◌, ◌≤◌, ◌+◌, ℕ, List, [], ◌∷◌, length, take, map, codes, decimal, OnOk};
 ghost use Rattle.pv_model.specs.Perms.{read_letters};
-ghost use Rattle.pv_model.specs.Trace.{line, line_bytes, trace_bytes, promise_text, letters_or_none, asked_letters as letters_asked, bytes_text, return_text, end_lines, gone_lines};
+ghost use Rattle.pv_model.specs.Trace.{line, line_bytes, trace_bytes, walked_paths, promise_text, letters_or_none, asked_letters as letters_asked, bytes_text, return_text, end_lines, gone_lines};
 ghost use Rattle.pv_trace.specs.Lines.{call_lines_of, path_line, path_lines_of, promise_verdict, promise_lines_of, needed_text, unveil_lines_of, moved_lines_of, errno_text, lines_by};
 
 use crate::calls::{name, push_call};
@@ -365,6 +365,82 @@ pub fn push_gone_line(out: &mut Vec<u8>, pid: u32) -> Result<(), AllocError>
     ensures { OnOk result (out.new.items ≡ out.old.items ++ trace_bytes (gone_lines pid)) }
 {
     push_line(out, pid, Word::Gone, b"no such process")
+}
+
+// How many walks along paths a call may begin.
+#[tactic(auto, unfolding(pv_model::specs::Trace::walked_paths))]
+fn path_count(call: &Call) -> u8
+    ensures count { result ≡ length (walked_paths call.now) }
+    ensures few { result ≤ 2 }
+{
+    match call {
+        Call::Unveil(Some(_), _)
+        | Call::Execve(_)
+        | Call::Open(_, _)
+        | Call::OpenAt(_, _, _)
+        | Call::Chdir(_)
+        | Call::Stat(_)
+        | Call::Lstat(_)
+        | Call::Readlink(_)
+        | Call::Mkdir(_)
+        | Call::Symlink(_, _)
+        | Call::Unlink(_)
+        | Call::Rmdir(_) => 1,
+        Call::Link(_, _) | Call::Rename(_, _) => 2,
+        _ => 0,
+    }
+}
+
+fn promise_count(outcome: Outcome) -> u8
+    ensures count { (pid : ℕ) (call : Call) → result ≡ length (promise_lines_of pid call outcome) }
+    ensures few { result ≤ 1 }
+{
+    match outcome {
+        Outcome::Killed(_) | Outcome::Failed(_, Cause::Promise(_)) => 1,
+        _ => 0,
+    }
+}
+
+fn unveil_count(outcome: Outcome) -> u8
+    ensures count { (pid : ℕ) (call : Call) (walks : ℕ) → result ≡ length (unveil_lines_of pid call walks outcome) }
+    ensures few { result ≤ 1 }
+{
+    match outcome {
+        Outcome::Failed(_, Cause::Unveil(_)) | Outcome::Failed(_, Cause::Locked) => 1,
+        _ => 0,
+    }
+}
+
+fn moved_count(call: &Call, outcome: Outcome) -> u8
+    ensures count { (pid : ℕ) (front : List ℕ) → result ≡ length (moved_lines_of pid front call.now outcome) }
+    ensures few { result ≤ 1 }
+{
+    match (outcome, call) {
+        (Outcome::Text(_), _) | (Outcome::Value(_), Call::Write(_, _)) => 1,
+        _ => 0,
+    }
+}
+
+fn end_count(outcome: Outcome) -> u8
+    ensures count { (pid : ℕ) (call : Call) → result ≡ length (end_lines pid call outcome) }
+    ensures few { result ≤ 1 }
+{
+    match outcome {
+        Outcome::Exited | Outcome::Gone => 0,
+        _ => 1,
+    }
+}
+
+/// How many lines `push_call_lines` writes: at most seven.
+pub fn call_line_count(call: &Call, outcome: Outcome, walks: u8) -> u8
+    ensures count { (pid : ℕ) (front : List ℕ) → result ≡ length (lines_by pid front call.now outcome walks) }
+    ensures few { result ≤ 7 }
+{
+    1 + walks.min(path_count(call))
+        + promise_count(outcome)
+        + unveil_count(outcome)
+        + moved_count(call, outcome)
+        + end_count(outcome)
 }
 
 #[cfg(test)]
