@@ -1,0 +1,3 @@
+//! A small kernel: one process, and the calls that are offered so far.
+
+mod walk;
