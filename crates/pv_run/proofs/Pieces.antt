@@ -3,10 +3,9 @@ use Rattle.std.proofs.Common.{◌≡◌, ◌≢◌, ◌<◌, ◌≤◌, ℕ, zer
 use Rattle.std.proofs.lemmas.List.{drop_all, length-drop}
 use Rattle.std.proofs.lemmas.List.Quantifiers.{position-Some}
 use Rattle.std.proofs.lemmas.List.Sums.{prefix_len-le-length, prefix_len-drop_yes}
-use Rattle.std.proofs.lemmas.Bool.Decides.{nat_tests}
-use Rattle.std.specs.Prelude.{nat_lt}
 use Rattle.std.proofs.Math.Numerals.{one-add}
 use Rattle.std.specs.List.{prefix_len, position_or_len}
+use Rattle.pv_run.proofs.Places.{place_or_length, place_past, place_is}
 use Rattle.pv_model.specs.Bytes.{Bytes, is_empty, onto_first}
 use Rattle.pv_model.specs.Walk.{split_slashes, pieces, ends_in_slash}
 
@@ -80,15 +79,6 @@ ends_in_last b (c ∷ bs) = ends_in_last c bs
 pub ends_in_last_of : (path : Bytes) (n : ℕ) → suc n ≡ length path → ends_in_slash path ≡ (get_or path n 0 == 47)
 ends_in_last_of [] n e = absurd (omega arith)
 ends_in_last_of (b ∷ bs) n e = let same : n ≡ length bs = omega arith in rw same (ends_in_last b bs)
-
-place_or_length : (n m : ℕ) → n ≤ m → unwrap_or (cond (nat_lt n m) (Some n) None) m ≡ n
-place_or_length n m within = grind (arith, nat_tests)
-
-place_past : (n m : ℕ) → n ≤ m → cond (nat_lt n m) (Some n) None ≡ None → n ≡ m
-place_past n m within none = grind (arith, nat_tests)
-
-place_is : (n m i : ℕ) → cond (nat_lt n m) (Some n) None ≡ Some i → n ≡ i
-place_is n m i some = grind (arith, nat_tests)
 
 -- with no other byte than slashes there is no piece
 pub pieces_none : (path : Bytes) → position is_other path ≡ None → pieces path ≡ []

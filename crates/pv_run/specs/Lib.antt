@@ -1,3 +1,6 @@
 pub mod Made
 pub mod Offered
+pub mod Owned
+pub mod Process
+pub mod Slots
 pub mod Walk

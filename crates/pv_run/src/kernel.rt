@@ -1,3 +1,5 @@
 //! A small kernel: one process, and the calls that are offered so far.
 
+mod files;
+mod process;
 mod walk;
