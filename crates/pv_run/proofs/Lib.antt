@@ -4,3 +4,4 @@ pub mod Places
 pub mod ProcessLemmas
 pub mod Resolve
 pub mod SlotLemmas
+pub mod Trim
