@@ -1,7 +1,10 @@
+pub mod AttemptLaws
 pub mod Parents
 pub mod Pieces
+pub mod PledgeLemmas
 pub mod Places
 pub mod ProcessLemmas
 pub mod Resolve
+pub mod RowLemmas
 pub mod SlotLemmas
 pub mod Trim

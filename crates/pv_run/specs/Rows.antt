@@ -1,5 +1,5 @@
 -- What a call comes to in the small kernel, and what it leaves.
-use Rattle.std.specs.Prelude.{ℕ, pos, negsuc, false, Bool, if◌then◌else◌, Option, None, Some, Result, Ok, Err}
+use Rattle.std.specs.Prelude.{ℕ, pos, negsuc, true, false, Bool, if◌then◌else◌, Option, None, Some, Result, Ok, Err}
 use Rattle.pv_model.specs.declared.errno.Errno.{Errno}
 use Rattle.pv_model.specs.declared.open_flags.OpenFlags.{OpenFlags}
 use Rattle.pv_model.specs.declared.open_flags.Mode.TheVariants.{Read}
@@ -12,7 +12,7 @@ use Rattle.pv_model.specs.Calls.Processes.{with_result}
 use Rattle.pv_model.specs.Effect.{Effect, returns}
 use Rattle.pv_model.specs.Errno.{errno_number}
 use Rattle.pv_model.specs.State.{State}
-use Rattle.pv_model.specs.Tree.{Tree}
+use Rattle.pv_model.specs.Tree.{Node, directory_node, file_node, Tree}
 use Rattle.pv_run.specs.declared.kernel.answer.Answer.{Answer}
 use Rattle.pv_run.specs.declared.kernel.answer.Tried.{Tried}
 use Rattle.pv_run.specs.Owned.{Owned, state_with, ended_state, with_owner}
@@ -56,3 +56,9 @@ state_after t o _ = state_with t o
 -- what a call answered, with the state that it left
 abbrev pub answered : Tree → Owned → Answer → Answered
 answered t o answer = record { after = state_after t o answer.outcome; outcome = answer.outcome; walks = answer.walks }
+
+-- a node that can be open for reading: it is there, and no symbolic link
+abbrev pub is_readable : Option Node → Bool
+is_readable (Some (directory_node es)) = true
+is_readable (Some (file_node executable bytes)) = true
+is_readable _ = false

@@ -1,5 +1,5 @@
 //! The one process, with its open files.
-ghost use Rattle.std.specs.Prelude.{◌≡◌, ◌<◌, ◌≤◌, length, option_map, MatchOption, Some, Ok, Err, IfSome, IfErr, OnOk, OnErr, IsTrue};
+ghost use Rattle.std.specs.Prelude.{◌≡◌, ◌<◌, ◌≤◌, length, option_map, pos, MatchOption, Some, Ok, Err, IfSome, IfErr, OnOk, OnErr, IsTrue};
 ghost use Rattle.std.specs.List.{list_all};
 ghost use Rattle.pv_model.specs.Effect.{descriptor_at, open_file};
 ghost use Rattle.pv_model.specs.Needs.{needs};
@@ -182,6 +182,7 @@ impl Process {
     pub(crate) fn opened(&self, d: i32) -> Option<(usize, Opened)>
         ensures descriptor { option_map (λ e. descriptor_of e.0) result ≡ descriptor_at self.now.process d }
         ensures file { (t : Tree) → option_map (λ e. (e.0, file_of e.1)) result ≡ open_file (state_with t self.now) self.now.process d }
+        ensures number { IfSome result (λ e. d ≡ pos e.0) }
         ensures within { IfSome result (λ e. e.0 < 16) }
     {
         let files = &self.files;
