@@ -1,4 +1,6 @@
 pub mod AttemptLaws
+pub mod CallLemmas
+pub mod OpenLemmas
 pub mod Parents
 pub mod Pieces
 pub mod PledgeLemmas

@@ -12,7 +12,9 @@ use Rattle.pv_model.specs.State.{Process, State}
 use Rattle.pv_model.specs.Tree.{Tree}
 use Rattle.pv_run.specs.Made.{IsMade}
 use Rattle.pv_run.specs.Owned.{Owned, state_with, tidied, with_owner}
-use Rattle.pv_run.specs.Rows.{attempt_by, told, outcome_of, answered}
+use Rattle.pv_run.specs.declared.kernel.answer.Answer.{Answer}
+use Rattle.pv_run.specs.declared.kernel.answer.Tried.{Tried}
+use Rattle.pv_run.specs.Rows.{attempt_by, attempt_of, told, outcome_of, answered}
 use Rattle.pv_run.proofs.Trim.{trim_made}
 
 module _ (t : Tree) (made : IsMade t) (before : State) (o : Owned) where
@@ -38,3 +40,13 @@ module _ (t : Tree) (made : IsMade t) (before : State) (o : Owned) where
       ∙ ap (λ after. let a : Answered = record { after = after; outcome = Text (record { value = length bytes; len = length bytes }); walks = walks } in a)
           (trim_made t made (with_owner o1 (λ p. with_front bytes (with_result p (pos (length bytes)) 0)))
           ∙ ap (λ x. state_with t (with_owner (with_owner x (λ p. with_result p (pos (length bytes)) 0)) (with_front bytes))) tidy)
+
+  -- the same, with the process and the answer as they were told
+  pub answered_told : (o1 o2 o3 : Owned) (tried : Tried) (answer : Answer) (attempt : Attempt Effect)
+      → attempt ≡ attempt_of (state_with t o1) tried → tidied o1 ≡ o2 → OnErr tried.result (o2 ≡ o)
+      → o3 ≡ told o2 tried.result → answer ≡ record { outcome = outcome_of tried.result; walks = tried.walks }
+      → answer_by_attempt before (state_with t o) 1 o.process attempt ≡ answered t o3 answer
+  answered_told o1 o2 o3 tried answer attempt e tidy same after is =
+      answered_tried o1 o2 tried.walks tried.result attempt e tidy same
+      ∙ ap (λ x. answered t x (record { outcome = outcome_of tried.result; walks = tried.walks })) (sym after)
+      ∙ ap (answered t o3) (sym is)

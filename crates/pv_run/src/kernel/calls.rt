@@ -1,16 +1,18 @@
 //! The calls that are offered, each by its row of errors.
-ghost use Rattle.std.specs.Prelude.{◌≡◌, ◌+◌, ◌<◌, ◌≤◌, ◌^◌, length, take, drop, is_none, None, Some, option_and_then, IfSome, IfOk, IfErr, OnErr, MatchResult, MatchOption, IsTrue};
+ghost use Rattle.std.specs.Prelude.{◌≡◌, ◌+◌, ◌<◌, ◌≤◌, ◌^◌, if◌then◌else◌, length, take, drop, is_none, None, Some, option_and_then, IfSome, IfOk, IfErr, OnErr, MatchResult, MatchOption, IsTrue, Option};
 ghost use Rattle.pv_model.specs.declared.outcome.Cause.TheVariants.{Plain};
-ghost use Rattle.pv_model.specs.Answer.{answer_by_attempt};
+ghost use Rattle.pv_model.specs.Answer.{answer, answer_by_attempt, effect};
 ghost use Rattle.pv_model.specs.Attempt.{done, refused, give};
+ghost use Rattle.pv_model.specs.Bytes.{Bytes};
 ghost use Rattle.pv_model.specs.Calls.Descriptors.{open_here, close, read};
 ghost use Rattle.pv_model.specs.Calls.Restraints.{asked_promises, pledge};
 ghost use Rattle.pv_model.specs.Effect.{bytes_of, node_of, returns_bytes};
-ghost use Rattle.pv_model.specs.State.{State};
+ghost use Rattle.pv_model.specs.State.{Program, State};
+ghost use Rattle.pv_model.specs.Walk.{begins_walk};
 ghost use Rattle.pv_model.specs.Tree.{Tree, node_at, is_directory_at};
 ghost use Rattle.pv_promises.specs.Pledge.{bits_of};
 ghost use Rattle.pv_run.specs.Made.{IsMade};
-ghost use Rattle.pv_run.specs.Offered.{is_plain_path};
+ghost use Rattle.pv_run.specs.Offered.{is_offered_call, is_plain_path};
 ghost use Rattle.pv_run.specs.Owned.{state_with, tidied};
 ghost use Rattle.pv_run.specs.Rows.{answered, attempt_of, is_readable, plain_reading};
 
@@ -18,9 +20,9 @@ use crate::kernel::answer::{Answer, Tried, tell};
 use crate::kernel::files::{Opened, within};
 use crate::kernel::process::Process;
 use crate::kernel::walk::walk;
-use pv_model::limits::BUFFER;
-use pv_model::{Cause, Errno, Outcome, Place, PlainNode, PlainTree, Promises, Taken, Text};
-use pv_promises::read_promises;
+use pv_model::limits::{BUFFER, PATH};
+use pv_model::{Call, Cause, Errno, Outcome, Place, PlainNode, PlainTree, Promises, Taken, Text};
+use pv_promises::{Decision, read_promises};
 
 // A refusal that the call itself decides, after some walks.
 fn refusal(walks: u8, errno: Errno) -> Tried
@@ -191,5 +193,118 @@ fn node_there(tree: &PlainTree, place: &Place) -> Option<u16>
     match tree.node(number) {
         Some(_) => Some(number),
         None => None,
+    }
+}
+
+// How many walks a path begins: one, unless it is empty or too long.
+fn walks_begun(path: &[u8]) -> u8
+    ensures { result ≡ (if begins_walk path.now then 1 else 0) }
+{
+    if path.is_empty() || path.len() > PATH { 0 } else { 1 }
+}
+
+/// Opens what a path names for reading, under the least free descriptor: open(2).
+///
+/// With 16 descriptors open it is EMFILE; else an error of the walk, or ENOENT where nothing is there.
+pub(crate) fn open(tree: &PlainTree, process: &mut Process, path: &[u8]) -> Tried
+    requires made { IsMade tree.now }
+    requires plain { IsTrue (is_plain_path path.now) }
+    ensures row { open_here (state_with tree.now process.old) 1 process.old.process path.now plain_reading ≡ attempt_of (state_with tree.now process.new) result }
+    ensures unchanged { OnErr result.result (process.new ≡ process.old) }
+{
+    process.facts();
+    let Some(number) = process.free_number() else {
+        return refusal(0, Errno::EMFILE);
+    };
+    let walks = walks_begun(path);
+    let place = match walk(tree, path) {
+        Ok(place) => place,
+        Err(errno) => return refusal(walks, errno),
+    };
+    let Some(node) = node_there(tree, &place) else {
+        return refusal(walks, Errno::ENOENT);
+    };
+    process.open(number, node);
+    Tried {
+        walks,
+        result: Ok(number as u16),
+    }
+}
+
+// What a call that no promise forbids answers.
+fn perform(tree: &PlainTree, process: &mut Process, call: &Call) -> Answer
+    requires made { IsMade tree.now }
+    requires offered { IsTrue (is_offered_call call.now) }
+    ensures { (program_of : Bytes → Option Program) → (before : State) → answer_by_attempt before (state_with tree.now process.old) 1 process.old.process (effect program_of (state_with tree.now process.old) 1 process.old.process call.now) ≡ answered tree.now process.new result }
+{
+    match call {
+        Call::Exit(_) => {
+            process.facts();
+            Answer {
+                outcome: Outcome::Exited,
+                walks: 0,
+            }
+        }
+        Call::GetPid => {
+            process.facts();
+            tell(
+                process,
+                Tried {
+                    walks: 0,
+                    result: Ok(1),
+                },
+            )
+        }
+        Call::Pledge(promises, execpromises) => {
+            let tried = pledge(process, promises, execpromises);
+            process.facts();
+            tell(process, tried)
+        }
+        Call::Open(path, _) => {
+            let tried = open(tree, process, path.as_slice());
+            process.facts();
+            tell(process, tried)
+        }
+        Call::Close(d) => {
+            let tried = close(process, *d);
+            tell(process, tried)
+        }
+        Call::Read(d, n) => read(tree, process, *d, *n),
+        _ => unreachable!(),
+    }
+}
+
+/// What a call of the process answers, by its promises first: pledge(2).
+///
+/// A missing promise kills the process, and is ENOSYS where `error` is promised. Any other call moves on to the next
+/// line.
+pub(crate) fn carry_out(tree: &PlainTree, process: &mut Process, call: &Call) -> Answer
+    requires made { IsMade tree.now }
+    requires offered { IsTrue (is_offered_call call.now) }
+    ensures { (program_of : Bytes → Option Program) → answer program_of (state_with tree.now process.old) 1 call.now ≡ answered tree.now process.new result }
+{
+    match process.decide(call) {
+        Decision::Allowed => {
+            process.advance();
+            perform(tree, process, call)
+        }
+        Decision::Kill(promise) => {
+            process.facts();
+            Answer {
+                outcome: Outcome::Killed(promise),
+                walks: 0,
+            }
+        }
+        Decision::Refuse(promise) => {
+            process.advance();
+            process.facts();
+            tell(
+                process,
+                Tried {
+                    walks: 0,
+                    result: Err((Errno::ENOSYS, Cause::Promise(promise))),
+                },
+            )
+        }
     }
 }
