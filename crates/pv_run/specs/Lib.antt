@@ -1,3 +1,6 @@
+pub mod Ended
+pub mod Fetched
+pub mod Kernel
 pub mod Made
 pub mod Offered
 pub mod Owned

@@ -11,13 +11,9 @@ use Rattle.pv_model.specs.declared.open_flags.OpenFlags.{OpenFlags}
 use Rattle.pv_model.specs.Bytes.{Bytes}
 use Rattle.pv_model.specs.Walk.{pieces, is_absolute, is_dot, is_dot_dot}
 
--- a piece that is not `.` and not `..`
-abbrev pub is_plain_piece : Bytes → Bool
-is_plain_piece piece = not (is_dot piece) && not (is_dot_dot piece)
-
 -- a path that begins with a slash and has no piece `.` or `..`
 abbrev pub is_plain_path : Bytes → Bool
-is_plain_path path = is_absolute path && list_all is_plain_piece (pieces path)
+is_plain_path path = is_absolute path && list_all (λ piece. not (is_dot piece) && not (is_dot_dot piece)) (pieces path)
 
 abbrev pub is_for_reading : Mode → Bool
 is_for_reading ForReading = true

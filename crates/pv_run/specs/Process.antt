@@ -1,7 +1,9 @@
 -- The process as the definitions have it.
-use Rattle.std.specs.Prelude.{suc, false, None}
+use Rattle.std.specs.Prelude.{◌≡◌, suc, false, length, IsTrue, None}
+use Rattle.std.specs.List.{list_all}
 use Rattle.pv_model.specs.Tree.{root}
 use Rattle.pv_run.specs.declared.kernel.process.Process.TheInside.{Inside}
+use Rattle.pv_run.specs.Offered.{is_offered_instruction}
 use Rattle.pv_run.specs.Owned.{Owned}
 use Rattle.pv_run.specs.Slots.{descriptors_from, files_from}
 
@@ -22,3 +24,7 @@ owned_of p = record {
   };
   files = files_from p.files;
 }
+
+pub record IsProcess (p : Inside) : Type 0 where
+  pub sixteen : length p.files ≡ 16
+  pub offered : IsTrue (list_all is_offered_instruction p.program.items)

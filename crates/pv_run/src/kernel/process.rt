@@ -35,13 +35,11 @@ impl Model for Process {
 
     ghost Value = { Owned };
 
-    ghost use Rattle.pv_run.specs.Process.{owned_of};
+    ghost use Rattle.pv_run.specs.Process.{owned_of, IsProcess};
 
     ghost view = { owned_of };
 
-    ghost use Rattle.std.specs.Prelude.{◌≡◌, length};
-
-    ghost invariant = { λ p. length p.files ≡ 16 };
+    ghost invariant = { IsProcess };
 }
 
 // The same text again, if there is one.
@@ -60,6 +58,7 @@ impl Process {
 
     /// A process at the first line of its program.
     pub(crate) fn new(program: Vec<Instruction>) -> Process
+        requires { IsTrue (list_all is_offered_instruction program.items) }
         ensures { result ≡ first_owned program.items }
     {
         Process {
@@ -145,7 +144,6 @@ impl Process {
 
     /// The call that comes next: past the last line, an exit.
     pub(crate) fn next(&self) -> Call
-        requires { IsTrue (list_all is_offered_instruction self.now.process.program) }
         ensures call { next self.now.process ≡ calls_for result }
         ensures offered { IsTrue (is_offered_call result) }
     {

@@ -6,8 +6,8 @@ ghost use Rattle.pv_model.specs.declared.follow.Follow.{Follow};
 ghost use Rattle.pv_model.specs.Bytes.{Bytes};
 ghost use Rattle.pv_model.specs.Tree.{root, greatest_name, parent};
 ghost use Rattle.pv_model.specs.Walk.{pieces, along, ends_in_slash, resolve, Behind};
-ghost use Rattle.pv_run.specs.Offered.{is_plain_path, is_plain_piece};
-ghost use Rattle.pv_run.specs.Walk.{entered};
+ghost use Rattle.pv_run.specs.Offered.{is_plain_path};
+ghost use Rattle.pv_run.specs.Walk.{entered, is_plain_piece};
 
 use pv_model::limits::{NAME_V1, NAME_V2, PATH};
 use pv_model::{Errno, Name, Place, PlainNode, PlainTree, Version};

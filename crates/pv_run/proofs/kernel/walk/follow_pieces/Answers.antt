@@ -2,7 +2,7 @@ use Rattle.std.proofs.Common.{◌≡◌, IsTrue, ap, true}
 use Rattle.std.specs.List.{list_all}
 use Rattle.pv_model.specs.Tree.{root}
 use Rattle.pv_model.specs.Walk.{along}
-use Rattle.pv_run.specs.Offered.{is_plain_piece}
+use Rattle.pv_run.specs.Walk.{is_plain_piece}
 use Rattle.pv_run.proofs.Parents.{parent_root}
 use Rattle.pv_run.proofs.kernel.walk.follow_pieces.Goals as goal
 

@@ -2,7 +2,7 @@ use Rattle.std.proofs.Common.{◌≡◌, ◌∷◌, length, IsTrue, is_some, tru
 use Rattle.std.specs.List.{list_all}
 use Rattle.pv_model.specs.Tree.{root, parent}
 use Rattle.pv_model.specs.Walk.{pieces, along, Behind}
-use Rattle.pv_run.specs.Offered.{is_plain_piece}
+use Rattle.pv_run.specs.Walk.{is_plain_piece}
 use Rattle.pv_run.proofs.kernel.walk.follow_pieces.Given as goal
 
 -- the way so far led to a directory, from which the rest goes on

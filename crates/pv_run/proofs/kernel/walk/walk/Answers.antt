@@ -3,7 +3,7 @@ use Rattle.std.specs.List.{list_all}
 use Rattle.std.proofs.lemmas.Bool.Decides.{nat_tests}
 use Rattle.pv_model.specs.Walk.{pieces, is_absolute, ends_in_slash, along, Behind}
 use Rattle.pv_model.specs.Tree.{root}
-use Rattle.pv_run.specs.Offered.{is_plain_piece}
+use Rattle.pv_run.specs.Walk.{is_plain_piece}
 use Rattle.pv_run.proofs.Resolve.{resolve_along, resolve_long}
 use Rattle.pv_run.proofs.kernel.walk.walk.Goals as goal
 

@@ -5,4 +5,4 @@ use Rattle.pv_run.proofs.kernel.process.Process.close.Goals as goal
 
 pub returns : goal.returns
 returns c =
-    closed_after c.self.inside c.self.invariant c.args.k ∙ ap (λ o. tidied (with_owner o (without_descriptor_at c.args.k))) c.self.view_is
+    closed_after c.self.inside c.self.invariant.sixteen c.args.k ∙ ap (λ o. tidied (with_owner o (without_descriptor_at c.args.k))) c.self.view_is

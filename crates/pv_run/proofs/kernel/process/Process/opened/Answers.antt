@@ -29,31 +29,31 @@ inside_none c = as_passed c.args.d c.within.result c.ranges.d c.within.ensures �
 
 absent : (c : In-None) → descriptor_at (owned_of c.self.inside).process c.args.d ≡ None
 absent c =
-    descriptor_inside c.self.inside c.self.invariant c.args.d c.in-Some.k (inside_none c)
+    descriptor_inside c.self.inside c.self.invariant.sixteen c.args.d c.in-Some.k (inside_none c)
     ∙ ap (option_map (λ _. descriptor_of c.in-Some.k)) (at_read c.self.inside.files c.in-Some.k ∙ c.in-None.is)
 
 pub returns-in_default-clause-descriptor : goal.returns-in_default-clause-descriptor
 returns-in_default-clause-descriptor c =
-    sym (ap (λ (o : Owned). descriptor_at o.process c.args.d) (sym c.self.view_is) ∙ descriptor_outside c.self.inside c.self.invariant c.args.d (outside c))
+    sym (ap (λ (o : Owned). descriptor_at o.process c.args.d) (sym c.self.view_is) ∙ descriptor_outside c.self.inside c.self.invariant.sixteen c.args.d (outside c))
 
 pub returns-in_default-clause-file : goal.returns-in_default-clause-file
 returns-in_default-clause-file c = λ t.
     sym (ap (λ (o : Owned). open_file (state_with t o) o.process c.args.d) (sym c.self.view_is)
-    ∙ no_file c.self.inside c.self.invariant t c.args.d (descriptor_outside c.self.inside c.self.invariant c.args.d (outside c)))
+    ∙ no_file c.self.inside c.self.invariant.sixteen t c.args.d (descriptor_outside c.self.inside c.self.invariant.sixteen c.args.d (outside c)))
 
 pub returns-in-Some-files-clause-descriptor : goal.returns-in-Some-files-clause-descriptor
 returns-in-Some-files-clause-descriptor c =
     sym (ap (λ (o : Owned). descriptor_at o.process c.args.d) (sym c.self.view_is)
-    ∙ descriptor_inside c.self.inside c.self.invariant c.args.d c.in-Some.k (inside c) ∙ ap (option_map (λ _. descriptor_of c.in-Some.k)) (there c))
+    ∙ descriptor_inside c.self.inside c.self.invariant.sixteen c.args.d c.in-Some.k (inside c) ∙ ap (option_map (λ _. descriptor_of c.in-Some.k)) (there c))
 
 pub returns-in-Some-files-clause-file : goal.returns-in-Some-files-clause-file
 returns-in-Some-files-clause-file c = λ t.
     sym (ap (λ (o : Owned). open_file (state_with t o) o.process c.args.d) (sym c.self.view_is)
-    ∙ file_inside c.self.inside c.self.invariant t c.args.d c.in-Some.k c.in-Some-files.file (inside c) (there c))
+    ∙ file_inside c.self.inside c.self.invariant.sixteen t c.args.d c.in-Some.k c.in-Some-files.file (inside c) (there c))
 
 pub returns-in-None-clause-descriptor : goal.returns-in-None-clause-descriptor
 returns-in-None-clause-descriptor c = sym (ap (λ (o : Owned). descriptor_at o.process c.args.d) (sym c.self.view_is) ∙ absent c)
 
 pub returns-in-None-clause-file : goal.returns-in-None-clause-file
 returns-in-None-clause-file c = λ t.
-    sym (ap (λ (o : Owned). open_file (state_with t o) o.process c.args.d) (sym c.self.view_is) ∙ no_file c.self.inside c.self.invariant t c.args.d (absent c))
+    sym (ap (λ (o : Owned). open_file (state_with t o) o.process c.args.d) (sym c.self.view_is) ∙ no_file c.self.inside c.self.invariant.sixteen t c.args.d (absent c))

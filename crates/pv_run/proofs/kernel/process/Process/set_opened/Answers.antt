@@ -8,5 +8,5 @@ use Rattle.pv_run.proofs.kernel.process.Process.set_opened.Goals as goal
 pub returns : goal.returns
 returns c =
     let there = subst (λ (o : Owned). at_number o.process.descriptors c.args.k ≡ Some (descriptor_of c.args.k)) (sym c.self.view_is) c.requires.opened in
-    moved_after c.self.inside c.self.invariant c.args.k c.args.file c.requires.within there
+    moved_after c.self.inside c.self.invariant.sixteen c.args.k c.args.file c.requires.within there
     ∙ ap (λ (o : Owned). record o { files = with_number o.files c.args.k (file_of c.args.file) }) c.self.view_is
