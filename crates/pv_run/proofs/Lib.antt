@@ -9,5 +9,7 @@ pub mod ProcessLemmas
 pub mod Resolve
 pub mod RowLemmas
 pub mod SlotLemmas
+pub mod Stepping
 pub mod Streaming
 pub mod Trim
+pub mod Turns

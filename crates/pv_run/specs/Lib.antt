@@ -6,6 +6,7 @@ pub mod Offered
 pub mod Owned
 pub mod Process
 pub mod Rows
+pub mod Running
 pub mod Slots
 pub mod Streams
 pub mod Walk

@@ -3,12 +3,13 @@
 //! Contracts see the state of the machine, as the definitions have it. `process` is the process with its descriptors and
 //! open files, `files` the table of these, `walk` the walk along a path, `calls` has a function for each call, and
 //! `answer` tells the process what its call came to.
-ghost use Rattle.std.specs.Prelude.{◌≡◌, IsTrue, IsSome, option_map, Some, length, Option};
+ghost use Rattle.std.specs.Prelude.{◌≡◌, IsTrue, IsSome, option_map, ◌≤◌, length, Option};
 ghost use Rattle.std.specs.List.{list_all};
 ghost use Rattle.pv_model.specs.Answer.{answer};
 ghost use Rattle.pv_model.specs.Bytes.{Bytes};
 ghost use Rattle.pv_model.specs.Program.{next};
 ghost use Rattle.pv_model.specs.State.{Program, first_state, process_at};
+ghost use Rattle.pv_model.specs.Trace.{buffer_of};
 ghost use Rattle.pv_run.specs.Ended.{is_end};
 ghost use Rattle.pv_run.specs.Made.{IsMade};
 ghost use Rattle.pv_run.specs.Offered.{is_offered_call, is_offered_instruction};
@@ -102,13 +103,15 @@ impl Kernel {
         answer
     }
 
-    /// The 4,096 bytes of a live process's buffer.
+    /// The 4,096 bytes of a process's buffer: none where it is not live.
     pub(crate) fn buffer(&self, pid: u32) -> &[u8]
-        requires { IsSome (process_at self.now pid) }
-        ensures value { option_map (λ p. p.buffer) (process_at self.now pid) ≡ Some result.now }
-        ensures size { length result.now ≡ 4096 }
+        ensures value { result.now ≡ buffer_of (process_at self.now pid) }
+        ensures size { length result.now ≤ 4096 }
     {
-        let _ = pid;
-        self.process.buffer()
+        if pid != 1 || self.has_ended {
+            &[]
+        } else {
+            self.process.buffer()
+        }
     }
 }

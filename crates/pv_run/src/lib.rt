@@ -2,4 +2,5 @@
 #![tactic(auto)]
 
 mod kernel;
+mod running;
 pub mod stream;

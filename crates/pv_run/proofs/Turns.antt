@@ -1,0 +1,60 @@
+-- Runs over the turns of a schedule, one turn more.
+use Rattle.std.proofs.Common.{◌≡◌, ◌<◌, ◌+◌, ◌++◌, ◌∙◌, ap, sym, ℕ, zero, suc, List, [], ◌∷◌, length, take, get_or, append_assoc, length-append, add-one, refl}
+use Rattle.std.specs.Prelude.{replicate}
+use Rattle.std.proofs.lemmas.List.{take_more, append-nil}
+use Rattle.std.proofs.lemmas.Grind.{flat_map-append}
+use Rattle.pv_model.specs.Bytes.{Bytes}
+use Rattle.pv_model.specs.Grammar.Programs.{program_of}
+use Rattle.pv_model.specs.State.{State}
+use Rattle.pv_model.specs.Step.{Run, Schedule, run, run_then, steps_of}
+use Rattle.pv_model.specs.Trace.{Line, line_bytes, trace_bytes}
+use Rattle.pv_model.proofs.Runs.{run-append}
+use Rattle.pv_run.specs.Running.{stepped, turn, run_of_first, and_lines}
+
+-- one copy more, at the end
+replicate_more : {X : Type 0} (n : ℕ) (x : X) → replicate (suc n) x ≡ replicate n x ++ x ∷ []
+replicate_more zero x = refl
+replicate_more (suc n) x = ap (λ xs. x ∷ xs) (replicate_more n x)
+
+abbrev pub behind : Run → Run → Run
+behind first next = record { lines = first.lines ++ next.lines; final = next.final }
+
+abbrev pub one_step : State → ℕ → Run
+one_step s pid = record { lines = (stepped s pid).lines; final = (stepped s pid).after }
+
+single : (s : State) (pid : ℕ) → run program_of (pid ∷ []) s ≡ one_step s pid
+single s pid = ap (λ ls. let it : Run = record { lines = ls; final = (stepped s pid).after } in it) (append-nil (stepped s pid).lines)
+
+-- one step more of a process
+pub turn_more : (s mid : State) (pid n : ℕ) → mid ≡ (turn s pid n).final → turn s pid (n + 1) ≡ behind (turn s pid n) (one_step mid pid)
+turn_more s mid pid n at =
+    ap (λ k. turn s pid k) (add-one n) ∙ ap (λ pids. run program_of pids s) (replicate_more n pid)
+    ∙ run-append program_of (replicate n pid) (pid ∷ []) s ∙ ap (λ r. behind (turn s pid n) r) (single (turn s pid n).final pid ∙ ap (λ m. one_step m pid) (sym at))
+
+steps_more : (schedule : Schedule) (i : ℕ) → i < length schedule
+    → steps_of (take (i + 1) schedule) ≡ steps_of (take i schedule) ++ replicate (get_or schedule i (0, 0)).1 (get_or schedule i (0, 0)).0
+steps_more schedule i within =
+    let entry = get_or schedule i (0, 0) in
+    ap steps_of (take_more schedule i (0, 0) within)
+    ∙ flat_map-append (λ e. replicate e.1 e.0) (take i schedule) (entry ∷ [])
+    ∙ ap (λ pids. steps_of (take i schedule) ++ pids) (append-nil (replicate entry.1 entry.0))
+
+-- one turn more of a schedule
+pub schedule_more : (s mid : State) (schedule : Schedule) (i : ℕ) → i < length schedule → mid ≡ (run_of_first s i schedule).final
+    → run_of_first s (i + 1) schedule ≡ behind (run_of_first s i schedule) (turn mid (get_or schedule i (0, 0)).0 (get_or schedule i (0, 0)).1)
+schedule_more s mid schedule i within at =
+    let entry = get_or schedule i (0, 0) in
+    ap (λ pids. run program_of pids s) (steps_more schedule i within)
+    ∙ run-append program_of (steps_of (take i schedule)) (replicate entry.1 entry.0) s
+    ∙ ap (λ m. behind (run_of_first s i schedule) (turn m entry.0 entry.1)) (sym at)
+
+-- what is written of a run is written of it and another behind it
+pub text_behind : (first next : Run) (start text after : Bytes) → text ≡ and_lines start first.lines → after ≡ and_lines text next.lines
+    → after ≡ and_lines start (behind first next).lines
+text_behind first next start text after told more =
+    more ∙ ap (λ t. and_lines t next.lines) told ∙ append_assoc start (trace_bytes first.lines) (trace_bytes next.lines)
+    ∙ ap (λ t. start ++ t) (sym (flat_map-append line_bytes first.lines next.lines))
+
+-- the lines of both
+pub lines_behind : (first next : Run) (n m : ℕ) → n ≡ length first.lines → m ≡ length next.lines → n + m ≡ length (behind first next).lines
+lines_behind first next n m before more = ap (λ k. k + m) before ∙ ap (λ k. length first.lines + k) more ∙ sym (length-append first.lines next.lines)
