@@ -1,0 +1,4 @@
+//! What the bytes of a bundle spell: its manifest, its programs and its schedule.
+
+mod arguments;
+mod lines;
