@@ -74,8 +74,8 @@ held_at_greatest : (n : ℕ) (bs : Bytes) → up_to_greatest (value_from (up_to_
 held_at_greatest n bs =
     elim (cases_lt 4294967295 n) [
       | inl above ↦
-        let held : up_to_greatest n ≡ 4294967295 = omega arith in
-        rw held (omega (arith, value_grows 4294967295 bs, value_grows n bs))
+          let held : up_to_greatest n ≡ 4294967295 = omega arith in
+          rw held (omega (arith, value_grows 4294967295 bs, value_grows n bs))
       | inr within ↦ let held : up_to_greatest n ≡ n = omega arith in rw held refl
     ]
 

@@ -1,2 +1,5 @@
 pub mod Lines
 pub mod Arguments
+pub mod Paths
+pub mod Instructions
+pub mod Programs

@@ -41,7 +41,7 @@ first_line b [] =
     elim (b == 10) as (λ t. cond t ([] ∷ []) ((b ∷ []) ∷ []) ≡ take (cond (not t) 1 0) (b ∷ []) ∷ lines_of (drop (cond (not t) 1 0 + 1) (b ∷ []))) [ true ↦ refl | false ↦ refl ]
 first_line b (c ∷ bs) =
     elim (b == 10) as (λ t. cond t ([] ∷ lines_of (c ∷ bs)) (onto_first b (lines_of (c ∷ bs)))
-        ≡ take (cond (not t) (1 + end_of_line (c ∷ bs)) 0) (b ∷ c ∷ bs) ∷ lines_of (drop (cond (not t) (1 + end_of_line (c ∷ bs)) 0 + 1) (b ∷ c ∷ bs))) [
+    ≡ take (cond (not t) (1 + end_of_line (c ∷ bs)) 0) (b ∷ c ∷ bs) ∷ lines_of (drop (cond (not t) (1 + end_of_line (c ∷ bs)) 0 + 1) (b ∷ c ∷ bs))) [
       | true ↦ refl
       | false ↦ onto_line b (c ∷ bs) (end_of_line (c ∷ bs)) (first_line c bs)
     ]

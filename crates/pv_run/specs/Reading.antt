@@ -1,8 +1,14 @@
 -- What a reader that was given bytes answers, by what the bytes spell.
-use Rattle.std.specs.Prelude.{◌≡◌, ℕ, if◌then◌else◌, ◌==◌, min, Bool, [], ◌∷◌, Option, None, Some, Result, Ok, Err}
+use Rattle.std.specs.Prelude.{◌≡◌, ℕ, if◌then◌else◌, ◌==◌, ◌+◌, min, Bool, List, [], ◌∷◌, length, Option, None, Some, Result, Ok, Err}
 use Rattle.std.specs.Borrow.{Bor}
+use Rattle.std.specs.Global.{Vec}
+use Rattle.pv_model.specs.declared.fault.ParseFault.{ParseFault}
+use Rattle.pv_model.specs.declared.fault.ParseFault.TheVariants.{Line as ParseLine, Memory as ParseMemory}
+use Rattle.pv_model.specs.declared.instruction.Instruction.{Instruction}
 use Rattle.pv_model.specs.Bytes.{Bytes}
 use Rattle.pv_model.specs.Grammar.Arguments.{Parsed}
+use Rattle.pv_model.specs.State.{Program}
+use Rattle.pv_model.specs.Walk.{split_slashes}
 
 -- a value and the bytes behind it are what was to be read, or nothing was to be read
 abbrev pub Reads : {A : Type 0} → Option (A × Bor Bytes) → Parsed A → Type 0
@@ -17,3 +23,23 @@ text_end (b ∷ bs) = if b == 34 then Some ([], bs) else None
 -- a number, or the greatest of 32 bits where it is above that
 abbrev pub up_to_greatest : ℕ → ℕ
 up_to_greatest n = min n 4294967295
+
+-- the pieces behind a slash, where there is one
+abbrev pub pieces_behind : Option Bytes → List Bytes
+pieces_behind None = []
+pieces_behind (Some path) = split_slashes path
+
+-- the bytes that are left to look at, and one more
+abbrev pub left_in : Option Bytes → ℕ
+left_in None = 0
+left_in (Some path) = length path + 1
+
+-- what a refusal says of a program that was to be read: nothing, where memory was refused
+abbrev pub RefusesProgram : ParseFault → Result Program ParseFault → Type 0
+RefusesProgram ParseMemory read = Unit {0}
+RefusesProgram (ParseLine n what) read = read ≡ Err (ParseLine n what)
+
+-- a program is what was to be read, or its fault is
+abbrev pub GivesProgram : Result (Vec Instruction) ParseFault → Result Program ParseFault → Type 0
+GivesProgram (Ok program) read = read ≡ Ok program.items
+GivesProgram (Err fault) read = RefusesProgram fault read

@@ -2,3 +2,5 @@
 
 mod arguments;
 mod lines;
+mod paths;
+mod program;

@@ -1,6 +1,6 @@
 //! Arguments of instructions and of a manifest's lines: each is read from where it begins.
 ghost use Rattle.std.specs.Prelude.{◌≡◌, ◌<◌, ◌∷◌, ◌||◌, length, None, MatchOption, IfSome, option_map};
-ghost use Rattle.pv_model.specs.Grammar.Arguments.{text_at, text_or_null_at, hex_value, text_rest, if_short, onto_text, outside, behind_backslash, operand_of, register_of, number_of, operand_at, flags_of, flags_at, flag_or_none, without_front, mode_at};
+ghost use Rattle.pv_model.specs.Grammar.Arguments.{text_at, text_or_null_at, hex_value, text_rest, if_short, onto_text, outside, behind_backslash, operand_of, register_of, number_of, operand_at, flags_of, flags_at, flag_or_none, without_front, mode_at, one_argument, two_arguments};
 ghost use Rattle.pv_model.specs.Grammar.Lines.{decimal_of, has_leading_zero};
 ghost use Rattle.pv_model.specs.Bytes.{is_empty};
 ghost use Rattle.pv_run.specs.Reading.{Reads, text_end, up_to_greatest};
@@ -122,7 +122,9 @@ pub fn decimal(digits: &[u8]) -> Option<u32>
         if !digit.is_ascii_digit() {
             return None;
         }
-        value = value.saturating_mul(10).saturating_add((*digit - b'0') as u32);
+        value = value
+            .saturating_mul(10)
+            .saturating_add((*digit - b'0') as u32);
     }
     Some(value)
 }
@@ -229,4 +231,76 @@ pub fn flags(bytes: &[u8]) -> Option<(OpenFlags, &[u8])>
     let (word, rest) = split_word(bytes);
     let flags = flags_of_word(word)?;
     Some((flags, rest))
+}
+
+/// An argument behind a space, of which a line has one: a number or a register.
+pub fn one_operand(bytes: &[u8]) -> Option<Operand>
+    ensures { result ≡ one_argument operand_at bytes.now }
+{
+    let Some((first, rest)) = operand(behind_one_space(bytes)?) else {
+        return None;
+    };
+    if rest.is_empty() { Some(first) } else { None }
+}
+
+/// Two arguments, numbers or registers.
+pub fn two_operands(bytes: &[u8]) -> Option<(Operand, Operand)>
+    ensures { result ≡ two_arguments operand_at operand_at bytes.now }
+{
+    let Some((first, rest)) = operand(behind_one_space(bytes)?) else {
+        return None;
+    };
+    let second = one_operand(rest)?;
+    Some((first, second))
+}
+
+/// One argument, a text.
+pub fn one_text(bytes: &[u8]) -> Option<Text>
+    ensures { result ≡ one_argument text_at bytes.now }
+{
+    let (first, rest) = text(behind_one_space(bytes)?)?;
+    if rest.is_empty() { Some(first) } else { None }
+}
+
+/// Two arguments, texts.
+pub fn two_texts(bytes: &[u8]) -> Option<(Text, Text)>
+    ensures { result ≡ two_arguments text_at text_at bytes.now }
+{
+    let (first, rest) = text(behind_one_space(bytes)?)?;
+    let second = one_text(rest)?;
+    Some((first, second))
+}
+
+// One argument, a text or nothing.
+fn one_text_or_null(bytes: &[u8]) -> Option<Option<Text>>
+    ensures { result ≡ one_argument text_or_null_at bytes.now }
+{
+    let (first, rest) = text_or_null(behind_one_space(bytes)?)?;
+    if rest.is_empty() { Some(first) } else { None }
+}
+
+/// Two arguments, each a text or nothing.
+pub fn two_texts_or_null(bytes: &[u8]) -> Option<(Option<Text>, Option<Text>)>
+    ensures { result ≡ two_arguments text_or_null_at text_or_null_at bytes.now }
+{
+    let (first, rest) = text_or_null(behind_one_space(bytes)?)?;
+    let second = one_text_or_null(rest)?;
+    Some((first, second))
+}
+
+// One argument, the flags of an open.
+fn one_flags(bytes: &[u8]) -> Option<OpenFlags>
+    ensures { result ≡ one_argument flags_at bytes.now }
+{
+    let (first, rest) = flags(behind_one_space(bytes)?)?;
+    if rest.is_empty() { Some(first) } else { None }
+}
+
+/// Two arguments, a text and the flags of an open.
+pub fn text_and_flags(bytes: &[u8]) -> Option<(Text, OpenFlags)>
+    ensures { result ≡ two_arguments text_at flags_at bytes.now }
+{
+    let (first, rest) = text(behind_one_space(bytes)?)?;
+    let second = one_flags(rest)?;
+    Some((first, second))
 }

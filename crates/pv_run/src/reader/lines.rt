@@ -10,8 +10,8 @@ fn position_of(bytes: &[u8], byte: u8) -> Option<usize>
     bytes.iter().position(|b| *b == byte)
 }
 
-// Where a byte stands first, or how many bytes there are.
-fn first_of(bytes: &[u8], byte: u8) -> usize
+/// Where a byte stands first, or how many bytes there are.
+pub fn first_of(bytes: &[u8], byte: u8) -> usize
     ensures within { result ≤ length bytes.now }
     ensures first { result ≡ position_or_len (λ b. b == byte) bytes.now }
 {
@@ -21,7 +21,7 @@ fn first_of(bytes: &[u8], byte: u8) -> usize
 /// The first line of a text, without its end, and the text behind it; nothing of an empty text.
 pub fn split_line(text: &[u8]) -> Option<(&[u8], &[u8])>
     ensures lines { MatchOption result (lines_of text.now ≡ []) (λ p. lines_of text.now ≡ p.0.now ∷ lines_of p.1.now) }
-    ensures shorter { IfSome result (λ p. length p.0.now + length p.1.now < length text.now + 1) }
+    ensures shorter { IfSome result (λ p. length p.1.now < length text.now) }
 {
     if text.is_empty() {
         return None;

@@ -12,4 +12,4 @@ loop-digit-preserved c = record {
 pub returns : goal.returns
 returns c =
     sym (decimal_is c.args.digits.now c.loop-digit.value c.loop-digit.digit-index c.loop-digit-test.false (sym c.is_padded.ensures ∙ c.if-is_padded.false)
-        c.loop-digit.invariant.digits c.loop-digit.invariant.value c.loop-digit.invariant.bound)
+    c.loop-digit.invariant.digits c.loop-digit.invariant.value c.loop-digit.invariant.bound)
