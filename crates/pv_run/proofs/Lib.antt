@@ -3,3 +3,5 @@ pub mod Arguments
 pub mod Paths
 pub mod Instructions
 pub mod Programs
+pub mod Schedules
+pub mod Manifests

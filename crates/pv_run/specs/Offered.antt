@@ -3,6 +3,7 @@ use Rattle.std.specs.Prelude.{ℕ, Bool, true, false, not, ◌&&◌, if◌then�
 use Rattle.std.specs.List.{list_all, list_any}
 use Rattle.pv_model.specs.declared.call.Call.{Call}
 use Rattle.pv_model.specs.declared.call.Call.TheVariants.{Exit, GetPid, Pledge, Open, Close, Read}
+use Rattle.pv_model.specs.declared.fault.ManifestFault.{ManifestFault}
 use Rattle.pv_model.specs.declared.fault.ParseFault.{ParseFault}
 use Rattle.pv_model.specs.declared.fault.What.{What}
 use Rattle.pv_model.specs.declared.fault.What.TheVariants.{Word, Argument}
@@ -14,6 +15,7 @@ use Rattle.pv_model.specs.declared.open_flags.OpenFlags.{OpenFlags}
 use Rattle.pv_model.specs.Bytes.{Bytes}
 use Rattle.pv_model.specs.Grammar.Instructions.{instruction_by}
 use Rattle.pv_model.specs.Grammar.Lines.{lines_of, word_of, behind_word}
+use Rattle.pv_model.specs.Grammar.Manifests.{Taking, Manifest, entry_by, manifest_by}
 use Rattle.pv_model.specs.Grammar.Programs.{program_from}
 use Rattle.pv_model.specs.State.{Program}
 use Rattle.pv_model.specs.Walk.{pieces, is_absolute, is_dot, is_dot_dot}
@@ -86,3 +88,19 @@ offered_program_of_lines lines = program_from (offered_instruction (min (length 
 -- the program of offered instructions that bytes spell, or the first fault
 unfoldable pub offered_program : Bytes → Result Program ParseFault
 offered_program bytes = offered_program_of_lines (lines_of bytes)
+
+-- the first words of the lines of manifests that are offered
+abbrev pub offered_entry_words : List Bytes
+offered_entry_words = codes "dir" ∷ codes "bytes" ∷ codes "exec" ∷ []
+
+-- the offered entry that a word and what stands behind it spell, with the lines that follow
+unfoldable pub offered_entry_by : Bytes → Bytes → List Bytes → Option Taking
+offered_entry_by word rest lines = if list_any (bytes_eq word) offered_entry_words then entry_by word rest lines else None
+
+-- the offered entry that a line spells, with the lines that follow
+abbrev pub offered_entry : Bytes → List Bytes → Option Taking
+offered_entry line lines = offered_entry_by (word_of line) (behind_word line) lines
+
+-- the manifest of a bundle of offered entries; behind it stand the lines of a schedule
+unfoldable pub offered_bundle : Bytes → Result Manifest ManifestFault
+offered_bundle bytes = manifest_by true offered_entry (lines_of bytes)

@@ -2,5 +2,7 @@
 
 mod arguments;
 mod lines;
+mod manifest;
 mod paths;
 mod program;
+mod schedule;

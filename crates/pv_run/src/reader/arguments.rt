@@ -1,9 +1,9 @@
 //! Arguments of instructions and of a manifest's lines: each is read from where it begins.
 ghost use Rattle.std.specs.Prelude.{◌≡◌, ◌<◌, ◌∷◌, ◌||◌, length, None, MatchOption, IfSome, option_map};
-ghost use Rattle.pv_model.specs.Grammar.Arguments.{text_at, text_or_null_at, hex_value, text_rest, if_short, onto_text, outside, behind_backslash, operand_of, register_of, number_of, operand_at, flags_of, flags_at, flag_or_none, without_front, mode_at, one_argument, two_arguments};
+ghost use Rattle.pv_model.specs.Grammar.Arguments.{text_at, text_or_null_at, hex_value, text_rest, if_short, onto_text, outside, behind_backslash, operand_of, register_of, number_of, operand_at, flags_of, flags_at, flag_or_none, without_front, mode_at, word_at, one_argument, two_arguments};
 ghost use Rattle.pv_model.specs.Grammar.Lines.{decimal_of, has_leading_zero};
 ghost use Rattle.pv_model.specs.Bytes.{is_empty};
-ghost use Rattle.pv_run.specs.Reading.{Reads, text_end, up_to_greatest};
+ghost use Rattle.pv_run.specs.Reading.{Reads, text_end, held_of};
 
 use super::lines::{behind_one_space, split_word};
 use pv_model::{Mode, OpenFlags, Operand, Register, Text};
@@ -112,7 +112,7 @@ fn is_padded(digits: &[u8]) -> bool
 
 /// The number that a decimal without leading zeros spells; one above 4,294,967,295 is read as that.
 pub fn decimal(digits: &[u8]) -> Option<u32>
-    ensures { result ≡ option_map up_to_greatest (decimal_of digits.now) }
+    ensures { result ≡ held_of digits.now }
 {
     if is_padded(digits) {
         return None;
@@ -302,5 +302,40 @@ pub fn text_and_flags(bytes: &[u8]) -> Option<(Text, OpenFlags)>
 {
     let (first, rest) = text(behind_one_space(bytes)?)?;
     let second = one_flags(rest)?;
+    Some((first, second))
+}
+
+// A decimal number, held at 4,294,967,295.
+fn size(bytes: &[u8]) -> Option<(u32, &[u8])>
+    ensures { Reads result (word_at held_of bytes.now) }
+{
+    let (word, rest) = split_word(bytes);
+    let size = decimal(word)?;
+    Some((size, rest))
+}
+
+// One argument, a decimal number.
+fn one_size(bytes: &[u8]) -> Option<u32>
+    ensures { result ≡ one_argument (word_at held_of) bytes.now }
+{
+    let (first, rest) = size(behind_one_space(bytes)?)?;
+    if rest.is_empty() { Some(first) } else { None }
+}
+
+/// Two arguments, decimal numbers; one above 4,294,967,295 is read as that.
+pub fn two_sizes(bytes: &[u8]) -> Option<(u32, u32)>
+    ensures { result ≡ two_arguments (word_at held_of) (word_at held_of) bytes.now }
+{
+    let (first, rest) = size(behind_one_space(bytes)?)?;
+    let second = one_size(rest)?;
+    Some((first, second))
+}
+
+/// Two arguments, a text and a decimal number; one above 4,294,967,295 is read as that.
+pub fn text_and_size(bytes: &[u8]) -> Option<(Text, u32)>
+    ensures { result ≡ two_arguments text_at (word_at held_of) bytes.now }
+{
+    let (first, rest) = text(behind_one_space(bytes)?)?;
+    let second = one_size(rest)?;
     Some((first, second))
 }
