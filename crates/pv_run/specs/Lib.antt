@@ -1,2 +1,12 @@
+pub mod Ended
+pub mod Fetched
+pub mod Kernel
+pub mod Made
 pub mod Offered
+pub mod Owned
+pub mod Process
 pub mod Reading
+pub mod Rows
+pub mod Slots
+pub mod Streams
+pub mod Walk

@@ -1,4 +1,6 @@
 //! Runs of the machine, from bytes to bytes.
 #![tactic(auto)]
 
+mod kernel;
 mod reader;
+pub mod stream;
