@@ -1,4 +1,10 @@
 //! Why programs, schedules, manifests, images and runs are refused.
+ghost use Rattle.std.specs.Prelude.{◌≡◌};
+ghost use Rattle.pv_model.specs.declared.fault.ParseFault.TheVariants.{Memory as ParseMemory};
+ghost use Rattle.pv_model.specs.declared.fault.ScheduleFault.TheVariants.{Memory as ScheduleMemory};
+ghost use Rattle.pv_model.specs.declared.fault.ManifestFault.TheVariants.{Memory as ManifestMemory};
+
+use std::alloc::{AllocError, AllocFailed};
 
 /// What is wrong with a line of a program.
 #[derive(Clone, Copy, Debug, PartialEq, Eq)]
@@ -22,6 +28,22 @@ pub enum ParseFault {
     Memory,
 }
 
+impl From<AllocError> for ParseFault {
+    ghost from_gives = { λ _ e. e ≡ ParseMemory };
+
+    fn from(_error: AllocError) -> ParseFault {
+        ParseFault::Memory
+    }
+}
+
+impl<T: Drop> From<AllocFailed<T>> for ParseFault {
+    ghost from_gives = { λ _ e. e ≡ ParseMemory };
+
+    fn from(_error: AllocFailed<T>) -> ParseFault {
+        ParseFault::Memory
+    }
+}
+
 /// Why bytes are no schedule.
 #[derive(Clone, Copy, Debug, PartialEq, Eq)]
 pub enum ScheduleFault {
@@ -29,6 +51,22 @@ pub enum ScheduleFault {
     Line(u32),
     /// Memory was refused.
     Memory,
+}
+
+impl From<AllocError> for ScheduleFault {
+    ghost from_gives = { λ _ e. e ≡ ScheduleMemory };
+
+    fn from(_error: AllocError) -> ScheduleFault {
+        ScheduleFault::Memory
+    }
+}
+
+impl<T: Drop> From<AllocFailed<T>> for ScheduleFault {
+    ghost from_gives = { λ _ e. e ≡ ScheduleMemory };
+
+    fn from(_error: AllocFailed<T>) -> ScheduleFault {
+        ScheduleFault::Memory
+    }
 }
 
 /// Why a manifest is refused. Lines are counted from 1.
@@ -48,6 +86,22 @@ pub enum ManifestFault {
     Room(u32),
     /// Memory was refused.
     Memory,
+}
+
+impl From<AllocError> for ManifestFault {
+    ghost from_gives = { λ _ e. e ≡ ManifestMemory };
+
+    fn from(_error: AllocError) -> ManifestFault {
+        ManifestFault::Memory
+    }
+}
+
+impl<T: Drop> From<AllocFailed<T>> for ManifestFault {
+    ghost from_gives = { λ _ e. e ≡ ManifestMemory };
+
+    fn from(_error: AllocFailed<T>) -> ManifestFault {
+        ManifestFault::Memory
+    }
 }
 
 /// Why bytes are no image. Numbers are those of inodes.

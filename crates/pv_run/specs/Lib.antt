@@ -5,6 +5,7 @@ pub mod Made
 pub mod Offered
 pub mod Owned
 pub mod Process
+pub mod Reading
 pub mod Rows
 pub mod Running
 pub mod Slots

@@ -2,5 +2,6 @@
 #![tactic(auto)]
 
 mod kernel;
+mod reader;
 mod running;
 pub mod stream;

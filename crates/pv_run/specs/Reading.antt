@@ -1,0 +1,108 @@
+-- What a reader that was given bytes answers, by what the bytes spell.
+use Rattle.std.specs.Prelude.{◌≡◌, ℕ, if◌then◌else◌, ◌==◌, ◌+◌, min, Bool, List, [], ◌∷◌, length, drop, ◌≤◌, map, option_map, Option, None, Some, Result, Ok, Err}
+use Rattle.std.specs.Borrow.{Bor}
+use Rattle.std.specs.Global.{Vec}
+use Rattle.pv_model.specs.declared.fault.ParseFault.{ParseFault}
+use Rattle.pv_model.specs.declared.fault.ParseFault.TheVariants.{Line as ParseLine, Memory as ParseMemory}
+use Rattle.pv_model.specs.declared.fault.ScheduleFault.{ScheduleFault}
+use Rattle.pv_model.specs.declared.fault.ScheduleFault.TheVariants.{Line as ScheduleLine, Memory as ScheduleMemory}
+use Rattle.pv_model.specs.declared.fault.ManifestFault.{ManifestFault}
+use Rattle.pv_model.specs.declared.fault.ManifestFault.TheVariants.{Memory as ManifestMemory}
+use Rattle.pv_model.specs.declared.instruction.Instruction.{Instruction}
+use Rattle.pv_model.specs.Bytes.{Bytes}
+use Rattle.pv_model.specs.Grammar.Arguments.{Parsed}
+use Rattle.pv_model.specs.Grammar.Lines.{lines_of, decimal_of}
+use Rattle.pv_model.specs.Grammar.Manifests.{Taking, Listed, Manifest}
+use Rattle.pv_model.specs.Manifest.{make, Entry as ManifestEntry}
+use Rattle.pv_model.specs.PlainTree.{plain_node}
+use Rattle.pv_run.specs.declared.reader.manifest.Bundle.{Bundle}
+use Rattle.pv_run.specs.declared.reader.manifest.Entry.{Entry}
+use Rattle.pv_run.specs.declared.reader.manifest.Taken.{Taken}
+use Rattle.pv_model.specs.State.{Program}
+use Rattle.pv_model.specs.Step.{Schedule}
+use Rattle.pv_model.specs.Walk.{split_slashes}
+
+-- a value and the bytes behind it are what was to be read, or nothing was to be read
+abbrev pub Reads : {A : Type 0} → Option (A × Bor Bytes) → Parsed A → Type 0
+Reads None parsed = parsed ≡ None
+Reads (Some p) parsed = parsed ≡ Some (p.0, p.1.now)
+
+-- the end of a text: its quotation mark
+abbrev pub text_end : Bytes → Parsed Bytes
+text_end [] = None
+text_end (b ∷ bs) = if b == 34 then Some ([], bs) else None
+
+-- a number, or the greatest of 32 bits where it is above that
+abbrev pub up_to_greatest : ℕ → ℕ
+up_to_greatest n = min n 4294967295
+
+-- the number that a decimal spells, held at the greatest of 32 bits
+abbrev pub held_of : Bytes → Option ℕ
+held_of word = option_map up_to_greatest (decimal_of word)
+
+-- the pieces behind a slash, where there is one
+abbrev pub pieces_behind : Option Bytes → List Bytes
+pieces_behind None = []
+pieces_behind (Some path) = split_slashes path
+
+-- the bytes that are left to look at, and one more
+abbrev pub left_in : Option Bytes → ℕ
+left_in None = 0
+left_in (Some path) = length path + 1
+
+-- what a refusal says of a program that was to be read: nothing, where memory was refused
+abbrev pub RefusesProgram : ParseFault → Result Program ParseFault → Type 0
+RefusesProgram ParseMemory read = Unit {0}
+RefusesProgram (ParseLine n what) read = read ≡ Err (ParseLine n what)
+
+-- a program is what was to be read, or its fault is
+abbrev pub GivesProgram : Result (Vec Instruction) ParseFault → Result Program ParseFault → Type 0
+GivesProgram (Ok program) read = read ≡ Ok program.items
+GivesProgram (Err fault) read = RefusesProgram fault read
+
+-- what a refusal says of a schedule that was to be read: nothing, where memory was refused
+abbrev pub RefusesSchedule : ScheduleFault → Result Schedule ScheduleFault → Type 0
+RefusesSchedule ScheduleMemory read = Unit {0}
+RefusesSchedule (ScheduleLine n) read = read ≡ Err (ScheduleLine n)
+
+-- a schedule is what was to be read, or its fault is
+abbrev pub GivesSchedule : Result (Vec (ℕ × ℕ)) ScheduleFault → Result Schedule ScheduleFault → Type 0
+GivesSchedule (Ok schedule) read = read ≡ Ok schedule.items
+GivesSchedule (Err fault) read = RefusesSchedule fault read
+
+-- what a refusal says of a manifest or its tree: nothing, where memory was refused
+abbrev pub RefusesManifest : {X : Type 0} → ManifestFault → Result X ManifestFault → Type 0
+RefusesManifest ManifestMemory read = Unit {0}
+RefusesManifest fault read = read ≡ Err fault
+
+-- an entry of a manifest with the number of its line
+abbrev pub entry_of_line : Entry → ℕ × ManifestEntry
+entry_of_line e = (e.line, make e.path.items (plain_node e.node))
+
+-- the manifest of a bundle
+abbrev pub manifest_of : Bundle → Manifest
+manifest_of b =
+    record { blocks = b.blocks; inodes = b.inodes; listed = record { entries = map entry_of_line b.entries.items; behind = lines_of b.behind.now } }
+
+-- entries and the lines behind them are what was to be read, or their fault is
+abbrev pub GivesListed : Result (Vec Entry × Bor Bytes) ManifestFault → Result Listed ManifestFault → Type 0
+GivesListed (Ok p) read = read ≡ Ok (record { entries = map entry_of_line p.0.items; behind = lines_of p.1.now })
+GivesListed (Err fault) read = RefusesManifest fault read
+
+-- a bundle is what was to be read, or its fault is
+abbrev pub GivesBundle : Result Bundle ManifestFault → Result Manifest ManifestFault → Type 0
+GivesBundle (Ok bundle) read = read ≡ Ok (manifest_of bundle)
+GivesBundle (Err fault) read = RefusesManifest fault read
+
+-- what a line takes: the entry that it makes, and how many of the lines behind it belong to that
+abbrev pub taking_of : Taken → Taking
+taking_of t = (make t.path.items (plain_node t.node), t.lines)
+
+-- nothing is taken where nothing was to be taken; else what is, with the lines that are left
+abbrev pub Takes : Option Taken → Option Taking → List Bytes → Type 0
+Takes None taking behind = taking ≡ None
+Takes (Some t) taking behind = (taking ≡ Some (taking_of t)) × (t.lines ≤ length behind) × (lines_of t.rest.now ≡ drop t.lines behind)
+
+-- sizes, each held at the greatest of 32 bits
+abbrev pub held_sizes : ℕ × ℕ → ℕ × ℕ
+held_sizes p = (up_to_greatest p.0, up_to_greatest p.1)

@@ -1,0 +1,8 @@
+//! What the bytes of a bundle spell: its manifest, its programs and its schedule.
+
+mod arguments;
+mod lines;
+mod manifest;
+mod paths;
+mod program;
+mod schedule;
