@@ -4,6 +4,7 @@ pub mod CallLemmas
 pub mod Instructions
 pub mod Lines
 pub mod Manifests
+pub mod Offers
 pub mod OpenLemmas
 pub mod Parents
 pub mod Paths

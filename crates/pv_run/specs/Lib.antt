@@ -7,6 +7,7 @@ pub mod Owned
 pub mod Process
 pub mod Reading
 pub mod Rows
+pub mod Run
 pub mod Running
 pub mod Slots
 pub mod Streams

@@ -3,5 +3,8 @@
 
 mod kernel;
 mod reader;
+pub mod run;
 mod running;
 pub mod stream;
+
+pub use run::{Summary, run_tree};

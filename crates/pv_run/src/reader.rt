@@ -6,3 +6,7 @@ mod manifest;
 mod paths;
 mod program;
 mod schedule;
+
+pub(crate) use manifest::{Bundle, bundle_of};
+pub(crate) use program::program as read_program;
+pub(crate) use schedule::schedule as read_schedule;

@@ -1,5 +1,5 @@
 //! Whole sources and whole sinks, and those that stand in memory.
-ghost use Rattle.std.specs.Prelude.{◌≡◌, ◌⊎◌, ◌++◌, ◌<◌, ◌≤◌, [], length, take, drop, option_map, Some, None, IfOk, IfErr, IfSome, OnOk, OnErr};
+ghost use Rattle.std.specs.Prelude.{◌≡◌, ◌⊎◌, ◌++◌, ◌<◌, ◌≤◌, [], length, vec_len, Some, IfOk, IfErr, IfSome, OnOk, OnErr};
 ghost use Rattle.pv_model.specs.Stream.{Rose, and_front, front_and};
 ghost use Rattle.pv_run.specs.Streams.{and_all, TellsBeginning, GivesMoreThan, IsReadOrMemory};
 
@@ -127,6 +127,7 @@ fn read_some<S: Source>(source: &mut S, chunk: &mut [u8]) -> Result<usize, RunFa
 #[tactic(auto, using(crate::proofs::Streaming::read_more, crate::proofs::Streaming::read_all, crate::proofs::Streaming::gives_more))]
 pub(crate) fn read_whole<S: Source>(alloc: Global, source: &mut S) -> Result<Vec<u8>, RunFault>
     ensures whole { IfOk result (λ bytes. IfSome (S.remaining source.old) (λ all. all ≡ bytes.items)) }
+    ensures size { IfOk result (λ bytes. vec_len bytes ≤ SOURCE_BYTES) }
     ensures read { result ≡ Err RunFault.Read → Rose (S.failures source.old) (S.failures source.new) ⊎ GivesMoreThan SOURCE_BYTES (S.remaining source.old) }
     ensures fault { IfErr result IsReadOrMemory }
 {
