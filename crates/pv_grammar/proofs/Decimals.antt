@@ -11,7 +11,7 @@ use Rattle.pv_model.specs.Grammar.Lines.{is_digit, has_leading_zero, is_decimal,
 use Rattle.pv_model.specs.Grammar.Spelling.{Decimal, one_digit, one_more}
 use Rattle.pv_grammar.proofs.FirstWord.{no_space, no_space-append}
 
-digit_bounds : (b : ℕ) → is_digit b ≡ true → (48 ≤ b) × (b ≤ 57)
+pub digit_bounds : (b : ℕ) → is_digit b ≡ true → (48 ≤ b) × (b ≤ 57)
 digit_bounds b h = let parts = and_parts (nat_le 48 b) (nat_le b 57) h in (leb-true 48 b parts.0, leb-true b 57 parts.1)
 
 is_digit-digit : (d : ℕ) → d < 10 → is_digit (48 + d) ≡ true
@@ -65,7 +65,7 @@ value_from-more : (n d : ℕ) (front : Bytes) → value_from n (front ++ (48 + d
 value_from-more n d [] = omega arith
 value_from-more n d (b ∷ front) = value_from-more (10 * n + (b - 48)) d front
 
-digits_all : (n : ℕ) (bs : Bytes) → Decimal n bs → list_all is_digit bs ≡ true
+pub digits_all : (n : ℕ) (bs : Bytes) → Decimal n bs → list_all is_digit bs ≡ true
 digits_all _ _ (one_digit d h) = and_from (is_digit (48 + d)) true (is_digit-digit d h) refl
 digits_all _ _ (one_more n d front some h so_far) =
     list_all-append is_digit front ((48 + d) ∷ []) ∙ and_from (list_all is_digit front) (is_digit (48 + d) && true) (digits_all n front so_far) (and_from (is_digit (48 + d)) true (is_digit-digit d h) refl)
