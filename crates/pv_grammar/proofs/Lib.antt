@@ -1,5 +1,7 @@
 pub mod Decimals
 pub mod FirstWord
+pub mod FlagWords
 pub mod OneWord
+pub mod QuotedTexts
 pub mod Reading
 pub mod TextLines
