@@ -1,3 +1,4 @@
+pub mod ArgumentLists
 pub mod Decimals
 pub mod FirstWord
 pub mod FlagWords

@@ -46,7 +46,7 @@ negative_again n =
     let back : suc n - 1 ≡ n = omega arith in
     cond-false (suc n == 0) None (Some (negsuc (suc n - 1))) (ne_eqb (suc n) 0 (λ h. omega arith)) ∙ ap (λ k. Some (negsuc k)) back
 
-mapped_found : {A B : Type 0} (f : A → B) (o : Option A) (b : B) → option_map f o ≡ Some b → (a : A) × (o ≡ Some a) × (f a ≡ b)
+pub mapped_found : {A B : Type 0} (f : A → B) (o : Option A) (b : B) → option_map f o ≡ Some b → (a : A) × (o ≡ Some a) × (f a ≡ b)
 mapped_found f None b e = absurd (cc)
 mapped_found f (Some a) b e = (a, refl, same_Some (f a) b e)
 
