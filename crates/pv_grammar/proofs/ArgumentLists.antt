@@ -30,7 +30,7 @@ if_last_found (Some p) a e = by_rest p.0 p.1 a e
     by_rest x [] y h = ap (λ z. Some (z, [])) (same_Some x y h)
     by_rest x (b ∷ bs) y h = absurd (cc)
 
-arguments_behind : (lines : ℕ) (arguments : List Argument) (rest : Bytes) → SpellsArguments lines arguments rest → IsBehindWord rest
+pub arguments_behind : (lines : ℕ) (arguments : List Argument) (rest : Bytes) → SpellsArguments lines arguments rest → IsBehindWord rest
 arguments_behind lines [] rest h = subst IsBehindWord (sym h) tt
 arguments_behind lines (a ∷ others) rest h = subst IsBehindWord (sym h.4) refl
 

@@ -2,6 +2,7 @@ pub mod ArgumentLists
 pub mod Decimals
 pub mod FirstWord
 pub mod FlagWords
+pub mod InstructionLines
 pub mod OneWord
 pub mod QuotedTexts
 pub mod Reading
