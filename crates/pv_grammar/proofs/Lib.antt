@@ -7,3 +7,4 @@ pub mod OneWord
 pub mod QuotedTexts
 pub mod Reading
 pub mod TextLines
+pub mod WholePrograms

@@ -2,4 +2,5 @@
 #![tactic(auto)]
 
 pub mod lines;
+pub mod programs;
 pub mod words;
