@@ -22,7 +22,7 @@ argument_found at S reads (b ∷ bs) a rest e = cond_both (b == 32) (Some bs) No
       (word.0, word.1, ap (λ c. c ∷ bs) (eqb-true b 32 is) ∙ ap (λ r. 32 ∷ r) word.2))
     (λ is h. absurd (cc)) e
 
-if_last_found : {A : Type 0} (p : Parsed A) (a : A) → if_last p ≡ Some a → p ≡ Some (a, [])
+pub if_last_found : {A : Type 0} (p : Parsed A) (a : A) → if_last p ≡ Some a → p ≡ Some (a, [])
 if_last_found None a e = absurd (cc)
 if_last_found (Some p) a e = by_rest p.0 p.1 a e
   where

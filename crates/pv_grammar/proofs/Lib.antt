@@ -8,3 +8,5 @@ pub mod QuotedTexts
 pub mod Reading
 pub mod TextLines
 pub mod WholePrograms
+pub mod WholeSchedules
+pub mod WordLists

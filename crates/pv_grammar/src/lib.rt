@@ -3,4 +3,5 @@
 
 pub mod lines;
 pub mod programs;
+pub mod schedules;
 pub mod words;
