@@ -1,5 +1,7 @@
 pub mod ArgumentLists
 pub mod Decimals
+pub mod EntryLines
+pub mod EntryPaths
 pub mod FirstWord
 pub mod FlagWords
 pub mod InstructionLines

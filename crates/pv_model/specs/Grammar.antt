@@ -1,5 +1,6 @@
 -- What texts spell: programs, schedules, manifests and bundles.
 pub mod Arguments
+pub mod Entries
 pub mod Forms
 pub mod Instructions
 pub mod Lines
