@@ -12,3 +12,4 @@ pub mod TextLines
 pub mod WholePrograms
 pub mod WholeSchedules
 pub mod WordLists
+pub mod WholeManifests
