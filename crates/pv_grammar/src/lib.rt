@@ -2,6 +2,7 @@
 #![tactic(auto)]
 
 pub mod lines;
+pub mod manifests;
 pub mod programs;
 pub mod schedules;
 pub mod words;
