@@ -13,3 +13,4 @@ pub mod WholePrograms
 pub mod WholeSchedules
 pub mod WordLists
 pub mod WholeManifests
+pub mod AppliedEntries

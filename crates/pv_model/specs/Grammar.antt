@@ -1,4 +1,5 @@
 -- What texts spell: programs, schedules, manifests and bundles.
+pub mod Applied
 pub mod Arguments
 pub mod Entries
 pub mod Forms
