@@ -6,3 +6,4 @@ pub mod manifests;
 pub mod programs;
 pub mod schedules;
 pub mod words;
+pub mod worked;
