@@ -1,3 +1,4 @@
+pub mod AppliedEntries
 pub mod ArgumentLists
 pub mod Decimals
 pub mod EntryLines
@@ -8,9 +9,9 @@ pub mod InstructionLines
 pub mod OneWord
 pub mod QuotedTexts
 pub mod Reading
+pub mod ShortestForm
 pub mod TextLines
+pub mod WholeManifests
 pub mod WholePrograms
 pub mod WholeSchedules
 pub mod WordLists
-pub mod WholeManifests
-pub mod AppliedEntries
