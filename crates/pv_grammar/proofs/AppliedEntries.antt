@@ -1,10 +1,10 @@
 -- The entries of a manifest are applied to a tree one after another.
-use Rattle.std.proofs.Common.{◌≡◌, ◌≢◌, ◌⊎◌, inl, inr, ℕ, Bool, true, false, cond, not, ◌||◌, List, [], ◌∷◌, ◌++◌, map, Option, None, Some, Result, Ok, Err, ap, sym, ◌∙◌, refl, subst}
+use Rattle.std.proofs.Common.{◌≡◌, ℕ, true, false, cond, not, ◌||◌, List, [], ◌∷◌, ◌++◌, map, Option, None, Some, Result, Ok, Err, ap, sym, ◌∙◌, refl, subst}
 use Rattle.std.specs.Prelude.{is_some, fold}
 use Rattle.std.proofs.lemmas.Bool.{cond_both, cond-true, cond-false, or_parts, or_from, not-false, not_from_true}
-use Rattle.std.proofs.lemmas.Option.{same_Some, cond_some}
+use Rattle.std.proofs.lemmas.Option.{same_Some}
 use Rattle.pv_model.specs.declared.fault.ManifestFault.{ManifestFault}
-use Rattle.pv_model.specs.declared.fault.ManifestFault.TheVariants.{Parent, Exists, Source, Room, Form, Size, Memory}
+use Rattle.pv_model.specs.declared.fault.ManifestFault.TheVariants.{Parent, Exists, Source, Room}
 use Rattle.pv_model.specs.Bytes.{Bytes}
 use Rattle.pv_model.specs.Grammar.Applied.{LeadsTo, at_last_name, down, NamesFile, MakesAt, IsPlaceOf, Makes, HasRoom, Applies, LacksSource, IsRefused, AppliesAll, IsFirstRefused}
 use Rattle.pv_model.specs.Grammar.Manifests.{Manifest, enter_directory, container, if_not_directory, under_container, source_of, if_room, with_source, entry_in, path_of, entry_at, add_entry, and_entries, add_entries, data_blocks, tree_of}
@@ -44,12 +44,6 @@ module _ (t : Tree) where
       ap (enter_directory t (container t (next ∷ others))) stands
       ∙ cond-true (is_directory_at t n) (container t (next ∷ others) n) None kind
       ∙ container-LeadsTo n (next ∷ others) at last more
-
-  -- one place, and one name
-  one_place : (d : ℕ) (names : List Bytes) (a b : ℕ) (x y : Bytes) → LeadsTo t d names a x → LeadsTo t d names b y → (a ≡ b) × (x ≡ y)
-  one_place d names a b x y h k =
-      let same : ◌≡◌ {A = ℕ × Bytes} (a, x) (b, y) = same_Some (a, x) (b, y) (sym (container-LeadsTo d names a x h) ∙ container-LeadsTo d names b y k) in
-      (ap (λ (p : ℕ × Bytes). p.0) same, ap (λ (p : ℕ × Bytes). p.1) same)
 
   -- ---- sources
 
@@ -98,7 +92,7 @@ module _ (t : Tree) where
       (refl, d, name, place, λ n h. let f : None ≡ Some n = sym is ∙ source_of-NamesFile source n h in absurd (cc))
   judged_source line path source d name place (Some n) is =
       judged_room line (further_name path source) (with_entry t d name n)
-        (record { container = d; name = name; place = place; made = (n, NamesFile-source_of source n is, refl) })
+      (record { container = d; name = name; place = place; made = (n, NamesFile-source_of source n is, refl) })
 
   judged_in : (line : ℕ) (e : Entry) (d : ℕ) (name : Bytes) → IsPlaceOf t e d name → Judged line e (entry_in line t e d name)
   judged_in line (make path node) d name place = judged_room line (make path node) (with_new_node t d name node) (record { container = d; name = name; place = place; made = refl })

@@ -1,14 +1,13 @@
 -- The arguments of a line, one after another.
-use Rattle.std.proofs.Common.{◌≡◌, ℕ, Bool, true, false, cond, ◌==◌, List, [], ◌∷◌, ◌++◌, Option, None, Some, ap, sym, ◌∙◌, refl, subst, append-nil, eqb-true}
+use Rattle.std.proofs.Common.{◌≡◌, ℕ, cond, ◌==◌, List, [], ◌∷◌, ◌++◌, None, Some, ap, sym, ◌∙◌, refl, subst, eqb-true}
 use Rattle.std.specs.Prelude.{option_map, option_and_then}
 use Rattle.std.proofs.lemmas.Bool.{cond_both}
-use Rattle.std.proofs.lemmas.Option.{cond_some, same_Some, some_pair_parts}
+use Rattle.std.proofs.lemmas.Option.{same_Some}
 use Rattle.pv_model.specs.Bytes.{Bytes, is_empty}
 use Rattle.pv_model.specs.Grammar.Arguments.{Parsed, argument, if_last, no_argument, one_argument, and_one, two_arguments, and_two, three_arguments}
-use Rattle.pv_model.specs.Grammar.Lines.{behind_space}
 use Rattle.pv_model.specs.Grammar.Forms.{Argument, Spells, SpellsArguments, IsBehindWord}
 use Rattle.pv_grammar.proofs.OneWord.{mapped_found}
-use Rattle.pv_grammar.proofs.Reading.{SpelledAt, Reads}
+use Rattle.pv_grammar.proofs.Reading.{Reads}
 
 -- an argument behind its space
 abbrev pub SpelledBehindSpace : {A : Type 0} → (A → Bytes → Type 0) → Bytes → A → Bytes → Type 0
@@ -18,8 +17,8 @@ pub argument_found : {A : Type 0} (at : Bytes → Parsed A) (S : A → Bytes →
 argument_found at S reads [] a rest e = absurd (cc)
 argument_found at S reads (b ∷ bs) a rest e = cond_both (b == 32) (Some bs) None (λ o. option_and_then at o ≡ Some (a, rest) → SpelledBehindSpace S (b ∷ bs) a rest)
     (λ is h.
-      let word = reads.found bs a rest h in
-      (word.0, word.1, ap (λ c. c ∷ bs) (eqb-true b 32 is) ∙ ap (λ r. 32 ∷ r) word.2))
+    let word = reads.found bs a rest h in
+    (word.0, word.1, ap (λ c. c ∷ bs) (eqb-true b 32 is) ∙ ap (λ r. 32 ∷ r) word.2))
     (λ is h. absurd (cc)) e
 
 pub if_last_found : {A : Type 0} (p : Parsed A) (a : A) → if_last p ≡ Some a → p ≡ Some (a, [])

@@ -1,15 +1,14 @@
 -- Decimals, and numbers of 32 bits.
-use Rattle.std.proofs.Common.{◌≡◌, ◌≢◌, ◌⊎◌, inl, inr, ℕ, zero, suc, ◌+◌, ◌-◌, ◌*◌, ◌/◌, ◌%◌, ◌^◌, ◌<◌, ◌≤◌, ℤ, pos, negsuc, Bool, true, false, cond, not, ◌&&◌, ◌==◌, nat_le, List, [], ◌∷◌, ◌++◌, Option, None, Some, ap, sym, ◌∙◌, refl, subst, append_assoc, append-nil, arith, eqb-true, leb-true, le-leb}
-use Rattle.std.specs.Prelude.{option_map}
+use Rattle.std.proofs.Common.{◌≡◌, ◌≢◌, ℕ, ◌+◌, ◌-◌, ◌*◌, ◌/◌, ◌%◌, ◌^◌, ◌<◌, ◌≤◌, true, false, not, ◌&&◌, ◌==◌, nat_le, [], ◌∷◌, ◌++◌, None, Some, ap, sym, ◌∙◌, refl, subst, append_assoc, append-nil, arith, leb-true, le-leb}
 use Rattle.std.proofs.lemmas.Bool.{cond_both, and_parts, and_from, ne_eqb, not-true, not_from_false, eqb-false, cond-true}
 use Rattle.std.proofs.lemmas.Fmt.{decimal_digit, decimal_step, decimal_by_steps}
 use Rattle.std.proofs.lemmas.List.Folds.{list_all-append}
-use Rattle.std.specs.Fmt.{decimal, signed_decimal}
+use Rattle.std.specs.Fmt.{decimal}
 use Rattle.std.specs.List.{list_all}
 use Rattle.pv_model.specs.Bytes.{Bytes, is_empty}
 use Rattle.pv_model.specs.Grammar.Lines.{is_digit, has_leading_zero, is_decimal, value_from, decimal_of}
 use Rattle.pv_model.specs.Grammar.Spelling.{Decimal, one_digit, one_more}
-use Rattle.pv_grammar.proofs.FirstWord.{no_space, no_space-append}
+use Rattle.pv_grammar.proofs.FirstWord.{no_space}
 
 pub digit_bounds : (b : ℕ) → is_digit b ≡ true → (48 ≤ b) × (b ≤ 57)
 digit_bounds b h = let parts = and_parts (nat_le 48 b) (nat_le b 57) h in (leb-true 48 b parts.0, leb-true b 57 parts.1)
@@ -97,8 +96,8 @@ no_lead _ _ (one_more n d front some h so_far) =
 pub is_decimal-Decimal : (n : ℕ) (bs : Bytes) → Decimal n bs → is_decimal bs ≡ true
 is_decimal-Decimal n bs h =
     and_from (not (is_empty bs) && list_all is_digit bs) (not (has_leading_zero bs))
-      (and_from (not (is_empty bs)) (list_all is_digit bs) (not_empty n bs h) (digits_all n bs h))
-      (not_from_false (has_leading_zero bs) (no_lead n bs h))
+    (and_from (not (is_empty bs)) (list_all is_digit bs) (not_empty n bs h) (digits_all n bs h))
+    (not_from_false (has_leading_zero bs) (no_lead n bs h))
 
 pub decimal_of-Decimal : (n : ℕ) (bs : Bytes) → Decimal n bs → decimal_of bs ≡ Some n
 decimal_of-Decimal n bs h = cond-true (is_decimal bs) (Some (value_from 0 bs)) None (is_decimal-Decimal n bs h) ∙ ap Some (value_from-Decimal n bs h)

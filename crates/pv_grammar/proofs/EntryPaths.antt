@@ -1,7 +1,7 @@
 -- Paths of a manifest's entries.
-use Rattle.std.proofs.Common.{◌≡◌, ◌≢◌, ℕ, Bool, true, false, cond, not, ◌&&◌, ◌==◌, List, [], ◌∷◌, ◌++◌, length, ap, sym, ◌∙◌, refl, subst, append-nil, append_assoc, eqb-true, eq-eqb}
-use Rattle.std.specs.Prelude.{IsTrue, codes, bytes_eq, flat_map, nat_le}
-use Rattle.std.proofs.lemmas.Bool.{cond_both, and_parts, and_from, not-true, eqb-false, cond-false}
+use Rattle.std.proofs.Common.{◌≡◌, ◌≢◌, ℕ, Bool, true, false, not, ◌&&◌, ◌==◌, List, [], ◌∷◌, ◌++◌, length, ap, sym, ◌∙◌, refl, append-nil, eqb-true}
+use Rattle.std.specs.Prelude.{IsTrue, codes, bytes_eq, nat_le}
+use Rattle.std.proofs.lemmas.Bool.{cond_both, and_parts, and_from, not-true, cond-false}
 use Rattle.std.specs.List.{AllByRecursion, list_all}
 use Rattle.pv_model.specs.declared.version.Version.TheVariants.{V1}
 use Rattle.pv_model.specs.Bytes.{Bytes, is_empty, onto_first}

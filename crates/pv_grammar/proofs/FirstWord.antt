@@ -1,6 +1,6 @@
 -- The first word of a line, and what stands behind it.
-use Rattle.std.proofs.Common.{◌≡◌, ℕ, Bool, true, false, cond, not, ◌&&◌, ◌==◌, List, [], ◌∷◌, ◌++◌, ap, sym, ◌∙◌, refl, eqb-true}
-use Rattle.std.proofs.lemmas.Bool.{cond_both, and_parts, and_from, ne_eqb, not-true, not_from_false, eqb-false}
+use Rattle.std.proofs.Common.{◌≡◌, Bool, true, false, cond, not, ◌==◌, [], ◌∷◌, ◌++◌, ap, ◌∙◌, refl, eqb-true}
+use Rattle.std.proofs.lemmas.Bool.{cond_both, and_parts, and_from, not-true, not_from_false}
 use Rattle.std.proofs.lemmas.List.Folds.{list_all-append}
 use Rattle.std.specs.List.{list_all}
 use Rattle.pv_model.specs.Bytes.{Bytes}
@@ -18,8 +18,9 @@ no_space-append a b p q = list_all-append (λ c. not (c == 32)) a b ∙ and_from
 pub word_split : (bs : Bytes) → bs ≡ word_of bs ++ behind_word bs
 word_split [] = refl
 word_split (b ∷ bs) = elim (b == 32) as (λ t. b ∷ bs ≡ cond t [] (b ∷ word_of bs) ++ cond t (b ∷ bs) (behind_word bs)) [
-    true ↦ refl
-  | false ↦ ap (λ r. b ∷ r) (word_split bs) ]
+  | true ↦ refl
+  | false ↦ ap (λ r. b ∷ r) (word_split bs)
+]
 
 pub no_space-word_of : (bs : Bytes) → no_space (word_of bs) ≡ true
 no_space-word_of [] = refl

@@ -1,7 +1,7 @@
 -- The flags of an open.
-use Rattle.std.proofs.Common.{◌≡◌, ◌≢◌, ℕ, Bool, true, false, cond, not, ◌&&◌, ◌==◌, List, [], ◌∷◌, ◌++◌, Option, None, Some, ap, sym, ◌∙◌, refl, subst, append_assoc, append-nil, eqb-true, eq-eqb}
+use Rattle.std.proofs.Common.{◌≡◌, Bool, true, false, cond, ◌==◌, [], ◌∷◌, ◌++◌, Option, None, Some, ap, sym, ◌∙◌, refl, append_assoc, append-nil, eqb-true, eq-eqb}
 use Rattle.std.specs.Prelude.{codes}
-use Rattle.std.proofs.lemmas.Bool.{cond_both, cond-true, cond-false, ne_eqb, eqb-false}
+use Rattle.std.proofs.lemmas.Bool.{cond_both, cond-true, cond-false}
 use Rattle.std.proofs.lemmas.Option.{same_Some, some_pair_parts}
 use Rattle.pv_model.specs.declared.open_flags.Mode.{Mode}
 use Rattle.pv_model.specs.declared.open_flags.Mode.TheVariants.{Read, Write, ReadWrite}
@@ -90,14 +90,14 @@ flags_behind_found mode word f e =
     let g : OpenFlags = record { mode = mode; append = append.0; create = create.0; truncate = truncate.0; exclusive = exclusive.0; no_follow = no_follow.0; directory = directory.0; close_on_exec = close_on_exec.0 } in
     let end = if_nothing_left_found close_on_exec.1 g f e in
     let spelled : word ≡ behind_mode g =
-      flag_found (codes "append") word
-      ∙ ap (λ r. flag_text append.0 (codes "append") ++ r) (flag_found (codes "create") append.1
-      ∙ ap (λ r. flag_text create.0 (codes "create") ++ r) (flag_found (codes "trunc") create.1
-      ∙ ap (λ r. flag_text truncate.0 (codes "trunc") ++ r) (flag_found (codes "excl") truncate.1
-      ∙ ap (λ r. flag_text exclusive.0 (codes "excl") ++ r) (flag_found (codes "nofollow") exclusive.1
-      ∙ ap (λ r. flag_text no_follow.0 (codes "nofollow") ++ r) (flag_found (codes "dir") no_follow.1
-      ∙ ap (λ r. flag_text directory.0 (codes "dir") ++ r) (flag_found (codes "cloexec") directory.1
-      ∙ ap (λ r. flag_text close_on_exec.0 (codes "cloexec") ++ r) end.0)))))) in
+    flag_found (codes "append") word
+    ∙ ap (λ r. flag_text append.0 (codes "append") ++ r) (flag_found (codes "create") append.1
+    ∙ ap (λ r. flag_text create.0 (codes "create") ++ r) (flag_found (codes "trunc") create.1
+    ∙ ap (λ r. flag_text truncate.0 (codes "trunc") ++ r) (flag_found (codes "excl") truncate.1
+    ∙ ap (λ r. flag_text exclusive.0 (codes "excl") ++ r) (flag_found (codes "nofollow") exclusive.1
+    ∙ ap (λ r. flag_text no_follow.0 (codes "nofollow") ++ r) (flag_found (codes "dir") no_follow.1
+    ∙ ap (λ r. flag_text directory.0 (codes "dir") ++ r) (flag_found (codes "cloexec") directory.1
+    ∙ ap (λ r. flag_text close_on_exec.0 (codes "cloexec") ++ r) end.0)))))) in
     (ap (λ h. h.mode) end.1, spelled ∙ ap behind_mode end.1)
 
 flags_found : (word : Bytes) (f : OpenFlags) → flags_of word ≡ Some f → SpellsFlags f word
@@ -109,10 +109,10 @@ flags_found word f e = by_mode (mode_at word) refl e
     mode_found (b ∷ bs) mode rest h = cond_both (b == 114) (mode_behind_r bs) (cond (b == 119) (Some (Write, bs)) None) (λ r. r ≡ Some (mode, rest) → b ∷ bs ≡ mode_text mode ++ rest)
         (λ is k. ap (λ c. c ∷ bs) (eqb-true b 114 is) ∙ behind_r bs k)
         (λ is. cond_both (b == 119) (Some (Write, bs)) None (λ r. r ≡ Some (mode, rest) → b ∷ bs ≡ mode_text mode ++ rest)
-          (λ w k.
-            let parts = some_pair_parts Write mode bs rest k in
-            ap (λ c. c ∷ bs) (eqb-true b 119 w) ∙ ap (λ r. 119 ∷ r) parts.1 ∙ ap (λ m. mode_text m ++ rest) parts.0)
-          (λ w k. absurd (cc))) h
+        (λ w k.
+        let parts = some_pair_parts Write mode bs rest k in
+        ap (λ c. c ∷ bs) (eqb-true b 119 w) ∙ ap (λ r. 119 ∷ r) parts.1 ∙ ap (λ m. mode_text m ++ rest) parts.0)
+        (λ w k. absurd (cc))) h
       where
         behind_r : (cs : Bytes) → mode_behind_r cs ≡ Some (mode, rest) → 114 ∷ cs ≡ mode_text mode ++ rest
         behind_r [] k =
@@ -120,11 +120,11 @@ flags_found word f e = by_mode (mode_at word) refl e
             ap (λ r. 114 ∷ r) parts.1 ∙ ap (λ m. mode_text m ++ rest) parts.0
         behind_r (c ∷ cs) k = cond_both (c == 119) (Some (ReadWrite, cs)) (Some (Read, c ∷ cs)) (λ r. r ≡ Some (mode, rest) → 114 ∷ c ∷ cs ≡ mode_text mode ++ rest)
             (λ w j.
-              let parts = some_pair_parts ReadWrite mode cs rest j in
-              ap (λ d. 114 ∷ d ∷ cs) (eqb-true c 119 w) ∙ ap (λ r. 114 ∷ 119 ∷ r) parts.1 ∙ ap (λ m. mode_text m ++ rest) parts.0)
+            let parts = some_pair_parts ReadWrite mode cs rest j in
+            ap (λ d. 114 ∷ d ∷ cs) (eqb-true c 119 w) ∙ ap (λ r. 114 ∷ 119 ∷ r) parts.1 ∙ ap (λ m. mode_text m ++ rest) parts.0)
             (λ w j.
-              let parts = some_pair_parts Read mode (c ∷ cs) rest j in
-              ap (λ r. 114 ∷ r) parts.1 ∙ ap (λ m. mode_text m ++ rest) parts.0) k
+            let parts = some_pair_parts Read mode (c ∷ cs) rest j in
+            ap (λ r. 114 ∷ r) parts.1 ∙ ap (λ m. mode_text m ++ rest) parts.0) k
 
     by_mode : (p : Parsed Mode) → mode_at word ≡ p → flags_of_mode p ≡ Some f → word ≡ flags_text f
     by_mode None is h = absurd (cc)
@@ -146,12 +146,12 @@ flag_behind_mode false name rest h = h
 behind_mode-begins : (f : OpenFlags) → IsBehindMode (behind_mode f)
 behind_mode-begins f =
     flag_behind_mode f.append (codes "append") (behind_append f)
-      (flag_behind_mode f.create (codes "create") (behind_create f)
-        (flag_behind_mode f.truncate (codes "trunc") (behind_truncate f)
-          (flag_behind_mode f.exclusive (codes "excl") (behind_exclusive f)
-            (flag_behind_mode f.no_follow (codes "nofollow") (behind_no_follow f)
-              (flag_behind_mode f.directory (codes "dir") (behind_directory f)
-                (flag_behind_mode f.close_on_exec (codes "cloexec") [] tt))))))
+    (flag_behind_mode f.create (codes "create") (behind_create f)
+    (flag_behind_mode f.truncate (codes "trunc") (behind_truncate f)
+    (flag_behind_mode f.exclusive (codes "excl") (behind_exclusive f)
+    (flag_behind_mode f.no_follow (codes "nofollow") (behind_no_follow f)
+    (flag_behind_mode f.directory (codes "dir") (behind_directory f)
+    (flag_behind_mode f.close_on_exec (codes "cloexec") [] tt))))))
 
 mode_behind_r-flags : (rest : Bytes) → IsBehindMode rest → mode_behind_r rest ≡ Some (Read, rest)
 mode_behind_r-flags [] h = refl
@@ -195,14 +195,14 @@ module _ (name : Bytes) (f : OpenFlags) where
 flags_behind_again : (f : OpenFlags) → flags_behind f.mode (behind_mode f) ≡ Some f
 flags_behind_again f =
     all_flags f.mode (behind_mode f) (behind_append f) (behind_create f) (behind_truncate f) (behind_exclusive f) (behind_no_follow f) (behind_directory f) (behind_close_on_exec f)
-      f.append f.create f.truncate f.exclusive f.no_follow f.directory f.close_on_exec
-      (flag_again (codes "append") (behind_append f) f.append (past_create (codes "append") f refl refl refl refl refl refl))
-      (flag_again (codes "create") (behind_create f) f.create (past_truncate (codes "create") f refl refl refl refl refl))
-      (flag_again (codes "trunc") (behind_truncate f) f.truncate (past_exclusive (codes "trunc") f refl refl refl refl))
-      (flag_again (codes "excl") (behind_exclusive f) f.exclusive (past_no_follow (codes "excl") f refl refl refl))
-      (flag_again (codes "nofollow") (behind_no_follow f) f.no_follow (past_directory (codes "nofollow") f refl refl))
-      (flag_again (codes "dir") (behind_directory f) f.directory (past_close_on_exec (codes "dir") f refl))
-      (flag_again (codes "cloexec") (behind_close_on_exec f) f.close_on_exec refl)
+    f.append f.create f.truncate f.exclusive f.no_follow f.directory f.close_on_exec
+    (flag_again (codes "append") (behind_append f) f.append (past_create (codes "append") f refl refl refl refl refl refl))
+    (flag_again (codes "create") (behind_create f) f.create (past_truncate (codes "create") f refl refl refl refl refl))
+    (flag_again (codes "trunc") (behind_truncate f) f.truncate (past_exclusive (codes "trunc") f refl refl refl refl))
+    (flag_again (codes "excl") (behind_exclusive f) f.exclusive (past_no_follow (codes "excl") f refl refl refl))
+    (flag_again (codes "nofollow") (behind_no_follow f) f.no_follow (past_directory (codes "nofollow") f refl refl))
+    (flag_again (codes "dir") (behind_directory f) f.directory (past_close_on_exec (codes "dir") f refl))
+    (flag_again (codes "cloexec") (behind_close_on_exec f) f.close_on_exec refl)
 
 flags_again : (f : OpenFlags) (word : Bytes) → SpellsFlags f word → flags_of word ≡ Some f
 unfolding flags_of
@@ -224,13 +224,13 @@ flags_whole : (f : OpenFlags) (word : Bytes) → SpellsFlags f word → no_space
 flags_whole f word h =
     ap no_space (h ∙ flags_text-parts f)
     ∙ no_space-append (mode_text f.mode) (behind_mode f) (no_space_mode f.mode)
-      (no_space_flag f.append (codes "append") (behind_append f) refl
-        (no_space_flag f.create (codes "create") (behind_create f) refl
-          (no_space_flag f.truncate (codes "trunc") (behind_truncate f) refl
-            (no_space_flag f.exclusive (codes "excl") (behind_exclusive f) refl
-              (no_space_flag f.no_follow (codes "nofollow") (behind_no_follow f) refl
-                (no_space_flag f.directory (codes "dir") (behind_directory f) refl
-                  (no_space_flag f.close_on_exec (codes "cloexec") [] refl refl)))))))
+    (no_space_flag f.append (codes "append") (behind_append f) refl
+    (no_space_flag f.create (codes "create") (behind_create f) refl
+    (no_space_flag f.truncate (codes "trunc") (behind_truncate f) refl
+    (no_space_flag f.exclusive (codes "excl") (behind_exclusive f) refl
+    (no_space_flag f.no_follow (codes "nofollow") (behind_no_follow f) refl
+    (no_space_flag f.directory (codes "dir") (behind_directory f) refl
+    (no_space_flag f.close_on_exec (codes "cloexec") [] refl refl)))))))
 
 pub reads_flags : ReadsWord flags_of SpellsFlags
 reads_flags = record { found = flags_found; again = flags_again; whole = flags_whole }

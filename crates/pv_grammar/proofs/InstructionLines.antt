@@ -1,5 +1,5 @@
 -- A line is read as the instruction that it spells, and else by what is wrong with it.
-use Rattle.std.proofs.Common.{◌≡◌, ◌≢◌, ◌⊎◌, inl, inr, ℕ, ◌<◌, ◌≤◌, ℤ, pos, negsuc, Bool, true, false, cond, ◌&&◌, nat_le, nat_lt, List, [], ◌∷◌, ◌++◌, Option, None, Some, Result, Ok, Err, ap, sym, ◌∙◌, refl, subst, arith, leb-true, le-leb}
+use Rattle.std.proofs.Common.{◌≡◌, ◌≢◌, ℕ, ◌≤◌, ℤ, pos, negsuc, true, false, cond, ◌&&◌, nat_le, nat_lt, List, [], ◌∷◌, ◌++◌, Option, None, Some, Result, Ok, Err, ap, sym, ◌∙◌, refl, subst, arith, leb-true, le-leb}
 use Rattle.std.specs.Prelude.{option_map, codes, bytes_eq}
 use Rattle.std.proofs.lemmas.Bool.{cond_both, and_parts, and_from, cond-true, cond-false, ltb-true, lt-ltb, false_from_ne_true}
 use Rattle.std.proofs.lemmas.Slice.Eq.{bytes_eq-Decides}
@@ -19,7 +19,7 @@ use Rattle.pv_model.specs.Bytes.{Bytes}
 use Rattle.pv_model.specs.Grammar.Arguments.{Parsed, text_at, text_or_null_at, operand_of, register_of, number_of, whence_of, origin_of, flags_of, operand_at, register_at, number_at, whence_at, origin_at, flags_at, no_argument, one_argument, two_arguments, three_arguments}
 use Rattle.pv_model.specs.Grammar.Instructions.{or_argument, buffer_place, line_within, or_target, jump_by, jump_if_by, peek_by, on_registers, on_processes, on_descriptors, on_paths, instruction_by, instruction_of}
 use Rattle.pv_model.specs.Grammar.Lines.{word_of, behind_word}
-use Rattle.pv_model.specs.Grammar.Forms.{Argument, operand, register, number, line, place, text, text_or_null, flags, whence, origin, Form, form_of, Spells, SpellsArguments, SpellsForm, SpellsLine, IsBehindWord, BeginsWith, Jumping, always, if_zero, if_not_zero, if_negative, jump_form, IsLineOf, HasNoName, JumpsOut, IsWrong}
+use Rattle.pv_model.specs.Grammar.Forms.{Argument, operand, register, number, line, text, text_or_null, flags, whence, origin, Form, form_of, SpellsArguments, SpellsLine, IsBehindWord, BeginsWith, Jumping, always, if_zero, if_not_zero, if_negative, jump_form, IsLineOf, HasNoName, JumpsOut, IsWrong}
 use Rattle.pv_model.specs.Grammar.Spelling.{SpellsOperand, SpellsRegister, SpellsNumber, SpellsWhence, SpellsOrigin, SpellsFlags}
 use Rattle.pv_grammar.proofs.ArgumentLists.{ReadsAs, arguments_behind, none_found, none_again, one_found, one_again, two_found, two_again, three_found, three_again}
 use Rattle.pv_grammar.proofs.FirstWord.{no_space, word_split, behind_word-ends, word_of-word, behind_word-word}
@@ -76,8 +76,8 @@ outside_lines : (lines : ℕ) (z : ℤ) → ¬ (IsLineOf lines z) → line_withi
 outside_lines lines (negsuc n) out = refl
 outside_lines lines (pos n) out = cond-false (nat_le 1 n && nat_le n lines) (Some n) None
     (false_from_ne_true (nat_le 1 n && nat_le n lines) (λ is.
-      let parts = and_parts (nat_le 1 n) (nat_le n lines) is in
-      out (n, leb-true 1 n parts.0, leb-true n lines parts.1, refl)))
+    let parts = and_parts (nat_le 1 n) (nat_le n lines) is in
+    out (n, leb-true 1 n parts.0, leb-true n lines parts.1, refl)))
 
 -- a jump's line is a number of the program's lines
 line_at_one : (lines n : ℕ) (rest : Bytes) → 1 ≤ n → n ≤ lines → SpellsArguments lines (number (pos n) ∷ []) rest → SpellsArguments lines (line n ∷ []) rest
@@ -128,7 +128,7 @@ module _ (lines : ℕ) (word rest : Bytes) where
       → (other : Result Instruction What) → Sound other → Sound (cond (bytes_eq word name) (or_argument (option_map (λ (p : A × B × C). f p.0 p.1 p.2) (three_arguments s.at t.at u.at rest))) other)
   of_three {A} {B} {C} name s t u f form a b c other h = step name (or_argument (option_map (λ (p : A × B × C). f p.0 p.1 p.2) (three_arguments s.at t.at u.at rest))) other
       (made (λ (p : A × B × C). f p.0 p.1 p.2) (λ p. s.sort p.0 ∷ t.sort p.1 ∷ u.sort p.2 ∷ []) name (a, b, c) (λ p. form p.0 p.1 p.2) (three_arguments s.at t.at u.at rest)
-        (three_found lines s.at s.sort s.reads t.at t.sort t.reads u.at u.sort u.reads rest)) h
+      (three_found lines s.at s.sort s.reads t.at t.sort t.reads u.at u.sort u.reads rest)) h
 
   peek_place : (r : ℕ) (z : ℤ) → SpellsArguments lines (register r ∷ number z ∷ []) rest → codes "peek" ≡ word → Sound (or_argument (option_map (Peek r) (buffer_place z)))
   peek_place r (negsuc n) h is = (Peek 0 0, is)
@@ -149,14 +149,20 @@ module _ (lines : ℕ) (word rest : Bytes) where
   target_sound j jump (negsuc n) name h good = (j, negsuc n, (λ l. absurd (let e : negsuc n ≡ pos l.0 = l.3 in cc)), name, h)
   target_sound j jump (pos n) name h good = cond_both (nat_le 1 n && nat_le n lines) (Some n) None (λ o. Sound (or_target jump o))
       (λ is.
-        let parts = and_parts (nat_le 1 n) (nat_le n lines) is in
-        good n (leb-true 1 n parts.0) (leb-true n lines parts.1) refl)
-      (λ is. (j, pos n, (λ l. absurd (
-        let e : pos n ≡ pos l.0 = l.3 in
-        let same : n ≡ l.0 = cc in
-        let low : 1 ≤ n = omega arith in
-        let high : n ≤ lines = omega arith in
-        let t : (nat_le 1 n && nat_le n lines) ≡ true = and_from (nat_le 1 n) (nat_le n lines) (le-leb 1 n low) (le-leb n lines high) in cc)), name, h))
+      let parts = and_parts (nat_le 1 n) (nat_le n lines) is in
+      good n (leb-true 1 n parts.0) (leb-true n lines parts.1) refl)
+      (λ is. (
+        j,
+        pos n,
+        (λ l. absurd (
+            let e : pos n ≡ pos l.0 = l.3 in
+            let same : n ≡ l.0 = cc in
+            let low : 1 ≤ n = omega arith in
+            let high : n ≤ lines = omega arith in
+            let t : (nat_le 1 n && nat_le n lines) ≡ true = and_from (nat_le 1 n) (nat_le n lines) (le-leb 1 n low) (le-leb n lines high) in cc)),
+        name,
+        h,
+      ))
 
   jump_sound : (o : Option ℤ) → ((z : ℤ) → o ≡ Some z → SpellsArguments lines (number z ∷ []) rest) → codes "jmp" ≡ word → Sound (jump_by lines o)
   jump_sound None spells is = (Jump 0, is)
@@ -174,8 +180,10 @@ module _ (lines : ℕ) (word rest : Bytes) where
   jump_if_sound name jump j form jform (Some p) spells is =
       let h = spells p refl in
       target_sound (j p.0) (jump p.0) p.1 (ap (λ (g : Form). g.0) (jform p.0 p.1) ∙ is) (subst (λ (g : Form). SpellsArguments lines g.1 rest) (sym (jform p.0 p.1)) h)
-        (λ n low high e. (ap (λ (g : Form). g.0) (form p.0 n) ∙ is,
-          subst (λ (g : Form). SpellsArguments lines g.1 rest) (sym (form p.0 n)) (line_at_two lines p.0 n rest low high (subst (λ y. SpellsArguments lines (register p.0 ∷ number y ∷ []) rest) e h))))
+      (λ n low high e. (
+        ap (λ (g : Form). g.0) (form p.0 n) ∙ is,
+        subst (λ (g : Form). SpellsArguments lines g.1 rest) (sym (form p.0 n)) (line_at_two lines p.0 n rest low high (subst (λ y. SpellsArguments lines (register p.0 ∷ number y ∷ []) rest) e h)),
+      ))
 
   of_jump_if : (name : Bytes) (jump : ℕ → ℕ → Instruction) (j : ℕ → Jumping) → ((r n : ℕ) → form_of (jump r n) ≡ (name, register r ∷ line n ∷ [])) → ((r : ℕ) (z : ℤ) → jump_form (j r) z ≡ (name, register r ∷ number z ∷ []))
       → (other : Result Instruction What) → Sound other → Sound (cond (bytes_eq word name) (jump_if_by lines jump (two_arguments register_at number_at rest)) other)
@@ -185,56 +193,56 @@ module _ (lines : ℕ) (word rest : Bytes) where
   sound_registers : (other : Result Instruction What) → Sound other → Sound (on_registers lines word rest other)
   sound_registers other h =
       of_two (codes "set") register_argument number_argument Set (λ a b. refl) 0 (pos 0) _
-        (of_two (codes "add") register_argument number_argument Add (λ a b. refl) 0 (pos 0) _
-          (of_one (codes "put") text_argument Put (λ a. refl) [] _
-            (of_peek _
-              (of_jump _
-                (of_jump_if (codes "jz") JumpIfZero if_zero (λ r n. refl) (λ r n. refl) _
-                  (of_jump_if (codes "jnz") JumpIfNotZero if_not_zero (λ r n. refl) (λ r n. refl) _
-                    (of_jump_if (codes "jneg") JumpIfNegative if_negative (λ r n. refl) (λ r n. refl) _
-                      h)))))))
+      (of_two (codes "add") register_argument number_argument Add (λ a b. refl) 0 (pos 0) _
+      (of_one (codes "put") text_argument Put (λ a. refl) [] _
+      (of_peek _
+      (of_jump _
+      (of_jump_if (codes "jz") JumpIfZero if_zero (λ r n. refl) (λ r n. refl) _
+      (of_jump_if (codes "jnz") JumpIfNotZero if_not_zero (λ r n. refl) (λ r n. refl) _
+      (of_jump_if (codes "jneg") JumpIfNegative if_negative (λ r n. refl) (λ r n. refl) _
+      h)))))))
 
   sound_processes : (other : Result Instruction What) → Sound other → Sound (on_processes word rest other)
   sound_processes other h =
       of_none (codes "fork") Fork refl _
-        (of_none (codes "wait") Wait refl _
-          (of_none (codes "getpid") GetPid refl _
-            (of_none (codes "getppid") GetPpid refl _
-              (of_one (codes "exit") operand_argument Exit (λ a. refl) (Number (pos 0)) _
-                (of_two (codes "pledge") text_or_null_argument text_or_null_argument Pledge (λ a b. refl) None None _
-                  (of_two (codes "unveil") text_or_null_argument text_or_null_argument Unveil (λ a b. refl) None None _
-                    (of_one (codes "execve") text_argument Execve (λ a. refl) [] _
-                      h)))))))
+      (of_none (codes "wait") Wait refl _
+      (of_none (codes "getpid") GetPid refl _
+      (of_none (codes "getppid") GetPpid refl _
+      (of_one (codes "exit") operand_argument Exit (λ a. refl) (Number (pos 0)) _
+      (of_two (codes "pledge") text_or_null_argument text_or_null_argument Pledge (λ a b. refl) None None _
+      (of_two (codes "unveil") text_or_null_argument text_or_null_argument Unveil (λ a b. refl) None None _
+      (of_one (codes "execve") text_argument Execve (λ a. refl) [] _
+      h)))))))
 
   sound_descriptors : (other : Result Instruction What) → Sound other → Sound (on_descriptors word rest other)
   sound_descriptors other h =
       of_two (codes "open") text_argument flags_argument Open (λ a b. refl) [] no_flags _
-        (of_three (codes "openat") origin_argument text_argument flags_argument OpenAt (λ a b c. refl) WorkingDirectory [] no_flags _
-          (of_one (codes "close") operand_argument Close (λ a. refl) (Number (pos 0)) _
-            (of_one (codes "dup") operand_argument Dup (λ a. refl) (Number (pos 0)) _
-              (of_two (codes "dup2") operand_argument operand_argument Dup2 (λ a b. refl) (Number (pos 0)) (Number (pos 0)) _
-                (of_two (codes "read") operand_argument operand_argument Read (λ a b. refl) (Number (pos 0)) (Number (pos 0)) _
-                  (of_two (codes "write") operand_argument operand_argument Write (λ a b. refl) (Number (pos 0)) (Number (pos 0)) _
-                    (of_three (codes "lseek") operand_argument operand_argument whence_argument Lseek (λ a b c. refl) (Number (pos 0)) (Number (pos 0)) Start _
-                      (of_one (codes "fstat") operand_argument Fstat (λ a. refl) (Number (pos 0)) _
-                        (of_two (codes "ftruncate") operand_argument operand_argument Ftruncate (λ a b. refl) (Number (pos 0)) (Number (pos 0)) _
-                          (of_one (codes "getdents") operand_argument Getdents (λ a. refl) (Number (pos 0)) _
-                            (of_one (codes "fchdir") operand_argument Fchdir (λ a. refl) (Number (pos 0)) _
-                              h)))))))))))
+      (of_three (codes "openat") origin_argument text_argument flags_argument OpenAt (λ a b c. refl) WorkingDirectory [] no_flags _
+      (of_one (codes "close") operand_argument Close (λ a. refl) (Number (pos 0)) _
+      (of_one (codes "dup") operand_argument Dup (λ a. refl) (Number (pos 0)) _
+      (of_two (codes "dup2") operand_argument operand_argument Dup2 (λ a b. refl) (Number (pos 0)) (Number (pos 0)) _
+      (of_two (codes "read") operand_argument operand_argument Read (λ a b. refl) (Number (pos 0)) (Number (pos 0)) _
+      (of_two (codes "write") operand_argument operand_argument Write (λ a b. refl) (Number (pos 0)) (Number (pos 0)) _
+      (of_three (codes "lseek") operand_argument operand_argument whence_argument Lseek (λ a b c. refl) (Number (pos 0)) (Number (pos 0)) Start _
+      (of_one (codes "fstat") operand_argument Fstat (λ a. refl) (Number (pos 0)) _
+      (of_two (codes "ftruncate") operand_argument operand_argument Ftruncate (λ a b. refl) (Number (pos 0)) (Number (pos 0)) _
+      (of_one (codes "getdents") operand_argument Getdents (λ a. refl) (Number (pos 0)) _
+      (of_one (codes "fchdir") operand_argument Fchdir (λ a. refl) (Number (pos 0)) _
+      h)))))))))))
 
   sound_paths : (other : Result Instruction What) → Sound other → Sound (on_paths word rest other)
   sound_paths other h =
       of_one (codes "chdir") text_argument Chdir (λ a. refl) [] _
-        (of_one (codes "stat") text_argument Stat (λ a. refl) [] _
-          (of_one (codes "lstat") text_argument Lstat (λ a. refl) [] _
-            (of_one (codes "readlink") text_argument Readlink (λ a. refl) [] _
-              (of_one (codes "unlink") text_argument Unlink (λ a. refl) [] _
-                (of_one (codes "mkdir") text_argument Mkdir (λ a. refl) [] _
-                  (of_one (codes "rmdir") text_argument Rmdir (λ a. refl) [] _
-                    (of_two (codes "rename") text_argument text_argument Rename (λ a b. refl) [] [] _
-                      (of_two (codes "link") text_argument text_argument Link (λ a b. refl) [] [] _
-                        (of_two (codes "symlink") text_argument text_argument Symlink (λ a b. refl) [] [] _
-                          h)))))))))
+      (of_one (codes "stat") text_argument Stat (λ a. refl) [] _
+      (of_one (codes "lstat") text_argument Lstat (λ a. refl) [] _
+      (of_one (codes "readlink") text_argument Readlink (λ a. refl) [] _
+      (of_one (codes "unlink") text_argument Unlink (λ a. refl) [] _
+      (of_one (codes "mkdir") text_argument Mkdir (λ a. refl) [] _
+      (of_one (codes "rmdir") text_argument Rmdir (λ a. refl) [] _
+      (of_two (codes "rename") text_argument text_argument Rename (λ a b. refl) [] [] _
+      (of_two (codes "link") text_argument text_argument Link (λ a b. refl) [] [] _
+      (of_two (codes "symlink") text_argument text_argument Symlink (λ a b. refl) [] [] _
+      h)))))))))
 
   sound : Sound (instruction_by lines word rest)
   unfolding instruction_by
@@ -248,36 +256,41 @@ Known lines i rest r = (SpellsArguments lines (form_of i).1 rest → r ≡ Ok i)
 
 module _ (lines : ℕ) (rest : Bytes) where
   known_none : (i : Instruction) → (form_of i).1 ≡ [] → Known lines i rest (or_argument (option_map (λ _. i) (no_argument rest)))
-  known_none i form =
-      ((λ h. ap (λ (o : Option (Unit {0})). or_argument (option_map (λ _. i) o)) (none_again lines rest (subst (λ g. SpellsArguments lines g rest) form h))),
-       or_argument_no_word (option_map (λ _. i) (no_argument rest)))
+  known_none i form = (
+    (λ h. ap (λ (o : Option (Unit {0})). or_argument (option_map (λ _. i) o)) (none_again lines rest (subst (λ g. SpellsArguments lines g rest) form h))),
+    or_argument_no_word (option_map (λ _. i) (no_argument rest)),
+  )
 
   known_one : {A : Type 0} (s : Sort lines A) (f : A → Instruction) → ((a : A) → (form_of (f a)).1 ≡ s.sort a ∷ []) → (a : A) → Known lines (f a) rest (or_argument (option_map f (one_argument s.at rest)))
-  known_one s f form a =
-      ((λ h. ap (λ o. or_argument (option_map f o)) (one_again lines s.at s.sort s.reads a rest (subst (λ g. SpellsArguments lines g rest) (form a) h))),
-       or_argument_no_word (option_map f (one_argument s.at rest)))
+  known_one s f form a = (
+    (λ h. ap (λ o. or_argument (option_map f o)) (one_again lines s.at s.sort s.reads a rest (subst (λ g. SpellsArguments lines g rest) (form a) h))),
+    or_argument_no_word (option_map f (one_argument s.at rest)),
+  )
 
   known_two : {A B : Type 0} (s : Sort lines A) (t : Sort lines B) (f : A → B → Instruction) → ((a : A) (b : B) → (form_of (f a b)).1 ≡ s.sort a ∷ t.sort b ∷ []) → (a : A) (b : B)
       → Known lines (f a b) rest (or_argument (option_map (λ (p : A × B). f p.0 p.1) (two_arguments s.at t.at rest)))
-  known_two {A} {B} s t f form a b =
-      ((λ h. ap (λ o. or_argument (option_map (λ (p : A × B). f p.0 p.1) o)) (two_again lines s.at s.sort s.reads t.at t.sort t.reads a b rest (subst (λ g. SpellsArguments lines g rest) (form a b) h))),
-       or_argument_no_word (option_map (λ (p : A × B). f p.0 p.1) (two_arguments s.at t.at rest)))
+  known_two {A} {B} s t f form a b = (
+    (λ h. ap (λ o. or_argument (option_map (λ (p : A × B). f p.0 p.1) o)) (two_again lines s.at s.sort s.reads t.at t.sort t.reads a b rest (subst (λ g. SpellsArguments lines g rest) (form a b) h))),
+    or_argument_no_word (option_map (λ (p : A × B). f p.0 p.1) (two_arguments s.at t.at rest)),
+  )
 
   known_three : {A B C : Type 0} (s : Sort lines A) (t : Sort lines B) (u : Sort lines C) (f : A → B → C → Instruction) → ((a : A) (b : B) (c : C) → (form_of (f a b c)).1 ≡ s.sort a ∷ t.sort b ∷ u.sort c ∷ []) → (a : A) (b : B) (c : C)
       → Known lines (f a b c) rest (or_argument (option_map (λ (p : A × B × C). f p.0 p.1 p.2) (three_arguments s.at t.at u.at rest)))
-  known_three {A} {B} {C} s t u f form a b c =
-      ((λ h. ap (λ o. or_argument (option_map (λ (p : A × B × C). f p.0 p.1 p.2) o)) (three_again lines s.at s.sort s.reads t.at t.sort t.reads u.at u.sort u.reads a b c rest (subst (λ g. SpellsArguments lines g rest) (form a b c) h))),
-       or_argument_no_word (option_map (λ (p : A × B × C). f p.0 p.1 p.2) (three_arguments s.at t.at u.at rest)))
+  known_three {A} {B} {C} s t u f form a b c = (
+    (λ h. ap (λ o. or_argument (option_map (λ (p : A × B × C). f p.0 p.1 p.2) o)) (three_again lines s.at s.sort s.reads t.at t.sort t.reads u.at u.sort u.reads a b c rest (subst (λ g. SpellsArguments lines g rest) (form a b c) h))),
+    or_argument_no_word (option_map (λ (p : A × B × C). f p.0 p.1 p.2) (three_arguments s.at t.at u.at rest)),
+  )
 
   two_numbers : (r : ℕ) (z : ℤ) → SpellsArguments lines (register r ∷ number z ∷ []) rest → two_arguments register_at number_at rest ≡ Some (r, z)
   two_numbers r z h = two_again lines register_at register (register_argument {lines = lines}).reads number_at number (number_argument {lines = lines}).reads r z rest h
 
   known_peek : (r k : ℕ) → Known lines (Peek r k) rest (or_argument (peek_by (two_arguments register_at number_at rest)))
-  known_peek r k =
-      ((λ h.
+  known_peek r k = (
+    (λ h.
         ap (λ o. or_argument (peek_by o)) (two_numbers r (pos k) (h.0, h.1, h.2, (h.3.0, h.3.1, h.3.2.1, h.3.3, h.3.4), h.4))
         ∙ ap (λ o. or_argument (option_map (Peek r) o)) (cond-true (nat_lt k 4096) (Some k) None (lt-ltb k 4096 h.3.2.0))),
-       or_argument_no_word (peek_by (two_arguments register_at number_at rest)))
+    or_argument_no_word (peek_by (two_arguments register_at number_at rest)),
+  )
 
   jump_no_word : (o : Option ℤ) → jump_by lines o ≢ Err Word
   jump_no_word None e = absurd (cc)
@@ -291,16 +304,18 @@ module _ (lines : ℕ) (rest : Bytes) where
   one_number z h = one_again lines number_at number (number_argument {lines = lines}).reads z rest h
 
   known_jump : (n : ℕ) → Known lines (Jump n) rest (jump_by lines (one_argument number_at rest))
-  known_jump n =
-      ((λ h. ap (jump_by lines) (one_number (pos n) (number_at_one lines n rest h)) ∙ ap (or_target Jump) (within_lines lines n h.2.0 h.2.1)),
-       jump_no_word (one_argument number_at rest))
+  known_jump n = (
+    (λ h. ap (jump_by lines) (one_number (pos n) (number_at_one lines n rest h)) ∙ ap (or_target Jump) (within_lines lines n h.2.0 h.2.1)),
+    jump_no_word (one_argument number_at rest),
+  )
 
   known_jump_if : (jump : ℕ → ℕ → Instruction) → ((r n : ℕ) → (form_of (jump r n)).1 ≡ register r ∷ line n ∷ []) → (r n : ℕ) → Known lines (jump r n) rest (jump_if_by lines jump (two_arguments register_at number_at rest))
-  known_jump_if jump form r n =
-      ((λ k.
+  known_jump_if jump form r n = (
+    (λ k.
         let h : SpellsArguments lines (register r ∷ line n ∷ []) rest = subst (λ g. SpellsArguments lines g rest) (form r n) k in
         ap (jump_if_by lines jump) (two_numbers r (pos n) (number_at_two lines r n rest h)) ∙ ap (or_target (jump r)) (within_lines lines n h.3.2.0 h.3.2.1)),
-       jump_if_no_word jump (two_arguments register_at number_at rest))
+    jump_if_no_word jump (two_arguments register_at number_at rest),
+  )
 
 module _ (lines : ℕ) where
   known : (i : Instruction) (rest : Bytes) → Known lines i rest (instruction_by lines (form_of i).0 rest)
@@ -429,10 +444,11 @@ module _ (lines : ℕ) where
   pub IsWrong-instruction_of : (bytes : Bytes) (what : What) → instruction_of lines bytes ≡ Err what → IsWrong lines bytes what
   IsWrong-instruction_of bytes Word e = HasNoName-instruction_of bytes e
   IsWrong-instruction_of bytes Target e = JumpsOut-instruction_of bytes e
-  IsWrong-instruction_of bytes BadArgument e =
-      ((λ none. let f : Err BadArgument ≡ Err Word = sym e ∙ instruction_of-HasNoName bytes none in absurd (cc)),
-       (λ out. let f : Err BadArgument ≡ Err Target = sym e ∙ instruction_of-JumpsOut bytes out in absurd (cc)),
-       (λ i spells. let f : Err BadArgument ≡ Ok i = sym e ∙ instruction_of-SpellsLine bytes i spells in absurd (cc)))
+  IsWrong-instruction_of bytes BadArgument e = (
+    (λ none. let f : Err BadArgument ≡ Err Word = sym e ∙ instruction_of-HasNoName bytes none in absurd (cc)),
+    (λ out. let f : Err BadArgument ≡ Err Target = sym e ∙ instruction_of-JumpsOut bytes out in absurd (cc)),
+    (λ i spells. let f : Err BadArgument ≡ Ok i = sym e ∙ instruction_of-SpellsLine bytes i spells in absurd (cc)),
+  )
   IsWrong-instruction_of bytes TooMany e = absurd (subst (Sound lines (word_of bytes) (behind_word bytes)) e (sound lines (word_of bytes) (behind_word bytes)))
 
   pub instruction_of-IsWrong : (bytes : Bytes) (what : What) → IsWrong lines bytes what → instruction_of lines bytes ≡ Err what

@@ -1,11 +1,11 @@
 -- The arguments that are one word: numbers, registers, operands, origins, whence, `null`.
-use Rattle.std.proofs.Common.{◌≡◌, ◌≢◌, ◌⊎◌, inl, inr, ℕ, zero, suc, ◌+◌, ◌-◌, ◌*◌, ◌^◌, ◌<◌, ◌≤◌, ℤ, pos, negsuc, Bool, true, false, cond, not, ◌&&◌, ◌==◌, nat_le, List, [], ◌∷◌, ◌++◌, Option, None, Some, ap, sym, ◌∙◌, refl, subst, arith, eqb-true, leb-true, le-leb}
+use Rattle.std.proofs.Common.{◌≡◌, ℕ, zero, suc, ◌+◌, ◌-◌, ◌<◌, ◌≤◌, ℤ, pos, negsuc, true, false, cond, ◌&&◌, ◌==◌, nat_le, [], ◌∷◌, Option, None, Some, ap, sym, ◌∙◌, refl, subst, arith, eqb-true, leb-true, le-leb}
 use Rattle.std.specs.Prelude.{option_map, codes, bytes_eq}
-use Rattle.std.proofs.lemmas.Bool.{cond_both, and_parts, and_from, ne_eqb, eqb-false, cond-true, cond-false}
+use Rattle.std.proofs.lemmas.Bool.{cond_both, and_parts, and_from, ne_eqb, cond-true, cond-false}
 use Rattle.std.proofs.lemmas.Fmt.{decimal_digit}
 use Rattle.std.proofs.lemmas.Option.{cond_some, same_Some}
 use Rattle.std.proofs.lemmas.Slice.Eq.{bytes_eq-Decides}
-use Rattle.std.specs.Fmt.{decimal, signed_decimal}
+use Rattle.std.specs.Fmt.{decimal}
 use Rattle.std.specs.List.{list_all}
 use Rattle.pv_model.specs.declared.instruction.Operand.{Operand}
 use Rattle.pv_model.specs.declared.instruction.Operand.TheVariants.{Number, Register}
@@ -14,7 +14,6 @@ use Rattle.pv_model.specs.declared.instruction.Origin.TheVariants.{WorkingDirect
 use Rattle.pv_model.specs.declared.call.Whence.{Whence}
 use Rattle.pv_model.specs.declared.call.Whence.TheVariants.{Set, Current, End}
 use Rattle.pv_model.specs.Bytes.{Bytes}
-use Rattle.pv_model.specs.Trace.{whence_text}
 use Rattle.pv_model.specs.Grammar.Arguments.{in_range, negative_of, number_of, register_digit, register_of, or_number, operand_of, whence_of, origin_of, null_of}
 use Rattle.pv_model.specs.Grammar.Lines.{is_digit, decimal_of}
 use Rattle.pv_model.specs.Grammar.Spelling.{Decimal, IsNumber, SpellsNumber, SpellsRegister, SpellsOperand, SpellsWhence, SpellsOrigin}
@@ -118,10 +117,10 @@ register_found : (word : Bytes) (r : ℕ) → register_of word ≡ Some r → Sp
 register_found [] r e = absurd (cc)
 register_found (b ∷ bs) r h = cond_both (b == 114) (register_digit bs) None (λ o. o ≡ Some r → SpellsRegister r (b ∷ bs))
     (λ is e.
-      let letter : b ≡ 114 = eqb-true b 114 is in
-      let digit = register_digit_found bs r e in
-      let spelled : b ∷ bs ≡ 114 ∷ decimal r = ap (λ c. c ∷ bs) letter ∙ ap (λ t. 114 ∷ t) (digit.1 ∙ sym (decimal_digit r (omega arith))) in
-      (digit.0, spelled))
+    let letter : b ≡ 114 = eqb-true b 114 is in
+    let digit = register_digit_found bs r e in
+    let spelled : b ∷ bs ≡ 114 ∷ decimal r = ap (λ c. c ∷ bs) letter ∙ ap (λ t. 114 ∷ t) (digit.1 ∙ sym (decimal_digit r (omega arith))) in
+    (digit.0, spelled))
     (λ is e. absurd (cc)) h
 
 register_digit_again : (r : ℕ) → r < 8 → register_digit ((48 + r) ∷ []) ≡ Some r
@@ -186,8 +185,8 @@ named word name x a other P here there = cond_both (bytes_eq word name) (Some x)
 whence_found : (word : Bytes) (w : Whence) → whence_of word ≡ Some w → SpellsWhence w word
 whence_found word w =
     named word (codes "set") Set w _ (λ x. SpellsWhence x word) (λ is. is)
-      (named word (codes "cur") Current w _ (λ x. SpellsWhence x word) (λ is. is)
-        (named word (codes "end") End w None (λ x. SpellsWhence x word) (λ is. is) (λ e. absurd (cc))))
+    (named word (codes "cur") Current w _ (λ x. SpellsWhence x word) (λ is. is)
+    (named word (codes "end") End w None (λ x. SpellsWhence x word) (λ is. is) (λ e. absurd (cc))))
 
 whence_again : (w : Whence) (word : Bytes) → SpellsWhence w word → whence_of word ≡ Some w
 whence_again Set word h = rw h refl
@@ -212,16 +211,17 @@ descriptor_found word o None is e = absurd (cc)
 origin_found : (word : Bytes) (o : Origin) → origin_of word ≡ Some o → SpellsOrigin o word
 origin_found word o =
     named word (codes "cwd") WorkingDirectory o (option_map Descriptor (operand_of word)) (λ x. SpellsOrigin x word) (λ is. is)
-      (λ e. descriptor_found word o (operand_of word) refl e)
+    (λ e. descriptor_found word o (operand_of word) refl e)
 
 -- an operand is not `cwd`
 no_operand_cwd : (word : Bytes) (d : Operand) → SpellsOperand d word → bytes_eq word (codes "cwd") ≡ false
 no_operand_cwd word d h = elim (bytes_eq word (codes "cwd")) as (λ t. bytes_eq word (codes "cwd") ≡ t → t ≡ false) [
-    true ↦ λ is.
+  | true ↦ λ is.
       let e : word ≡ codes "cwd" = (bytes_eq-Decides word (codes "cwd")).0 is in
       let none : None ≡ Some d = ap operand_of (sym e) ∙ operand_again d word h in
       absurd (cc)
-  | false ↦ λ is. refl ] refl
+  | false ↦ λ is. refl
+] refl
 
 origin_again : (o : Origin) (word : Bytes) → SpellsOrigin o word → origin_of word ≡ Some o
 origin_again WorkingDirectory word h = rw h refl

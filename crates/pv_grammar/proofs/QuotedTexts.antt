@@ -1,7 +1,7 @@
 -- Texts in quotation marks.
-use Rattle.std.proofs.Common.{◌≡◌, ◌≢◌, ◌⊎◌, inl, inr, ℕ, ◌+◌, ◌-◌, ◌*◌, ◌/◌, ◌%◌, ◌<◌, ◌≤◌, Bool, true, false, cond, not, ◌&&◌, ◌==◌, nat_le, nat_lt, List, [], ◌∷◌, ◌++◌, length, Option, None, Some, ap, sym, ◌∙◌, refl, subst, append_assoc, arith, eqb-true, leb-true, le-leb}
-use Rattle.std.specs.Prelude.{IsTrue, codes}
-use Rattle.std.proofs.lemmas.Bool.{cond_both, and_parts, and_from, ne_eqb, eqb-false, cond-true, cond-false, leb-false, ltb-false, ltb-true, lt-ltb, le-ltb, lt-leb, and_left, not-true}
+use Rattle.std.proofs.Common.{◌≡◌, ◌≢◌, ℕ, ◌+◌, ◌-◌, ◌*◌, ◌/◌, ◌%◌, ◌<◌, ◌≤◌, true, false, cond, not, ◌&&◌, ◌==◌, nat_le, nat_lt, [], ◌∷◌, ◌++◌, length, Option, None, Some, ap, sym, ◌∙◌, refl, subst, append_assoc, arith, eqb-true, leb-true, le-leb}
+use Rattle.std.specs.Prelude.{codes}
+use Rattle.std.proofs.lemmas.Bool.{cond_both, and_parts, and_from, ne_eqb, eqb-false, cond-true, cond-false, ltb-false, ltb-true, lt-ltb, le-ltb, lt-leb, not-true}
 use Rattle.std.proofs.lemmas.Option.{cond_some, same_Some, some_pair_parts}
 use Rattle.pv_model.specs.Bytes.{Bytes}
 use Rattle.pv_model.specs.Trace.{hex_digit, hex_byte, is_plain}
@@ -19,26 +19,23 @@ hex_digit_low d h = cond-true (nat_lt d 10) (48 + d) (87 + d) (lt-ltb d 10 h)
 hex_digit_high : (d : ℕ) → 10 ≤ d → hex_digit d ≡ 87 + d
 hex_digit_high d h = cond-false (nat_lt d 10) (48 + d) (87 + d) (le-ltb d 10 h)
 
-letter_value : (b : ℕ) → Option ℕ
-letter_value b = cond (nat_le 97 b && nat_le b 102) (Some (b - 87)) None
-
 hex_value_found : (b d : ℕ) → hex_value b ≡ Some d → (d < 16) × (hex_digit d ≡ b)
 hex_value_found b d e = cond_both (nat_le 48 b && nat_le b 57) (Some (b - 48)) (cond (nat_le 97 b && nat_le b 102) (Some (b - 87)) None) (λ r. r ≡ Some d → (d < 16) × (hex_digit d ≡ b))
     (λ is h.
-      let same = same_Some (b - 48) d h in
-      let parts = and_parts (nat_le 48 b) (nat_le b 57) is in
-      let low = leb-true 48 b parts.0 in
-      let high = leb-true b 57 parts.1 in
-      let value : 48 + d ≡ b = omega arith in
-      (omega arith, hex_digit_low d (omega arith) ∙ value))
+    let same = same_Some (b - 48) d h in
+    let parts = and_parts (nat_le 48 b) (nat_le b 57) is in
+    let low = leb-true 48 b parts.0 in
+    let high = leb-true b 57 parts.1 in
+    let value : 48 + d ≡ b = omega arith in
+    (omega arith, hex_digit_low d (omega arith) ∙ value))
     (λ is h.
-      let found = cond_some (nat_le 97 b && nat_le b 102) (b - 87) d h in
-      let parts = and_parts (nat_le 97 b) (nat_le b 102) found.0 in
-      let low = leb-true 97 b parts.0 in
-      let high = leb-true b 102 parts.1 in
-      let same = found.1 in
-      let value : 87 + d ≡ b = omega arith in
-      (omega arith, hex_digit_high d (omega arith) ∙ value)) e
+    let found = cond_some (nat_le 97 b && nat_le b 102) (b - 87) d h in
+    let parts = and_parts (nat_le 97 b) (nat_le b 102) found.0 in
+    let low = leb-true 97 b parts.0 in
+    let high = leb-true b 102 parts.1 in
+    let same = found.1 in
+    let value : 87 + d ≡ b = omega arith in
+    (omega arith, hex_digit_high d (omega arith) ∙ value)) e
 
 digit_value : (d : ℕ) → d < 10 → hex_value (48 + d) ≡ Some d
 digit_value d h =
@@ -103,18 +100,18 @@ module _ (b : ℕ) (bs : Bytes) (onward : Onward) (known : Known bs onward) wher
   found_outside : (value rest : Bytes) → text_outside b bs onward ≡ Some (value, rest) → Within outside value (b ∷ bs) rest
   found_outside value rest e =
       cond_both (b == 34) (Some ([], bs)) (cond (b == 92) (onward behind_backslash) (cond (is_plain b) (onto_text b (onward outside)) None)) (λ r. r ≡ Some (value, rest) → Within outside value (b ∷ bs) rest)
-        (λ is h. found_end value rest (eqb-true b 34 is) h)
-        (λ is. cond_both (b == 92) (onward behind_backslash) (cond (is_plain b) (onto_text b (onward outside)) None) (λ r. r ≡ Some (value, rest) → Within outside value (b ∷ bs) rest)
-          (λ back h. found_escape value rest (eqb-true b 92 back) h)
-          (λ back. cond_both (is_plain b) (onto_text b (onward outside)) None (λ r. r ≡ Some (value, rest) → Within outside value (b ∷ bs) rest)
-            (λ prints h. found_plain value rest prints h)
-            (λ prints h. absurd (cc)))) e
+      (λ is h. found_end value rest (eqb-true b 34 is) h)
+      (λ is. cond_both (b == 92) (onward behind_backslash) (cond (is_plain b) (onto_text b (onward outside)) None) (λ r. r ≡ Some (value, rest) → Within outside value (b ∷ bs) rest)
+      (λ back h. found_escape value rest (eqb-true b 92 back) h)
+      (λ back. cond_both (is_plain b) (onto_text b (onward outside)) None (λ r. r ≡ Some (value, rest) → Within outside value (b ∷ bs) rest)
+      (λ prints h. found_plain value rest prints h)
+      (λ prints h. absurd (cc)))) e
 
   found_backslash : (value rest : Bytes) → text_step b bs onward behind_backslash ≡ Some (value, rest) → Within behind_backslash value (b ∷ bs) rest
   found_backslash value rest e = cond_both (b == 120) (onward behind_x) None (λ r. r ≡ Some (value, rest) → Within behind_backslash value (b ∷ bs) rest)
       (λ is h.
-        let more = known behind_x value rest h in
-        (120 ∷ more.0, more.1, ap (λ c. c ∷ bs) (eqb-true b 120 is) ∙ ap (λ r. 120 ∷ r) more.2))
+      let more = known behind_x value rest h in
+      (120 ∷ more.0, more.1, ap (λ c. c ∷ bs) (eqb-true b 120 is) ∙ ap (λ r. 120 ∷ r) more.2))
       (λ is h. absurd (cc)) e
 
   found_first : (o : Option ℕ) → hex_value b ≡ o → (value rest : Bytes) → first_digit onward o ≡ Some (value, rest) → Within behind_x value (b ∷ bs) rest
@@ -129,16 +126,16 @@ module _ (b : ℕ) (bs : Bytes) (onward : Onward) (known : Known bs onward) wher
   found_second high fits None is value rest e = absurd (cc)
   found_second high fits (Some low) is value rest e =
       cond_both (16 * high + low == 0) None (onto_text (16 * high + low) (onward outside)) (λ r. r ≡ Some (value, rest) → (spelled : Bytes) × SpellsBytes value (92 ∷ 120 ∷ hex_digit high ∷ spelled) × (b ∷ bs ≡ spelled ++ 34 ∷ rest))
-        (λ zeros h. absurd (cc))
-        (λ other h.
-          let digit = hex_value_found b low is in
-          let p = onto_text_found (16 * high + low) (onward outside) value rest h in
-          let more = known outside p.0 rest p.1 in
-          let some = eqb-false (16 * high + low) 0 other in
-          let spells : SpellsBytes ((16 * high + low) ∷ p.0) (codes "\\x" ++ hex_byte (16 * high + low) ++ more.0) = escaped (16 * high + low) p.0 more.0 (omega arith) (omega arith) more.1 in
-          let digits : codes "\\x" ++ hex_byte (16 * high + low) ++ more.0 ≡ 92 ∷ 120 ∷ hex_digit high ∷ hex_digit low ∷ more.0 = ap (λ t. codes "\\x" ++ t ++ more.0) (hex_byte_of high low fits digit.0) in
-          let here : SpellsBytes value (92 ∷ 120 ∷ hex_digit high ∷ hex_digit low ∷ more.0) = subst (λ v. SpellsBytes v (92 ∷ 120 ∷ hex_digit high ∷ hex_digit low ∷ more.0)) (sym p.2) (subst (SpellsBytes ((16 * high + low) ∷ p.0)) digits spells) in
-          (hex_digit low ∷ more.0, here, ap (λ c. c ∷ bs) (sym digit.1) ∙ ap (λ r. hex_digit low ∷ r) more.2)) e
+      (λ zeros h. absurd (cc))
+      (λ other h.
+      let digit = hex_value_found b low is in
+      let p = onto_text_found (16 * high + low) (onward outside) value rest h in
+      let more = known outside p.0 rest p.1 in
+      let some = eqb-false (16 * high + low) 0 other in
+      let spells : SpellsBytes ((16 * high + low) ∷ p.0) (codes "\\x" ++ hex_byte (16 * high + low) ++ more.0) = escaped (16 * high + low) p.0 more.0 (omega arith) (omega arith) more.1 in
+      let digits : codes "\\x" ++ hex_byte (16 * high + low) ++ more.0 ≡ 92 ∷ 120 ∷ hex_digit high ∷ hex_digit low ∷ more.0 = ap (λ t. codes "\\x" ++ t ++ more.0) (hex_byte_of high low fits digit.0) in
+      let here : SpellsBytes value (92 ∷ 120 ∷ hex_digit high ∷ hex_digit low ∷ more.0) = subst (λ v. SpellsBytes v (92 ∷ 120 ∷ hex_digit high ∷ hex_digit low ∷ more.0)) (sym p.2) (subst (SpellsBytes ((16 * high + low) ∷ p.0)) digits spells) in
+      (hex_digit low ∷ more.0, here, ap (λ c. c ∷ bs) (sym digit.1) ∙ ap (λ r. hex_digit low ∷ r) more.2)) e
 
   found_step : Known (b ∷ bs) (text_step b bs onward)
   found_step outside value rest e = found_outside value rest e
@@ -162,11 +159,11 @@ unfolding text_at
 text_found [] value rest e = absurd (cc)
 text_found (b ∷ bs) value rest e = cond_both (b == 34) (if_short (text_rest bs outside)) None (λ r. r ≡ Some (value, rest) → SpelledAt SpellsText (b ∷ bs) value rest)
     (λ is h.
-      let short = if_short_found (text_rest bs outside) value rest h in
-      let within = found_rest bs outside value rest short.0 in
-      let regroup : within.0 ++ 34 ∷ rest ≡ (within.0 ++ 34 ∷ []) ++ rest = sym (append_assoc within.0 (34 ∷ []) rest) in
-      let spells : SpellsText value (34 ∷ within.0 ++ 34 ∷ []) = (within.0, within.1, short.1, refl) in
-      (34 ∷ within.0 ++ 34 ∷ [], spells, ap (λ c. c ∷ bs) (eqb-true b 34 is) ∙ ap (λ r. 34 ∷ r) (within.2 ∙ regroup)))
+    let short = if_short_found (text_rest bs outside) value rest h in
+    let within = found_rest bs outside value rest short.0 in
+    let regroup : within.0 ++ 34 ∷ rest ≡ (within.0 ++ 34 ∷ []) ++ rest = sym (append_assoc within.0 (34 ∷ []) rest) in
+    let spells : SpellsText value (34 ∷ within.0 ++ 34 ∷ []) = (within.0, within.1, short.1, refl) in
+    (34 ∷ within.0 ++ 34 ∷ [], spells, ap (λ c. c ∷ bs) (eqb-true b 34 is) ∙ ap (λ r. 34 ∷ r) (within.2 ∙ regroup)))
     (λ is h. absurd (cc)) e
 
 -- ---- what is spelled so is found
@@ -218,8 +215,8 @@ null_spells bytes (Some value) rest h = absurd h.1
 text_or_null_found : (bytes : Bytes) (o : Option Bytes) (rest : Bytes) → text_or_null_at bytes ≡ Some (o, rest) → SpelledAt SpellsTextOrNull bytes o rest
 text_or_null_found bytes o rest e = cond_both (begins_text bytes) (some_text (text_at bytes)) (word_at null_of bytes) (λ r. r ≡ Some (o, rest) → SpelledAt SpellsTextOrNull bytes o rest)
     (λ is h.
-      let text = some_text_found (text_at bytes) o rest h in
-      subst (λ v. SpelledAt SpellsTextOrNull bytes v rest) (sym text.1) (text_found bytes text.0 rest text.2))
+    let text = some_text_found (text_at bytes) o rest h in
+    subst (λ v. SpelledAt SpellsTextOrNull bytes v rest) (sym text.1) (text_found bytes text.0 rest text.2))
     (λ is h. null_spells bytes o rest ((reads_word null_of SpellsNull reads_null).found bytes o rest h)) e
 
 begins_text_word : (value word rest : Bytes) → SpellsText value word → begins_text (word ++ rest) ≡ true

@@ -1,5 +1,5 @@
 -- What it is to read an argument: what is found is spelled so, and what is spelled so is found.
-use Rattle.std.proofs.Common.{◌≡◌, ℕ, Bool, true, false, List, [], ◌∷◌, ◌++◌, Option, None, Some, ap, sym, ◌∙◌, refl, subst}
+use Rattle.std.proofs.Common.{◌≡◌, true, ◌++◌, Option, None, Some, ap, refl, subst}
 use Rattle.std.proofs.lemmas.Option.{some_pair_parts}
 use Rattle.pv_model.specs.Bytes.{Bytes}
 use Rattle.pv_model.specs.Grammar.Arguments.{Parsed, with_rest, word_at}

@@ -1,5 +1,5 @@
 -- Lines of a text.
-use Rattle.std.proofs.Common.{◌≡◌, ◌≢◌, ◌⊎◌, inl, inr, ℕ, Bool, true, false, cond, ◌==◌, List, [], ◌∷◌, ◌++◌, ap, sym, ◌∙◌, refl, append_assoc, append-nil, eqb-true, ne_eqb}
+use Rattle.std.proofs.Common.{◌≡◌, ◌≢◌, inl, inr, ℕ, ◌==◌, List, [], ◌∷◌, ◌++◌, ap, sym, ◌∙◌, refl, append_assoc, append-nil, eqb-true, ne_eqb}
 use Rattle.std.proofs.lemmas.Bool.{cond_both, eqb-false}
 use Rattle.std.specs.List.{AllByRecursion}
 use Rattle.pv_model.specs.Bytes.{Bytes, onto_first}
@@ -34,16 +34,21 @@ lines_of-lacking front (b ∷ last) some h =
 
 pub lines_from_relation : (bytes : Bytes) (lines : List Bytes) → HasLines bytes lines → lines_of bytes ≡ lines
 lines_from_relation bytes lines h = elim h.1 [
-    inl whole ↦ ap lines_of (whole ∙ sym (append-nil (ended lines))) ∙ lines_of-ended lines [] h.0 ∙ append-nil lines
+  | inl whole ↦ ap lines_of (whole ∙ sym (append-nil (ended lines))) ∙ lines_of-ended lines [] h.0 ∙ append-nil lines
   | inr lacks ↦
       let all : AllByRecursion IsLine (lacks.0 ++ lacks.1 ∷ []) = rw lacks.3 at h.0 in
-      ap lines_of lacks.4 ∙ lines_of-lacking lacks.0 lacks.1 lacks.2 all ∙ sym lacks.3 ]
+      ap lines_of lacks.4 ∙ lines_of-lacking lacks.0 lacks.1 lacks.2 all ∙ sym lacks.3
+]
 
 -- a byte more at the front of a text
 after_end : (bs : Bytes) (lines : List Bytes) → HasLines bs lines → HasLines (10 ∷ bs) ([] ∷ lines)
-after_end bs lines h = ((tt, h.0), elim h.1 [
-    inl whole ↦ inl (ap (λ r. 10 ∷ r) whole)
-  | inr lacks ↦ inr (([] ∷ lacks.0), lacks.1, lacks.2, ap (λ ls. [] ∷ ls) lacks.3, ap (λ r. 10 ∷ r) lacks.4) ])
+after_end bs lines h = (
+  (tt, h.0),
+  elim h.1 [
+    | inl whole ↦ inl (ap (λ r. 10 ∷ r) whole)
+    | inr lacks ↦ inr (([] ∷ lacks.0), lacks.1, lacks.2, ap (λ ls. [] ∷ ls) lacks.3, ap (λ r. 10 ∷ r) lacks.4)
+  ],
+)
 
 lacking_more : (b : ℕ) (bs p : Bytes) (ps front : List Bytes) (last : Bytes) → last ≢ [] → p ∷ ps ≡ front ++ last ∷ [] → bs ≡ ended front ++ last → LacksLastEnd (b ∷ bs) ((b ∷ p) ∷ ps)
 lacking_more b bs p ps [] last some is bytes =
@@ -63,9 +68,13 @@ empty_when_none bs h = elim h.1 [ inl whole ↦ whole | inr lacks ↦ no_lines l
 more_in_line : (b : ℕ) (bs : Bytes) (lines : List Bytes) → b ≢ 10 → HasLines bs lines → HasLines (b ∷ bs) (onto_first b lines)
 more_in_line b bs [] other h =
     (((other, tt), tt), inr ([], b ∷ [], (λ e. cc), refl, ap (λ r. b ∷ r) (empty_when_none bs h)))
-more_in_line b bs (p ∷ ps) other h = (((other, h.0.0), h.0.1), elim h.1 [
-    inl whole ↦ inl (ap (λ r. b ∷ r) whole)
-  | inr lacks ↦ inr (lacking_more b bs p ps lacks.0 lacks.1 lacks.2 lacks.3 lacks.4) ])
+more_in_line b bs (p ∷ ps) other h = (
+  ((other, h.0.0), h.0.1),
+  elim h.1 [
+    | inl whole ↦ inl (ap (λ r. b ∷ r) whole)
+    | inr lacks ↦ inr (lacking_more b bs p ps lacks.0 lacks.1 lacks.2 lacks.3 lacks.4)
+  ],
+)
 
 pub HasLines-lines_of : (bytes : Bytes) → HasLines bytes (lines_of bytes)
 HasLines-lines_of [] = (tt, inl refl)

@@ -1,17 +1,17 @@
 -- Manifests and bundles, line by line.
-use Rattle.std.proofs.Common.{◌≡◌, ◌≢◌, ◌⊎◌, inl, inr, ℕ, zero, suc, ◌+◌, ◌<◌, ◌≤◌, Bool, true, false, cond, not, ◌&&◌, nat_le, List, [], ◌∷◌, ◌++◌, length, Option, None, Some, Result, Ok, Err, ap, sym, ◌∙◌, refl, subst, arith, leb-true, le-leb}
-use Rattle.std.specs.Prelude.{codes, bytes_eq}
+use Rattle.std.proofs.Common.{◌≡◌, ◌⊎◌, inl, inr, ℕ, zero, suc, ◌+◌, ◌≤◌, Bool, true, false, cond, ◌&&◌, nat_le, List, [], ◌∷◌, ◌++◌, length, Option, None, Some, Result, Ok, Err, ap, sym, ◌∙◌, refl, subst, arith, leb-true, le-leb}
+use Rattle.std.specs.Prelude.{codes}
 use Rattle.std.proofs.lemmas.Bool.{cond_both, cond-true, cond-false, and_parts, and_from, false_from_ne_true}
 use Rattle.std.proofs.lemmas.Slice.Eq.{bytes_eq-Decides}
 use Rattle.pv_model.specs.declared.fault.ManifestFault.{ManifestFault}
 use Rattle.pv_model.specs.declared.fault.ManifestFault.TheVariants.{Form, Size}
 use Rattle.pv_model.specs.Bytes.{Bytes}
-use Rattle.pv_model.specs.Grammar.Entries.{SpellsEntry, of_directory, of_file, of_program, of_link, of_name, Lists, at_end as ends, at_schedule, entry, SpellsSizes, AreSizes, HasForm, SpellsManifest, HasNoForm, no_schedule, no_entry, further, HasNoSizes, IsFirstWithoutForm, HasOtherSizes}
+use Rattle.pv_model.specs.Grammar.Entries.{SpellsEntry, of_directory, of_file, of_program, of_link, of_name, Lists, at_end as ends, at_schedule, entry, SpellsSizes, AreSizes, SpellsManifest, HasNoForm, no_schedule, no_entry, further, HasNoSizes, IsFirstWithoutForm, HasOtherSizes}
 use Rattle.pv_model.specs.Grammar.Lines.{lines_of}
-use Rattle.pv_model.specs.Grammar.Manifests.{Taking, entry_of, Listed, onto_listed, or_form, is_schedule_line, at_end, at_line, entries_from, Manifest, sizes_of, inode_table_blocks, are_sizes, if_sizes, with_entries, behind_sizes, manifest_by, read_manifest, read_bundle}
+use Rattle.pv_model.specs.Grammar.Manifests.{Taking, entry_of, Listed, onto_listed, or_form, is_schedule_line, at_end, entries_from, Manifest, sizes_of, inode_table_blocks, are_sizes, if_sizes, with_entries, behind_sizes, manifest_by}
 use Rattle.pv_model.specs.Grammar.Texts.{HasLines}
 use Rattle.pv_model.specs.Manifest.{Entry}
-use Rattle.pv_grammar.proofs.EntryLines.{EntryFound, entry_found, entry_again, SpellsSizes-sizes_of, sizes_of-SpellsSizes}
+use Rattle.pv_grammar.proofs.EntryLines.{entry_found, entry_again, SpellsSizes-sizes_of, sizes_of-SpellsSizes}
 use Rattle.pv_grammar.proofs.TextLines.{lines_from_relation, HasLines-lines_of}
 
 abbrev Reading : Type 0
@@ -96,9 +96,9 @@ module _ (in_bundle : Bool) where
       → ((k : ℕ) (q : Listed) → k ≤ length lines → from_line lines (suc n) k ≡ Ok q → Listing lines (suc n) k q) → Lists in_bundle n (line ∷ lines) l
   lists_line line lines n l e onward = cond_both (in_bundle && is_schedule_line line) (Ok (record { entries = []; behind = lines })) (or_form n (entry_of line lines) (from_line lines (suc n))) (λ r. r ≡ Ok l → Lists in_bundle n (line ∷ lines) l)
       (λ is h.
-        let end = is_end_line line is in
-        let same : ◌≡◌ {A = Listed} (record { entries = []; behind = lines }) l = cc in
-        subst (λ s. Lists in_bundle n (s ∷ lines) l) (sym end.1) (subst (Lists in_bundle n (codes "schedule" ∷ lines)) same (at_schedule n lines end.0)))
+      let end = is_end_line line is in
+      let same : ◌≡◌ {A = Listed} (record { entries = []; behind = lines }) l = cc in
+      subst (λ s. Lists in_bundle n (s ∷ lines) l) (sym end.1) (subst (Lists in_bundle n (codes "schedule" ∷ lines)) same (at_schedule n lines end.0)))
       (λ is h. lists_entry line lines n l (entry_of line lines) refl h onward) e
 
   ok_found : (lines : List Bytes) (n k : ℕ) (l : Listed) → k ≤ length lines → from_line lines n k ≡ Ok l → Listing lines n k l
@@ -153,11 +153,12 @@ module _ (in_bundle : Bool) where
   missing_entry : (line : Bytes) (lines : List Bytes) (n : ℕ) (f : ManifestFault) (o : Option Taking) → (in_bundle && is_schedule_line line) ≡ false → entry_of line lines ≡ o → or_form n o (from_line lines (suc n)) ≡ Err f
       → ((k : ℕ) (g : ManifestFault) → k ≤ length lines → from_line lines (suc n) k ≡ Err g → Missing lines (suc n) k g) → MissingHere (line ∷ lines) n f
   missing_entry line lines n f None no_end is e onward = record {
-      at = n;
-      named = sym (let same : Form n ≡ f = cc in same);
-      missing = no_entry n line lines
+    at = n;
+    named = sym (let same : Form n ≡ f = cc in same);
+    missing = no_entry n line lines
         (λ bundle schedule. let t : (in_bundle && is_schedule_line line) ≡ true = and_from in_bundle (is_schedule_line line) bundle ((bytes_eq-Decides line (codes "schedule")).1 schedule) in absurd (cc))
-        (λ body behind e whole spells. let t : None ≡ Some (e, length body) = sym is ∙ ap (entry_of line) whole ∙ entry_again line body e spells behind in absurd (cc)) }
+        (λ body behind e whole spells. let t : None ≡ Some (e, length body) = sym is ∙ ap (entry_of line) whole ∙ entry_again line body e spells behind in absurd (cc));
+  }
   missing_entry line lines n f (Some t) no_end is e onward =
       let found = entry_found line lines t is in
       let more = onward t.1 f (front_within found.0 found.1 lines t.1 found.2 found.3) (onto_listed_err n t.0 (from_line lines (suc n) t.1) f e) in
@@ -195,7 +196,7 @@ module _ (in_bundle : Bool) where
   err_again _ _ _ (no_schedule n is) = ap (λ b. at_end b n) is
   err_again _ _ _ (no_entry n line rest other none) =
       cond-false (in_bundle && is_schedule_line line) (Ok (record { entries = []; behind = rest })) (or_form n (entry_of line rest) (from_line rest (suc n)))
-        (false_from_ne_true (in_bundle && is_schedule_line line) (λ is. let end = is_end_line line is in other end.0 end.1))
+      (false_from_ne_true (in_bundle && is_schedule_line line) (λ is. let end = is_end_line line is in other end.0 end.1))
       ∙ ap (λ o. or_form n o (from_line rest (suc n))) (no_entry_of line rest (entry_of line rest) refl none)
   err_again _ _ _ (further n m line body rest e spells more) =
       past_entry line body rest e n spells ∙ ap (onto_listed n e) (err_again (n + 1 + length body) rest m more)
@@ -212,10 +213,10 @@ are_sizes_found blocks inodes h =
 are_sizes_again : (blocks inodes : ℕ) → AreSizes blocks inodes → are_sizes blocks inodes ≡ true
 are_sizes_again blocks inodes h =
     and_from (nat_le 1 inodes && nat_le inodes 4096 && nat_le (inode_table_blocks inodes + 1) blocks) (nat_le blocks 8192)
-      (and_from (nat_le 1 inodes && nat_le inodes 4096) (nat_le (inode_table_blocks inodes + 1) blocks)
-        (and_from (nat_le 1 inodes) (nat_le inodes 4096) (le-leb 1 inodes h.0) (le-leb inodes 4096 h.1))
-        (le-leb (inode_table_blocks inodes + 1) blocks h.2))
-      (le-leb blocks 8192 h.3)
+    (and_from (nat_le 1 inodes && nat_le inodes 4096) (nat_le (inode_table_blocks inodes + 1) blocks)
+    (and_from (nat_le 1 inodes) (nat_le inodes 4096) (le-leb 1 inodes h.0) (le-leb inodes 4096 h.1))
+    (le-leb (inode_table_blocks inodes + 1) blocks h.2))
+    (le-leb blocks 8192 h.3)
 
 -- ---- whole texts
 
@@ -256,9 +257,12 @@ module _ (in_bundle : Bool) where
       subst (λ g. SoundWhole (first ∷ rest) (Err g)) (sym found.named) (inr (first, rest, blocks, inodes, refl, spells, missing))
 
   first_sound : (first : Bytes) (rest : List Bytes) (o : Option (ℕ × ℕ)) → sizes_of first ≡ o → SoundWhole (first ∷ rest) (behind_sizes o (entries_from in_bundle entry_of rest 2 0))
-  first_sound first rest None is = inl (refl, λ f r blocks inodes e spells.
-      let same : first ≡ f = cc in
-      let t : None ≡ Some (blocks, inodes) = sym is ∙ ap sizes_of same ∙ sizes_of-SpellsSizes f blocks inodes spells in absurd (cc))
+  first_sound first rest None is = inl (
+    refl,
+    λ f r blocks inodes e spells.
+        let same : first ≡ f = cc in
+        let t : None ≡ Some (blocks, inodes) = sym is ∙ ap sizes_of same ∙ sizes_of-SpellsSizes f blocks inodes spells in absurd (cc),
+  )
   first_sound first rest (Some sizes) is = entries_sound first rest sizes.0 sizes.1 (entries_from in_bundle entry_of rest 2 0) (SpellsSizes-sizes_of first sizes is) refl
 
   sound : (lines : List Bytes) → SoundWhole lines (whole lines)

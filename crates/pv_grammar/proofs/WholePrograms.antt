@@ -1,5 +1,5 @@
 -- Programs, line by line.
-use Rattle.std.proofs.Common.{◌≡◌, ◌≢◌, ◌⊎◌, inl, inr, ℕ, suc, min, ◌+◌, ◌<◌, ◌≤◌, Bool, true, false, cond, ◌==◌, List, [], ◌∷◌, ◌++◌, length, Option, None, Some, Result, Ok, Err, ap, sym, ◌∙◌, refl, subst, arith, eqb-true, eq-eqb}
+use Rattle.std.proofs.Common.{◌≡◌, ◌≢◌, ◌⊎◌, inl, inr, ℕ, suc, min, ◌+◌, ◌≤◌, ◌==◌, List, [], ◌∷◌, ◌++◌, length, Some, Result, Ok, Err, ap, sym, ◌∙◌, refl, subst, arith, eqb-true, eq-eqb}
 use Rattle.std.specs.Result.{result_ok}
 use Rattle.std.proofs.lemmas.Bool.{cond_both, cond-true, cond-false, eqb-false, ne_eqb}
 use Rattle.std.proofs.lemmas.Option.{same_Some}
@@ -13,7 +13,7 @@ use Rattle.pv_model.specs.Grammar.Forms.{SpellsLine, IsWrong}
 use Rattle.pv_model.specs.Grammar.Instructions.{instruction_of}
 use Rattle.pv_model.specs.Grammar.Lines.{lines_of}
 use Rattle.pv_model.specs.Grammar.Programs.{onto_program, or_line, program_from, program_of_lines, read_program, program_of}
-use Rattle.pv_model.specs.Grammar.Texts.{HasLines, SpellLines, SpellsProgram, LineOfText, reach, AreInstructions, IsFirstWrong}
+use Rattle.pv_model.specs.Grammar.Texts.{HasLines, SpellLines, SpellsProgram, reach, AreInstructions, IsFirstWrong}
 use Rattle.pv_model.specs.State.{Program}
 use Rattle.pv_grammar.proofs.InstructionLines.{SpellsLine-instruction_of, instruction_of-SpellsLine, IsWrong-instruction_of, instruction_of-IsWrong}
 use Rattle.pv_grammar.proofs.TextLines.{lines_from_relation, HasLines-lines_of}
@@ -42,13 +42,13 @@ module _ (count : ℕ) where
   ok_found [] n p h e = (subst (SpellLines count []) (let same : [] ≡ p = cc in same) tt, omega arith)
   ok_found (line ∷ lines) n p h e =
       cond_both (n == 257) (Err (Line 257 TooMany)) (or_line n (instruction_of count line) (program_from (instruction_of count) lines (suc n))) (λ r. r ≡ Ok p → SpellLines count (line ∷ lines) p × (suc (length lines) + n ≤ 257))
-        (λ is k. absurd (cc))
-        (λ is k.
-          let other = eqb-false n 257 is in
-          let parts = line_ok n line lines (instruction_of count line) (program_from (instruction_of count) lines (suc n)) p refl k in
-          let more = ok_found lines (suc n) parts.1 (omega arith) parts.3 in
-          let bound = more.1 in
-          (subst (SpellLines count (line ∷ lines)) parts.4 (parts.2, more.0), omega arith)) e
+      (λ is k. absurd (cc))
+      (λ is k.
+      let other = eqb-false n 257 is in
+      let parts = line_ok n line lines (instruction_of count line) (program_from (instruction_of count) lines (suc n)) p refl k in
+      let more = ok_found lines (suc n) parts.1 (omega arith) parts.3 in
+      let bound = more.1 in
+      (subst (SpellLines count (line ∷ lines)) parts.4 (parts.2, more.0), omega arith)) e
 
   ok_again : (lines : List Bytes) (n : ℕ) (p : Program) → SpellLines count lines p → length lines + n ≤ 257 → program_from (instruction_of count) lines n ≡ Ok p
   ok_again [] n [] h fits = refl
@@ -78,8 +78,14 @@ module _ (count : ℕ) where
 
   first_later : (line : Bytes) (i : Instruction) (lines : List Bytes) (n m : ℕ) (what : What) → SpellsLine count line i → FirstWrong lines (suc n) m what → FirstWrong (line ∷ lines) n m what
   first_later line i lines n m what spells w = record {
-      front = line ∷ w.front; line = w.line; rest = w.rest; whole = ap (λ ls. line ∷ ls) w.whole;
-      number = (let e = w.number in omega arith); before = (i ∷ w.before.0, (spells, w.before.1)); fault = w.fault }
+    front = line ∷ w.front;
+    line = w.line;
+    rest = w.rest;
+    whole = ap (λ ls. line ∷ ls) w.whole;
+    number = (let e = w.number in omega arith);
+    before = (i ∷ w.before.0, (spells, w.before.1));
+    fault = w.fault;
+  }
 
   line_err : (n m : ℕ) (what : What) (line : Bytes) (lines : List Bytes) → n ≤ 256 → (r : Result Instruction What) (rest : Outcome) → instruction_of count line ≡ r → or_line n r rest ≡ Err (Line m what)
       → (rest ≡ Err (Line m what) → FirstWrong lines (suc n) m what) → FirstWrong (line ∷ lines) n m what
@@ -93,15 +99,15 @@ module _ (count : ℕ) where
   err_found [] n m what h e = absurd (cc)
   err_found (line ∷ lines) n m what h e =
       cond_both (n == 257) (Err (Line 257 TooMany)) (or_line n (instruction_of count line) (program_from (instruction_of count) lines (suc n))) (λ r. r ≡ Err (Line m what) → FirstWrong (line ∷ lines) n m what)
-        (λ is k.
-          let at : 257 ≡ m = cc in
-          let same : TooMany ≡ what = cc in
-          let here : n ≡ 257 = eqb-true n 257 is in
-          first_here line lines n m what (omega arith) (inr (sym at, sym same)))
-        (λ is k.
-          let other = eqb-false n 257 is in
-          let small : n ≤ 256 = omega arith in
-          line_err n m what line lines small (instruction_of count line) (program_from (instruction_of count) lines (suc n)) refl k (λ j. err_found lines (suc n) m what (omega arith) j)) e
+      (λ is k.
+      let at : 257 ≡ m = cc in
+      let same : TooMany ≡ what = cc in
+      let here : n ≡ 257 = eqb-true n 257 is in
+      first_here line lines n m what (omega arith) (inr (sym at, sym same)))
+      (λ is k.
+      let other = eqb-false n 257 is in
+      let small : n ≤ 256 = omega arith in
+      line_err n m what line lines small (instruction_of count line) (program_from (instruction_of count) lines (suc n)) refl k (λ j. err_found lines (suc n) m what (omega arith) j)) e
 
   err_here : (line : Bytes) (rest : List Bytes) (n : ℕ) (what : What) → IsFault n line what → program_from (instruction_of count) (line ∷ rest) n ≡ Err (Line n what)
   err_here line rest n what (inl h) =
@@ -171,9 +177,15 @@ unfolding read_program
 IsFirstWrong-read_program bytes n what e =
     let count = min (length (lines_of bytes)) 256 in
     let w = err_found count (lines_of bytes) 1 n what (omega arith) e in
-    let same : count ≡ reach w.front w.line w.rest = ap (λ ls. min (length ls) 256) w.whole in
-    (w.front, w.line, w.rest, subst (HasLines bytes) w.whole (HasLines-lines_of bytes), w.number,
-      subst (λ c. AreInstructions c w.front) same w.before, subst (λ c. IsFault c n w.line what) same w.fault)
+    let same : count ≡ reach w.front w.line w.rest = ap (λ ls. min (length ls) 256) w.whole in (
+      w.front,
+      w.line,
+      w.rest,
+      subst (HasLines bytes) w.whole (HasLines-lines_of bytes),
+      w.number,
+      subst (λ c. AreInstructions c w.front) same w.before,
+      subst (λ c. IsFault c n w.line what) same w.fault,
+    )
 
 fault_within : (count m : ℕ) (line : Bytes) (what : What) → IsFault count m line what → m ≤ 257
 fault_within count m line what (inl h) = let small = h.0 in omega arith

@@ -1,16 +1,16 @@
 -- Schedules, line by line.
-use Rattle.std.proofs.Common.{◌≡◌, ◌≢◌, ◌⊎◌, inl, inr, ℕ, suc, ◌+◌, ◌^◌, ◌<◌, ◌≤◌, Bool, true, false, cond, ◌&&◌, ◌==◌, nat_le, List, [], ◌∷◌, ◌++◌, length, Option, None, Some, Result, Ok, Err, ap, sym, ◌∙◌, refl, subst, append-nil, arith, eqb-true, eq-eqb, leb-true, le-leb}
+use Rattle.std.proofs.Common.{◌≡◌, ◌≢◌, ◌⊎◌, inl, inr, ℕ, suc, ◌+◌, ◌≤◌, true, cond, ◌&&◌, ◌==◌, nat_le, List, [], ◌∷◌, ◌++◌, length, Option, None, Some, Result, Ok, Err, ap, sym, ◌∙◌, refl, subst, append-nil, arith, eqb-true, eq-eqb, leb-true, le-leb}
 use Rattle.std.specs.Prelude.{option_map}
 use Rattle.std.specs.Fmt.{decimal}
 use Rattle.std.proofs.lemmas.Bool.{cond_both, cond-true, cond-false, eqb-false, ne_eqb, and_parts, and_from}
-use Rattle.std.proofs.lemmas.Option.{same_Some, cond_some, some_pair_parts}
+use Rattle.std.proofs.lemmas.Option.{same_Some, cond_some}
 use Rattle.pv_model.specs.declared.fault.ScheduleFault.{ScheduleFault}
 use Rattle.pv_model.specs.declared.fault.ScheduleFault.TheVariants.{Line, Memory}
 use Rattle.pv_model.specs.Bytes.{Bytes, is_empty}
 use Rattle.pv_model.specs.Grammar.Arguments.{Parsed, word_at, one_argument}
 use Rattle.pv_model.specs.Grammar.Lines.{decimal_of, lines_of}
 use Rattle.pv_model.specs.Grammar.Schedules.{count_within, count_of, with_count, turn_of, onto_schedule, or_schedule_line, schedule_from, schedule_of_lines, read_schedule}
-use Rattle.pv_model.specs.Grammar.Texts.{HasLines, IsCount, SpellsTurn, SpellTurns, SpellSchedule, SpellsSchedule, IsFirstNoTurn}
+use Rattle.pv_model.specs.Grammar.Texts.{IsCount, SpellsTurn, SpellTurns, SpellSchedule, SpellsSchedule, IsFirstNoTurn}
 use Rattle.pv_model.specs.Step.{Schedule}
 use Rattle.pv_grammar.proofs.Decimals.{Decimal-decimal_of, decimal_of-Decimal, Decimal-decimal, Decimal-spelled, no_space-Decimal}
 use Rattle.pv_grammar.proofs.FirstWord.{no_space}
@@ -104,13 +104,13 @@ ok_found : (lines : List Bytes) (n : ℕ) (s : Schedule) → n ≤ 65537 → sch
 ok_found [] n s h e = (subst (SpellTurns []) (let same : [] ≡ s = cc in same) tt, omega arith)
 ok_found (line ∷ lines) n s h e =
     cond_both (n == 65537) (Err (Line 65537)) (or_schedule_line n (turn_of line) (schedule_from lines (suc n))) (λ r. r ≡ Ok s → SpellTurns (line ∷ lines) s × (suc (length lines) + n ≤ 65537))
-      (λ is k. absurd (cc))
-      (λ is k.
-        let other = eqb-false n 65537 is in
-        let parts = line_ok n line (turn_of line) (schedule_from lines (suc n)) s refl k in
-        let more = ok_found lines (suc n) parts.1 (omega arith) parts.3 in
-        let bound = more.1 in
-        (subst (SpellTurns (line ∷ lines)) parts.4 (parts.2, more.0), omega arith)) e
+    (λ is k. absurd (cc))
+    (λ is k.
+    let other = eqb-false n 65537 is in
+    let parts = line_ok n line (turn_of line) (schedule_from lines (suc n)) s refl k in
+    let more = ok_found lines (suc n) parts.1 (omega arith) parts.3 in
+    let bound = more.1 in
+    (subst (SpellTurns (line ∷ lines)) parts.4 (parts.2, more.0), omega arith)) e
 
 ok_again : (lines : List Bytes) (n : ℕ) (s : Schedule) → SpellTurns lines s → length lines + n ≤ 65537 → schedule_from lines n ≡ Ok s
 ok_again [] n [] h fits = refl
@@ -141,8 +141,15 @@ first_here line lines n m is h = record { front = []; line = line; rest = lines;
 
 first_later : (line : Bytes) (turn : ℕ × ℕ) (lines : List Bytes) (n m : ℕ) → SpellsTurn line turn → FirstWrong lines (suc n) m → FirstWrong (line ∷ lines) n m
 first_later line turn lines n m spells w = record {
-    front = line ∷ w.front; line = w.line; rest = w.rest; schedule = turn ∷ w.schedule; whole = ap (λ ls. line ∷ ls) w.whole;
-    number = (let e = w.number in omega arith); before = (spells, w.before); fault = w.fault }
+  front = line ∷ w.front;
+  line = w.line;
+  rest = w.rest;
+  schedule = turn ∷ w.schedule;
+  whole = ap (λ ls. line ∷ ls) w.whole;
+  number = (let e = w.number in omega arith);
+  before = (spells, w.before);
+  fault = w.fault;
+}
 
 line_err : (n m : ℕ) (line : Bytes) (lines : List Bytes) → n ≤ 65536 → (o : Option (ℕ × ℕ)) (rest : Outcome) → turn_of line ≡ o → or_schedule_line n o rest ≡ Err (Line m)
     → (rest ≡ Err (Line m) → FirstWrong lines (suc n) m) → FirstWrong (line ∷ lines) n m
@@ -155,14 +162,14 @@ err_found : (lines : List Bytes) (n m : ℕ) → n ≤ 65537 → schedule_from l
 err_found [] n m h e = absurd (cc)
 err_found (line ∷ lines) n m h e =
     cond_both (n == 65537) (Err (Line 65537)) (or_schedule_line n (turn_of line) (schedule_from lines (suc n))) (λ r. r ≡ Err (Line m) → FirstWrong (line ∷ lines) n m)
-      (λ is k.
-        let at : 65537 ≡ m = cc in
-        let here : n ≡ 65537 = eqb-true n 65537 is in
-        first_here line lines n m (omega arith) (inr (sym at)))
-      (λ is k.
-        let other = eqb-false n 65537 is in
-        let small : n ≤ 65536 = omega arith in
-        line_err n m line lines small (turn_of line) (schedule_from lines (suc n)) refl k (λ j. err_found lines (suc n) m (omega arith) j)) e
+    (λ is k.
+    let at : 65537 ≡ m = cc in
+    let here : n ≡ 65537 = eqb-true n 65537 is in
+    first_here line lines n m (omega arith) (inr (sym at)))
+    (λ is k.
+    let other = eqb-false n 65537 is in
+    let small : n ≤ 65536 = omega arith in
+    line_err n m line lines small (turn_of line) (schedule_from lines (suc n)) refl k (λ j. err_found lines (suc n) m (omega arith) j)) e
 
 none_where_nothing : (line : Bytes) (o : Option (ℕ × ℕ)) → turn_of line ≡ o → ((turn : ℕ × ℕ) → SpellsTurn line turn → ⊥) → o ≡ None
 none_where_nothing line None is h = refl

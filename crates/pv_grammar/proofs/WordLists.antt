@@ -1,5 +1,5 @@
 -- One word or text, and two, behind a space each: for lines that are no instructions.
-use Rattle.std.proofs.Common.{◌≡◌, List, [], ◌∷◌, ◌++◌, Option, None, Some, ap, sym, ◌∙◌, refl, subst, append-nil}
+use Rattle.std.proofs.Common.{◌≡◌, [], ◌∷◌, ◌++◌, None, Some, ap, sym, ◌∙◌, refl, append-nil}
 use Rattle.std.specs.Prelude.{option_map}
 use Rattle.pv_model.specs.Bytes.{Bytes}
 use Rattle.pv_model.specs.Grammar.Arguments.{Parsed, argument, if_last, one_argument, and_one, two_arguments}

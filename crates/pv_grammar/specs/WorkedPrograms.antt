@@ -1,5 +1,5 @@
 -- The programs of the worked runs are those that their texts spell.
-use Rattle.std.specs.Prelude.{◌≡◌, List, [], map, true, flat_map, ◌∷◌, Option, None, Some}
+use Rattle.std.specs.Prelude.{◌≡◌, List, [], map, true, flat_map, ◌∷◌, Option, Some}
 use Rattle.pv_model.specs.Bytes.{Bytes}
 use Rattle.pv_model.specs.Grammar.Programs.{program_of}
 use Rattle.pv_model.specs.State.{Program}

@@ -10,13 +10,11 @@ ghost use Rattle.pv_model.specs.State.{Program};
 /// Bytes are read as a program exactly where they spell it.
 pub fn program_is_read_as_it_is_spelled()
     ensures { (bytes : Bytes) (program : Program) → program_of bytes ≡ Some program ↔ SpellsProgram bytes program }
-{
-}
+{}
 
 /// A fault names the least line that is no instruction, and what is wrong with it; where the first 256 lines are
 /// instructions and there are more, it is line 257. Reading never answers that memory was refused.
 pub fn least_wrong_line_is_named()
     ensures line { (bytes : Bytes) (n : ℕ) (what : What) → read_program bytes ≡ Err (Line n what) ↔ IsFirstWrong bytes n what }
     ensures total { (bytes : Bytes) → read_program bytes ≢ Err Memory }
-{
-}
+{}

@@ -17,8 +17,7 @@ ghost use Rattle.pv_model.specs.Trace.{quote};
 pub fn decimals_are_read_as_they_are_spelled()
     ensures read { (word : Bytes) (n : ℕ) → decimal_of word ≡ Some n ↔ Decimal n word }
     ensures written { (word : Bytes) (n : ℕ) → n < 2 ^ 64 → Decimal n word ↔ word ≡ decimal n }
-{
-}
+{}
 
 /// A word is read as a number, a register, an operand, flags, a whence or an origin exactly where it spells it.
 pub fn words_are_read_as_they_are_spelled()
@@ -28,8 +27,7 @@ pub fn words_are_read_as_they_are_spelled()
     ensures number { (word : Bytes) (n : ℤ) → number_of word ≡ Some n ↔ SpellsNumber n word }
     ensures operand { (word : Bytes) (operand : Operand) → operand_of word ≡ Some operand ↔ SpellsOperand operand word }
     ensures flags { (word : Bytes) (flags : OpenFlags) → flags_of word ≡ Some flags ↔ SpellsFlags flags word }
-{
-}
+{}
 
 /// The text, or `null`, that is read at the front of bytes is spelled there; and one that is spelled there is read,
 /// where nothing or a space follows it.
@@ -38,11 +36,9 @@ pub fn texts_are_read_as_they_are_spelled()
     ensures spelled_or_null { (value : Option Bytes) (word rest : Bytes) → SpellsTextOrNull value word → IsBehindWord rest → text_or_null_at (word ++ rest) ≡ Some (value, rest) }
     ensures read { (bytes value rest : Bytes) → text_at bytes ≡ Some (value, rest) → (word : Bytes) × SpellsText value word × (bytes ≡ word ++ rest) }
     ensures spelled { (value word rest : Bytes) → SpellsText value word → IsBehindWord rest → text_at (word ++ rest) ≡ Some (value, rest) }
-{
-}
+{}
 
 /// The form of a text in a trace, its shortest, spells it.
 pub fn shortest_form_spells_the_text()
     ensures { (value : Bytes) → AllByRecursion (λ b. (0 < b) × (b < 256)) value → length value ≤ 1100 → SpellsText value (quote value) }
-{
-}
+{}

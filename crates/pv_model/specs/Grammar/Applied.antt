@@ -1,5 +1,5 @@
 -- The tree of a manifest as a relation: what an entry makes of a tree, and why it may be refused.
-use Rattle.std.specs.Prelude.{◌≡◌, ℕ, Bool, true, false, IsTrue, IsFalse, List, [], ◌∷◌, ◌++◌, Option, None, Some}
+use Rattle.std.specs.Prelude.{◌≡◌, ℕ, IsTrue, IsFalse, List, [], ◌∷◌, ◌++◌, None, Some}
 use Rattle.pv_model.specs.declared.fault.ManifestFault.{ManifestFault}
 use Rattle.pv_model.specs.declared.fault.ManifestFault.TheVariants.{Parent, Exists, Source, Room}
 use Rattle.pv_model.specs.Bytes.{Bytes}

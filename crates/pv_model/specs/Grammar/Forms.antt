@@ -1,6 +1,5 @@
 -- The lines of programs as relations: each instruction's form, what a line spells, and what is wrong with one that spells nothing.
-use Rattle.std.specs.Prelude.{◌≡◌, ◌≢◌, ◌⊎◌, ℕ, ◌<◌, ◌≤◌, ℤ, pos, List, [], ◌∷◌, ◌++◌, codes, Option}
-use Rattle.std.specs.Fmt.{decimal}
+use Rattle.std.specs.Prelude.{◌≡◌, ℕ, ◌<◌, ◌≤◌, ℤ, pos, List, [], ◌∷◌, ◌++◌, codes, Option}
 use Rattle.pv_model.specs.declared.call.Whence.{Whence}
 use Rattle.pv_model.specs.declared.fault.What.{What}
 use Rattle.pv_model.specs.declared.fault.What.TheVariants.{Word, Argument as BadArgument, Target, TooMany}

@@ -50,7 +50,6 @@ use Rattle.pv_model.specs.Worked.SharedOffsetInTurn
 use Rattle.pv_model.specs.Worked.UnveilArguments
 use Rattle.pv_model.specs.Worked.UnveiledFile
 use Rattle.pv_model.specs.Worked.Walks
-use Rattle.pv_model.specs.Worked.{AllWorked}
 use Rattle.pv_model.proofs.worked.worked_runs_are_as_they_are_written.Goals as goal
 
 pub returns : goal.returns
