@@ -47,6 +47,7 @@ use Rattle.pv_model.specs.Worked.SealedNotFrozen
 use Rattle.pv_model.specs.Worked.SealedUnderExec
 use Rattle.pv_model.specs.Worked.SharedOffset
 use Rattle.pv_model.specs.Worked.SharedOffsetInTurn
+use Rattle.pv_model.specs.Worked.TextFaults
 use Rattle.pv_model.specs.Worked.UnveilArguments
 use Rattle.pv_model.specs.Worked.UnveiledFile
 use Rattle.pv_model.specs.Worked.Walks
@@ -121,6 +122,46 @@ returns c = record {
   sealed_under_exec = SealedUnderExec.text;
   shared_offset = SharedOffset.text;
   shared_offset_in_turn = SharedOffsetInTurn.text;
+  text_faults_no_bytes = TextFaults.no_bytes;
+  text_faults_no_line_end = TextFaults.no_line_end;
+  text_faults_space_in_front = TextFaults.space_in_front;
+  text_faults_space_behind = TextFaults.space_behind;
+  text_faults_carriage_return = TextFaults.carriage_return;
+  text_faults_escape_without_need = TextFaults.escape_without_need;
+  text_faults_escape_of_zero = TextFaults.escape_of_zero;
+  text_faults_escape_in_capitals = TextFaults.escape_in_capitals;
+  text_faults_longest_text = TextFaults.longest_text;
+  text_faults_text_too_long = TextFaults.text_too_long;
+  text_faults_register_before_target = TextFaults.register_before_target;
+  text_faults_line_zero = TextFaults.line_zero;
+  text_faults_line_below_zero = TextFaults.line_below_zero;
+  text_faults_line_with_zero_in_front = TextFaults.line_with_zero_in_front;
+  text_faults_place_past_buffer = TextFaults.place_past_buffer;
+  text_faults_negative_zero = TextFaults.negative_zero;
+  text_faults_flag_twice = TextFaults.flag_twice;
+  text_faults_many_lines = TextFaults.many_lines;
+  text_faults_too_many_lines = TextFaults.too_many_lines;
+  text_faults_two_turns = TextFaults.two_turns;
+  text_faults_turn_of_zero_steps = TextFaults.turn_of_zero_steps;
+  text_faults_turn_with_space_behind = TextFaults.turn_with_space_behind;
+  text_faults_process_too_great = TextFaults.process_too_great;
+  text_faults_manifest_of_no_lines = TextFaults.manifest_of_no_lines;
+  text_faults_sizes_of_any_length = TextFaults.sizes_of_any_length;
+  text_faults_sizes_with_zero_in_front = TextFaults.sizes_with_zero_in_front;
+  text_faults_form_before_sizes = TextFaults.form_before_sizes;
+  text_faults_second_sizes = TextFaults.second_sizes;
+  text_faults_path_of_root = TextFaults.path_of_root;
+  text_faults_path_with_dots = TextFaults.path_with_dots;
+  text_faults_empty_link = TextFaults.empty_link;
+  text_faults_lines_that_are_missing = TextFaults.lines_that_are_missing;
+  text_faults_last_line_gets_its_end = TextFaults.last_line_gets_its_end;
+  text_faults_manifest_with_schedule = TextFaults.manifest_with_schedule;
+  text_faults_bundle_without_schedule = TextFaults.bundle_without_schedule;
+  text_faults_bundle_of_schedule_alone = TextFaults.bundle_of_schedule_alone;
+  text_faults_schedule_inside_of_entry = TextFaults.schedule_inside_of_entry;
+  text_faults_parent_that_is_missing = TextFaults.parent_that_is_missing;
+  text_faults_name_that_is_there = TextFaults.name_that_is_there;
+  text_faults_source_that_is_missing = TextFaults.source_that_is_missing;
   unveil_arguments = UnveilArguments.text;
   unveiled_file = UnveiledFile.text;
   walks_kept_link = Walks.kept_link;
