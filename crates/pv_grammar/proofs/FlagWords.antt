@@ -51,31 +51,31 @@ if_nothing_left_found [] f g e = (refl, same_Some f g e)
 if_nothing_left_found (b ∷ bs) f g e = absurd (cc)
 
 -- the texts of the flags behind each
-abbrev behind_close_on_exec : OpenFlags → Bytes
+abbrev pub behind_close_on_exec : OpenFlags → Bytes
 behind_close_on_exec f = []
 
-abbrev behind_directory : OpenFlags → Bytes
+abbrev pub behind_directory : OpenFlags → Bytes
 behind_directory f = flag_text f.close_on_exec (codes "cloexec") ++ behind_close_on_exec f
 
-abbrev behind_no_follow : OpenFlags → Bytes
+abbrev pub behind_no_follow : OpenFlags → Bytes
 behind_no_follow f = flag_text f.directory (codes "dir") ++ behind_directory f
 
-abbrev behind_exclusive : OpenFlags → Bytes
+abbrev pub behind_exclusive : OpenFlags → Bytes
 behind_exclusive f = flag_text f.no_follow (codes "nofollow") ++ behind_no_follow f
 
-abbrev behind_truncate : OpenFlags → Bytes
+abbrev pub behind_truncate : OpenFlags → Bytes
 behind_truncate f = flag_text f.exclusive (codes "excl") ++ behind_exclusive f
 
-abbrev behind_create : OpenFlags → Bytes
+abbrev pub behind_create : OpenFlags → Bytes
 behind_create f = flag_text f.truncate (codes "trunc") ++ behind_truncate f
 
-abbrev behind_append : OpenFlags → Bytes
+abbrev pub behind_append : OpenFlags → Bytes
 behind_append f = flag_text f.create (codes "create") ++ behind_create f
 
-abbrev behind_mode : OpenFlags → Bytes
+abbrev pub behind_mode : OpenFlags → Bytes
 behind_mode f = flag_text f.append (codes "append") ++ behind_append f
 
-flags_text-parts : (f : OpenFlags) → flags_text f ≡ mode_text f.mode ++ behind_mode f
+pub flags_text-parts : (f : OpenFlags) → flags_text f ≡ mode_text f.mode ++ behind_mode f
 flags_text-parts f = simp (append_assoc, append-nil) refl
 
 flags_behind_found : (mode : Mode) (word : Bytes) (f : OpenFlags) → flags_behind mode word ≡ Some f → (mode ≡ f.mode) × (word ≡ behind_mode f)

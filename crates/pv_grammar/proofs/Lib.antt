@@ -15,3 +15,4 @@ pub mod WholeManifests
 pub mod WholePrograms
 pub mod WholeSchedules
 pub mod WordLists
+pub mod WrittenPrograms
