@@ -1,9 +1,9 @@
 -- What is written for a program spells it.
-use Rattle.std.proofs.Common.{◌≡◌, ◌≢◌, ◌⊎◌, inl, inr, ℕ, ◌+◌, ◌/◌, ◌%◌, ◌^◌, ◌<◌, ◌≤◌, ℤ, pos, negsuc, Bool, true, false, cond, not, ◌&&◌, ◌==◌, nat_le, nat_lt, List, [], ◌∷◌, ◌++◌, length, map, Option, None, Some, ap, sym, ◌∙◌, refl, subst, arith, leb-true}
+use Rattle.std.proofs.Common.{◌≡◌, inl, ℕ, ◌+◌, ◌/◌, ◌%◌, ◌^◌, ◌<◌, ◌≤◌, ℤ, pos, negsuc, Bool, true, false, not, ◌&&◌, ◌==◌, nat_le, nat_lt, List, [], ◌∷◌, ◌++◌, length, map, Option, None, Some, ap, sym, ◌∙◌, refl, subst, arith, leb-true}
 use Rattle.std.specs.Prelude.{flat_map, codes}
 use Rattle.std.specs.Fmt.{decimal, signed_decimal}
 use Rattle.std.specs.List.{AllByRecursion, list_all}
-use Rattle.std.proofs.lemmas.Bool.{cond_both, and_parts, and_from, ne_eqb, eqb-false, not-true, not_from_false, ltb-false}
+use Rattle.std.proofs.lemmas.Bool.{cond_both, and_parts, and_from, ne_eqb, eqb-false, not-true, not_from_false}
 use Rattle.std.proofs.lemmas.List.Folds.{list_all-append}
 use Rattle.pv_model.specs.declared.call.Whence.{Whence}
 use Rattle.pv_model.specs.declared.call.Whence.TheVariants.{Set as Start, Current, End}
@@ -20,13 +20,13 @@ use Rattle.pv_model.specs.Bytes.{Bytes}
 use Rattle.pv_model.specs.Grammar.Forms.{Argument, operand, register, number, line, place, text, text_or_null, flags, whence, origin, form_of, Spells, SpellsArguments, SpellsLine}
 use Rattle.pv_model.specs.Grammar.Lines.{is_digit}
 use Rattle.pv_model.specs.Grammar.Spelling.{IsNumber, SpellsOperand, SpellsOrigin, SpellsTextOrNull}
-use Rattle.pv_model.specs.Grammar.Texts.{IsLine, ended, HasLines, SpellLines, SpellsProgram}
+use Rattle.pv_model.specs.Grammar.Texts.{IsLine, ended, SpellLines, SpellsProgram}
 use Rattle.pv_model.specs.State.{Program}
 use Rattle.pv_model.specs.Trace.{is_plain, hex_digit, hex_byte, quote_byte, quote, quote_or_null, mode_text, flag_text, flags_text, whence_text}
-use Rattle.pv_grammar.specs.Written.{written_register, written_operand, written_origin, written, written_line, written_program, IsOperand, IsOrigin, IsText, IsTextOrNull, IsArgument, IsProgram}
+use Rattle.pv_grammar.specs.Written.{written_register, written_operand, written_origin, written, written_line, written_program, IsOperand, IsOrigin, IsTextOrNull, IsArgument, IsProgram}
 use Rattle.pv_grammar.proofs.Decimals.{Decimal-decimal, digits_all, digit_bounds}
-use Rattle.pv_grammar.proofs.FlagWords.{behind_mode, behind_append, behind_create, behind_truncate, behind_exclusive, behind_no_follow, behind_directory, behind_close_on_exec, flags_text-parts}
-use Rattle.pv_grammar.proofs.ShortestForm.{AreBytes, SpellsText-quote}
+use Rattle.pv_grammar.proofs.FlagWords.{behind_mode, behind_append, behind_create, behind_truncate, behind_exclusive, behind_no_follow, behind_directory, flags_text-parts}
+use Rattle.pv_grammar.proofs.ShortestForm.{SpellsText-quote}
 
 -- ---- arguments in their range are spelled
 
@@ -117,9 +117,9 @@ clear_quoted [] = refl
 clear_quoted (b ∷ value) = cond_both (is_plain b) (b ∷ []) (codes "\\x" ++ hex_byte b) (λ form. clear (form ++ flat_map quote_byte value) ≡ true)
     (λ is. clear_byte b (flat_map quote_byte value) (plain_low b is) (clear_quoted value))
     (λ is. clear_byte 92 (120 ∷ hex_byte b ++ flat_map quote_byte value) (omega arith)
-      (clear_byte 120 (hex_byte b ++ flat_map quote_byte value) (omega arith)
-        (clear_byte (hex_digit (b / 16)) (hex_digit (b % 16) ∷ flat_map quote_byte value) (hex_digit_high (b / 16))
-          (clear_byte (hex_digit (b % 16)) (flat_map quote_byte value) (hex_digit_high (b % 16)) (clear_quoted value)))))
+    (clear_byte 120 (hex_byte b ++ flat_map quote_byte value) (omega arith)
+    (clear_byte (hex_digit (b / 16)) (hex_digit (b % 16) ∷ flat_map quote_byte value) (hex_digit_high (b / 16))
+    (clear_byte (hex_digit (b % 16)) (flat_map quote_byte value) (hex_digit_high (b % 16)) (clear_quoted value)))))
 
 clear_text : (value : Bytes) → clear (quote value) ≡ true
 clear_text value = clear_byte 34 (flat_map quote_byte value ++ 34 ∷ []) (omega arith) (clear-append (flat_map quote_byte value) (34 ∷ []) (clear_quoted value) refl)
@@ -146,13 +146,13 @@ clear_flags : (f : OpenFlags) → clear (flags_text f) ≡ true
 clear_flags f =
     ap clear (flags_text-parts f)
     ∙ clear-append (mode_text f.mode) (behind_mode f) (clear_mode f.mode)
-      (clear_flag f.append (codes "append") (behind_append f) refl
-        (clear_flag f.create (codes "create") (behind_create f) refl
-          (clear_flag f.truncate (codes "trunc") (behind_truncate f) refl
-            (clear_flag f.exclusive (codes "excl") (behind_exclusive f) refl
-              (clear_flag f.no_follow (codes "nofollow") (behind_no_follow f) refl
-                (clear_flag f.directory (codes "dir") (behind_directory f) refl
-                  (clear_flag f.close_on_exec (codes "cloexec") [] refl refl)))))))
+    (clear_flag f.append (codes "append") (behind_append f) refl
+    (clear_flag f.create (codes "create") (behind_create f) refl
+    (clear_flag f.truncate (codes "trunc") (behind_truncate f) refl
+    (clear_flag f.exclusive (codes "excl") (behind_exclusive f) refl
+    (clear_flag f.no_follow (codes "nofollow") (behind_no_follow f) refl
+    (clear_flag f.directory (codes "dir") (behind_directory f) refl
+    (clear_flag f.close_on_exec (codes "cloexec") [] refl refl)))))))
 
 clear_written : (lines : ℕ) → lines ≤ 256 → (a : Argument) → IsArgument lines a → clear (written a) ≡ true
 clear_written lines few (operand value) h = clear_operand value h
@@ -183,9 +183,10 @@ IsLine-clear (b ∷ bs) h =
 
 are_lines : (lines : ℕ) → lines ≤ 256 → (program : Program) → AllByRecursion (λ i. AllByRecursion (IsArgument lines) (form_of i).1) program → AllByRecursion IsLine (map written_line program)
 are_lines lines few [] h = tt
-are_lines lines few (i ∷ program) h =
-    (IsLine-clear (written_line i) (clear-append (form_of i).0 (flat_map (λ a. 32 ∷ written a) (form_of i).1) (clear_name i) (clear_arguments lines few (form_of i).1 h.0)),
-     are_lines lines few program h.1)
+are_lines lines few (i ∷ program) h = (
+  IsLine-clear (written_line i) (clear-append (form_of i).0 (flat_map (λ a. 32 ∷ written a) (form_of i).1) (clear_name i) (clear_arguments lines few (form_of i).1 h.0)),
+  are_lines lines few program h.1,
+)
 
 -- ---- whole programs
 
@@ -203,5 +204,5 @@ SpellsProgram-written program h =
     let count = map_length program in
     let lines = are_lines (length program) few program h.1 in
     let spells : SpellLines (length (map written_line program)) (map written_line program) program =
-      subst (λ n. SpellLines n (map written_line program) program) (sym count) (spell_lines (length program) few program h.1) in
+    subst (λ n. SpellLines n (map written_line program) program) (sym count) (spell_lines (length program) few program h.1) in
     (map written_line program, (lines, inl (ended_lines program)), omega arith, spells)

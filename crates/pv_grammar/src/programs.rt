@@ -24,5 +24,4 @@ pub fn least_wrong_line_is_named()
 pub fn each_program_has_a_text()
     ensures spelled { (program : Program) → IsProgram program → SpellsProgram (written_program program) program }
     ensures read { (program : Program) → IsProgram program → program_of (written_program program) ≡ Some program }
-{
-}
+{}
