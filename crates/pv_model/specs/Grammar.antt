@@ -1,7 +1,12 @@
 -- What texts spell: programs, schedules, manifests and bundles.
+pub mod Applied
 pub mod Arguments
+pub mod Entries
+pub mod Forms
 pub mod Instructions
 pub mod Lines
 pub mod Manifests
 pub mod Programs
 pub mod Schedules
+pub mod Spelling
+pub mod Texts

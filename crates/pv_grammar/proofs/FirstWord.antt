@@ -1,0 +1,46 @@
+-- The first word of a line, and what stands behind it.
+use Rattle.std.proofs.Common.{◌≡◌, Bool, true, false, cond, not, ◌==◌, [], ◌∷◌, ◌++◌, ap, ◌∙◌, refl, eqb-true}
+use Rattle.std.proofs.lemmas.Bool.{cond_both, and_parts, and_from, not-true, not_from_false}
+use Rattle.std.proofs.lemmas.List.Folds.{list_all-append}
+use Rattle.std.specs.List.{list_all}
+use Rattle.pv_model.specs.Bytes.{Bytes}
+use Rattle.pv_model.specs.Grammar.Lines.{word_of, behind_word}
+use Rattle.pv_model.specs.Grammar.Forms.{IsBehindWord}
+
+-- a word has no space in it
+abbrev pub no_space : Bytes → Bool
+no_space bs = list_all (λ b. not (b == 32)) bs
+
+pub no_space-append : (a b : Bytes) → no_space a ≡ true → no_space b ≡ true → no_space (a ++ b) ≡ true
+no_space-append a b p q = list_all-append (λ c. not (c == 32)) a b ∙ and_from (no_space a) (no_space b) p q
+
+-- a line is its first word and what stands behind that
+pub word_split : (bs : Bytes) → bs ≡ word_of bs ++ behind_word bs
+word_split [] = refl
+word_split (b ∷ bs) = elim (b == 32) as (λ t. b ∷ bs ≡ cond t [] (b ∷ word_of bs) ++ cond t (b ∷ bs) (behind_word bs)) [
+  | true ↦ refl
+  | false ↦ ap (λ r. b ∷ r) (word_split bs)
+]
+
+pub no_space-word_of : (bs : Bytes) → no_space (word_of bs) ≡ true
+no_space-word_of [] = refl
+no_space-word_of (b ∷ bs) = cond_both (b == 32) [] (b ∷ word_of bs) (λ w. no_space w ≡ true) (λ is. refl)
+    (λ is. and_from (not (b == 32)) (no_space (word_of bs)) (not_from_false (b == 32) is) (no_space-word_of bs))
+
+pub behind_word-ends : (bs : Bytes) → IsBehindWord (behind_word bs)
+behind_word-ends [] = tt
+behind_word-ends (b ∷ bs) = cond_both (b == 32) (b ∷ bs) (behind_word bs) IsBehindWord (λ is. eqb-true b 32 is) (λ is. behind_word-ends bs)
+
+pub word_of-word : (word rest : Bytes) → no_space word ≡ true → IsBehindWord rest → word_of (word ++ rest) ≡ word
+word_of-word [] [] h ends = refl
+word_of-word [] (b ∷ bs) h ends = rw ends refl
+word_of-word (w ∷ word) rest h ends =
+    let parts = and_parts (not (w == 32)) (no_space word) h in
+    rw (not-true (w == 32) parts.0, word_of-word word rest parts.1 ends) refl
+
+pub behind_word-word : (word rest : Bytes) → no_space word ≡ true → IsBehindWord rest → behind_word (word ++ rest) ≡ rest
+behind_word-word [] [] h ends = refl
+behind_word-word [] (b ∷ bs) h ends = rw ends refl
+behind_word-word (w ∷ word) rest h ends =
+    let parts = and_parts (not (w == 32)) (no_space word) h in
+    rw (not-true (w == 32) parts.0, behind_word-word word rest parts.1 ends) refl

@@ -1,0 +1,2 @@
+pub mod WorkedPrograms
+pub mod Written
