@@ -1,0 +1,16 @@
+//! Promises of pledge(2): reading them from a text, narrowing them, and what a call that lacks one meets.
+//!
+//! `read` reads a set from a text of keywords, `missing` finds the promise that a call lacks, and
+//! `pledge` holds a process's two sets. Nothing here allocates. Clauses see a `Pledge` as the two sets
+//! of bits of `specs/Pledge.antt`.
+#![tactic(auto)]
+
+mod missing;
+mod order;
+pub mod pledge;
+pub mod read;
+#[cfg(test)]
+mod tests;
+
+pub use pledge::{Decision, Pledge};
+pub use read::read_promises;

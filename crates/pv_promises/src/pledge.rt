@@ -1,0 +1,131 @@
+//! What a process has promised.
+ghost use Rattle.std.specs.Prelude.{◌≡◌, OnOk, OnErr, IfErr, None};
+ghost use Rattle.pv_model.specs.Promises.{is_lenient, narrow_promises};
+ghost use Rattle.pv_promises.specs.Pledge.{bits_of, bits_of_result};
+
+use crate::missing::{is_lenient, missing_for};
+use crate::order::first_increase;
+use bitflags::Flags;
+use pv_model::{Call, Promise, Promises};
+use std::marker::Model;
+
+/// What a call meets, pledge(2).
+#[derive(Clone, Copy, Debug, PartialEq, Eq)]
+pub enum Decision {
+    /// No promise is missing.
+    Allowed,
+    /// This promise is missing: the process is killed.
+    Kill(Promise),
+    /// This promise is missing, and `error` is promised: the call is answered by ENOSYS.
+    Refuse(Promise),
+}
+
+/// What a process has promised, and what it will have promised after execve(2): pledge(2).
+///
+/// A value that is absent has never been asked for.
+#[derive(Clone, Copy, Debug)]
+pub struct Pledge {
+    promises: Option<Promises>,
+    execpromises: Option<Promises>,
+}
+
+impl Model for Pledge {
+    ghost use Rattle.pv_promises.specs.Pledge.{Pledged, bits_of, set_of, set_of-bits_of};
+    ghost use Rattle.std.proofs.Common.{◌≡◌};
+
+    ghost Value = { Pledged };
+
+    ghost view = { λ p. record { promises = bits_of p.promises; execpromises = bits_of p.execpromises } };
+
+    ghost inverse = { λ v. record { promises = set_of v.promises; execpromises = set_of v.execpromises } };
+
+    ghost inverse_ok = { λ p _ i. record { promises = set_of-bits_of p.promises i; execpromises = set_of-bits_of p.execpromises i } };
+}
+
+// What becomes of a value held when a value is asked for.
+fn narrowed(
+    lenient: bool,
+    held: Option<Promises>,
+    asked: Option<Promises>,
+) -> Result<Option<Promises>, Promise>
+    ensures { bits_of_result result ≡ narrow_promises lenient (bits_of held) (bits_of asked) }
+{
+    match (held, asked) {
+        (held, None) => Ok(held),
+        (None, Some(asked)) => Ok(Some(asked)),
+        (Some(held), Some(asked)) => {
+            if lenient {
+                return Ok(Some(asked.intersection(held)));
+            }
+            match first_increase(held, asked) {
+                None => Ok(Some(asked)),
+                Some(promise) => Err(promise),
+            }
+        }
+    }
+}
+
+impl Pledge {
+    ghost use Rattle.pv_promises.specs.Pledge.{narrow_both};
+    ghost use Rattle.pv_model.specs.Needs.{needs};
+    ghost use Rattle.pv_promises.specs.Decision.{decision};
+
+    /// A process that is not pledged.
+    pub fn new() -> Pledge
+        ensures promises { result.promises ≡ None }
+        ensures execpromises { result.execpromises ≡ None }
+    {
+        Pledge {
+            promises: None,
+            execpromises: None,
+        }
+    }
+
+    /// The promises, where the process is pledged.
+    pub fn promises(&self) -> Option<Promises>
+        ensures { bits_of result ≡ self.now.promises }
+    {
+        self.promises
+    }
+
+    /// The promises that the process will have after execve(2), where they were asked for.
+    pub fn execpromises(&self) -> Option<Promises>
+        ensures { bits_of result ≡ self.now.execpromises }
+    {
+        self.execpromises
+    }
+
+    /// Narrows both values, pledge(2): `None` leaves a value as it is.
+    ///
+    /// A first value is taken as asked. A promise that is asked for and not held is refused, and the answer
+    /// is the first such promise: the promises before the execpromises, each in the order of the keywords.
+    /// A refusal changes neither value. While `error` is promised nothing is refused: a value becomes what is
+    /// asked for and held.
+    pub fn narrow(
+        &mut self,
+        promises: Option<Promises>,
+        execpromises: Option<Promises>,
+    ) -> Result<(), Promise>
+        ensures narrowed { OnOk result (narrow_both self.old (bits_of promises) (bits_of execpromises) ≡ Ok self.new) }
+        ensures refused { IfErr result (λ p. narrow_both self.old (bits_of promises) (bits_of execpromises) ≡ Err p) }
+        ensures unchanged { OnErr result (self.new ≡ self.old) }
+    {
+        let lenient = is_lenient(self.promises);
+        let kept = narrowed(lenient, self.promises, promises)?;
+        let exec_kept = narrowed(lenient, self.execpromises, execpromises)?;
+        self.promises = kept;
+        self.execpromises = exec_kept;
+        Ok(())
+    }
+
+    /// What a call meets, by the first promise that it needs and that is not held, pledge(2).
+    pub fn decide(&self, call: &Call) -> Decision
+        ensures { result ≡ decision self.now.promises (needs call.now) }
+    {
+        match missing_for(self.promises, call) {
+            None => Decision::Allowed,
+            Some(promise) if is_lenient(self.promises) => Decision::Refuse(promise),
+            Some(promise) => Decision::Kill(promise),
+        }
+    }
+}
