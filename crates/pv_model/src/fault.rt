@@ -1,0 +1,93 @@
+//! Why programs, schedules, manifests, images and runs are refused.
+
+/// What is wrong with a line of a program.
+#[derive(Clone, Copy, Debug, PartialEq, Eq)]
+pub enum What {
+    /// Its first word names no instruction.
+    Word,
+    /// The rest has not the form that the instruction wants.
+    Argument,
+    /// It jumps to a line that the program has not.
+    Target,
+    /// It is the 257th line.
+    TooMany,
+}
+
+/// Why bytes are no program.
+#[derive(Clone, Copy, Debug, PartialEq, Eq)]
+pub enum ParseFault {
+    /// The least line, counted from 1, that is no instruction.
+    Line(u16, What),
+    /// Memory was refused.
+    Memory,
+}
+
+/// Why bytes are no schedule.
+#[derive(Clone, Copy, Debug, PartialEq, Eq)]
+pub enum ScheduleFault {
+    /// The least line, counted from 1, that is no line of a schedule, or that is one too many.
+    Line(u32),
+    /// Memory was refused.
+    Memory,
+}
+
+/// Why a manifest is refused. Lines are counted from 1.
+#[derive(Clone, Copy, Debug, PartialEq, Eq)]
+pub enum ManifestFault {
+    /// The line has not the form of a manifest's line.
+    Form(u32),
+    /// The image's sizes are out of range.
+    Size,
+    /// The directory that is to contain the entry of this line is not there, or is no directory.
+    Parent(u32),
+    /// The name of this line's entry is there already.
+    Exists(u32),
+    /// What this line's entry is a further name of is not there, or is a directory.
+    Source(u32),
+    /// The image has no room for this line's entry.
+    Room(u32),
+    /// Memory was refused.
+    Memory,
+}
+
+/// Why bytes are no image. Numbers are those of inodes.
+#[derive(Clone, Copy, Debug, PartialEq, Eq)]
+pub enum ImageFault {
+    /// There are fewer bytes than a block has.
+    Short,
+    /// They do not begin as an image does.
+    Magic,
+    /// The sizes are out of range, or not those of the bytes.
+    Size,
+    /// The inode has a sort or a size that none has.
+    Inode(u16),
+    /// The inode points to a block that is no data block, or that is used already.
+    Block(u16),
+    /// The directory or link has a content that none has.
+    Dir(u16),
+    /// The inode has no place in the tree, or a count of names that is not its own.
+    Tree(u16),
+    /// Memory was refused.
+    Memory,
+}
+
+/// Why a run is refused, or ends early.
+#[derive(Clone, Copy, Debug, PartialEq, Eq)]
+pub enum RunFault {
+    /// A source failed, or gave more than 67,108,864 bytes.
+    Read,
+    /// The image is none.
+    Image(ImageFault),
+    /// The manifest is none, or its entries do not apply.
+    Manifest(ManifestFault),
+    /// This line of the schedule is none.
+    Schedule(u32),
+    /// This line of the program in `init` is no instruction; 0 where `init` is no executable file.
+    Init(u16),
+    /// Memory was refused.
+    Memory,
+    /// The sink of the trace failed.
+    WriteTrace,
+    /// The sink of the image failed.
+    WriteImage,
+}

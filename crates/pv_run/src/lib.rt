@@ -1,0 +1,4 @@
+//! Runs of the machine, from bytes to bytes.
+#![tactic(auto)]
+
+mod writer;
