@@ -1,5 +1,5 @@
 //! A tree as a plain map of nodes.
-ghost use Rattle.std.specs.Prelude.{◌≡◌, ◌+◌, ◌<◌, ◌≤◌, length, IfOk, IfSome, IfNone, MatchOption, Some, None, slice_get, option_map, option_copied, option_and_then, is_some, drop, map};
+ghost use Rattle.std.specs.Prelude.{◌≡◌, ◌+◌, ◌<◌, ◌≤◌, length, IfOk, IfSome, IfNone, MatchOption, Some, None, slice_get, option_map, option_copied, option_and_then, is_some, drop, map, vec_len};
 ghost use Rattle.std.specs.FinMap.Entries.{find};
 ghost use Rattle.std.specs.Cmp.Lexicographic.{slice_cmp};
 ghost use Rattle.std.specs.Ordering.{nat_cmp};
@@ -91,6 +91,20 @@ fn first_parent_in(nodes: &[Option<PlainNode>], number: u16) -> Option<u16>
 
 impl PlainTree {
     ghost use Rattle.pv_model.specs.Tree.{node_at, find_entry, is_directory_at, parent};
+    ghost use Rattle.pv_model.specs.PlainTree.{plain_tree};
+
+    /// The tree of these nodes, by their numbers from 0, and of an image of these sizes.
+    pub fn of_nodes(nodes: Vec<Option<PlainNode>>, blocks: u16, inodes: u16) -> PlainTree
+        requires numbers { vec_len nodes ≡ inodes + 1 }
+        requires small { inodes ≤ 4096 }
+        ensures { result ≡ plain_tree nodes.items blocks inodes }
+    {
+        PlainTree {
+            nodes,
+            blocks,
+            inodes,
+        }
+    }
 
     /// How many numbers there are: each node's is below.
     pub fn numbers(&self) -> usize

@@ -1,1 +1,4 @@
-pub mod Prefix
+pub mod Added
+pub mod Judged
+pub mod Unveiled
+pub mod Up

@@ -1,15 +1,16 @@
-//! What unveil(2) allows, by the text of a path.
+//! The table of unveil(2): what a process has unveiled, its lock, and what it says of a place.
 //!
-//! The contract is weak, and is to be replaced: it judges by the text alone. An unveiled `/tmp` allows
-//! `/tmpfoo` too, and `..` and symbolic links are not followed.
+//! An entry is for a directory's node, or for a name in a directory: no text of a path is kept or compared.
+//! `table` holds the entries and the lock, `entries` searches them, and `rights` finds the entry that governs
+//! a place. `law` says that the entry found by climbing is the one that flows down from above. Nothing here
+//! allocates. Clauses see a `Table` as the record of `specs/Unveiled.antt`.
 #![tactic(auto)]
 
-ghost use Rattle.std.specs.Prelude.{◌≡◌};
-ghost use Rattle.pv_unveil.specs.Prefix.{some_prefix};
+mod entries;
+pub mod law;
+mod rights;
+pub mod table;
+#[cfg(test)]
+mod tests;
 
-/// Whether some unveiled path is a prefix of the text of a path.
-pub fn allows(unveiled: &[&[u8]], path: &[u8]) -> bool
-    ensures { result ≡ some_prefix unveiled.now path.now }
-{
-    unveiled.iter().any(|prefix| path.starts_with(*prefix))
-}
+pub use table::{AddFault, Table};
