@@ -7,8 +7,8 @@ ghost use Rattle.pv_model.specs.Numbered.{at_number, numbered};
 ghost use Rattle.pv_model.specs.Tree.{entries_of, names_node, first_parent};
 ghost use Rattle.pv_model.specs.PlainTree.{plain_node};
 
-use crate::Name;
 use crate::limits::ROOT;
+use crate::{Name, Version};
 use std::marker::Model;
 
 /// A node: a directory with its entries in the order of their names, or a file.
@@ -148,5 +148,15 @@ impl PlainTree {
         } else {
             first_parent_in(&self.nodes, directory)
         }
+    }
+}
+
+impl PlainTree {
+    /// The version of the image, by which names have a greatest length.
+    pub fn version(&self) -> Version
+        ensures { result ≡ self.now.version }
+    {
+        let _ = &self.nodes;
+        Version::V1
     }
 }

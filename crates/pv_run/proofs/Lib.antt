@@ -1,1 +1,13 @@
-pub mod Writing
+pub mod AttemptLaws
+pub mod CallLemmas
+pub mod OpenLemmas
+pub mod Parents
+pub mod Pieces
+pub mod Places
+pub mod PledgeLemmas
+pub mod ProcessLemmas
+pub mod Resolve
+pub mod RowLemmas
+pub mod SlotLemmas
+pub mod Streaming
+pub mod Trim

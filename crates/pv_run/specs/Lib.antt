@@ -1,2 +1,11 @@
-pub mod Lines
+pub mod Ended
+pub mod Fetched
+pub mod Kernel
+pub mod Made
 pub mod Offered
+pub mod Owned
+pub mod Process
+pub mod Rows
+pub mod Slots
+pub mod Streams
+pub mod Walk

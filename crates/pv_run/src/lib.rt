@@ -1,4 +1,5 @@
 //! Runs of the machine, from bytes to bytes.
 #![tactic(auto)]
 
-mod writer;
+mod kernel;
+pub mod stream;

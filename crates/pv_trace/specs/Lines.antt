@@ -1,5 +1,5 @@
 -- The lines of a step, as they are written.
-use Rattle.std.specs.Prelude.{ℕ, List, [], ◌∷◌, ◌++◌, length, take, map, codes, decimal, Option, None, Some}
+use Rattle.std.specs.Prelude.{ℕ, List, [], ◌∷◌, ◌++◌, take, map, codes, decimal, Option, None, Some}
 use Rattle.pv_model.specs.declared.call.Call.{Call}
 use Rattle.pv_model.specs.declared.call.Call.TheVariants.{Write}
 use Rattle.pv_model.specs.declared.errno.Errno.{Errno}
@@ -7,10 +7,13 @@ use Rattle.pv_model.specs.declared.errno.Errno.TheVariants.{ENOSYS}
 use Rattle.pv_model.specs.declared.open_flags.OpenFlags.{OpenFlags}
 use Rattle.pv_model.specs.declared.outcome.Outcome.{Outcome}
 use Rattle.pv_model.specs.declared.outcome.Outcome.TheVariants.{Value, Text}
+use Rattle.pv_model.specs.declared.perms.Perms.{Perms}
 use Rattle.pv_model.specs.Bytes.{Bytes}
+use Rattle.pv_model.specs.Errno.{errno_number, errno_name}
+use Rattle.pv_model.specs.Perms.{letters_text}
 use Rattle.pv_model.specs.Trace.{Line, line, pad_left, pad_right, quote, call_line, walked_paths, promise_texts, unveil_texts, bytes_text, end_lines, flags_text}
-use Rattle.pv_run.specs.declared.writer.Word.{Word}
-use Rattle.pv_run.specs.declared.writer.Word.TheVariants.{Call as CallWord, Nami, Pldg, Unvl, Gio, Ret, Psig, Wait, Gone}
+use Rattle.pv_trace.specs.declared.text.Word.{Word}
+use Rattle.pv_trace.specs.declared.text.Word.TheVariants.{Call as CallWord, Nami, Pldg, Unvl, Gio, Ret, Psig, Wait, Gone}
 
 -- the word of a line
 abbrev pub word_text : Word → Bytes
@@ -54,6 +57,19 @@ promise_verdict _ = codes "increase"
 
 abbrev pub promise_lines_of : ℕ → Call → Outcome → List Line
 promise_lines_of pid call outcome = map (line pid (codes "PLDG")) (promise_texts call outcome)
+
+-- letters in the order rwxc
+unfoldable pub letters_bytes : Perms → Bytes
+letters_bytes letters = letters_text letters
+
+-- the letters that an entry lacks, or that no entry gives
+abbrev pub needed_text : Option ℕ → Perms → Bytes
+needed_text None letters = codes "none, needs " ++ letters_bytes letters
+needed_text (Some k) letters = codes "entry " ++ decimal k ++ codes ", needs " ++ letters_bytes letters
+
+-- an error with its number and its name
+unfoldable pub errno_text : Errno → Bytes
+errno_text errno = codes "-1 errno " ++ decimal (errno_number errno) ++ codes " " ++ errno_name errno
 
 abbrev pub unveil_lines_of : ℕ → Call → ℕ → Outcome → List Line
 unveil_lines_of pid call walks outcome = map (line pid (codes "UNVL")) (unveil_texts call walks outcome)

@@ -1,0 +1,7 @@
+use Rattle.std.proofs.Common.{◌≡◌, sym, ap, ◌∙◌, refl}
+use Rattle.pv_run.specs.Slots.{unused_files}
+use Rattle.pv_run.proofs.kernel.process.Process.new.Goals as goal
+
+pub returns : goal.returns
+unfolding unused_files
+returns c = rw (c.new.ensures.promises, c.new.ensures.execpromises) refl
