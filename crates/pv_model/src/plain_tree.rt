@@ -1,11 +1,13 @@
 //! A tree as a plain map of nodes.
-ghost use Rattle.std.specs.Prelude.{◌≡◌, ◌+◌, ◌<◌, ◌≤◌, length, IfOk, IfSome, IfNone, MatchOption, Some, None, slice_get, option_map, option_copied, option_and_then, is_some, drop, map};
+ghost use Rattle.std.specs.Prelude.{◌≡◌, ◌+◌, ◌<◌, ◌≤◌, length, IfOk, IfSome, IfNone, MatchOption, Some, None, slice_get, option_map, option_copied, option_and_then, is_some, drop, map, vec_len};
 ghost use Rattle.std.specs.FinMap.Entries.{find};
 ghost use Rattle.std.specs.Cmp.Lexicographic.{slice_cmp};
 ghost use Rattle.std.specs.Ordering.{nat_cmp};
-ghost use Rattle.pv_model.specs.Numbered.{at_number};
+ghost use Rattle.pv_model.specs.Numbered.{at_number, numbered};
+ghost use Rattle.pv_model.specs.Tree.{entries_of, names_node, first_parent};
 ghost use Rattle.pv_model.specs.PlainTree.{plain_node};
 
+use crate::limits::ROOT;
 use crate::{Name, Version};
 use std::marker::Model;
 
@@ -64,8 +66,53 @@ fn node_in(nodes: &[Option<PlainNode>], number: u16) -> Option<&PlainNode>
     }
 }
 
+// Whether some entry of what may be a directory is for a node.
+fn names_in(node: &Option<PlainNode>, number: u16) -> bool
+    ensures { result ≡ names_node number (entries_of (option_map plain_node node.now)) }
+{
+    match node {
+        Some(PlainNode::Directory(entries)) => entries.iter().any(|entry| entry.1 == number),
+        _ => false,
+    }
+}
+
+// The first directory with an entry for a node.
+fn first_parent_in(nodes: &[Option<PlainNode>], number: u16) -> Option<u16>
+    requires { length nodes.now ≤ 4097 }
+    ensures { result ≡ first_parent number (numbered (map (option_map plain_node) nodes.now)) }
+{
+    for (at, node) in nodes.iter().enumerate() {
+        if names_in(node, number) {
+            return Some(at as u16);
+        }
+    }
+    None
+}
+
 impl PlainTree {
-    ghost use Rattle.pv_model.specs.Tree.{node_at, find_entry, is_directory_at};
+    ghost use Rattle.pv_model.specs.Tree.{node_at, find_entry, is_directory_at, parent};
+    ghost use Rattle.pv_model.specs.PlainTree.{plain_tree};
+
+    /// The tree of these nodes, by their numbers from 0, and of an image of these sizes.
+    pub fn of_nodes(nodes: Vec<Option<PlainNode>>, blocks: u16, inodes: u16) -> PlainTree
+        requires numbers { vec_len nodes ≡ inodes + 1 }
+        requires small { inodes ≤ 4096 }
+        ensures { result ≡ plain_tree nodes.items blocks inodes }
+    {
+        PlainTree {
+            nodes,
+            blocks,
+            inodes,
+        }
+    }
+
+    /// How many numbers there are: each node's is below.
+    pub fn numbers(&self) -> usize
+        ensures value { result ≡ length self.now.nodes }
+        ensures small { result ≤ 4097 }
+    {
+        self.nodes.len()
+    }
 
     /// The node under a number, if there is one.
     pub fn node(&self, number: u16) -> Option<&PlainNode>
@@ -89,6 +136,18 @@ impl PlainTree {
         ensures { result ≡ is_directory_at self.now number }
     {
         matches!(self.node(number), Some(PlainNode::Directory(_)))
+    }
+
+    /// The directory above a directory: the root is above itself, and none is above a removed one.
+    #[tactic(auto, unfolding(crate::specs::Tree::parent))]
+    pub fn parent(&self, directory: u16) -> Option<u16>
+        ensures { result ≡ parent self.now directory }
+    {
+        if directory == ROOT {
+            Some(ROOT)
+        } else {
+            first_parent_in(&self.nodes, directory)
+        }
     }
 }
 

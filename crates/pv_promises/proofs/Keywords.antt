@@ -1,10 +1,9 @@
 -- Keywords of a text, and the set of some of them and then the others.
-use Rattle.std.proofs.Common.{◌≡◌, ℕ, ◌+◌, ◌<◌, ◌==◌, Bool, not, cond, List, [], ◌∷◌, filter, length, get_or, drop, Option, None, Some, bit_or, refl, sym, ap, ◌∙◌}
+use Rattle.std.proofs.Common.{◌≡◌, ℕ, ◌+◌, ◌<◌, ◌==◌, Bool, not, List, [], ◌∷◌, filter, length, get_or, drop, Option, None, Some, bit_or, refl, sym, ap, ◌∙◌, arith, ◌≤◌, ◌≢◌, suc}
 use Rattle.std.specs.List.{slice_split}
 use Rattle.std.specs.List as list
 use Rattle.std.proofs.lemmas.List.{at_drop_more, at_drop_all}
 use Rattle.std.proofs.lemmas.Nat.Bits.{same_from_bits, bit_at_or}
-use Rattle.std.proofs.Common.{arith, ◌≤◌, ◌≢◌, suc}
 use Rattle.std.proofs.lemmas.Bool.{ne_eqb}
 use Rattle.std.specs.Int.Bits.{or_zero_l, or_zero_r}
 use Rattle.pv_model.specs.Bytes.{Bytes, is_empty, onto_first}

@@ -1,5 +1,5 @@
 -- The promise that is missing of two lists of needs.
-use Rattle.std.proofs.Common.{◌≡◌, cond, Bool, true, false, Option, Some, List, [], ◌∷◌, ◌++◌, refl}
+use Rattle.std.proofs.Common.{◌≡◌, cond, true, false, Option, Some, List, [], ◌∷◌, ◌++◌, refl}
 use Rattle.std.specs.Option.{option_or}
 use Rattle.pv_model.specs.Promises.{Promises, Need, is_met, missing_promise}
 

@@ -1,5 +1,5 @@
 -- What a process has promised, as clauses see it.
-use Rattle.std.specs.Prelude.{◌≡◌, refl, ℕ, Option, Some, None, Result, Ok, Err}
+use Rattle.std.specs.Prelude.{◌≡◌, refl, Option, Some, None, Result, Ok, Err}
 use Rattle.pv_model.specs.declared.promise.Promise.{Promise}
 use Rattle.pv_model.specs.declared.promises.Promises.{Promises as Set}
 use Rattle.pv_model.specs.Promises.{Promises, narrow_promises, is_lenient}

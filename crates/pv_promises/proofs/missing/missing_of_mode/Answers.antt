@@ -1,4 +1,4 @@
-use Rattle.std.proofs.Common.{[], ◌∷◌, sym, ◌∙◌}
+use Rattle.std.proofs.Common.{[], ◌∷◌, sym}
 use Rattle.pv_model.specs.declared.promise.Promise.TheVariants.{Rpath, Wpath}
 use Rattle.pv_promises.specs.Pledge.{bits_of}
 use Rattle.pv_promises.proofs.LackedLemmas.{missing_promise-append}

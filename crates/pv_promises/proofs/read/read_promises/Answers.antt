@@ -1,11 +1,9 @@
-use Rattle.std.proofs.Common.{◌≡◌, ◌==◌, ◌<◌, length, get_or, sym, ap, ◌∙◌, rules, tests, arith, subst, List, ℕ, filter}
+use Rattle.std.proofs.Common.{length, sym, ◌∙◌, rules, tests, filter}
 use Rattle.std.specs.List.{slice_split}
-use Rattle.std.proofs.lemmas.Iterator.{YieldsList}
 use Rattle.std.proofs.lemmas.Iterator.Consumers.{YieldsList-turn, YieldsList-end, YieldsList-at, YieldsList-from_filter}
 use Rattle.std.proofs.lemmas.Iterator.Splits.{YieldsList-from_slice_split}
 use Rattle.std.proofs.lemmas.List.{length_push}
-use Rattle.std.proofs.lemmas.Bool.Decides.{nat_tests}
-use Rattle.pv_model.specs.Promises.{read_promises, keywords, promise_of, mask}
+use Rattle.pv_model.specs.Promises.{read_promises}
 use Rattle.pv_promises.proofs.Keywords.{is_space, is_word, here-keywords, all-keywords, join_sets-zero, join_sets-known, join_sets-unknown, join_sets-all}
 use Rattle.pv_promises.proofs.read.read_promises.Goals as goal
 use Rattle.pv_promises.proofs.read.read_promises.Given as given

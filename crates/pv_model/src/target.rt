@@ -1,0 +1,19 @@
+//! What an entry of an unveil table is for.
+
+use crate::Name;
+
+/// What an entry of an unveil table is for, unveil(2).
+#[derive(Drop)]
+pub enum Target {
+    /// The directory with this number.
+    Directory(u16),
+    /// A name in a directory, whether or not it is there.
+    Name { dir: u16, name: Name },
+}
+
+/// A blank for the unused places of a table: number 0 is no node's.
+impl Default for Target {
+    fn default() -> Target {
+        Target::Directory(0)
+    }
+}

@@ -1,0 +1,24 @@
+-- What it is to add an entry: unveil(2).
+use Rattle.std.specs.Prelude.{Some}
+use Rattle.pv_model.specs.declared.errno.Errno.TheVariants.{EPERM, E2BIG}
+use Rattle.pv_model.specs.declared.outcome.Cause.TheVariants.{Unveil as ByUnveil, Locked as ByLock}
+use Rattle.pv_model.specs.declared.perms.Perms.{Perms}
+use Rattle.pv_model.specs.declared.target.Target.{Target}
+use Rattle.pv_model.specs.Attempt.{Attempt, refused, refuse, ◌>>◌}
+use Rattle.pv_model.specs.Calls.Restraints.{add_entry, entries_of_table, refuse_if_locked}
+use Rattle.pv_model.specs.Unveil.{Table, entry_for}
+use Rattle.pv_unveil.specs.declared.table.AddFault.{AddFault}
+use Rattle.pv_unveil.specs.declared.table.AddFault.TheVariants.{Locked, Increase, Many}
+use Rattle.pv_unveil.specs.Unveiled.{Unveiled}
+
+-- what a fault answers
+abbrev pub refusal : AddFault → Attempt Table
+refusal Locked = refused 0 EPERM ByLock
+refusal (Increase k) = refused 0 EPERM (ByUnveil (Some k))
+refusal Many = refuse E2BIG
+
+-- refused under the lock; else an entry that is there may only lose letters, and a new one is the next
+abbrev pub add_to : Unveiled → Target → Perms → Attempt Table
+add_to unveiled target letters =
+    let table = entries_of_table unveiled.table in
+    refuse_if_locked unveiled.locked >> add_entry table target letters (entry_for table target)

@@ -1,0 +1,4 @@
+pub mod Added
+pub mod Judged
+pub mod Unveiled
+pub mod Up

@@ -1,0 +1,13 @@
+-- What a process has unveiled, as clauses see it.
+use Rattle.std.specs.Prelude.{Bool, [], ◌∷◌, Option, None, Some}
+use Rattle.pv_model.specs.Unveil.{Table}
+
+-- a table, which is absent before its first entry, and its lock
+pub record Unveiled : Type 0 where
+  pub table : Option Table
+  pub locked : Bool
+
+-- the table of some entries
+abbrev pub in_force : Table → Option Table
+in_force [] = None
+in_force (e ∷ es) = Some (e ∷ es)

@@ -1,0 +1,9 @@
+//! Laws of unveil tables.
+ghost use Rattle.pv_model.specs.Tree.{Tree};
+ghost use Rattle.pv_model.specs.Unveil.{Table, RightsAgree};
+
+/// In every tree, the entry that climbing from a directory finds is the one that governs it: its own, or else
+/// the one that governs the directory above. Neither the root nor a removed directory has one from above.
+pub fn rights_flow_down()
+    ensures { (t : Tree) (table : Table) → RightsAgree t table }
+{}

@@ -1,0 +1,16 @@
+//! The table of unveil(2): what a process has unveiled, its lock, and what it says of a place.
+//!
+//! An entry is for a directory's node, or for a name in a directory: no text of a path is kept or compared.
+//! `table` holds the entries and the lock, `entries` searches them, and `rights` finds the entry that governs
+//! a place. `law` says that the entry found by climbing is the one that flows down from above. Nothing here
+//! allocates. Clauses see a `Table` as the record of `specs/Unveiled.antt`.
+#![tactic(auto)]
+
+mod entries;
+pub mod law;
+mod rights;
+pub mod table;
+#[cfg(test)]
+mod tests;
+
+pub use table::{AddFault, Table};

@@ -1,0 +1,173 @@
+//! What a process has unveiled.
+ghost use Rattle.std.specs.Prelude.{◌≡◌, ◌<◌, length, OnErr, IfOk, IfErr, None, Some, true, false, ◌↔◌, IsTrue, option_map, slice_get, slice_set};
+ghost use Rattle.pv_model.specs.Attempt.{give};
+ghost use Rattle.pv_model.specs.Calls.Restraints.{add_entry};
+ghost use Rattle.pv_model.specs.Unveil.{entry_for, letters_at};
+ghost use Rattle.pv_unveil.specs.Added.{refusal};
+
+use crate::entries::{entry_for, letters_at};
+use crate::rights::judge_in;
+use arrayvec::ArrayVec;
+use pv_model::{Judgement, Perms, Place, PlainTree, Target};
+use std::marker::Model;
+
+/// Why an entry cannot be added, unveil(2): the first of these that applies.
+#[derive(Clone, Copy, Debug, PartialEq, Eq)]
+pub enum AddFault {
+    /// The table is locked: EPERM.
+    Locked,
+    /// This entry is for the target, and lacks a letter that is asked for: EPERM.
+    Increase(u8),
+    /// The target is new, and there are 64 entries: E2BIG.
+    Many,
+}
+
+/// What a process has unveiled, unveil(2): at most 64 entries by arrival, and whether they are locked.
+///
+/// There is no table before the first entry, and then nothing is hidden.
+#[derive(Drop)]
+pub struct Table {
+    entries: ArrayVec<(Target, Perms), 64>,
+    locked: bool,
+}
+
+impl Model for Table {
+    ghost use Rattle.pv_unveil.specs.Unveiled.{Unveiled, in_force};
+
+    ghost Value = { Unveiled };
+
+    ghost view = { λ t. record { table = in_force t.entries.items; locked = t.locked } };
+}
+
+// Puts another entry in place of entry `k`.
+fn replace(entries: &mut ArrayVec<(Target, Perms), 64>, k: u8, entry: (Target, Perms))
+    requires { k < length entries.old.items }
+    ensures { entries.new.items ≡ slice_set entries.old.items k entry }
+{
+    entries.as_mut_slice()[k as usize] = entry;
+}
+
+// Adds an entry, or puts fewer letters in the one for the target.
+fn put(
+    entries: &mut ArrayVec<(Target, Perms), 64>,
+    target: Target,
+    letters: Perms,
+) -> Result<u8, AddFault>
+    ensures added { IfOk result (λ _. add_entry entries.old.items target letters (entry_for entries.old.items target) ≡ give entries.new.items) }
+    ensures number { IfOk result (λ k. entry_for entries.new.items target ≡ Some k) }
+    ensures letters { IfOk result (λ k. letters_at entries.new.items k ≡ letters) }
+    ensures refused { IfErr result (λ fault. add_entry entries.old.items target letters (entry_for entries.old.items target) ≡ refusal fault) }
+    ensures unchanged { OnErr result (entries.new ≡ entries.old) }
+{
+    match entry_for(entries.as_slice(), &target) {
+        Some(k) => {
+            if !letters_at(entries.as_slice(), k).covers(letters) {
+                return Err(AddFault::Increase(k));
+            }
+            replace(entries, k, (target, letters));
+            Ok(k)
+        }
+        None => {
+            if entries.is_full() {
+                return Err(AddFault::Many);
+            }
+            let k = entries.len() as u8;
+            entries.push((target, letters));
+            Ok(k)
+        }
+    }
+}
+
+impl Table {
+    ghost use Rattle.std.specs.Option.{IsSomeAnd};
+    ghost use Rattle.pv_model.specs.Calls.Restraints.{entries_of_table};
+    ghost use Rattle.pv_model.specs.Unveil.{judgement};
+    ghost use Rattle.pv_unveil.specs.Judged.{IsJudged};
+    ghost use Rattle.pv_unveil.specs.Added.{add_to};
+
+    /// No table, and no lock.
+    pub fn new() -> Table
+        ensures table { result.table ≡ None }
+        ensures unlocked { result.locked ≡ false }
+    {
+        Table {
+            entries: ArrayVec::new(),
+            locked: false,
+        }
+    }
+
+    /// Whether the table is locked.
+    pub fn is_locked(&self) -> bool
+        ensures { result ≡ self.now.locked }
+    {
+        self.locked
+    }
+
+    /// Locks the table: `add` is refused from then on, and what is hidden stays as it is.
+    pub fn lock(&mut self)
+        ensures { self.new ≡ record self.old { locked = true } }
+    {
+        self.locked = true;
+    }
+
+    /// The number of entries.
+    pub fn len(&self) -> usize
+        ensures { result ≡ length (entries_of_table self.now.table) }
+    {
+        self.entries.len()
+    }
+
+    /// Whether there is no entry, and so no table.
+    pub fn is_empty(&self) -> bool
+        ensures { IsTrue result ↔ (self.now.table ≡ None) }
+    {
+        self.entries.is_empty()
+    }
+
+    /// The target of entry `k`.
+    pub fn target(&self, k: u8) -> &Target
+        requires { k < length (entries_of_table self.now.table) }
+        ensures { option_map (λ e. e.0) (slice_get (entries_of_table self.now.table) k) ≡ Some result.now }
+    {
+        &self.entries.as_slice()[k as usize].0
+    }
+
+    /// The letters of entry `k`.
+    pub fn letters(&self, k: u8) -> Perms
+        requires { k < length (entries_of_table self.now.table) }
+        ensures { result ≡ letters_at (entries_of_table self.now.table) k }
+    {
+        letters_at(self.entries.as_slice(), k)
+    }
+
+    /// Adds an entry for a target, or leaves the one for it with these letters, which must be among its own.
+    ///
+    /// The answer is the number of the entry: the entries have theirs by arrival, from 0. A fault leaves the
+    /// table as it was. The first entry brings the table into force.
+    pub fn add(&mut self, target: Target, letters: Perms) -> Result<u8, AddFault>
+        ensures added { IfOk result (λ _. IsSomeAnd self.new.table (λ table. add_to self.old target letters ≡ give table)) }
+        ensures number { IfOk result (λ k. entry_for (entries_of_table self.new.table) target ≡ Some k) }
+        ensures letters { IfOk result (λ k. letters_at (entries_of_table self.new.table) k ≡ letters) }
+        ensures lock_stays { self.new.locked ≡ self.old.locked }
+
+        // The first that applies, in the order of `AddFault`.
+        ensures refused { IfErr result (λ fault. add_to self.old target letters ≡ refusal fault) }
+        ensures unchanged { OnErr result (self.new ≡ self.old) }
+    {
+        if self.locked {
+            return Err(AddFault::Locked);
+        }
+        put(&mut self.entries, target, letters)
+    }
+
+    /// What the table says of a place, for the letters that a call needs.
+    ///
+    /// Where there is no entry, each place is allowed. Else it is judged by the entry that governs it: a place
+    /// that none governs is hidden, and one whose entry lacks a letter is denied.
+    pub fn judge(&self, tree: &PlainTree, place: &Place, needed: Perms) -> Judgement
+        ensures value { result ≡ judgement tree.now self.now.table place.now needed }
+        ensures by_entry { IsJudged tree.now self.now.table place.now needed result }
+    {
+        judge_in(self.entries.as_slice(), tree, place, needed)
+    }
+}
