@@ -2,7 +2,7 @@
 use Rattle.std.proofs.Common.{◌≡◌, ◌<◌, ◌≤◌, ◌∙◌, ap, ℕ, zero, suc, List, [], ◌∷◌, length, get_or, Option, None, Some, refl}
 use Rattle.std.proofs.lemmas.Option.{slice_get_read, slice_get_past}
 use Rattle.std.specs.Prelude.{map, option_map, slice_get}
-use Rattle.pv_model.specs.Numbered.{Numbered, at_number}
+use Rattle.pv_model.specs.Numbered.{at_number}
 
 module _ {X Y : Type 0} (f : X → Y) where
   abbrev pub at_slot : Option (Option X) → Option Y

@@ -1,7 +1,11 @@
 -- What reads and writes promise.
-use Rattle.std.specs.Prelude.{⊤, ◌≡◌, ℕ, zero, suc, ◌<◌, ◌≤◌, List, [], length, Option, IfSome, Result, Ok, Err}
+use Rattle.std.specs.Prelude.{⊤, ◌++◌, take, option_map, ◌≡◌, ℕ, zero, suc, ◌<◌, ◌≤◌, [], length, Option, IfSome, Result, Ok, Err}
 use Rattle.pv_model.specs.declared.stream.Failed.{Failed}
 use Rattle.pv_model.specs.Bytes.{Bytes}
+
+-- a count of failures rose; it stops at 2^64 - 1
+abbrev pub Rose : ℕ → ℕ → Type 0
+Rose before after = before < 18446744073709551615 → before < after
 
 -- a read gives at most as many bytes as the buffer has room for
 abbrev pub ReadsAtMost : Result ℕ Failed → Bytes → Type 0
@@ -21,6 +25,14 @@ WritesAtMost (Err e) buffer = ⊤
 
 -- a write that takes nothing where there is something counts as failed, and so does an error; no other does
 abbrev pub CountsNothingTaken : ℕ → ℕ → Result ℕ Failed → Bytes → Type 0
-CountsNothingTaken before after (Ok zero) buffer = 0 < length buffer → before < after
+CountsNothingTaken before after (Ok zero) buffer = 0 < length buffer → Rose before after
 CountsNothingTaken before after (Ok (suc n)) buffer = after ≡ before
-CountsNothingTaken before after (Err e) buffer = before < after
+CountsNothingTaken before after (Err e) buffer = Rose before after
+
+-- what was told before, and then the front of a buffer
+abbrev pub and_front : Option Bytes → ℕ → Bytes → Option Bytes
+and_front told n buffer = option_map (λ had. had ++ take n buffer) told
+
+-- the front of a buffer, and then what remains
+abbrev pub front_and : ℕ → Bytes → Option Bytes → Option Bytes
+front_and n buffer remaining = option_map (λ rest. take n buffer ++ rest) remaining

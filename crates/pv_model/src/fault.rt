@@ -70,24 +70,3 @@ pub enum ImageFault {
     /// Memory was refused.
     Memory,
 }
-
-/// Why a run is refused, or ends early.
-#[derive(Clone, Copy, Debug, PartialEq, Eq)]
-pub enum RunFault {
-    /// A source failed, or gave more than 67,108,864 bytes.
-    Read,
-    /// The image is none.
-    Image(ImageFault),
-    /// The manifest is none, or its entries do not apply.
-    Manifest(ManifestFault),
-    /// This line of the schedule is none.
-    Schedule(u32),
-    /// This line of the program in `init` is no instruction; 0 where `init` is no executable file.
-    Init(u16),
-    /// Memory was refused.
-    Memory,
-    /// The sink of the trace failed.
-    WriteTrace,
-    /// The sink of the image failed.
-    WriteImage,
-}

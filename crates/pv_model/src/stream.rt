@@ -1,6 +1,6 @@
 //! What a run reads from and writes to.
-ghost use Rattle.std.specs.Prelude.{◌≡◌, ℕ, ◌++◌, ◌<◌, List, take, option_map, None, IfOk, OnOk, OnErr, Option};
-ghost use Rattle.pv_model.specs.Stream.{ReadsAtMost, EndsWhereEmpty, WritesAtMost, CountsNothingTaken};
+ghost use Rattle.std.specs.Prelude.{◌≡◌, ℕ, List, IfOk, OnOk, OnErr, Option};
+ghost use Rattle.pv_model.specs.Stream.{Rose, and_front, front_and, ReadsAtMost, EndsWhereEmpty, WritesAtMost, CountsNothingTaken};
 
 /// A read or a write did not succeed. What went wrong is the stream's to tell: it counts its failures.
 #[derive(Clone, Copy, Debug, PartialEq, Eq)]
@@ -14,17 +14,17 @@ pub trait Source {
     /// The bytes that reads will give from here on, where they are known.
     ghost remaining: { Self → Option (List ℕ) };
 
-    /// How many reads have failed.
+    /// How many reads have failed: the count stops at 2^64 - 1.
     ghost failures: { Self → ℕ };
 
     /// Puts the next bytes at the front of the buffer and answers how many they are; 0 is the end,
     /// where the buffer has room for a byte. On `Err` the failure has been counted.
     fn read(&mut self, buffer: &mut [u8]) -> Result<usize, Failed>
         ensures bound { ReadsAtMost result buffer.new }
-        ensures bytes { IfOk result (λ n. remaining self.old ≡ option_map (λ rest. take n buffer.new ++ rest) (remaining self.new)) }
+        ensures bytes { IfOk result (λ n. remaining self.old ≡ front_and n buffer.new (remaining self.new)) }
         ensures end { EndsWhereEmpty (remaining self.new) result buffer.new }
         ensures quiet { OnOk result (failures self.new ≡ failures self.old) }
-        ensures failed { OnErr result (failures self.old < failures self.new) };
+        ensures failed { OnErr result (Rose (failures self.old) (failures self.new)) };
 }
 
 /// Where bytes go.
@@ -35,14 +35,14 @@ pub trait Sink {
     /// The bytes that it was given so far, where they are known.
     ghost told: { Self → Option (List ℕ) };
 
-    /// How many writes have failed.
+    /// How many writes have failed: the count stops at 2^64 - 1.
     ghost failures: { Self → ℕ };
 
     /// Takes bytes from the front of the buffer and answers how many it took. To take none of a buffer
     /// that has some counts as a failure. On `Err` nothing was taken, and the failure has been counted.
     fn write(&mut self, buffer: &[u8]) -> Result<usize, Failed>
         ensures bound { WritesAtMost result buffer.now }
-        ensures bytes { IfOk result (λ n. told self.new ≡ option_map (λ had. had ++ take n buffer.now) (told self.old)) }
+        ensures bytes { IfOk result (λ n. told self.new ≡ and_front (told self.old) n buffer.now) }
         ensures kept { OnErr result (told self.new ≡ told self.old) }
         ensures failed { CountsNothingTaken (failures self.old) (failures self.new) result buffer.now };
 }

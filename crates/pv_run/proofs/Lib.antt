@@ -3,10 +3,11 @@ pub mod CallLemmas
 pub mod OpenLemmas
 pub mod Parents
 pub mod Pieces
-pub mod PledgeLemmas
 pub mod Places
+pub mod PledgeLemmas
 pub mod ProcessLemmas
 pub mod Resolve
 pub mod RowLemmas
 pub mod SlotLemmas
+pub mod Streaming
 pub mod Trim

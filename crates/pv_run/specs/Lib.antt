@@ -7,4 +7,5 @@ pub mod Owned
 pub mod Process
 pub mod Rows
 pub mod Slots
+pub mod Streams
 pub mod Walk

@@ -2,3 +2,4 @@
 #![tactic(auto)]
 
 mod kernel;
+pub mod stream;
