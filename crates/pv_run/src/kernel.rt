@@ -95,6 +95,7 @@ impl Kernel {
         requires live { IsSome (process_at self.old pid) }
         ensures { (program_of : Bytes → Option Program) → answer program_of self.old pid call.now ≡ record { after = self.new; outcome = result.outcome; walks = result.walks } }
     {
+        // Only process 1 is ever live.
         let _ = pid;
         let answer = carry_out(&self.tree, &mut self.process, call);
         self.has_ended = is_end(answer.outcome);
@@ -107,6 +108,7 @@ impl Kernel {
         ensures value { option_map (λ p. p.buffer) (process_at self.now pid) ≡ Some result.now }
         ensures size { length result.now ≡ 4096 }
     {
+        // Only process 1 is ever live.
         let _ = pid;
         self.process.buffer()
     }
