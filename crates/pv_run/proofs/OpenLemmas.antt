@@ -1,28 +1,25 @@
 -- The row of open(2) for reading.
-use Rattle.std.proofs.Common.{◌≡◌, ◌<◌, ◌≤◌, ℕ, ◌+◌, Bool, true, false, not, ◌&&◌, if◌then◌else◌, nat_le, Option, Some, None, option_and_then, Result, Ok, Err, IsTrue, refl, sym, ap, ◌∙◌, arith, add-zero, zero-add}
+use Rattle.std.proofs.Common.{◌≡◌, ◌<◌, ℕ, Bool, true, false, not, if◌then◌else◌, nat_le, Option, Some, None, option_and_then, Ok, Err, IsTrue, refl, ap, ◌∙◌, arith}
 use Rattle.std.proofs.lemmas.Bool.Decides.{nat_tests}
 use Rattle.pv_model.specs.declared.errno.Errno.{Errno}
 use Rattle.pv_model.specs.declared.errno.Errno.TheVariants.{ENOENT, EMFILE}
 use Rattle.pv_model.specs.declared.follow.Follow.TheVariants.{Last}
 use Rattle.pv_model.specs.declared.outcome.Cause.TheVariants.{Plain}
 use Rattle.pv_model.specs.declared.place.Place.{Place}
-use Rattle.pv_model.specs.declared.place.Place.TheVariants.{At, Node as Unnamed}
 use Rattle.pv_model.specs.declared.perms.Perms.{Perms}
 use Rattle.pv_model.specs.declared.judgement.Judgement.TheVariants.{Allowed}
 use Rattle.pv_model.specs.Perms.{letter_r}
-use Rattle.pv_model.specs.Attempt.{Attempt, done, refused, give, after_walks}
+use Rattle.pv_model.specs.Attempt.{done, refused, give}
 use Rattle.pv_model.specs.Bytes.{Bytes}
 use Rattle.pv_model.specs.Calls.Descriptors.{open_here, with_open_file}
-use Rattle.pv_model.specs.Effect.{Effect, node_of, returns, judge, with_room}
-use Rattle.pv_model.specs.Held.{trim}
+use Rattle.pv_model.specs.Effect.{node_of, returns, with_room}
 use Rattle.pv_model.specs.Numbered.{least_free}
-use Rattle.pv_model.specs.Room.{is_too_long, fits}
-use Rattle.pv_model.specs.State.{State}
+use Rattle.pv_model.specs.Room.{is_too_long}
 use Rattle.pv_model.specs.Tree.{Node, directory_node, file_node, link_node, Tree, node_at}
 use Rattle.pv_model.specs.Unveil.{judgement}
 use Rattle.pv_model.specs.Walk.{resolve, begins_walk}
 use Rattle.pv_run.specs.Made.{IsMade}
-use Rattle.pv_run.specs.Owned.{Owned, IsOwned, state_with, tidied}
+use Rattle.pv_run.specs.Owned.{Owned, IsOwned, state_with}
 use Rattle.pv_run.specs.Rows.{plain_reading, is_readable}
 use Rattle.pv_run.specs.Slots.{with_opened}
 use Rattle.pv_run.proofs.Trim.{trim_made}

@@ -1,7 +1,6 @@
 -- What is found under a name stands in a directory.
-use Rattle.std.proofs.Common.{◌≡◌, ℕ, zero, suc, ◌==◌, Bool, true, false, cond, if◌then◌else◌, IsTrue, is_some, List, [], ◌∷◌, ◌||◌, Option, None, Some, refl, sym, ap, subst, ◌∙◌, arith}
+use Rattle.std.proofs.Common.{◌≡◌, ℕ, zero, suc, ◌==◌, Bool, true, false, cond, if◌then◌else◌, IsTrue, is_some, [], ◌∷◌, ◌||◌, Option, None, Some, refl, arith}
 use Rattle.std.specs.FinMap.Entries.{find}
-use Rattle.std.specs.List.{list_any}
 use Rattle.std.specs.Cmp.Lexicographic.{slice_cmp}
 use Rattle.std.specs.Ordering.{nat_cmp, eq_by_cmp}
 use Rattle.std.proofs.lemmas.Bool.Decides.{nat_tests}

@@ -1,18 +1,16 @@
 -- The process, its descriptors and its open files.
-use Rattle.std.proofs.Common.{◌≡◌, ◌<◌, ◌≤◌, ℕ, zero, suc, ◌+◌, ℤ, pos, negsuc, nat_le, List, [], ◌∷◌, length, get_or, Option, None, Some, IsSome, IfSome, MatchOption, option_map, slice_set, zero-add, refl, sym, ap, ◌∙◌, arith, if◌then◌else◌, cond, Bool, true, false}
+use Rattle.std.proofs.Common.{◌≡◌, ◌<◌, ◌≤◌, ℕ, zero, suc, ◌+◌, ℤ, pos, negsuc, nat_le, [], ◌∷◌, length, get_or, Option, None, Some, IfSome, MatchOption, option_map, slice_set, zero-add, refl, sym, ap, ◌∙◌, arith, if◌then◌else◌}
 use Rattle.std.proofs.lemmas.Bool.Decides.{nat_tests}
 use Rattle.std.proofs.lemmas.Option.{cond_some}
 use Rattle.pv_model.specs.Calls.Descriptors.{within}
 use Rattle.pv_model.specs.Effect.{descriptor_at, open_file, open_file_of}
-use Rattle.pv_model.specs.Held.{among, used_files}
-use Rattle.pv_model.specs.Numbered.{Numbered, at_number, with_number, without_number, least_free, keep}
-use Rattle.pv_model.specs.State.{OpenFile, Descriptor}
+use Rattle.pv_model.specs.Numbered.{Numbered, at_number, with_number, least_free}
 use Rattle.pv_model.specs.Tree.{Tree}
 use Rattle.pv_run.specs.declared.kernel.files.Opened.{Opened}
 use Rattle.pv_run.specs.declared.kernel.process.Process.TheInside.{Inside}
-use Rattle.pv_run.specs.Owned.{Owned, state_with, tidied, with_owner, without_descriptor_at}
+use Rattle.pv_run.specs.Owned.{state_with, tidied, with_owner, without_descriptor_at}
 use Rattle.pv_run.specs.Process.{owned_of}
-use Rattle.pv_run.specs.Slots.{file_of, descriptor_of, descriptors_from, unused_files, files_from, with_opened}
+use Rattle.pv_run.specs.Slots.{file_of, descriptor_of, descriptors_from, unused_files, with_opened}
 use Rattle.pv_run.proofs.SlotLemmas.{Files, at_descriptors, at_files, least_descriptors, least_files, descriptors_set_none, descriptors_set_some, descriptors_stay, files_set_some, IsSub-set_none, keep_files}
 
 at_past : {X : Type 0} (xs : Numbered X) (n : ℕ) → length xs ≤ n → at_number xs n ≡ None

@@ -1,15 +1,15 @@
 -- Open files and descriptors with the same numbers.
-use Rattle.std.proofs.Common.{◌≡◌, ◌≢◌, ◌<◌, ◌≤◌, ℕ, zero, suc, ◌+◌, ◌==◌, ◌||◌, Bool, true, false, not, cond, List, [], ◌∷◌, ◌++◌, map, length, replicate, position, MatchOption, Option, None, Some, is_some, is_none, option_map, slice_set, add-zero, refl, sym, ap, ◌∙◌, arith, length-append}
+use Rattle.std.proofs.Common.{◌≡◌, ◌≢◌, ◌<◌, ℕ, zero, suc, ◌+◌, ◌==◌, Bool, true, false, not, List, [], ◌∷◌, ◌++◌, map, length, replicate, position, MatchOption, Option, None, Some, is_some, is_none, option_map, slice_set, add-zero, refl, sym, ap, ◌∙◌, arith, length-append}
 use Rattle.std.proofs.Math.Numerals.{one-add}
 use Rattle.std.proofs.Math.ListN.{length-map, length-replicate}
 use Rattle.std.proofs.lemmas.Bool.{ne_eqb}
 use Rattle.std.proofs.lemmas.List.Quantifiers.{position-Some}
 use Rattle.std.proofs.lemmas.List.Sums.{prefix_len-le-length}
 use Rattle.std.proofs.lemmas.Bool.Decides.{nat_tests}
-use Rattle.std.specs.List.{prefix_len, position_or_len, list_any}
+use Rattle.std.specs.List.{position_or_len}
 use Rattle.pv_model.specs.Held.{among}
 use Rattle.pv_model.specs.Numbered.{Numbered, at_number, with_number, without_number, least_free, keep_if, keep_from, keep, present}
-use Rattle.pv_model.specs.State.{OpenFile, Descriptor}
+use Rattle.pv_model.specs.State.{OpenFile}
 use Rattle.pv_run.specs.declared.kernel.files.Opened.{Opened}
 use Rattle.pv_run.proofs.Places.{place_past, place_is}
 use Rattle.pv_run.specs.Slots.{file_of, descriptor_of, descriptors_from, unused_files, files_from}
@@ -65,7 +65,7 @@ descriptors_set_some k (None ∷ fs) (suc i) f within =
 descriptors_set_some k (Some e ∷ fs) (suc i) f within =
     let rest : i < length fs = omega arith in
     ap (λ ds. Some (descriptor_of k) ∷ ds)
-        (descriptors_set_some (suc k) fs i f rest ∙ ap (λ n. with_number (descriptors_from (suc k) fs) i (descriptor_of n)) (one_later k i))
+    (descriptors_set_some (suc k) fs i f rest ∙ ap (λ n. with_number (descriptors_from (suc k) fs) i (descriptor_of n)) (one_later k i))
 
 -- another offset changes no descriptor
 pub descriptors_stay : (k : ℕ) (fs : Files) (i : ℕ) (e f : Opened) → at_number fs i ≡ Some e → descriptors_from k (slice_set fs i (Some f)) ≡ descriptors_from k fs

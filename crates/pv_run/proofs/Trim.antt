@@ -1,12 +1,11 @@
 -- Trimming a state of the small kernel: each node stays, and only the open files that have no descriptor go.
-use Rattle.std.proofs.Common.{◌≡◌, ◌≢◌, ℕ, zero, suc, ◌+◌, ◌==◌, ◌||◌, Bool, true, false, IsTrue, List, [], ◌∷◌, ◌++◌, map, flat_map, length, replicate, Option, None, Some, is_some, refl, sym, ap, ◌∙◌, arith, append-nil, zero-add, add-zero}
-use Rattle.std.specs.List.{list_any}
+use Rattle.std.proofs.Common.{◌≡◌, ◌≢◌, ℕ, suc, ◌+◌, ◌==◌, ◌||◌, Bool, true, false, List, [], ◌∷◌, ◌++◌, length, replicate, Option, None, Some, is_some, refl, sym, ap, ◌∙◌, arith, append-nil, zero-add, add-zero}
 use Rattle.std.proofs.lemmas.Bool.Decides.{nat_tests}
 use Rattle.pv_model.specs.Calls.Processes.{end_process}
-use Rattle.pv_model.specs.Held.{among, used_files, held_nodes, trim}
+use Rattle.pv_model.specs.Held.{among, used_files, trim}
 use Rattle.pv_model.specs.Numbered.{Numbered, at_number, keep_if, keep_from, keep}
-use Rattle.pv_model.specs.State.{OpenFile, Process, live, State}
-use Rattle.pv_model.specs.Tree.{Node, Tree, root, node_at, named_numbers}
+use Rattle.pv_model.specs.State.{Process}
+use Rattle.pv_model.specs.Tree.{Tree, root, node_at, named_numbers}
 use Rattle.pv_run.specs.Made.{IsMade}
 use Rattle.pv_run.specs.Owned.{Owned, state_with, ended_state, tidied}
 

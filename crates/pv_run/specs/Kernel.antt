@@ -1,5 +1,5 @@
 -- The kernel as the definitions have it.
-use Rattle.std.specs.Prelude.{Bool, true, false, if◌then◌else◌}
+use Rattle.std.specs.Prelude.{if◌then◌else◌}
 use Rattle.pv_model.specs.State.{State}
 use Rattle.pv_run.specs.declared.kernel.Kernel.TheInside.{Inside}
 use Rattle.pv_run.specs.Made.{IsMade}

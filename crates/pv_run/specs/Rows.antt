@@ -1,11 +1,11 @@
 -- What a call comes to in the small kernel, and what it leaves.
-use Rattle.std.specs.Prelude.{ℕ, pos, negsuc, true, false, Bool, if◌then◌else◌, Option, None, Some, Result, Ok, Err}
+use Rattle.std.specs.Prelude.{ℕ, pos, negsuc, true, false, Bool, Option, Some, Result, Ok, Err}
 use Rattle.pv_model.specs.declared.errno.Errno.{Errno}
 use Rattle.pv_model.specs.declared.open_flags.OpenFlags.{OpenFlags}
 use Rattle.pv_model.specs.declared.open_flags.Mode.TheVariants.{Read}
 use Rattle.pv_model.specs.declared.outcome.Cause.{Cause}
 use Rattle.pv_model.specs.declared.outcome.Outcome.{Outcome}
-use Rattle.pv_model.specs.declared.outcome.Outcome.TheVariants.{Value, Text, Failed, Killed, Exited, Blocked, Gone}
+use Rattle.pv_model.specs.declared.outcome.Outcome.TheVariants.{Value, Failed, Killed, Exited}
 use Rattle.pv_model.specs.Answer.{Answered}
 use Rattle.pv_model.specs.Attempt.{Attempt, done, refused}
 use Rattle.pv_model.specs.Calls.Processes.{with_result}

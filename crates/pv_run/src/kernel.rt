@@ -20,10 +20,9 @@ mod files;
 mod process;
 mod walk;
 
-pub(crate) use answer::Answer;
-
 use crate::kernel::calls::carry_out;
 use crate::kernel::process::Process;
+pub(crate) use answer::Answer;
 use pv_model::{Call, Instruction, Outcome, PlainTree};
 use std::marker::Model;
 
@@ -97,6 +96,7 @@ impl Kernel {
         requires live { IsSome (process_at self.old pid) }
         ensures { (program_of : Bytes → Option Program) → answer program_of self.old pid call.now ≡ record { after = self.new; outcome = result.outcome; walks = result.walks } }
     {
+        // Only process 1 is ever live.
         let _ = pid;
         let answer = carry_out(&self.tree, &mut self.process, call);
         self.has_ended = is_end(answer.outcome);

@@ -226,3 +226,55 @@ impl Process {
         &self.buffer
     }
 }
+
+#[cfg(test)]
+mod tests {
+    use super::*;
+    use pv_model::Register;
+    use std::test::Fail;
+
+    #[test]
+    fn steps_through_a_program(rt: HostRuntime) -> Result<(), Fail> {
+        let first = Register::new(0).expect(&rt, "a register");
+        let program = vec![in rt.alloc();
+            Instruction::GetPid,
+            Instruction::Exit(Operand::Register(first)),
+        ]?;
+        let mut process = Process::new(program);
+        assert!(rt; matches!(process.next(), Call::GetPid));
+        process.advance();
+        process.tell(3, 0);
+        assert!(rt; matches!(process.next(), Call::Exit(3)));
+        process.advance();
+        process.advance();
+        assert!(rt; matches!(process.next(), Call::Exit(0)));
+        Ok(())
+    }
+
+    #[test]
+    fn numbers_its_files(rt: HostRuntime) -> Result<(), Fail> {
+        let mut process = Process::new(Vec::new(rt.alloc()));
+        for number in 0..16 {
+            assert_eq!(rt; process.free_number(), Some(number));
+            process.open(number, 2);
+        }
+        assert_eq!(rt; process.free_number(), None);
+        process.close(7);
+        assert_eq!(rt; process.free_number(), Some(7));
+        if let Some((number, file)) = process.opened(9) {
+            process.set_opened(
+                number,
+                Opened {
+                    node: file.node,
+                    offset: 5,
+                },
+            );
+        }
+        assert_eq!(rt; process.opened(9).map(|(_, file)| file.offset), Some(5));
+        assert_eq!(rt; process.opened(7), None);
+        assert_eq!(rt; process.opened(-1), None);
+        process.put_front(b"ab");
+        assert!(rt; process.buffer().starts_with(b"ab\0"));
+        Ok(())
+    }
+}

@@ -1,5 +1,5 @@
 //! The walk along a path, symlink(7): from the root, through directories, in a tree with no links.
-ghost use Rattle.std.specs.Prelude.{◌≡◌, ◌<◌, ◌≤◌, ◌==◌, not, ◌∷◌, [], length, IsTrue, is_some, position, MatchOption, IfOk, nat_lt, List, ℕ, Bool, true};
+ghost use Rattle.std.specs.Prelude.{◌≡◌, ◌<◌, ◌≤◌, ◌==◌, not, ◌∷◌, [], length, IsTrue, is_some, position, MatchOption, IfSome, IfOk, nat_lt, List, ℕ, Bool, true};
 ghost use Rattle.std.specs.Bool.{OnFalse};
 ghost use Rattle.std.specs.List.{list_all};
 ghost use Rattle.pv_model.specs.declared.follow.Follow.{Follow};
@@ -32,7 +32,7 @@ fn first_other(path: &[u8]) -> Option<usize>
 // The first piece of a path, and what follows it.
 fn next_piece(path: &[u8]) -> Option<(&[u8], &[u8])>
     ensures parts { MatchOption result (pieces path.now ≡ []) (λ r. pieces path.now ≡ r.0.now ∷ pieces r.1.now) }
-    ensures shorter { MatchOption result (length path.now ≡ length path.now) (λ r. length r.1.now < length path.now) }
+    ensures shorter { IfSome result (λ r. length r.1.now < length path.now) }
 {
     let Some(start) = first_other(path) else {
         return None;
@@ -112,7 +112,11 @@ fn finish(tree: &PlainTree, at: u16, piece: &[u8], mark: bool) -> Result<Place, 
         return Err(Errno::ENAMETOOLONG);
     }
     let Some(number) = tree.find(at, piece) else {
-        return if mark { Err(Errno::ENOENT) } else { Ok(named_place(at, piece, None)) };
+        return if mark {
+            Err(Errno::ENOENT)
+        } else {
+            Ok(named_place(at, piece, None))
+        };
     };
     match tree.node(number) {
         Some(PlainNode::File { .. }) if mark => Err(Errno::ENOTDIR),

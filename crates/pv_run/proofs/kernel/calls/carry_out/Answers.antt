@@ -1,4 +1,4 @@
-use Rattle.std.proofs.Common.{◌≡◌, sym, ap, ◌∙◌, refl}
+use Rattle.std.proofs.Common.{sym, ◌∙◌, refl}
 use Rattle.pv_run.proofs.CallLemmas.{answer_allowed, answer_refused, answer_killed}
 use Rattle.pv_run.specs.Owned.{state_with}
 use Rattle.pv_run.proofs.kernel.calls.carry_out.Goals as goal

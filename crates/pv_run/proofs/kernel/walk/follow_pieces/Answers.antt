@@ -1,8 +1,6 @@
-use Rattle.std.proofs.Common.{◌≡◌, IsTrue, ap, true}
-use Rattle.std.specs.List.{list_all}
+use Rattle.std.proofs.Common.{ap, true}
 use Rattle.pv_model.specs.Tree.{root}
 use Rattle.pv_model.specs.Walk.{along}
-use Rattle.pv_run.specs.Walk.{is_plain_piece}
 use Rattle.pv_run.proofs.Parents.{parent_root}
 use Rattle.pv_run.proofs.kernel.walk.follow_pieces.Goals as goal
 

@@ -1,5 +1,4 @@
-use Rattle.std.proofs.Common.{◌≡◌, ◌<◌, length, drop, Some, unwrap_or, position, sym, ap, ◌∙◌, arith}
-use Rattle.std.proofs.lemmas.List.{length-drop}
+use Rattle.std.proofs.Common.{◌≡◌, ◌<◌, length, drop, Some, unwrap_or, position, sym, ◌∙◌, arith}
 use Rattle.pv_run.proofs.Pieces.{is_slash, is_other, pieces_none, pieces_next, some_next}
 use Rattle.pv_run.proofs.kernel.walk.next_piece.Goals as goal
 use Rattle.pv_run.proofs.kernel.walk.next_piece.Goals.{After-split_at-2}

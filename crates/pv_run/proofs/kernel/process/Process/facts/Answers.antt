@@ -1,6 +1,6 @@
-use Rattle.std.proofs.Common.{◌≡◌, sym, ap, ◌∙◌, refl, subst}
+use Rattle.std.proofs.Common.{ap, refl, subst}
 use Rattle.pv_run.proofs.SlotLemmas.{keep_files, IsSub-refl, length_files}
-use Rattle.pv_run.specs.Owned.{Owned, IsOwned}
+use Rattle.pv_run.specs.Owned.{IsOwned}
 use Rattle.pv_run.specs.Process.{owned_of}
 use Rattle.pv_run.proofs.kernel.process.Process.facts.Goals as goal
 

@@ -1,4 +1,4 @@
-use Rattle.std.proofs.Common.{◌≡◌, sym, ap, ◌∙◌, refl}
+use Rattle.std.proofs.Common.{refl}
 use Rattle.pv_run.specs.Slots.{unused_files}
 use Rattle.pv_run.proofs.kernel.process.Process.new.Goals as goal
 

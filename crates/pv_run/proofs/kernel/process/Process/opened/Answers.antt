@@ -4,10 +4,9 @@ use mir.Val.{SFits, of_z, to_z}
 use Rattle.pv_model.specs.Calls.Descriptors.{within}
 use Rattle.pv_model.specs.Effect.{descriptor_at, open_file}
 use Rattle.pv_model.specs.Numbered.{at_number}
-use Rattle.pv_model.specs.Tree.{Tree}
 use Rattle.pv_run.specs.Owned.{Owned, state_with}
 use Rattle.pv_run.specs.Process.{owned_of}
-use Rattle.pv_run.specs.Slots.{file_of, descriptor_of}
+use Rattle.pv_run.specs.Slots.{descriptor_of}
 use Rattle.pv_run.proofs.ProcessLemmas.{at_read, descriptor_outside, descriptor_inside, file_inside, no_file}
 use Rattle.pv_run.proofs.kernel.process.Process.opened.Goals as goal
 use Rattle.pv_run.proofs.kernel.process.Process.opened.Goals.{In_default, In-None, In-Some-files}
