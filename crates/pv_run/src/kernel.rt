@@ -108,7 +108,7 @@ impl Kernel {
         ensures value { result.now ≡ buffer_of (process_at self.now pid) }
         ensures size { length result.now ≤ 4096 }
     {
-        if pid != 1 || self.has_ended {
+        if self.has_ended || pid != 1 {
             &[]
         } else {
             self.process.buffer()
