@@ -1,0 +1,5 @@
+//! Laws of the machine's definitions.
+#![tactic(auto)]
+
+pub mod held;
+pub mod steps;
