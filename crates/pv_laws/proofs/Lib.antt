@@ -1,3 +1,5 @@
-pub mod Trim
 pub mod Numbered
 pub mod Runs
+pub mod Trim
+pub mod Entries
+pub mod Trees

@@ -7,11 +7,11 @@ use Rattle.pv_model.specs.Numbered.{keep}
 use Rattle.pv_model.specs.State.{State}
 use Rattle.pv_model.specs.Tree.{Node, Tree, root, node_at, named_numbers}
 use Rattle.pv_laws.specs.Held.{EachIsNamed}
-use Rattle.pv_laws.proofs.Numbered.{keep_all}
+use Rattle.pv_laws.proofs.Numbered.{keep-all}
 
 -- a tree of which each node is among the numbers stays as it is
 pub only_nodes_all : (t : Tree) (ns : List ℕ) → ((n : ℕ) (node : Node) → node_at t n ≡ Some node → among ns n ≡ true) → only_nodes t ns ≡ t
-only_nodes_all t ns all = ap (λ nodes. record t { nodes = nodes }) (keep_all (among ns) t.nodes all)
+only_nodes_all t ns all = ap (λ nodes. record t { nodes = nodes }) (keep-all (among ns) t.nodes all)
 
 named_passes : (s : State) → EachIsNamed s.tree → (n : ℕ) (node : Node) → node_at s.tree n ≡ Some node
     → among (root ∷ named_numbers s.tree ++ held_nodes s) n ≡ true
