@@ -1,3 +1,4 @@
+pub mod Calls
 pub mod Held
 pub mod Tree
 pub mod Steps

@@ -1,6 +1,7 @@
 //! Laws of the machine's definitions.
 #![tactic(auto)]
 
+pub mod calls;
 pub mod held;
 pub mod steps;
 pub mod tree;
