@@ -6,3 +6,4 @@ pub mod Trees
 pub mod Attempts
 pub mod Processes
 pub mod Outcomes
+pub mod Rooms

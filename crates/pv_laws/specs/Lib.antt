@@ -1,4 +1,5 @@
 pub mod Calls
 pub mod Held
 pub mod Tree
+pub mod Room
 pub mod Steps

@@ -3,5 +3,6 @@
 
 pub mod calls;
 pub mod held;
+pub mod room;
 pub mod steps;
 pub mod tree;
