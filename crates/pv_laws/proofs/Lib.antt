@@ -7,3 +7,6 @@ pub mod Attempts
 pub mod Processes
 pub mod Outcomes
 pub mod Rooms
+pub mod Changes
+pub mod Above
+pub mod Edits
