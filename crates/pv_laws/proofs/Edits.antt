@@ -273,3 +273,59 @@ module _ (t : Tree) (s : IsSound t) (d : ℕ) (name : Bytes) (e : ℕ) (new : By
             (λ here. ⊎_elim (λ same. bare a entry.0 x entry.1 here same)
                 (λ other. absurd (none a entry.0 (stays a entry.0 x entry.1 (λ h k. apart (for_n a entry.0 x entry.1 h k)) (λ _ k. other k)))) (Rattle.pv_laws.proofs.Changes.cases_name entry.0 new))
             (λ away. absurd (none a entry.0 (stays a entry.0 x entry.1 (λ h k. apart (for_n a entry.0 x entry.1 h k)) (λ h _. away h)))) (cases_eq a e)
+
+-- ---- a new node
+
+at_drop : {X : Type 0} (xs : Numbered X) (k : ℕ) → at_number xs (suc k) ≡ at_number (drop 1 xs) k
+at_drop [] k = refl
+at_drop (x ∷ xs) k = refl
+
+pub new_number-free : (t : Tree) → node_at t (new_number t) ≡ None
+new_number-free t = at_drop t.nodes (least_free (drop 1 t.nodes)) ∙ least_free-free (drop 1 t.nodes)
+
+pub sound-with_new_node : (t : Tree) → IsSound t → (d : ℕ) (name : Bytes) (node : Node) → is_directory_at t d ≡ true → IsReached t d → find_entry t d name ≡ None → is_name t.version name ≡ true
+    → is_node t.version node ≡ true → entries_of (Some node) ≡ [] → new_number t < length t.nodes → IsSound (with_new_node t d name node)
+sound-with_new_node t s d name node is reached none good fine empty below =
+    let m = new_number t in
+    let free : node_at t m ≡ None = new_number-free t in
+    let bare : entries_at t m ≡ [] = ap entries_of free in
+    let t1 : Tree = with_node t m node in
+    let s1 : IsSound t1 = sound-with_node t s m node (λ same. absurd (omega arith)) below fine (empty ∙ sym bare)
+      (λ dir. let isnt = ap is_directory free in cc) (λ _. inr free) (λ _. empty) in
+    let apart : d ≢ m = λ same. let isnt : is_directory_at t d ≡ false = ap (is_directory_at t) same ∙ ap is_directory free in cc in
+    let same : (e : ℕ) (q : Bytes) → find_entry t1 e q ≡ find_entry t e q = λ e q. ap (λ es. find by_name q es) (same_entries t m node below (empty ∙ sym bare) e) in
+    sound-with_entry t1 s1 d name m (ap is_directory (node_at-other t m node d below apart) ∙ is) (reached-along t t1 (λ e q x has. same e q ∙ has) d reached) (same d name ∙ none) good
+      (ap is_some (node_at-same t m node below))
+      (λ top. let isnt : is_directory_at t root ≡ false = ap (is_directory_at t) (sym top) ∙ ap is_directory free in let dir = s.root_is_directory in cc)
+      (λ _ e q has. not_some (node_at t m) free (s.entries_are_nodes e q m (sym (same e q) ∙ has)))
+
+-- ---- well-formed trees
+
+pub stays-content : (t : Tree) → IsWellFormed t → (f : ℕ) (bytes : Bytes) → IsWellFormed (with_content t f bytes)
+stays-content t w f bytes = well_formed (with_content t f bytes) (sound-content t (sound t w) f bytes)
+
+pub stays-new_node : (t : Tree) → IsWellFormed t → (d : ℕ) (name : Bytes) (node : Node) → Stands t d → find_entry t d name ≡ None → is_name t.version name ≡ true
+    → is_node t.version node ≡ true → entries_of (Some node) ≡ [] → new_number t ≤ t.inodes → IsWellFormed (with_new_node t d name node)
+stays-new_node t w d name node stands none good fine empty within =
+    let s = sound t w in
+    well_formed (with_new_node t d name node)
+      (sound-with_new_node t s d name node stands.0 (stands-reached t s d stands.1) none good fine empty (omega (arith, s.numbers)))
+
+pub stays-with_entry : (t : Tree) → IsWellFormed t → (d : ℕ) (name : Bytes) (n : ℕ) → Stands t d → find_entry t d name ≡ None → is_name t.version name ≡ true
+    → is_some (node_at t n) ≡ true → is_directory_at t n ≡ false → IsWellFormed (with_entry t d name n)
+stays-with_entry t w d name n stands none good there plain =
+    let s = sound t w in
+    well_formed (with_entry t d name n)
+      (sound-with_entry t s d name n stands.0 (stands-reached t s d stands.1) none good there
+        (λ top. let dir = s.root_is_directory in let isnt : is_directory_at t root ≡ false = ap (is_directory_at t) (sym top) ∙ plain in cc)
+        (λ dir. cc))
+
+pub stays-without_entry : (t : Tree) → IsWellFormed t → (d : ℕ) (name : Bytes) (n : ℕ) → find_entry t d name ≡ Some n → entries_at t n ≡ [] → IsWellFormed (without_entry t d name)
+stays-without_entry t w d name n found empty = well_formed (without_entry t d name) (sound-without_entry t (sound t w) d name n found empty)
+
+pub stays-renamed : (t : Tree) → IsWellFormed t → (d : ℕ) (name : Bytes) (e : ℕ) (new : Bytes) (n : ℕ) → find_entry t d name ≡ Some n → Stands t e → is_name t.version new ≡ true
+    → contains_directory t n e ≡ false → find_entry t e new ≢ Some n → entries_there t (find_entry t e new) ≡ [] → IsWellFormed (with_entry (without_entry t d name) e new n)
+stays-renamed t w d name e new n found stands good clear another empty =
+    let s = sound t w in
+    well_formed (with_entry (without_entry t d name) e new n)
+      (sound-moved t s d name e new n found stands.0 good (not_contained t s n e stands.0 stands.1 clear) another (λ m has. ap (entries_there t) (sym has) ∙ empty))
