@@ -10,3 +10,4 @@ pub mod Rooms
 pub mod Changes
 pub mod Above
 pub mod Edits
+pub mod Walks

@@ -3,3 +3,4 @@ pub mod Held
 pub mod Tree
 pub mod Room
 pub mod Steps
+pub mod Walk
