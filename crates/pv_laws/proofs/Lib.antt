@@ -11,3 +11,4 @@ pub mod Changes
 pub mod Above
 pub mod Edits
 pub mod Walks
+pub mod Places

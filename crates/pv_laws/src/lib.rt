@@ -6,3 +6,4 @@ pub mod held;
 pub mod room;
 pub mod steps;
 pub mod tree;
+pub mod walk;
