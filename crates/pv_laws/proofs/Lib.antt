@@ -12,3 +12,4 @@ pub mod Above
 pub mod Edits
 pub mod Walks
 pub mod Places
+pub mod Members

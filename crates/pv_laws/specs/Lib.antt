@@ -4,3 +4,4 @@ pub mod Tree
 pub mod Room
 pub mod Steps
 pub mod Walk
+pub mod States
