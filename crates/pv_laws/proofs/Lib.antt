@@ -13,3 +13,4 @@ pub mod Edits
 pub mod Walks
 pub mod Places
 pub mod Members
+pub mod Whole

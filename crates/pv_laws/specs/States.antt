@@ -216,6 +216,12 @@ pub record AreProcesses (s : State) : Type 0 where
   pub parents : (pid : ℕ) (r : Record) → find nat_cmp pid s.processes ≡ Some r → parent_of r ≢ 0 → IsTrue (is_some (process_at s (parent_of r)))
   pub ended : (pid parent status : ℕ) → find nat_cmp pid s.processes ≡ Some (ended_record parent status) → (parent ≢ 0) × (status ≤ 65535)
 
+-- a state before it is trimmed
+pub record IsSolid (s : State) : Type 0 where
+  pub tree : IsTree s.tree
+  pub files : AreFiles s.tree s.files
+  pub processes : AreProcesses s
+
 -- what every state of a run is
 pub record IsWhole (s : State) : Type 0 where
   pub tree : IsTree s.tree
