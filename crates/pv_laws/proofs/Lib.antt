@@ -14,3 +14,4 @@ pub mod Walks
 pub mod Places
 pub mod Members
 pub mod Whole
+pub mod Running

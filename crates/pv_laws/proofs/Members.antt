@@ -78,7 +78,7 @@ pub found-live : (s : State) (pid : ℕ) (p : Process) → find nat_cmp pid s.pr
 found-live s pid p is = ap live_process is
 
 module _ (g : Process → List ℕ) where
-  abbrev all_of : List (ℕ × Record) → List ℕ
+  abbrev pub all_of : List (ℕ × Record) → List ℕ
   all_of ps = flat_map (λ p. g p.1) (live_processes ps)
 
   among-live_in : (ps : List (ℕ × Record)) (pid : ℕ) (p : Process) (n : ℕ) → find nat_cmp pid ps ≡ Some (live p) → among (g p) n ≡ true → among (all_of ps) n ≡ true
