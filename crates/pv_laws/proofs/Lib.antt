@@ -15,3 +15,4 @@ pub mod Places
 pub mod Members
 pub mod Whole
 pub mod Running
+pub mod Ending
