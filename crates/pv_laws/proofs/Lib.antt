@@ -16,3 +16,5 @@ pub mod Members
 pub mod Whole
 pub mod Running
 pub mod Ending
+pub mod Replies
+pub mod Standing
