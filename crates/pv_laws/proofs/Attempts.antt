@@ -61,3 +61,14 @@ module _ {A : Type 0} (P : A → Type 0) where
       by true fit is = tt
       by false true is = leads-after_walks 0 (next s) (is refl refl)
       by false false is = tt
+
+-- nothing is known of the value
+pub leads-any : {A : Type 0} (a : Attempt A) → Leads (λ _. Unit {0}) a
+leads-any (done walks value) = tt
+leads-any (refused walks errno cause) = tt
+
+-- a walk whose place is judged
+pub leads-place : {A : Type 0} (P : A → Type 0) (s : State) (me : Process) (start : ℕ) (follow : Follow) (path : Bytes) (needed : Perms) (next : Place → Attempt A)
+    → ((place : Place) → resolve s.tree follow start path ≡ Ok place → Leads P (next place)) → Leads P (walk_from s start follow path >>= (λ place. judge s me place needed >> next place))
+leads-place P s me start follow path needed next is =
+    leads-walk P s start follow path (λ place. judge s me place needed >> next place) (λ place found. leads-then P (judge s me place needed) (next place) (is place found))

@@ -18,3 +18,4 @@ pub mod Running
 pub mod Ending
 pub mod Replies
 pub mod Standing
+pub mod ByProcess
