@@ -35,6 +35,15 @@ use Rattle.pv_laws.proofs.Replies.{IsEffect}
 use Rattle.pv_laws.proofs.Running.{IsReady, list_all-set, list_all-both, list_all-replicate, length-little_endian, bytes-little_endian}
 use Rattle.pv_laws.proofs.Standing.{ready, ready-process, my-running, my-placed, running-like, resolve-fine, target-fine}
 
+-- a number within a limit
+pub within-limit : (limit : ℕ) (n : ℤ) (k : ℕ) → within limit n ≡ Some k → k ≤ limit
+within-limit limit (pos n) k is =
+    elim (nat_le n limit) as (λ b. nat_le n limit ≡ b → cond b (Some n) None ≡ Some k → k ≤ limit) [
+      | true ↦ λ low some. let same : n ≡ k = cc some in omega (arith, leb-true n limit low)
+      | false ↦ λ high none. cc
+    ] refl is
+within-limit limit (negsuc n) k is = cc
+
 module _ (s : State) (pid : ℕ) (me : Process) (whole : IsWhole s) (at : process_at s pid ≡ Some me) where
   -- the caller changes its restraints or its place, and nothing inside
   abbrev stays_running : (q : Process) → q.program ≡ me.program → q.line ≡ me.line → q.registers ≡ me.registers → q.buffer ≡ me.buffer → IsRunning q
@@ -324,14 +333,6 @@ module _ (s : State) (pid : ℕ) (me : Process) (whole : IsWhole s) (at : proces
 
   abbrev dup2_1 : ℤ → ℤ → Descriptor → Attempt Effect
   dup2_1 d e x = demand EBADF (within 15 e) >>= dup2_2 d x
-
-  pub within-limit : (limit : ℕ) (n : ℤ) (k : ℕ) → within limit n ≡ Some k → k ≤ limit
-  within-limit limit (pos n) k is =
-      elim (nat_le n limit) as (λ b. nat_le n limit ≡ b → cond b (Some n) None ≡ Some k → k ≤ limit) [
-        | true ↦ λ low some. let same : n ≡ k = cc some in omega (arith, leb-true n limit low)
-        | false ↦ λ high none. cc
-      ] refl is
-  within-limit limit (negsuc n) k is = cc
 
   pub good-dup2 : (d e : ℤ) → Leads (IsEffect s) (dup2 s pid me d e)
   good-dup2 d e =

@@ -96,7 +96,7 @@ shape-entries t d es is each good =
     }
 
 -- what the entries of a directory are, as a node
-entries-good : (t : Tree) (d : ℕ) → ((n : ℕ) (node : Node) → node_at t n ≡ Some node → is_node t.version node ≡ true)
+pub entries-good : (t : Tree) (d : ℕ) → ((n : ℕ) (node : Node) → node_at t n ≡ Some node → is_node t.version node ≡ true)
     → (is_sorted by_name (entries_at t d) ≡ true) × (list_all (λ (e : Bytes × ℕ). is_name t.version e.0) (entries_at t d) ≡ true)
 entries-good t d each = by (node_at t d) refl
   where

@@ -147,10 +147,10 @@ ended-adopted old new (ended_record above left) parent status is =
       | false ↦ λ at. (parent, at)
     ] is
 
-running-parent : (p : Process) (n : ℕ) → IsRunning p → IsRunning (record p { parent = n })
+pub running-parent : (p : Process) (n : ℕ) → IsRunning p → IsRunning (record p { parent = n })
 running-parent p n is = record { program = is.program; line = is.line; registers = is.registers; buffer = is.buffer }
 
-placed-parent : (t : Rattle.pv_model.specs.Tree.Tree) (fs : Rattle.pv_model.specs.Numbered.Numbered Rattle.pv_model.specs.State.OpenFile) (p : Process) (n : ℕ) → IsPlaced t fs p → IsPlaced t fs (record p { parent = n })
+pub placed-parent : (t : Rattle.pv_model.specs.Tree.Tree) (fs : Rattle.pv_model.specs.Numbered.Numbered Rattle.pv_model.specs.State.OpenFile) (p : Process) (n : ℕ) → IsPlaced t fs p → IsPlaced t fs (record p { parent = n })
 placed-parent t fs p n is = record { directory = is.directory; descriptors = is.descriptors; opens = is.opens; table = is.table }
 
 module _ (s : State) (is : IsSolid s) (pid : ℕ) (p me : Process) (at : process_at s pid ≡ Some p) (same : me.parent ≡ p.parent) (status : ℕ) (low : status ≤ 65535) where

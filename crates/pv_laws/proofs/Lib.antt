@@ -19,3 +19,5 @@ pub mod Ending
 pub mod Replies
 pub mod Standing
 pub mod ByProcess
+pub mod ByTable
+pub mod ByFile
