@@ -21,3 +21,4 @@ pub mod Standing
 pub mod ByProcess
 pub mod ByTable
 pub mod ByFile
+pub mod Grown

@@ -29,17 +29,26 @@ module _ {X : Type 0} where
   length-with_number (x ∷ xs) zero v below = refl
   length-with_number (x ∷ xs) (suc n) v below = ap suc (length-with_number xs n v (le_of_suc-le-suc below))
 
+  pub with_number-same_within : (xs : Numbered X) (n : ℕ) (v : X) → n ≤ length xs → at_number (with_number xs n v) n ≡ Some v
+  with_number-same_within [] zero v within = refl
+  with_number-same_within [] (suc n) v within = absurd (omega arith)
+  with_number-same_within (x ∷ xs) zero v within = refl
+  with_number-same_within (x ∷ xs) (suc n) v within = with_number-same_within xs n v (le_of_suc-le-suc within)
+
+  pub with_number-other_within : (xs : Numbered X) (n : ℕ) (v : X) (m : ℕ) → n ≤ length xs → m ≢ n → at_number (with_number xs n v) m ≡ at_number xs m
+  with_number-other_within [] zero v zero within other = absurd (other refl)
+  with_number-other_within [] zero v (suc m) within other = refl
+  with_number-other_within [] (suc n) v m within other = absurd (omega arith)
+  with_number-other_within (x ∷ xs) zero v zero within other = absurd (other refl)
+  with_number-other_within (x ∷ xs) zero v (suc m) within other = refl
+  with_number-other_within (x ∷ xs) (suc n) v zero within other = refl
+  with_number-other_within (x ∷ xs) (suc n) v (suc m) within other = with_number-other_within xs n v m (le_of_suc-le-suc within) (λ same. other (ap suc same))
+
   pub with_number-same : (xs : Numbered X) (n : ℕ) (v : X) → n < length xs → at_number (with_number xs n v) n ≡ Some v
-  with_number-same [] n v below = absurd (omega arith)
-  with_number-same (x ∷ xs) zero v below = refl
-  with_number-same (x ∷ xs) (suc n) v below = with_number-same xs n v (le_of_suc-le-suc below)
+  with_number-same xs n v below = with_number-same_within xs n v (omega arith)
 
   pub with_number-other : (xs : Numbered X) (n : ℕ) (v : X) (m : ℕ) → n < length xs → m ≢ n → at_number (with_number xs n v) m ≡ at_number xs m
-  with_number-other [] n v m below other = absurd (omega arith)
-  with_number-other (x ∷ xs) zero v zero below other = absurd (other refl)
-  with_number-other (x ∷ xs) zero v (suc m) below other = refl
-  with_number-other (x ∷ xs) (suc n) v zero below other = refl
-  with_number-other (x ∷ xs) (suc n) v (suc m) below other = with_number-other xs n v m (le_of_suc-le-suc below) (λ same. other (ap suc same))
+  with_number-other xs n v m below other = with_number-other_within xs n v m (omega arith) other
 
   pub length-without_number : (xs : Numbered X) (n : ℕ) → length (without_number xs n) ≡ length xs
   length-without_number [] n = refl
@@ -141,3 +150,30 @@ module _ {X : Type 0} where
   keep-agree f g xs same =
       same_numbered (keep f xs) (keep g xs) (length-keep f xs ∙ sym (length-keep g xs))
         (λ n. at_number-keep f xs n ∙ ap (λ b. keep_if b (at_number xs n)) (same n) ∙ sym (at_number-keep g xs n))
+
+  -- ---- how many are there
+
+  pub least_free-below : (xs : Numbered X) (n : ℕ) → n < least_free xs → is_some (at_number xs n) ≡ true
+  least_free-below [] n below = absurd (omega arith)
+  least_free-below (None ∷ xs) n below = absurd (omega arith)
+  least_free-below (Some x ∷ xs) zero below = refl
+  least_free-below (Some x ∷ xs) (suc n) below = least_free-below xs n (le_of_suc-le-suc below)
+
+  pub present-all : (xs : Numbered X) (k : ℕ) → ((n : ℕ) → n < k → is_some (at_number xs n) ≡ true) → k ≤ length (present xs)
+  present-all xs zero all = zero-le
+  present-all [] (suc k) all = let none = all zero (suc-le-suc zero-le) in cc
+  present-all (None ∷ xs) (suc k) all = let none = all zero (suc-le-suc zero-le) in cc
+  present-all (Some x ∷ xs) (suc k) all = suc-le-suc (present-all xs k (λ n below. all (suc n) (suc-le-suc below)))
+
+  pub at_number-drop : (xs : Numbered X) (k : ℕ) → at_number xs (suc k) ≡ at_number (drop 1 xs) k
+  at_number-drop [] k = refl
+  at_number-drop (x ∷ xs) k = refl
+
+  pub present-drop : (xs : Numbered X) → length (present (drop 1 xs)) ≤ length (present xs)
+  present-drop [] = zero-le
+  present-drop (None ∷ xs) = omega arith
+  present-drop (Some x ∷ xs) = omega arith
+
+  pub length-drop_one : (xs : Numbered X) (n : ℕ) → length xs ≡ suc n → length (drop 1 xs) ≡ n
+  length-drop_one [] n long = absurd (omega arith)
+  length-drop_one (x ∷ xs) n long = omega arith
