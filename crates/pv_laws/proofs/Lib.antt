@@ -22,3 +22,4 @@ pub mod ByProcess
 pub mod ByTable
 pub mod ByFile
 pub mod Grown
+pub mod ByTree
