@@ -59,7 +59,7 @@ open_file_for-at s pid me test d k f is = by (open_file s me d) refl is
           | false ↦ λ fails none. cc
         ] refl is
 
-greatest-low : (v : Version) → greatest_length v ≤ 660480
+pub greatest-low : (v : Version) → greatest_length v ≤ 660480
 greatest-low V1 = omega arith
 greatest-low V2 = omega arith
 

@@ -23,3 +23,5 @@ pub mod ByTable
 pub mod ByFile
 pub mod Grown
 pub mod ByTree
+pub mod ByOpen
+pub mod BySteps

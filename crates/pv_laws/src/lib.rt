@@ -4,6 +4,7 @@
 pub mod calls;
 pub mod held;
 pub mod room;
+pub mod states;
 pub mod steps;
 pub mod tree;
 pub mod walk;
