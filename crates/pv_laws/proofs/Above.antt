@@ -5,10 +5,10 @@ use Rattle.std.proofs.lemmas.Bool.{eqb-true, eq-eqb, ne_eqb, or_cases, or_parts,
 use Rattle.std.proofs.lemmas.Map.Steps.{length-le_from_distinct_below}
 use Rattle.pv_model.specs.Bytes.{Bytes}
 use Rattle.pv_model.specs.Calls.Paths.{contains_directory}
-use Rattle.pv_model.specs.Tree.{Tree, root, node_at, is_directory_at, find_entry, parent, above_or_none, ancestors_within, ancestors, is_removed, IsReached, from_root, by_entry, IsWellFormed}
+use Rattle.pv_model.specs.Tree.{Tree, root, is_directory_at, find_entry, parent, above_or_none, ancestors_within, ancestors, is_removed, IsReached, from_root, by_entry, IsWellFormed}
 use Rattle.pv_laws.specs.Tree.{IsSound, Stands}
 use Rattle.pv_laws.proofs.Changes.{directory-below, some-below, has_entry-directory}
-use Rattle.pv_laws.proofs.Trees.{ordered, sound, parent-entry, parent-none_named, entry-parent, parent-root}
+use Rattle.pv_laws.proofs.Trees.{ordered, sound, parent-entry, parent-none_named, entry-parent}
 
 -- a directory that stands is reached
 pub stands-reached : (t : Tree) → IsSound t → (d : ℕ) → is_removed t d ≡ false → IsReached t d
@@ -17,9 +17,9 @@ stands-reached t s d stands = by (parent t d) refl stands
     by : (o : Option ℕ) → parent t d ≡ o → is_none o ≡ false → IsReached t d
     by None is stands = cc
     by (Some a) is stands = ⊎_elim
-      (λ top. Rattle.std.proofs.Common.subst (IsReached t) (sym top) from_root)
-      (λ other. let found = parent-entry t (ordered t s.each_node) d a other is in s.named_are_reached a found.0 d found.1)
-      (cases_eq d root)
+        (λ top. Rattle.std.proofs.Common.subst (IsReached t) (sym top) from_root)
+        (λ other. let found = parent-entry t (ordered t s.each_node) d a other is in s.named_are_reached a found.0 d found.1)
+        (cases_eq d root)
 
 -- a directory with an entry stands
 pub entry-reached : (t : Tree) → IsSound t → (d : ℕ) (name : Bytes) (n : ℕ) → find_entry t d name ≡ Some n → IsReached t d
@@ -77,18 +77,19 @@ module _ (t : Tree) (s : IsSound t) where
   in_chain _ _ at_root q is = ⊎_elim (λ here. (0, omega arith, Rattle.std.proofs.Common.subst (λ a. IsBelow t a 0) (sym (eqb-true q root here)) at_root)) (λ none. cc) (or_cases (eqb q root) false is)
   in_chain _ _ (one_below d above k other up below) q is =
       ⊎_elim (λ here. (suc k, omega arith, Rattle.std.proofs.Common.subst (λ a. IsBelow t a (suc k)) (sym (eqb-true q d here)) (one_below d above k other up below)))
-        (λ there. let found = in_chain above k below q there in (found.0, omega (arith, found.1), found.2)) (or_cases (eqb q d) _ is)
+      (λ there. let found = in_chain above k below q there in (found.0, omega (arith, found.1), found.2)) (or_cases (eqb q d) _ is)
 
   distinct-chain : (d k : ℕ) (b : IsBelow t d k) → IsDistinct eqb (chain d k b)
   unfolding chain IsDistinct
   distinct-chain _ _ at_root = (tt, tt)
-  distinct-chain _ _ (one_below d above k other up below) =
-      (apart d (chain above k below) (λ q is.
+  distinct-chain _ _ (one_below d above k other up below) = (
+    apart d (chain above k below) (λ q is.
         ⊎_elim (λ same. let found = in_chain above k below q is in
-            let deep = depth q (suc k) found.0 (Rattle.std.proofs.Common.subst (λ a. IsBelow t a (suc k)) (eqb-true d q same) (one_below d above k other up below)) found.2 in
-            absurd (omega (arith, found.1, deep)))
-          (λ none. none) (cases_Bool (eqb d q))),
-       distinct-chain above k below)
+        let deep = depth q (suc k) found.0 (Rattle.std.proofs.Common.subst (λ a. IsBelow t a (suc k)) (eqb-true d q same) (one_below d above k other up below)) found.2 in
+        absurd (omega (arith, found.1, deep)))
+        (λ none. none) (cases_Bool (eqb d q))),
+    distinct-chain above k below,
+  )
 
   is_node_below : (d k : ℕ) → IsBelow t d k → d < length t.nodes
   is_node_below _ _ at_root = directory-below t root s.root_is_directory
@@ -99,7 +100,7 @@ module _ (t : Tree) (s : IsSound t) where
   pub depth-below : (d k : ℕ) → IsBelow t d k → k < length t.nodes
   depth-below d k b =
       let few = length-le_from_distinct_below (chain d k b) (length t.nodes) (distinct-chain d k b)
-        (λ q is. let found = in_chain d k b q is in is_node_below q found.0 found.2) in
+      (λ q is. let found = in_chain d k b q is in is_node_below q found.0 found.2) in
       omega (arith, few, length-chain d k b)
 
 -- reached by directories that are not n
@@ -144,8 +145,8 @@ module _ (t : Tree) (s : IsSound t) where
   higher q _ _ at_root (suc steps) is = ⊎_elim (λ here. (0, omega arith, Rattle.std.proofs.Common.subst (λ a. IsBelow t a 0) (eqb-true root q here) at_root)) (λ none. cc) (or_cases (root == q) false is)
   higher q _ _ (one_below d above k other up below) (suc steps) is =
       ⊎_elim (λ here. (suc k, omega arith, Rattle.std.proofs.Common.subst (λ a. IsBelow t a (suc k)) (eqb-true d q here) (one_below d above k other up below)))
-        (λ there. let found = higher q above k below steps there in (found.0, omega (arith, found.1), found.2))
-        (or_cases (d == q) (list_any (λ e. e == q) (ancestors_within t steps above)) (sym (ap (list_any (λ e. e == q)) (ancestors-is d above steps other up)) ∙ is))
+      (λ there. let found = higher q above k below steps there in (found.0, omega (arith, found.1), found.2))
+      (or_cases (d == q) (list_any (λ e. e == q) (ancestors_within t steps above)) (sym (ap (list_any (λ e. e == q)) (ancestors-is d above steps other up)) ∙ is))
 
 pub parents-lead : (t : Tree) → IsWellFormed t → (d : ℕ) → Stands t d → list_any (λ e. e == root) (ancestors t d) ≡ true
 unfolding ancestors

@@ -1,23 +1,23 @@
 -- The calls that change an open file alone keep states whole.
-use Rattle.std.proofs.Common.{◌≡◌, ◌≢◌, ℕ, zero, suc, ◌+◌, ◌-◌, ◌<◌, ◌≤◌, min, ℤ, pos, negsuc, ◌+ℤ◌, Bool, true, false, cond, not, ◌&&◌, ◌||◌, nat_le, List, [], ◌∷◌, map, length, take, drop, Option, None, Some, is_some, option_map, refl, ap, sym, subst, ◌∙◌, ⊎_elim, arith}
+use Rattle.std.proofs.Common.{◌≡◌, ℕ, ◌+◌, ◌-◌, ◌≤◌, min, ℤ, pos, ◌+ℤ◌, Bool, true, false, cond, not, ◌&&◌, nat_le, List, [], ◌∷◌, map, length, take, drop, Option, None, Some, is_some, option_map, refl, ap, sym, subst, ◌∙◌, ⊎_elim, arith}
 use Rattle.std.specs.Prelude.{find}
 use Rattle.std.specs.List.{list_all}
 use Rattle.std.proofs.Math.ListN.{length-take, length-drop}
-use Rattle.std.proofs.lemmas.Bool.{and_parts, and_from, leb-true, cases_eq, not-false}
+use Rattle.std.proofs.lemmas.Bool.{and_parts, and_from, leb-true, cases_eq}
 use Rattle.pv_model.specs.declared.call.Whence.{Whence}
 use Rattle.pv_model.specs.declared.open_flags.Mode.{Mode}
 use Rattle.pv_model.specs.declared.errno.Errno.TheVariants.{EBADF, EINVAL, EISDIR}
 use Rattle.pv_model.specs.declared.version.Version.{Version}
 use Rattle.pv_model.specs.declared.version.Version.TheVariants.{V1, V2}
-use Rattle.pv_model.specs.Attempt.{Attempt, ◌>>=◌, ◌>>◌, give, refuse_if, demand}
+use Rattle.pv_model.specs.Attempt.{Attempt, ◌>>=◌, ◌>>◌, refuse_if, demand}
 use Rattle.pv_model.specs.Bytes.{Bytes}
 use Rattle.pv_model.specs.Calls.Descriptors.{within, if_mode, is_behind, next_name, open_file_for, read, seek_base, lseek, list_name, getdents}
 use Rattle.pv_model.specs.Effect.{Effect, answers, answers_bytes, descriptor_at, open_file, open_file_of, with_file, bytes_of}
-use Rattle.pv_model.specs.Numbered.{Numbered, at_number, with_number}
-use Rattle.pv_model.specs.Room.{node_length, greatest_length}
-use Rattle.pv_model.specs.State.{OpenFile, Descriptor, Process, State, reads, process_at}
-use Rattle.pv_model.specs.Tree.{Entries, Node, directory_node, file_node, link_node, Tree, greatest_name, node_at, entries_of, entries_at, is_directory_at, is_name, is_name_byte, is_node}
-use Rattle.pv_laws.specs.States.{is_byte, are_bytes, has_bytes, IsOpenFile, is_listed, AreFiles, IsWhole}
+use Rattle.pv_model.specs.Numbered.{at_number, with_number}
+use Rattle.pv_model.specs.Room.{greatest_length}
+use Rattle.pv_model.specs.State.{OpenFile, Descriptor, Process, State, reads}
+use Rattle.pv_model.specs.Tree.{Entries, Node, directory_node, file_node, link_node, Tree, greatest_name, node_at, entries_of, entries_at, is_directory_at, is_name, is_name_byte}
+use Rattle.pv_laws.specs.States.{is_byte, are_bytes, IsOpenFile, is_listed, AreFiles, IsWhole}
 use Rattle.pv_laws.proofs.Attempts.{Leads, leads-refuse_if, leads-demand}
 use Rattle.pv_laws.proofs.ByProcess.{within-limit}
 use Rattle.pv_laws.proofs.Changes.{entries-good}
@@ -40,6 +40,7 @@ open_file-at s me d k f is = by (descriptor_at me d) is
     of n (Some g) there is =
         let pair : ◌≡◌ {A = ℕ × OpenFile} (n, g) (k, f) = cc is in
         ap (at_number s.files) (sym (ap (λ (p : ℕ × OpenFile). p.0) pair)) ∙ there ∙ ap (λ (p : ℕ × OpenFile). Some p.1) pair
+
     by : (o : Option Descriptor) → open_file_of s o ≡ Some (k, f) → at_number s.files k ≡ Some f
     by None is = cc
     by (Some x) is = of x.file (at_number s.files x.file) refl is
@@ -106,9 +107,9 @@ names-of test (e ∷ es) all = let parts = and_parts (test e.0) (list_all (λ e.
 pub next-listed : (s : State) → IsWhole s → (d : ℕ) (last : Option Bytes) (name : Bytes) → next_name last (entries_at s.tree d) ≡ Some name → is_listed s.tree.version (Some name) ≡ true
 next-listed s whole d last name is =
     find-list_all (is_behind last) (λ name. is_name s.tree.version name && are_bytes name) (map (λ e. e.0) (entries_at s.tree d)) name
-      (names-of (λ name. is_name s.tree.version name && are_bytes name) (entries_at s.tree d)
-        (both_all (λ (e : Bytes × ℕ). is_name s.tree.version e.0) (λ e. are_bytes e.0) (entries_at s.tree d) (entries-good s.tree d whole.tree.well_formed.each_node).1 (entries-bytes s whole d)))
-      is
+    (names-of (λ name. is_name s.tree.version name && are_bytes name) (entries_at s.tree d)
+    (both_all (λ (e : Bytes × ℕ). is_name s.tree.version e.0) (λ e. are_bytes e.0) (entries_at s.tree d) (entries-good s.tree d whole.tree.well_formed.each_node).1 (entries-bytes s whole d)))
+    is
 
 name-low : (v : Version) → greatest_name v ≤ 255
 name-low V1 = omega arith
@@ -130,15 +131,15 @@ module _ (s : State) (pid : ℕ) (me : Process) (whole : IsWhole s) where
       record {
         count = length-with_number s.files k new below ∙ files.count;
         each = λ j f at. ⊎_elim
-          (λ same. let value : Some new ≡ Some f = sym (with_number-same s.files k new below) ∙ ap (at_number (with_number s.files k new)) (sym same) ∙ at in let eq : new ≡ f = cc value in subst (IsOpenFile u) eq is)
-          (λ other. files.each j f (sym (with_number-other s.files k new j below other) ∙ at)) (cases_eq j k);
+            (λ same. let value : Some new ≡ Some f = sym (with_number-same s.files k new below) ∙ ap (at_number (with_number s.files k new)) (sym same) ∙ at in let eq : new ≡ f = cc value in subst (IsOpenFile u) eq is)
+            (λ other. files.each j f (sym (with_number-other s.files k new j below other) ∙ at)) (cases_eq j k);
       }
 
   pub files-stay : (k : ℕ) (old new : OpenFile) → at_number s.files k ≡ Some old → (j : ℕ) → is_some (at_number s.files j) ≡ true → is_some (at_number (with_number s.files k new) j) ≡ true
   files-stay k old new there j is =
       let below = at_number-below s.files k old there in
       ⊎_elim (λ same. ap is_some (ap (at_number (with_number s.files k new)) same ∙ with_number-same s.files k new below))
-        (λ other. ap is_some (with_number-other s.files k new j below other) ∙ is) (cases_eq j k)
+      (λ other. ap is_some (with_number-other s.files k new j below other) ∙ is) (cases_eq j k)
 
   pub ready-file : (k : ℕ) (old new : OpenFile) → at_number s.files k ≡ Some old → IsOpenFile s.tree new → IsReady (with_file s k new)
   ready-file k old new there is = record {
@@ -164,9 +165,9 @@ module _ (s : State) (pid : ℕ) (me : Process) (whole : IsWhole s) where
       leads-demand (IsEffect s) EBADF (open_file s me d) (lseek_1 by whence) (λ (k, file) is.
       leads-refuse_if (IsEffect s) EINVAL (is_directory_at s.tree file.node) (lseek_2 by whence k file) (λ plain.
       leads-demand (IsEffect s) EINVAL (within 2147483647 (pos (seek_base s pid me file whence) +ℤ by)) (lseek_3 k file) (λ offset low.
-        let there = open_file-at s me d k file is in
-        let few = within-limit 2147483647 (pos (seek_base s pid me file whence) +ℤ by) offset low in
-        (ready-file k file (record file { offset = offset }) there (moved file offset few (whole.files.each k file there)), few))))
+      let there = open_file-at s me d k file is in
+      let few = within-limit 2147483647 (pos (seek_base s pid me file whence) +ℤ by) offset low in
+      (ready-file k file (record file { offset = offset }) there (moved file offset few (whole.files.each k file there)), few))))
 
   -- what is read
 
@@ -187,16 +188,18 @@ module _ (s : State) (pid : ℕ) (me : Process) (whole : IsWhole s) where
       leads-demand (IsEffect s) EBADF (open_file_for s pid me reads d) (read_1 n) (λ (k, file) is.
       leads-demand (IsEffect s) EINVAL (within 4096 n) (read_2 k file) (λ count low.
       leads-refuse_if (IsEffect s) EISDIR (is_directory_at s.tree file.node) (read_3 k file count) (λ plain.
-        let there = (open_file_for-at s pid me reads d k file is).0 in
-        let old = whole.files.each k file there in
-        let all = bytes_of (node_at s.tree file.node) in
-        let both = file-bytes s whole file.node in
-        let few = within-limit 4096 n count low in
-        let taken : length (read_bytes count file) ≡ min count (length all - file.offset) = length-take count (drop file.offset all) ∙ ap (min count) (length-drop file.offset all) in
-        let offset : file.offset + length (read_bytes count file) ≤ 2147483647 = omega (arith, taken, both.0, old.offset) in
-        (ready-file k file (record file { offset = file.offset + length (read_bytes count file) }) there (moved file (file.offset + length (read_bytes count file)) offset old),
-         omega (arith, taken, few), omega (arith, taken, few),
-         list_all-take is_byte count (drop file.offset all) (list_all-drop is_byte file.offset all both.1)))))
+      let there = (open_file_for-at s pid me reads d k file is).0 in
+      let old = whole.files.each k file there in
+      let all = bytes_of (node_at s.tree file.node) in
+      let both = file-bytes s whole file.node in
+      let few = within-limit 4096 n count low in
+      let taken : length (read_bytes count file) ≡ min count (length all - file.offset) = length-take count (drop file.offset all) ∙ ap (min count) (length-drop file.offset all) in
+      let offset : file.offset + length (read_bytes count file) ≤ 2147483647 = omega (arith, taken, both.0, old.offset) in (
+        ready-file k file (record file { offset = file.offset + length (read_bytes count file) }) there (moved file (file.offset + length (read_bytes count file)) offset old),
+        omega (arith, taken, few),
+        omega (arith, taken, few),
+        list_all-take is_byte count (drop file.offset all) (list_all-drop is_byte file.offset all both.1),
+      ))))
 
   -- what is listed
 
@@ -206,9 +209,12 @@ module _ (s : State) (pid : ℕ) (me : Process) (whole : IsWhole s) where
       let old = whole.files.each k file there in
       let listed = next-listed s whole file.node file.listed name is in
       let parts = and_parts (is_name s.tree.version name) (are_bytes name) listed in
-      let short = name-short s.tree.version name parts.0 in
-      (ready-file k file (record file { listed = Some name }) there (record { node = old.node; directory = old.directory; offset = old.offset; listed = listed }),
-       omega (arith, short), omega (arith, short), parts.1)
+      let short = name-short s.tree.version name parts.0 in (
+        ready-file k file (record file { listed = Some name }) there (record { node = old.node; directory = old.directory; offset = old.offset; listed = listed }),
+        omega (arith, short),
+        omega (arith, short),
+        parts.1,
+      )
 
   abbrev getdents_2 : ℕ → OpenFile → Attempt Effect
   getdents_2 k file = list_name s pid me k file (next_name file.listed (entries_at s.tree file.node))
@@ -220,4 +226,4 @@ module _ (s : State) (pid : ℕ) (me : Process) (whole : IsWhole s) where
   good-getdents d =
       leads-demand (IsEffect s) EBADF (open_file s me d) getdents_1 (λ (k, file) is.
       leads-refuse_if (IsEffect s) EINVAL (not (is_directory_at s.tree file.node)) (getdents_2 k file) (λ dir.
-        good-list_name k file (open_file-at s me d k file is) (next_name file.listed (entries_at s.tree file.node)) refl))
+      good-list_name k file (open_file-at s me d k file is) (next_name file.listed (entries_at s.tree file.node)) refl))

@@ -1,11 +1,9 @@
 -- The calls that change their process alone keep states whole.
-use Rattle.std.proofs.Common.{◌≡◌, ◌≢◌, ℕ, zero, suc, ◌+◌, ◌-◌, ◌*◌, ◌%◌, ◌<◌, ◌≤◌, ℤ, pos, negsuc, Bool, true, false, cond, not, ◌&&◌, ◌||◌, ◌==◌, if◌then◌else◌, nat_le, nat_lt, List, [], ◌∷◌, ◌++◌, map, filter, length, replicate, slice_set, Option, None, Some, is_some, Result, Ok, Err, refl, ap, sym, subst, ◌∙◌, ⊎_elim, arith}
+use Rattle.std.proofs.Common.{◌≡◌, ℕ, zero, suc, ◌<◌, ◌≤◌, ℤ, pos, negsuc, true, false, cond, not, ◌&&◌, if◌then◌else◌, nat_le, [], ◌∷◌, ◌++◌, map, length, Option, None, Some, is_some, refl, ap, sym, ◌∙◌, ⊎_elim, arith}
 use Rattle.std.specs.List.{list_all}
-use Rattle.std.specs.Ordering.{nat_cmp}
-use Rattle.std.specs.FinMap.Entries.{find, where_key}
 use Rattle.std.proofs.Math.ListN.{length-append, length-set, length-replicate}
 use Rattle.std.proofs.lemmas.List.{length-map}
-use Rattle.std.proofs.lemmas.Bool.{not-false, and_parts, and_from, or_parts, leb-true, leb-false, le-leb, ltb-false, cases_eq}
+use Rattle.std.proofs.lemmas.Bool.{not-false, and_parts, and_from, leb-true, leb-false, le-leb, cases_eq}
 use Rattle.pv_model.specs.declared.place.Place.{Place}
 use Rattle.pv_model.specs.declared.perms.Perms.{Perms}
 use Rattle.pv_model.specs.declared.follow.Follow.{Follow}
@@ -15,20 +13,20 @@ use Rattle.pv_model.specs.declared.outcome.Cause.TheVariants.{Unveil as ByUnveil
 use Rattle.pv_model.specs.Promises.{Promises, narrow_promises, is_lenient}
 use Rattle.pv_model.specs.Attempt.{Attempt, refused, ◌>>=◌, ◌>>◌, give, refuse, refuse_if, demand}
 use Rattle.pv_model.specs.Bytes.{Bytes, is_empty, little_endian}
-use Rattle.pv_model.specs.Calls.Descriptors.{without_descriptor, with_descriptor, with_duplicate, is_number, within, close, dup, dup2, fstat, fchdir, directory_of}
+use Rattle.pv_model.specs.Calls.Descriptors.{with_descriptor, with_duplicate, is_number, within, close, dup, dup2, fstat, fchdir, directory_of}
 use Rattle.pv_model.specs.Calls.Paths.{link_text, chdir, stat_following, readlink}
-use Rattle.pv_model.specs.Calls.Processes.{exit_status, exit, getpid, getppid, execve, with_program, descriptor_after_exec, executable_bytes}
+use Rattle.pv_model.specs.Calls.Processes.{exit, getpid, getppid, execve, with_program, descriptor_after_exec, executable_bytes}
 use Rattle.pv_model.specs.Calls.Restraints.{asked_promises, unless_refused, entries_of_table, add_entry, add_target, refuse_if_locked, pledge, unveil}
-use Rattle.pv_model.specs.Effect.{Effect, answers, answers_bytes, returns, returns_bytes, ends, waits, walk_from, judge, node_of, descriptor_at, open_file, open_file_of, status, status_of, sort_number, size_of}
+use Rattle.pv_model.specs.Effect.{Effect, answers, answers_bytes, returns_bytes, walk_from, node_of, descriptor_at, open_file, status, status_of, sort_number, size_of}
 use Rattle.pv_model.specs.Numbered.{Numbered, at_number, with_number, without_number, least_free}
 use Rattle.pv_model.specs.Perms.{covers, letter_r, letter_x, read_letters}
 use Rattle.pv_model.specs.State.{OpenFile, Descriptor, Program, Process, State, process_at, with_process}
-use Rattle.pv_model.specs.Tree.{Node, directory_node, file_node, link_node, Tree, node_at, is_directory_at}
+use Rattle.pv_model.specs.Tree.{Node, directory_node, file_node, link_node, node_at, is_directory_at}
 use Rattle.pv_model.specs.Unveil.{Target, Table, entry_for, letters_at, with_letters, target_of}
 use Rattle.pv_laws.specs.States.{is_byte, are_bytes, is_text, is_text_or_none, is_target, is_table, SpellsPrograms, IsRunning, IsPlaced, IsWhole}
 use Rattle.pv_laws.proofs.Attempts.{Leads, leads-bind, leads-then, leads-refuse_if, leads-demand, leads-walk, leads-place, leads-any}
 use Rattle.pv_laws.proofs.Members.{find_number-list_all, live-found}
-use Rattle.pv_laws.proofs.Numbered.{length-with_number, length-without_number, with_number-same, with_number-other, without_number-same, without_number-other, least_free-within}
+use Rattle.pv_laws.proofs.Numbered.{length-with_number, length-without_number, with_number-same, with_number-other, without_number-same, without_number-other}
 use Rattle.pv_laws.proofs.Places.{link-text}
 use Rattle.pv_laws.proofs.Trees.{sound}
 use Rattle.pv_laws.proofs.Replies.{IsEffect}
@@ -68,9 +66,10 @@ module _ (s : State) (pid : ℕ) (me : Process) (whole : IsWhole s) (at : proces
   good-getpid = (ready s whole, number_low pid (ap is_some at))
 
   pub good-getppid : Leads (IsEffect s) (getppid s pid me)
-  good-getppid =
-      (ready s whole,
-       ⊎_elim (λ none. omega arith) (λ has. number_low me.parent (whole.processes.parents pid _ (live-found s pid me at) has)) (cases_eq me.parent 0))
+  good-getppid = (
+    ready s whole,
+    ⊎_elim (λ none. omega arith) (λ has. number_low me.parent (whole.processes.parents pid _ (live-found s pid me at) has)) (cases_eq me.parent 0),
+  )
 
   -- pledge and unveil
 
@@ -92,11 +91,12 @@ module _ (s : State) (pid : ℕ) (me : Process) (whole : IsWhole s) (at : proces
         leads-bind (IsEffect s) (λ _. Unit {0}) (asked_promises execpromises) (pledge_2 asked) (leads-any (asked_promises execpromises)) (λ exec_asked _.
         leads-bind (IsEffect s) (λ _. Unit {0}) (unless_refused (narrow_promises (is_lenient me.promises) me.promises asked)) (pledge_3 exec_asked) (leads-any (unless_refused (narrow_promises (is_lenient me.promises) me.promises asked))) (λ kept _.
         leads-bind (IsEffect s) (λ _. Unit {0}) (unless_refused (narrow_promises (is_lenient me.promises) me.execpromises exec_asked))
-          (λ exec_kept. answers (with_process s pid (record me { promises = kept; execpromises = exec_kept })) 0)
-          (leads-any (unless_refused (narrow_promises (is_lenient me.promises) me.execpromises exec_asked))) (λ exec_kept _.
-          (ready-process s pid me whole at (record me { promises = kept; execpromises = exec_kept }) (stays_running (record me { promises = kept; execpromises = exec_kept }) refl refl refl refl)
-            (let p = my-placed s pid me whole at in record { directory = p.directory; descriptors = p.descriptors; opens = p.opens; table = p.table }) refl,
-           omega arith)))))
+        (λ exec_kept. answers (with_process s pid (record me { promises = kept; execpromises = exec_kept })) 0)
+        (leads-any (unless_refused (narrow_promises (is_lenient me.promises) me.execpromises exec_asked))) (λ exec_kept _. (
+          ready-process s pid me whole at (record me { promises = kept; execpromises = exec_kept }) (stays_running (record me { promises = kept; execpromises = exec_kept }) refl refl refl refl)
+              (let p = my-placed s pid me whole at in record { directory = p.directory; descriptors = p.descriptors; opens = p.opens; table = p.table }) refl,
+          omega arith,
+        )))))
 
   -- the table
   my_entries : is_table s.tree (Some (entries_of_table me.table)) ≡ true
@@ -133,10 +133,11 @@ module _ (s : State) (pid : ℕ) (me : Process) (whole : IsWhole s) (at : proces
   unveil_1 path letters = refuse_if_locked me.locked >> (walk_from s me.directory Last path >>= unveil_2 letters)
 
   pub good-unveil : (path letters : Option Bytes) → is_text_or_none path ≡ true → Leads (IsEffect s) (unveil s pid me path letters)
-  good-unveil None None text =
-      (ready-process s pid me whole at (record me { locked = true }) (stays_running (record me { locked = true }) refl refl refl refl)
+  good-unveil None None text = (
+    ready-process s pid me whole at (record me { locked = true }) (stays_running (record me { locked = true }) refl refl refl refl)
         (let p = my-placed s pid me whole at in record { directory = p.directory; descriptors = p.descriptors; opens = p.opens; table = p.table }) refl,
-       omega arith)
+    omega arith,
+  )
   good-unveil None (Some letters) text = tt
   good-unveil (Some path) None text = tt
   good-unveil (Some path) (Some letters_text) text =
@@ -144,11 +145,12 @@ module _ (s : State) (pid : ℕ) (me : Process) (whole : IsWhole s) (at : proces
       leads-then (IsEffect s) (refuse_if_locked me.locked) (walk_from s me.directory Last path >>= unveil_2 letters) (
       leads-walk (IsEffect s) s me.directory Last path (unveil_2 letters) (λ place found.
       leads-bind (IsEffect s) (λ t. is_table s.tree (Some t) ≡ true) (add_target s pid me (target_of s.tree place) letters) unveil_3
-        (entry_fine (entries_of_table me.table) (target_of s.tree place) letters (entry_for (entries_of_table me.table) (target_of s.tree place)) my_entries
-          (target-fine s.tree place (resolve-fine s.tree whole.tree Last me.directory path place (my-placed s pid me whole at).directory text found))) (λ table fine.
-        (ready-process s pid me whole at (record me { table = Some table }) (stays_running (record me { table = Some table }) refl refl refl refl)
-          (let p = my-placed s pid me whole at in record { directory = p.directory; descriptors = p.descriptors; opens = p.opens; table = fine }) refl,
-         omega arith)))))
+      (entry_fine (entries_of_table me.table) (target_of s.tree place) letters (entry_for (entries_of_table me.table) (target_of s.tree place)) my_entries
+      (target-fine s.tree place (resolve-fine s.tree whole.tree Last me.directory path place (my-placed s pid me whole at).directory text found))) (λ table fine. (
+        ready-process s pid me whole at (record me { table = Some table }) (stays_running (record me { table = Some table }) refl refl refl refl)
+            (let p = my-placed s pid me whole at in record { directory = p.directory; descriptors = p.descriptors; opens = p.opens; table = fine }) refl,
+        omega arith,
+      )))))
 
   -- execve
 
@@ -175,22 +177,23 @@ module _ (s : State) (pid : ℕ) (me : Process) (whole : IsWhole s) (at : proces
       leads-place (IsEffect s) s me me.directory Last path letter_x (execve_1 program_of) (λ place found.
       leads-demand (IsEffect s) ENOENT (node_of place) (execve_2 program_of) (λ n is.
       leads-demand (IsEffect s) EACCES (executable_bytes (node_at s.tree n)) (execve_3 program_of) (λ bytes file.
-      leads-demand (IsEffect s) ENOEXEC (program_of bytes) execve_4 (λ program spelled.
-        (ready-process s pid me whole at (with_program s pid me program)
-          (record {
-            program = spells.spells bytes program spelled;
-            line = (omega arith, omega arith);
-            registers = (refl, refl);
-            buffer = (length-replicate {A = ℕ} 4096 0, list_all-replicate is_byte 4096 0 refl);
-          })
-          (let p = my-placed s pid me whole at in
+      leads-demand (IsEffect s) ENOEXEC (program_of bytes) execve_4 (λ program spelled. (
+        ready-process s pid me whole at (with_program s pid me program)
+            (record {
+              program = spells.spells bytes program spelled;
+              line = (omega arith, omega arith);
+              registers = (refl, refl);
+              buffer = (length-replicate {A = ℕ} 4096 0, list_all-replicate is_byte 4096 0 refl);
+            })
+            (let p = my-placed s pid me whole at in
             record {
               directory = p.directory;
               descriptors = length-map {B = Option Descriptor} me.descriptors descriptor_after_exec ∙ p.descriptors;
               opens = λ d x is. p.opens d x (kept_descriptor me.descriptors d x is);
               table = elim (is_some me.execpromises) as (λ b. is_table s.tree (if b then me.table else None) ≡ true) [ true ↦ p.table | false ↦ refl ];
             }) refl,
-         omega arith)))))
+        omega arith,
+      )))))
 
   -- chdir, stat, readlink
 
@@ -203,22 +206,23 @@ module _ (s : State) (pid : ℕ) (me : Process) (whole : IsWhole s) (at : proces
   ready-directory : (n : ℕ) → is_directory_at s.tree n ≡ true → IsReady (with_process s pid (record me { directory = n }))
   ready-directory n dir =
       ready-process s pid me whole at (record me { directory = n }) (stays_running (record me { directory = n }) refl refl refl refl)
-        (let p = my-placed s pid me whole at in record { directory = dir; descriptors = p.descriptors; opens = p.opens; table = p.table }) refl
+      (let p = my-placed s pid me whole at in record { directory = dir; descriptors = p.descriptors; opens = p.opens; table = p.table }) refl
 
   pub good-chdir : (path : Bytes) → Leads (IsEffect s) (chdir s pid me path)
   good-chdir path =
       leads-place (IsEffect s) s me me.directory Last path letter_r chdir_1 (λ place found.
       leads-demand (IsEffect s) ENOENT (node_of place) chdir_2 (λ n is.
       leads-refuse_if (IsEffect s) ENOTDIR (not (is_directory_at s.tree n)) (answers (with_process s pid (record me { directory = n })) 0) (λ dir.
-        (ready-directory n (not-false (is_directory_at s.tree n) dir), omega arith))))
+      (ready-directory n (not-false (is_directory_at s.tree n) dir), omega arith))))
 
   -- the eight bytes of stat are bytes
   status-bytes : (n : ℕ) (o : Option Node) → (length (status_of n o) ≤ 4096) × (are_bytes (status_of n o) ≡ true)
   status-bytes n None = (omega arith, refl)
-  status-bytes n (Some node) =
-      (omega (arith, length-append (sort_number node ∷ 0 ∷ little_endian 2 n) (little_endian 4 (size_of node)), length-little_endian 2 n, length-little_endian 4 (size_of node)),
-       list_all-both is_byte (sort_number node ∷ 0 ∷ little_endian 2 n) (little_endian 4 (size_of node))
-         (and_from _ _ (sort_byte node) (and_from _ _ refl (bytes-little_endian 2 n))) (bytes-little_endian 4 (size_of node)))
+  status-bytes n (Some node) = (
+    omega (arith, length-append (sort_number node ∷ 0 ∷ little_endian 2 n) (little_endian 4 (size_of node)), length-little_endian 2 n, length-little_endian 4 (size_of node)),
+    list_all-both is_byte (sort_number node ∷ 0 ∷ little_endian 2 n) (little_endian 4 (size_of node))
+        (and_from _ _ (sort_byte node) (and_from _ _ refl (bytes-little_endian 2 n))) (bytes-little_endian 4 (size_of node)),
+  )
     where
       sort_byte : (node : Node) → is_byte (sort_number node) ≡ true
       sort_byte (directory_node es) = refl
@@ -252,16 +256,17 @@ module _ (s : State) (pid : ℕ) (me : Process) (whole : IsWhole s) (at : proces
       by (Some (file_node executable bytes)) found is = cc
       by (Some (link_node old)) found is =
           let same : old ≡ text = cc is in
-          let here : node_at s.tree n ≡ Some (link_node text) = found ∙ ap (λ x. Some (link_node x)) same in
-          (leb-true (length text) 1023 (and_parts (not (is_empty text)) (nat_le (length text) 1023) (and_parts (not (is_empty text) && nat_le (length text) 1023) _ (link-text s.tree (sound s.tree whole.tree.well_formed) n text here)).0).1,
-           whole.tree.bytes n (link_node text) here)
+          let here : node_at s.tree n ≡ Some (link_node text) = found ∙ ap (λ x. Some (link_node x)) same in (
+            leb-true (length text) 1023 (and_parts (not (is_empty text)) (nat_le (length text) 1023) (and_parts (not (is_empty text) && nat_le (length text) 1023) _ (link-text s.tree (sound s.tree whole.tree.well_formed) n text here)).0).1,
+            whole.tree.bytes n (link_node text) here,
+          )
 
   pub good-readlink : (path : Bytes) → Leads (IsEffect s) (readlink s pid me path)
   good-readlink path =
       leads-place (IsEffect s) s me me.directory Keep path letter_r readlink_1 (λ place found.
       leads-demand (IsEffect s) ENOENT (node_of place) readlink_2 (λ n is.
       leads-demand (IsEffect s) EINVAL (link_text (node_at s.tree n)) (λ text. answers_bytes s (length text) text) (λ text link.
-        let both = text_of n text link in (ready s whole, omega (arith, both.0), omega (arith, both.0), both.1))))
+      let both = text_of n text link in (ready s whole, omega (arith, both.0), omega (arith, both.0), both.1))))
 
   -- descriptors
 
@@ -283,33 +288,33 @@ module _ (s : State) (pid : ℕ) (me : Process) (whole : IsWhole s) (at : proces
   pub good-fchdir : (d : ℤ) → Leads (IsEffect s) (fchdir s pid me d)
   good-fchdir d =
       leads-bind (IsEffect s) (λ n. is_directory_at s.tree n ≡ true) (directory_of s pid me d) (λ directory. answers (with_process s pid (record me { directory = directory })) 0) (leads-directory_of d)
-        (λ n dir. (ready-directory n dir, omega arith))
+      (λ n dir. (ready-directory n dir, omega arith))
 
   ready-descriptors : (ds : Numbered Descriptor) → length ds ≡ 16 → ((d : ℕ) (x : Descriptor) → at_number ds d ≡ Some x → is_some (at_number s.files x.file) ≡ true)
       → IsReady (with_process s pid (record me { descriptors = ds }))
   ready-descriptors ds long opens =
       ready-process s pid me whole at (record me { descriptors = ds }) (stays_running (record me { descriptors = ds }) refl refl refl refl)
-        (let p = my-placed s pid me whole at in record { directory = p.directory; descriptors = long; opens = opens; table = p.table }) refl
+      (let p = my-placed s pid me whole at in record { directory = p.directory; descriptors = long; opens = opens; table = p.table }) refl
 
   -- one descriptor more, or another in a place
   pub with-opens : (fs : Numbered OpenFile) → ((k : ℕ) → is_some (at_number s.files k) ≡ true → is_some (at_number fs k) ≡ true) → (n : ℕ) (new : Descriptor) → n < length me.descriptors → is_some (at_number fs new.file) ≡ true
       → (d : ℕ) (x : Descriptor) → at_number (with_number me.descriptors n new) d ≡ Some x → is_some (at_number fs x.file) ≡ true
   with-opens fs still n new below good d x is =
       ⊎_elim
-        (λ same. let value : Some new ≡ Some x = sym (with_number-same me.descriptors n new below) ∙ ap (at_number (with_number me.descriptors n new)) (sym same) ∙ is in let eq : new ≡ x = cc value in ap (λ y. is_some (at_number fs y.file)) (sym eq) ∙ good)
-        (λ other. still x.file ((my-placed s pid me whole at).opens d x (sym (with_number-other me.descriptors n new d below other) ∙ is))) (cases_eq d n)
+      (λ same. let value : Some new ≡ Some x = sym (with_number-same me.descriptors n new below) ∙ ap (at_number (with_number me.descriptors n new)) (sym same) ∙ is in let eq : new ≡ x = cc value in ap (λ y. is_some (at_number fs y.file)) (sym eq) ∙ good)
+      (λ other. still x.file ((my-placed s pid me whole at).opens d x (sym (with_number-other me.descriptors n new d below other) ∙ is))) (cases_eq d n)
 
   without-opens : (n d : ℕ) (x : Descriptor) → at_number (without_number me.descriptors n) d ≡ Some x → is_some (at_number s.files x.file) ≡ true
   without-opens n d x is =
       ⊎_elim
-        (λ same. let none : at_number (without_number me.descriptors n) d ≡ None = ap (at_number (without_number me.descriptors n)) same ∙ without_number-same me.descriptors n in cc)
-        (λ other. (my-placed s pid me whole at).opens d x (sym (without_number-other me.descriptors n d other) ∙ is)) (cases_eq d n)
+      (λ same. let none : at_number (without_number me.descriptors n) d ≡ None = ap (at_number (without_number me.descriptors n)) same ∙ without_number-same me.descriptors n in cc)
+      (λ other. (my-placed s pid me whole at).opens d x (sym (without_number-other me.descriptors n d other) ∙ is)) (cases_eq d n)
 
   pub good-close : (d : ℤ) → Leads (IsEffect s) (close s pid me d)
   good-close (negsuc d) = tt
   good-close (pos d) =
       leads-then (IsEffect s) (demand EBADF (descriptor_at me (pos d))) (answers (with_process s pid (record me { descriptors = without_number me.descriptors d })) 0)
-        (ready-descriptors (without_number me.descriptors d) (length-without_number me.descriptors d ∙ (my-placed s pid me whole at).descriptors) (without-opens d), omega arith)
+      (ready-descriptors (without_number me.descriptors d) (length-without_number me.descriptors d ∙ (my-placed s pid me whole at).descriptors) (without-opens d), omega arith)
 
   abbrev dup_1 : Descriptor → Attempt Effect
   dup_1 x = refuse_if EMFILE (nat_le 16 (least_free me.descriptors)) >> answers (with_descriptor s pid me s x.file false) (least_free me.descriptors)
@@ -321,12 +326,13 @@ module _ (s : State) (pid : ℕ) (me : Process) (whole : IsWhole s) (at : proces
   good-dup d =
       leads-demand (IsEffect s) EBADF (descriptor_at me d) dup_1 (λ x is.
       leads-refuse_if (IsEffect s) EMFILE (nat_le 16 (least_free me.descriptors)) (answers (with_descriptor s pid me s x.file false) (least_free me.descriptors)) (λ few.
-        let n = least_free me.descriptors in
-        let below = free-descriptor few in
-        (ready-descriptors (with_number me.descriptors n (record { file = x.file; close_on_exec = false }))
-          (length-with_number me.descriptors n (record { file = x.file; close_on_exec = false }) below ∙ (my-placed s pid me whole at).descriptors)
-          (with-opens s.files (λ k there. there) n (record { file = x.file; close_on_exec = false }) below (my-descriptor d x is)),
-         omega (arith, leb-false 16 (least_free me.descriptors) few))))
+      let n = least_free me.descriptors in
+      let below = free-descriptor few in (
+        ready-descriptors (with_number me.descriptors n (record { file = x.file; close_on_exec = false }))
+            (length-with_number me.descriptors n (record { file = x.file; close_on_exec = false }) below ∙ (my-placed s pid me whole at).descriptors)
+            (with-opens s.files (λ k there. there) n (record { file = x.file; close_on_exec = false }) below (my-descriptor d x is)),
+        omega (arith, leb-false 16 (least_free me.descriptors) few),
+      )))
 
   abbrev dup2_2 : ℤ → Descriptor → ℕ → Attempt Effect
   dup2_2 d x number = answers (with_duplicate s pid me d number x) number
@@ -338,12 +344,13 @@ module _ (s : State) (pid : ℕ) (me : Process) (whole : IsWhole s) (at : proces
   good-dup2 d e =
       leads-demand (IsEffect s) EBADF (descriptor_at me d) (dup2_1 d e) (λ x is.
       leads-demand (IsEffect s) EBADF (within 15 e) (dup2_2 d x) (λ number low.
-        let few = within-limit 15 e number low in
-        let below : number < length me.descriptors = omega (arith, few, (my-placed s pid me whole at).descriptors) in
-        let new : Descriptor = record x { close_on_exec = false } in
-        (elim (is_number d number) as (λ b. IsReady (if b then s else with_process s pid (record me { descriptors = with_number me.descriptors number new }))) [
+      let few = within-limit 15 e number low in
+      let below : number < length me.descriptors = omega (arith, few, (my-placed s pid me whole at).descriptors) in
+      let new : Descriptor = record x { close_on_exec = false } in (
+        elim (is_number d number) as (λ b. IsReady (if b then s else with_process s pid (record me { descriptors = with_number me.descriptors number new }))) [
           | true ↦ ready s whole
           | false ↦ ready-descriptors (with_number me.descriptors number new) (length-with_number me.descriptors number new below ∙ (my-placed s pid me whole at).descriptors)
               (with-opens s.files (λ k there. there) number new below (my-descriptor d x is))
         ],
-        omega (arith, few))))
+        omega (arith, few),
+      )))

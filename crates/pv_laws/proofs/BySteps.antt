@@ -1,5 +1,5 @@
 -- Each call, each step and each run keep states whole, and the first state is.
-use Rattle.std.proofs.Common.{◌≡◌, ◌≢◌, ℕ, zero, suc, ◌-◌, ◌<◌, ◌≤◌, ℤ, pos, negsuc, ◌+ℤ◌, int_lt, Bool, true, false, cond, not, ◌&&◌, ◌==◌, if◌then◌else◌, nat_le, nat_lt, List, [], ◌∷◌, length, replicate, slice_get, slice_index, slice_index_or, slice_set, Option, None, Some, is_some, refl, ap, ap₂, sym, subst, ◌∙◌, ⊎_elim, arith}
+use Rattle.std.proofs.Common.{◌≡◌, ℕ, zero, suc, ◌-◌, ℤ, pos, negsuc, ◌+ℤ◌, Bool, true, false, cond, not, ◌==◌, nat_le, nat_lt, List, [], ◌∷◌, length, replicate, slice_get, slice_index, slice_index_or, Option, None, Some, refl, ap, ap₂, sym, subst, ◌∙◌, arith}
 use Rattle.std.specs.List.{list_all}
 use Rattle.std.specs.Ordering.{nat_cmp}
 use Rattle.std.specs.FinMap.Entries.{find}
@@ -18,12 +18,12 @@ use Rattle.pv_model.specs.declared.instruction.Origin.TheVariants.{WorkingDirect
 use Rattle.pv_model.specs.Answer.{answer, effect, at_next_line, with_front}
 use Rattle.pv_model.specs.Bytes.{Bytes}
 use Rattle.pv_model.specs.Held.{among, trim}
-use Rattle.pv_model.specs.Numbered.{Numbered, at_number, keep}
+use Rattle.pv_model.specs.Numbered.{at_number, keep}
 use Rattle.pv_model.specs.Program.{register, with_register, operand, clamp, start_of_origin, at_line, jump_if, Next, inside, calls_for, perform, next_by, next}
-use Rattle.pv_model.specs.State.{OpenFile, Descriptor, Program, Process, Record, live, ended_record, State, first_process, first_state, live_process, process_at, with_process}
+use Rattle.pv_model.specs.State.{OpenFile, Program, Process, Record, live, ended_record, State, first_process, first_state, process_at}
 use Rattle.pv_model.specs.Step.{step, step_of, step_by, run}
-use Rattle.pv_model.specs.Tree.{Tree, root, is_directory_at}
-use Rattle.pv_laws.specs.Held.{EachIsNamed, used, kept}
+use Rattle.pv_model.specs.Tree.{Tree}
+use Rattle.pv_laws.specs.Held.{used}
 use Rattle.pv_laws.specs.States.{is_word, is_byte, are_bytes, is_text, is_text_byte, is_text_or_none, is_operand, is_origin, is_target_line, is_instruction, is_program, SpellsPrograms, is_start, is_call, IsRunning, IsPlaced, IsWhole, IsFirstTree}
 use Rattle.pv_laws.proofs.Attempts.{Leads}
 use Rattle.pv_laws.proofs.ByFile.{good-lseek, good-read, good-getdents}
@@ -148,11 +148,12 @@ good-perform : (p : Process) → IsRunning p → (i : Instruction) → is_instru
 unfolding perform
 good-perform p is (Line.Set r n) good = good-register p r n (and_parts (nat_lt r 8) (is_word n) good).1 is
 good-perform p is (Line.Add r n) good = good-register p r (clamp (register p r +ℤ n)) (word-clamp (register p r +ℤ n)) is
-good-perform p is (Line.Put bytes) good =
-    (running-next (with_front bytes p)
+good-perform p is (Line.Put bytes) good = (
+  running-next (with_front bytes p)
       (running-front p bytes (omega (arith, leb-true (length bytes) 1100 (and_parts (nat_le (length bytes) 1100) _ good).0))
-        (list_all-weaker is_text_byte is_byte (λ b g. (and_parts (not (b == 0)) (is_byte b) g).1) bytes (text-bytes bytes good)) is),
-     same_inside p (at_next_line (with_front bytes p)) refl refl refl refl)
+      (list_all-weaker is_text_byte is_byte (λ b g. (and_parts (not (b == 0)) (is_byte b) g).1) bytes (text-bytes bytes good)) is),
+  same_inside p (at_next_line (with_front bytes p)) refl refl refl refl,
+)
 good-perform p is (Line.Peek r k) good = good-register p r (pos (slice_index p.buffer k)) (byte_at p.buffer k is.buffer.1) is
 good-perform p is (Line.Jump line) good = (running-line p line good is, same_inside p (at_line p line) refl refl refl refl)
 good-perform p is (Line.JumpIfZero r line) good = good-jump _ p line (and_parts (nat_lt r 8) (is_target_line (length p.program) line) good).1 is
@@ -211,6 +212,7 @@ step-keeps_whole program_of spells s pid whole = at_process (process_at s pid) r
     by : (p : Process) → process_at s pid ≡ Some p → (n : Next) → IsGoodNext p n → IsWhole (step_by program_of s pid p n).after
     by p at (inside q) good = whole-inside s pid p q whole at good.1 good.0
     by p at (calls_for call) good = call-keeps_whole program_of spells s pid call good whole
+
     at_process : (o : Option Process) → process_at s pid ≡ o → IsWhole (step_of program_of s pid o).after
     at_process None none = whole
     at_process (Some p) at = by p at (next p) (good-next p (whole.processes.running pid p at))

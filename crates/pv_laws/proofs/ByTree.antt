@@ -1,5 +1,5 @@
 -- The calls that change the tree keep states whole.
-use Rattle.std.proofs.Common.{◌≡◌, ◌≢◌, ℕ, zero, suc, ◌+◌, ◌-◌, ◌<◌, ◌≤◌, min, ℤ, pos, negsuc, Bool, true, false, cond, not, ◌&&◌, ◌||◌, ◌==◌, if◌then◌else◌, nat_le, nat_lt, List, [], ◌∷◌, ◌++◌, length, take, drop, replicate, Option, None, Some, is_some, refl, ap, ap₂, sym, subst, ◌∙◌, ⊎_elim, arith}
+use Rattle.std.proofs.Common.{◌≡◌, ◌≢◌, ℕ, zero, suc, ◌+◌, ◌-◌, ◌<◌, ◌≤◌, min, ℤ, true, false, not, ◌&&◌, ◌||◌, if◌then◌else◌, nat_lt, List, [], ◌∷◌, ◌++◌, length, take, drop, replicate, Option, None, Some, is_some, refl, ap, sym, subst, ◌∙◌, arith}
 use Rattle.std.specs.List.{list_all}
 use Rattle.std.proofs.Math.ListN.{length-take}
 use Rattle.std.proofs.lemmas.Bool.{and_parts, and_from, ltb-false, eq-eqb, cases_eq, cases_Bool, not-false}
@@ -8,30 +8,29 @@ use Rattle.pv_model.specs.declared.follow.Follow.{Follow}
 use Rattle.pv_model.specs.declared.follow.Follow.TheVariants.{Last, Keep, KeepTrimmed}
 use Rattle.pv_model.specs.declared.place.Place.{Place}
 use Rattle.pv_model.specs.declared.place.Place.TheVariants.{At, Node as Unnamed}
-use Rattle.pv_model.specs.Attempt.{Attempt, ◌>>=◌, ◌>>◌, give, refuse_if, demand}
+use Rattle.pv_model.specs.Attempt.{Attempt, ◌>>=◌, ◌>>◌, refuse_if, demand}
 use Rattle.pv_model.specs.Bytes.{Bytes, is_empty}
 use Rattle.pv_model.specs.Calls.Descriptors.{within, natural, is_past_greatest, with_content, open_file_for, write_place, write_end, after_write, write, ftruncate}
 use Rattle.pv_model.specs.Calls.Paths.{same_node, contains_directory, is_directory_there, entries_there, ends_in_dot, make, mkdir, symlink, link, unlink, rmdir, move_entry, rename}
 use Rattle.pv_model.specs.Effect.{Effect, answers, judge, walk_from, with_room, node_of, name_of, open_file, with_file, bytes_of, overwrite, resize}
-use Rattle.pv_model.specs.Held.{among, trim}
+use Rattle.pv_model.specs.Held.{trim}
 use Rattle.pv_model.specs.Numbered.{with_number}
 use Rattle.pv_model.specs.Perms.{letter_r, letter_c}
 use Rattle.pv_model.specs.Room.{greatest_length, fits, is_too_long}
-use Rattle.pv_model.specs.Sealed.{is_file}
 use Rattle.pv_model.specs.State.{OpenFile, Process, State, writes, process_at, with_tree}
-use Rattle.pv_model.specs.Tree.{Node, directory_node, file_node, link_node, Tree, root, node_at, entries_of, entries_at, is_directory, is_directory_at, is_removed, find_entry, new_number, with_node, with_new_node, with_entry, without_entry, is_name, is_node, is_link_text}
+use Rattle.pv_model.specs.Tree.{Node, directory_node, file_node, link_node, Tree, node_at, entries_of, entries_at, is_directory, is_directory_at, is_removed, find_entry, new_number, with_node, with_new_node, with_entry, without_entry, is_name, is_node}
 use Rattle.pv_model.specs.Walk.{resolve}
-use Rattle.pv_laws.specs.States.{is_byte, are_bytes, has_bytes, is_text, is_text_byte, IsTree, IsOpenFile, AreFiles, IsWhole}
-use Rattle.pv_laws.proofs.Attempts.{Leads, leads-bind, leads-then, leads-refuse_if, leads-demand, leads-place, leads-room}
-use Rattle.pv_laws.proofs.ByFile.{open_file-at, open_file_for-at, file-bytes, files-with, files-stay, greatest-low}
+use Rattle.pv_laws.specs.States.{is_byte, are_bytes, has_bytes, is_text, is_text_byte, IsTree, AreFiles, IsWhole}
+use Rattle.pv_laws.proofs.Attempts.{Leads, leads-then, leads-refuse_if, leads-demand, leads-place, leads-room}
+use Rattle.pv_laws.proofs.ByFile.{open_file_for-at, file-bytes, files-with, files-stay, greatest-low}
 use Rattle.pv_laws.proofs.ByProcess.{within-limit}
-use Rattle.pv_laws.proofs.Changes.{has_entry-directory, directory-below, node_at-other}
+use Rattle.pv_laws.proofs.Changes.{directory-below, node_at-other}
 use Rattle.pv_laws.proofs.Edits.{stays-new_node, stays-with_entry, stays-without_entry, stays-renamed, new_number-free}
 use Rattle.pv_laws.proofs.Grown.{bytes-with_node, bytes-with_entry, bytes-without_entry, still-there, carries-with_node, carries-entries, tree-content, carries-content, no_larger-without, ready-tree, ready-smaller, new-below}
 use Rattle.pv_laws.proofs.Places.{list_all-weaker, not_zero}
 use Rattle.pv_laws.proofs.Replies.{IsEffect}
 use Rattle.pv_laws.proofs.Running.{IsReady, list_all-take, list_all-drop, list_all-both, list_all-replicate}
-use Rattle.pv_laws.proofs.Standing.{IsFinePlace, resolve-fine, text-bytes, ready, my-running, my-placed, Carries, carries-along, carries-self, file-carried, solid-standing}
+use Rattle.pv_laws.proofs.Standing.{IsFinePlace, resolve-fine, text-bytes, ready, my-running, my-placed, Carries, carries-along, file-carried, solid-standing}
 use Rattle.pv_laws.proofs.Trim.{held_after, tree-trim}
 use Rattle.pv_laws.proofs.Whole.{HasRoom, solid}
 
@@ -92,15 +91,16 @@ module _ (s : State) (pid : ℕ) (me : Process) (whole : IsWhole s) (at : proces
       let t1 : Tree = with_node s.tree (new_number s.tree) node in
       let free = new_number-free s.tree in
       let apart : p.0 ≢ new_number s.tree = λ same. let isnt : is_directory_at s.tree p.0 ≡ false = ap (is_directory_at s.tree) same ∙ ap is_directory free in let is = fine.directory in cc in
-      let dir : is_directory_at t1 p.0 ≡ true = ap is_directory (node_at-other s.tree (new_number s.tree) node p.0 below apart) ∙ fine.directory in
-      (record {
-        well_formed = stays-new_node s.tree whole.tree.well_formed p.0 p.1 node (fine.directory, fine.stands) fine.found fine.name good bare (omega (arith, whole.tree.well_formed.numbers));
-        bytes = bytes-with_entry t1 p.0 p.1 (new_number s.tree) dir fine.bytes (bytes-with_node s.tree (new_number s.tree) node below bytes whole.tree.bytes);
-      },
-       carries-along s.tree t1 (with_new_node s.tree p.0 p.1 node)
-        (carries-with_node s.tree (new_number s.tree) node below (λ is. let isnt = ap is_some free in cc))
-        (still-there s.tree (new_number s.tree) node below)
-        (carries-entries t1 p.0 _ dir))
+      let dir : is_directory_at t1 p.0 ≡ true = ap is_directory (node_at-other s.tree (new_number s.tree) node p.0 below apart) ∙ fine.directory in (
+        record {
+          well_formed = stays-new_node s.tree whole.tree.well_formed p.0 p.1 node (fine.directory, fine.stands) fine.found fine.name good bare (omega (arith, whole.tree.well_formed.numbers));
+          bytes = bytes-with_entry t1 p.0 p.1 (new_number s.tree) dir fine.bytes (bytes-with_node s.tree (new_number s.tree) node below bytes whole.tree.bytes);
+        },
+        carries-along s.tree t1 (with_new_node s.tree p.0 p.1 node)
+            (carries-with_node s.tree (new_number s.tree) node below (λ is. let isnt = ap is_some free in cc))
+            (still-there s.tree (new_number s.tree) node below)
+            (carries-entries t1 p.0 _ dir),
+      )
 
   abbrev make_3 : Node → (ℕ × Bytes) → Attempt Effect
   make_3 node (d, name) = with_room (with_tree s (with_new_node s.tree d name node)) >>= (λ after. answers after 0)
@@ -118,11 +118,11 @@ module _ (s : State) (pid : ℕ) (me : Process) (whole : IsWhole s) (at : proces
       leads-refuse_if (IsEffect s) EEXIST (is_some (node_of place)) (make_2 node place) (λ free.
       leads-demand (IsEffect s) EEXIST (name_of place) (make_3 node) (λ p named.
       leads-room (IsEffect s) (with_tree s (with_new_node s.tree p.0 p.1 node)) (λ after. answers after 0) (λ short fit.
-        let u : Tree = with_new_node s.tree p.0 p.1 node in
-        let fine : FineName s.tree p None = subst (FineName s.tree p) (no_node (node_of place) free) (named-place s.tree place p (fine-place follow path place text found) named) in
-        let below = new-below s whole p.0 p.1 node (held_after s) fine.directory fine.found bare (λ n is. is) (ap fits (sym (tree-trim (with_tree s u))) ∙ fit) in
-        let both = tree-new p node fine good bytes bare below in
-        (ready-tree s whole u both.0 both.1 (room-of (with_tree s u) short fit), omega arith)))))
+      let u : Tree = with_new_node s.tree p.0 p.1 node in
+      let fine : FineName s.tree p None = subst (FineName s.tree p) (no_node (node_of place) free) (named-place s.tree place p (fine-place follow path place text found) named) in
+      let below = new-below s whole p.0 p.1 node (held_after s) fine.directory fine.found bare (λ n is. is) (ap fits (sym (tree-trim (with_tree s u))) ∙ fit) in
+      let both = tree-new p node fine good bytes bare below in
+      (ready-tree s whole u both.0 both.1 (room-of (with_tree s u) short fit), omega arith)))))
 
   pub good-mkdir : (path : Bytes) → is_text path ≡ true → Leads (IsEffect s) (mkdir s pid me path)
   good-mkdir path text = good-make KeepTrimmed (directory_node []) path text refl refl refl
@@ -131,11 +131,11 @@ module _ (s : State) (pid : ℕ) (me : Process) (whole : IsWhole s) (at : proces
   good-symlink text path texts paths =
       leads-refuse_if (IsEffect s) ENOENT (is_empty text) (refuse_if ENAMETOOLONG (nat_lt 1023 (length text)) >> make s pid me Keep (link_node text) path) (λ filled.
       leads-refuse_if (IsEffect s) ENAMETOOLONG (nat_lt 1023 (length text)) (make s pid me Keep (link_node text) path) (λ short.
-        good-make Keep (link_node text) path paths
-          (and_from _ _ (and_from _ _ (ap not filled) (Rattle.std.proofs.lemmas.Bool.le-leb (length text) 1023 (ltb-false 1023 (length text) short)))
-            (list_all-weaker is_text_byte not_zero (λ b is. (and_parts (not_zero b) (is_byte b) is).0) text (text-bytes text texts)))
-          (list_all-weaker is_text_byte is_byte (λ b is. (and_parts (not_zero b) (is_byte b) is).1) text (text-bytes text texts))
-          refl))
+      good-make Keep (link_node text) path paths
+      (and_from _ _ (and_from _ _ (ap not filled) (Rattle.std.proofs.lemmas.Bool.le-leb (length text) 1023 (ltb-false 1023 (length text) short)))
+      (list_all-weaker is_text_byte not_zero (λ b is. (and_parts (not_zero b) (is_byte b) is).0) text (text-bytes text texts)))
+      (list_all-weaker is_text_byte is_byte (λ b is. (and_parts (not_zero b) (is_byte b) is).1) text (text-bytes text texts))
+      refl))
 
   -- ---- one more name
 
@@ -166,27 +166,28 @@ module _ (s : State) (pid : ℕ) (me : Process) (whole : IsWhole s) (at : proces
       leads-refuse_if (IsEffect s) EEXIST (is_some (node_of new_place)) (link_5 new_place n) (λ free.
       leads-demand (IsEffect s) EEXIST (name_of new_place) (link_6 n) (λ p named.
       leads-room (IsEffect s) (with_tree s (with_entry s.tree p.0 p.1 n)) (λ after. answers after 0) (λ short fit.
-        let u : Tree = with_entry s.tree p.0 p.1 n in
-        let fine : FineName s.tree p None = subst (FineName s.tree p) (no_node (node_of new_place) free) (named-place s.tree new_place p (fine-place Keep new new_place news new_found) named) in
-        let there = place-there s.tree whole.tree old_place n (fine-place Last path old_place text old_found) is in
-        (ready-tree s whole u
-          (record {
-            well_formed = stays-with_entry s.tree whole.tree.well_formed p.0 p.1 n (fine.directory, fine.stands) fine.found fine.name there plain;
-            bytes = bytes-with_entry s.tree p.0 p.1 n fine.directory fine.bytes whole.tree.bytes;
-          })
-          (carries-entries s.tree p.0 _ fine.directory) (room-of (with_tree s u) short fit),
-         omega arith))))))))
+      let u : Tree = with_entry s.tree p.0 p.1 n in
+      let fine : FineName s.tree p None = subst (FineName s.tree p) (no_node (node_of new_place) free) (named-place s.tree new_place p (fine-place Keep new new_place news new_found) named) in
+      let there = place-there s.tree whole.tree old_place n (fine-place Last path old_place text old_found) is in (
+        ready-tree s whole u
+            (record {
+              well_formed = stays-with_entry s.tree whole.tree.well_formed p.0 p.1 n (fine.directory, fine.stands) fine.found fine.name there plain;
+              bytes = bytes-with_entry s.tree p.0 p.1 n fine.directory fine.bytes whole.tree.bytes;
+            })
+            (carries-entries s.tree p.0 _ fine.directory) (room-of (with_tree s u) short fit),
+        omega arith,
+      ))))))))
 
   -- ---- one name less
 
   ready-without : (p : ℕ × Bytes) (n : ℕ) → FineName s.tree p (Some n) → entries_at s.tree n ≡ [] → IsReady (with_tree s (without_entry s.tree p.0 p.1))
   ready-without p n fine bare =
       ready-smaller s whole (without_entry s.tree p.0 p.1)
-        (record {
-          well_formed = stays-without_entry s.tree whole.tree.well_formed p.0 p.1 n fine.found bare;
-          bytes = bytes-without_entry s.tree p.0 p.1 fine.directory whole.tree.bytes;
-        })
-        (carries-entries s.tree p.0 _ fine.directory) (no_larger-without s.tree p.0 p.1 fine.directory)
+      (record {
+        well_formed = stays-without_entry s.tree whole.tree.well_formed p.0 p.1 n fine.found bare;
+        bytes = bytes-without_entry s.tree p.0 p.1 fine.directory whole.tree.bytes;
+      })
+      (carries-entries s.tree p.0 _ fine.directory) (no_larger-without s.tree p.0 p.1 fine.directory)
 
   abbrev less_3 : (ℕ × Bytes) → Attempt Effect
   less_3 (d, name) = answers (with_tree s (without_entry s.tree d name)) 0
@@ -206,8 +207,8 @@ module _ (s : State) (pid : ℕ) (me : Process) (whole : IsWhole s) (at : proces
       leads-demand (IsEffect s) ENOENT (node_of place) (unlink_2 place) (λ n is.
       leads-refuse_if (IsEffect s) EPERM (is_directory_at s.tree n) (unlink_3 place) (λ plain.
       leads-demand (IsEffect s) EPERM (name_of place) less_3 (λ p named.
-        let fine : FineName s.tree p (Some n) = subst (FineName s.tree p) is (named-place s.tree place p (fine-place Keep path place text found) named) in
-        (ready-without p n fine (plain_entries (node_at s.tree n) plain), omega arith)))))
+      let fine : FineName s.tree p (Some n) = subst (FineName s.tree p) is (named-place s.tree place p (fine-place Keep path place text found) named) in
+      (ready-without p n fine (plain_entries (node_at s.tree n) plain), omega arith)))))
 
   abbrev rmdir_4 : ℕ → (ℕ × Bytes) → Attempt Effect
   rmdir_4 n (d, name) = refuse_if ENOTEMPTY (not (is_empty (entries_at s.tree n))) >> less_3 (d, name)
@@ -229,8 +230,8 @@ module _ (s : State) (pid : ℕ) (me : Process) (whole : IsWhole s) (at : proces
       leads-refuse_if (IsEffect s) ENOTDIR (not (is_directory_at s.tree n)) (rmdir_3 place n) (λ dir.
       leads-demand (IsEffect s) EBUSY (name_of place) (rmdir_4 n) (λ p named.
       leads-refuse_if (IsEffect s) ENOTEMPTY (not (is_empty (entries_at s.tree n))) (less_3 p) (λ bare.
-        let fine : FineName s.tree p (Some n) = subst (FineName s.tree p) is (named-place s.tree place p (fine-place Keep path place text found) named) in
-        (ready-without p n fine (empty-is (entries_at s.tree n) bare), omega arith)))))))
+      let fine : FineName s.tree p (Some n) = subst (FineName s.tree p) is (named-place s.tree place p (fine-place Keep path place text found) named) in
+      (ready-without p n fine (empty-is (entries_at s.tree n) bare), omega arith)))))))
 
   -- ---- another name
 
@@ -258,19 +259,20 @@ module _ (s : State) (pid : ℕ) (me : Process) (whole : IsWhole s) (at : proces
       leads-then (IsEffect s) (refuse_if ENOTDIR (is_directory_at s.tree n && is_some there && not (is_directory_there s.tree there))) (move_4 n p.0 p.1 q.0 q.1 there) (
       leads-refuse_if (IsEffect s) ENOTEMPTY (not (is_empty (entries_there s.tree there))) (move_5 n p.0 p.1 q.0 q.1) (λ bare.
       leads-room (IsEffect s) (with_tree s (with_entry (without_entry s.tree p.0 p.1) q.0 q.1 n)) (λ after. answers after 0) (λ short fit.
-        let between : Tree = without_entry s.tree p.0 p.1 in
-        let u : Tree = with_entry between q.0 q.1 n in
-        let first : Carries s.tree between = carries-entries s.tree p.0 _ from.directory in
-        let dir : is_directory_at between q.0 ≡ true = first.directory q.0 (some_of (node_at s.tree q.0) into.directory) ∙ into.directory in
-        (ready-tree s whole u
-          (record {
-            well_formed = stays-renamed s.tree whole.tree.well_formed p.0 p.1 q.0 q.1 n from.found (into.directory, into.stands) into.name clear
-              (λ is. another there n other (sym into.found ∙ is)) (ap (entries_there s.tree) into.found ∙ empty-is (entries_there s.tree there) bare);
-            bytes = bytes-with_entry between q.0 q.1 n dir into.bytes (bytes-without_entry s.tree p.0 p.1 from.directory whole.tree.bytes);
-          })
-          (carries-along s.tree between u first (still-there s.tree p.0 _ (directory-below s.tree p.0 from.directory)) (carries-entries between q.0 _ dir))
-          (room-of (with_tree s u) short fit),
-         omega arith))))))
+      let between : Tree = without_entry s.tree p.0 p.1 in
+      let u : Tree = with_entry between q.0 q.1 n in
+      let first : Carries s.tree between = carries-entries s.tree p.0 _ from.directory in
+      let dir : is_directory_at between q.0 ≡ true = first.directory q.0 (some_of (node_at s.tree q.0) into.directory) ∙ into.directory in (
+        ready-tree s whole u
+            (record {
+              well_formed = stays-renamed s.tree whole.tree.well_formed p.0 p.1 q.0 q.1 n from.found (into.directory, into.stands) into.name clear
+                  (λ is. another there n other (sym into.found ∙ is)) (ap (entries_there s.tree) into.found ∙ empty-is (entries_there s.tree there) bare);
+              bytes = bytes-with_entry between q.0 q.1 n dir into.bytes (bytes-without_entry s.tree p.0 p.1 from.directory whole.tree.bytes);
+            })
+            (carries-along s.tree between u first (still-there s.tree p.0 _ (directory-below s.tree p.0 from.directory)) (carries-entries between q.0 _ dir))
+            (room-of (with_tree s u) short fit),
+        omega arith,
+      ))))))
 
   abbrev rename_5 : Place → ℕ → (ℕ × Bytes) → (ℕ × Bytes) → Attempt Effect
   rename_5 new_place n (d, name) (e, new_name) = if same_node (node_of new_place) n then answers s 0 else move_entry s pid me n d name e new_name (node_of new_place)
@@ -302,18 +304,18 @@ module _ (s : State) (pid : ℕ) (me : Process) (whole : IsWhole s) (at : proces
       leads-demand (IsEffect s) ENOENT (node_of old_place) (rename_3 old_place new_place) (λ n is.
       leads-demand (IsEffect s) EBUSY (name_of old_place) (rename_4 new_place n) (λ p old_named.
       leads-demand (IsEffect s) EBUSY (name_of new_place) (rename_5 new_place n p) (λ q new_named.
-        good-renamed new_place n p q
-          (subst (FineName s.tree p) is (named-place s.tree old_place p (fine-place Keep path old_place text old_found) old_named))
-          (named-place s.tree new_place q (fine-place Keep new new_place news new_found) new_named)))))))
+      good-renamed new_place n p q
+      (subst (FineName s.tree p) is (named-place s.tree old_place p (fine-place Keep path old_place text old_found) old_named))
+      (named-place s.tree new_place q (fine-place Keep new new_place news new_found) new_named)))))))
 
   -- ---- bytes
 
   pub all-overwrite : (old : Bytes) (place : ℕ) (new : Bytes) → are_bytes old ≡ true → are_bytes new ≡ true → are_bytes (overwrite old place new) ≡ true
   all-overwrite old place new a b =
       list_all-both is_byte (take place (old ++ replicate (place - length old) 0) ++ new) (drop (place + length new) old)
-        (list_all-both is_byte (take place (old ++ replicate (place - length old) 0)) new
-          (list_all-take is_byte place (old ++ replicate (place - length old) 0) (list_all-both is_byte old (replicate (place - length old) 0) a (list_all-replicate is_byte (place - length old) 0 refl))) b)
-        (list_all-drop is_byte (place + length new) old a)
+      (list_all-both is_byte (take place (old ++ replicate (place - length old) 0)) new
+      (list_all-take is_byte place (old ++ replicate (place - length old) 0) (list_all-both is_byte old (replicate (place - length old) 0) a (list_all-replicate is_byte (place - length old) 0 refl))) b)
+      (list_all-drop is_byte (place + length new) old a)
 
   -- a tree with other bytes in a file, and an open file at another place
   ready-content : (f : ℕ) (bytes : Bytes) (k : ℕ) (file : OpenFile) (offset : ℕ) → are_bytes bytes ≡ true → Rattle.pv_model.specs.Numbered.at_number s.files k ≡ Some file → offset ≤ 2147483647
@@ -327,8 +329,8 @@ module _ (s : State) (pid : ℕ) (me : Process) (whole : IsWhole s) (at : proces
       let files : AreFiles u s.files = record { count = whole.files.count; each = λ j g at. file-carried s.tree u g carries (whole.files.each j g at) } in
       record {
         solid = solid-standing s u (with_number s.files k new) (solid s whole) (tree-content s.tree whole.tree f bytes good) carries
-          (files-with s pid me whole u files k file new there (record { node = old.node; directory = old.directory; offset = low; listed = old.listed }))
-          (files-stay s pid me whole k file new there);
+            (files-with s pid me whole u files k file new there (record { node = old.node; directory = old.directory; offset = low; listed = old.listed }))
+            (files-stay s pid me whole k file new there);
         room = room;
       }
 
@@ -351,8 +353,8 @@ module _ (s : State) (pid : ℕ) (me : Process) (whole : IsWhole s) (at : proces
       let end : place + suc n ≤ greatest_length s.tree.version = ltb-false (greatest_length s.tree.version) (place + suc n) near in
       let taken : length bytes ≡ min (suc n) (length me.buffer) = length-take (suc n) me.buffer in
       ready-content file.node (overwrite old place bytes) k file (place + length bytes)
-        (all-overwrite old place bytes (file-bytes s whole file.node).1 (list_all-take is_byte (suc n) me.buffer (my-running s pid me whole at).buffer.1)) there
-        (omega (arith, taken, end, greatest-low s.tree.version)) room
+      (all-overwrite old place bytes (file-bytes s whole file.node).1 (list_all-take is_byte (suc n) me.buffer (my-running s pid me whole at).buffer.1)) there
+      (omega (arith, taken, end, greatest-low s.tree.version)) room
 
   pub good-write : (d n : ℤ) → Leads (IsEffect s) (write s pid me d n)
   good-write d n =
@@ -360,8 +362,8 @@ module _ (s : State) (pid : ℕ) (me : Process) (whole : IsWhole s) (at : proces
       leads-demand (IsEffect s) EINVAL (within 4096 n) (write_2 k file) (λ count low.
       leads-refuse_if (IsEffect s) EFBIG (is_past_greatest s.tree (write_end s pid me file count)) (write_3 k file count) (λ near.
       leads-room (IsEffect s) (after_write s pid me k file count) (λ roomy. answers roomy count) (λ short fit.
-        let there = (open_file_for-at s pid me writes d k file is).0 in
-        (written k file count there near (room-of (after_write s pid me k file count) short fit), omega (arith, within-limit 4096 n count low))))))
+      let there = (open_file_for-at s pid me writes d k file is).0 in
+      (written k file count there near (room-of (after_write s pid me k file count) short fit), omega (arith, within-limit 4096 n count low))))))
 
   abbrev resized : OpenFile → ℕ → State
   resized file size = with_tree s (with_content s.tree file.node (resize (bytes_of (node_at s.tree file.node)) size))
@@ -385,9 +387,10 @@ module _ (s : State) (pid : ℕ) (me : Process) (whole : IsWhole s) (at : proces
       leads-demand (IsEffect s) EINVAL (natural n) (ftruncate_3 file) (λ size natural_size.
       leads-refuse_if (IsEffect s) EFBIG (is_past_greatest s.tree size) (ftruncate_4 file size) (λ near.
       leads-room (IsEffect s) (resized file size) (λ roomy. answers roomy 0) (λ short fit.
-        let old = bytes_of (node_at s.tree file.node) in
-        let good : are_bytes (resize old size) ≡ true =
-          list_all-both is_byte (take size old) (replicate (size - length old) 0) (list_all-take is_byte size old (file-bytes s whole file.node).1) (list_all-replicate is_byte (size - length old) 0 refl) in
-        (ready-tree s whole (with_content s.tree file.node (resize old size)) (tree-content s.tree whole.tree file.node (resize old size) good) (carries-content s.tree whole.tree file.node (resize old size) good)
-          (room-of (resized file size) short fit),
-         omega arith))))))
+      let old = bytes_of (node_at s.tree file.node) in
+      let good : are_bytes (resize old size) ≡ true =
+      list_all-both is_byte (take size old) (replicate (size - length old) 0) (list_all-take is_byte size old (file-bytes s whole file.node).1) (list_all-replicate is_byte (size - length old) 0 refl) in (
+        ready-tree s whole (with_content s.tree file.node (resize old size)) (tree-content s.tree whole.tree file.node (resize old size) good) (carries-content s.tree whole.tree file.node (resize old size) good)
+            (room-of (resized file size) short fit),
+        omega arith,
+      ))))))

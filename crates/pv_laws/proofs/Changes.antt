@@ -1,16 +1,13 @@
 -- Lemmas on trees that are changed.
-use Rattle.std.proofs.Common.{◌≡◌, ◌≢◌, ℕ, zero, suc, ◌<◌, ◌≤◌, Bool, true, false, cond, not, ◌&&◌, List, [], ◌∷◌, bytes_eq, length, Option, None, Some, is_some, IsTrue, refl, ap, ap₂, sym, subst, ◌∙◌, arith, inl, inr, ◌⊎◌, ⊎_elim}
-use Rattle.std.specs.List.{list_any, list_all}
+use Rattle.std.proofs.Common.{◌≡◌, ◌≢◌, ℕ, ◌<◌, true, bytes_eq, length, Option, None, Some, is_some, refl, ap, ap₂, sym, ◌∙◌, inl, inr, ◌⊎◌, ⊎_elim}
+use Rattle.std.specs.List.{list_all}
 use Rattle.std.specs.FinMap.Entries.{find, put, where_key, is_sorted, is_sorted-put, is_sorted-where_key}
 use Rattle.std.proofs.lemmas.Bool.{and_parts, and_from, cases_eq, cases_Bool}
 use Rattle.std.proofs.lemmas.Cmp.{nat_list_cmp_total}
 use Rattle.pv_model.specs.Bytes.{Bytes}
-use Rattle.pv_model.specs.Numbered.{Numbered, at_number, with_number}
-use Rattle.pv_model.specs.Tree.{Entries, Node, directory_node, file_node, link_node, Tree, root, node_at, entries_of, entries_at, is_directory, is_directory_at, find_entry, with_node, with_entry, without_entry, is_name, is_node, IsReached, from_root, by_entry}
-use Rattle.pv_laws.specs.Tree.{IsSound}
+use Rattle.pv_model.specs.Tree.{Entries, Node, directory_node, file_node, link_node, Tree, node_at, entries_of, entries_at, is_directory, is_directory_at, find_entry, with_node, with_entry, without_entry, is_name, is_node}
 use Rattle.pv_laws.proofs.Entries.{by_name, is_other, find-put_same, find-put_other, find-without_same, find-without_other, list_all-put, list_all-filter, bytes_eq-same, told, tell}
 use Rattle.pv_laws.proofs.Numbered.{at_number-below, length-with_number, with_number-same, with_number-other}
-use Rattle.pv_laws.proofs.Trim.{reached-along}
 
 -- names are equal or not
 pub cases_name : (a b : Bytes) → (a ≡ b) ⊎ (a ≢ b)
@@ -83,16 +80,18 @@ shape-entries t d es is each good =
     let here : node_at (with_node t d (directory_node es)) d ≡ Some (directory_node es) = node_at-same t d (directory_node es) below in
     record {
       numbers = length-with_number t.nodes d (directory_node es) below;
-      blocks = refl; inodes = refl; version = refl;
+      blocks = refl;
+      inodes = refl;
+      version = refl;
       directory = λ n. ⊎_elim
-        (λ same. ap (λ m. is_directory_at (with_node t d (directory_node es)) m) same ∙ ap is_directory here ∙ sym is ∙ ap (is_directory_at t) (sym same))
-        (λ other. ap is_directory (node_at-other t d (directory_node es) n below other)) (cases_eq n d);
+          (λ same. ap (λ m. is_directory_at (with_node t d (directory_node es)) m) same ∙ ap is_directory here ∙ sym is ∙ ap (is_directory_at t) (sym same))
+          (λ other. ap is_directory (node_at-other t d (directory_node es) n below other)) (cases_eq n d);
       there = λ n. ⊎_elim
-        (λ same. ap (λ m. is_some (node_at (with_node t d (directory_node es)) m)) same ∙ ap is_some here ∙ sym (directory_is_some (node_at t d) is) ∙ ap (λ m. is_some (node_at t m)) (sym same))
-        (λ other. ap is_some (node_at-other t d (directory_node es) n below other)) (cases_eq n d);
+          (λ same. ap (λ m. is_some (node_at (with_node t d (directory_node es)) m)) same ∙ ap is_some here ∙ sym (directory_is_some (node_at t d) is) ∙ ap (λ m. is_some (node_at t m)) (sym same))
+          (λ other. ap is_some (node_at-other t d (directory_node es) n below other)) (cases_eq n d);
       each_node = λ n node at. ⊎_elim
-        (λ same. let is' : Some (directory_node es) ≡ Some node = sym here ∙ ap (node_at (with_node t d (directory_node es))) (sym same) ∙ at in let eq : directory_node es ≡ node = cc is' in ap (is_node t.version) (sym eq) ∙ good)
-        (λ other. each n node (sym (node_at-other t d (directory_node es) n below other) ∙ at)) (cases_eq n d);
+          (λ same. let is' : Some (directory_node es) ≡ Some node = sym here ∙ ap (node_at (with_node t d (directory_node es))) (sym same) ∙ at in let eq : directory_node es ≡ node = cc is' in ap (is_node t.version) (sym eq) ∙ good)
+          (λ other. each n node (sym (node_at-other t d (directory_node es) n below other) ∙ at)) (cases_eq n d);
     }
 
 -- what the entries of a directory are, as a node
@@ -111,15 +110,15 @@ pub shape-with_entry : (t : Tree) (d : ℕ) (name : Bytes) (n : ℕ) → is_dire
 shape-with_entry t d name n is each good =
     let old = entries-good t d each in
     shape-entries t d (put by_name name n (entries_at t d)) is each
-      (and_from _ _ (told _ (is_sorted-put by_name nat_list_cmp_total name n (entries_at t d) (tell _ old.0))) (list_all-put (is_name t.version) name n (entries_at t d) good old.1))
+    (and_from _ _ (told _ (is_sorted-put by_name nat_list_cmp_total name n (entries_at t d) (tell _ old.0))) (list_all-put (is_name t.version) name n (entries_at t d) good old.1))
 
 pub shape-without_entry : (t : Tree) (d : ℕ) (name : Bytes) → is_directory_at t d ≡ true
     → ((n : ℕ) (node : Node) → node_at t n ≡ Some node → is_node t.version node ≡ true) → SameShape t (without_entry t d name)
 shape-without_entry t d name is each =
     let old = entries-good t d each in
     shape-entries t d (where_key by_name (is_other name) (entries_at t d)) is each
-      (and_from _ _ (told _ (is_sorted-where_key by_name (is_other name) (entries_at t d) (tell _ old.0)))
-        (list_all-filter (λ (e : Bytes × ℕ). is_name t.version e.0) (λ e. is_other name e.0) (entries_at t d) old.1))
+    (and_from _ _ (told _ (is_sorted-where_key by_name (is_other name) (entries_at t d) (tell _ old.0)))
+    (list_all-filter (λ (e : Bytes × ℕ). is_name t.version e.0) (λ e. is_other name e.0) (entries_at t d) old.1))
 
 -- ---- what is found after a change of entries
 
@@ -144,20 +143,20 @@ module _ (t : Tree) (d : ℕ) (name : Bytes) (is : is_directory_at t d ≡ true)
       → ((e ≡ d) × (q ≡ name) × (m ≡ n)) ⊎ (((e ≡ d) → (q ≡ name) → ⊥) × (find_entry t e q ≡ Some m))
   with_entry-cases n e q m found =
       ⊎_elim
-        (λ here. ⊎_elim
-          (λ same. let new : Some n ≡ Some m = sym (found-with n) ∙ ap₂ (find_entry (with_entry t d name n)) (sym here) (sym same) ∙ found in inl (here, same, cc new))
-          (λ other. inr (λ _ same. other same, ap (λ k. find_entry t k q) here ∙ sym (found-with_other n q other) ∙ ap (λ k. find_entry (with_entry t d name n) k q) (sym here) ∙ found))
-          (cases_name q name))
-        (λ away. inr (λ here _. away here, sym (found-with_beside n e q away) ∙ found))
-        (cases_eq e d)
+      (λ here. ⊎_elim
+      (λ same. let new : Some n ≡ Some m = sym (found-with n) ∙ ap₂ (find_entry (with_entry t d name n)) (sym here) (sym same) ∙ found in inl (here, same, cc new))
+      (λ other. inr (λ _ same. other same, ap (λ k. find_entry t k q) here ∙ sym (found-with_other n q other) ∙ ap (λ k. find_entry (with_entry t d name n) k q) (sym here) ∙ found))
+      (cases_name q name))
+      (λ away. inr (λ here _. away here, sym (found-with_beside n e q away) ∙ found))
+      (cases_eq e d)
 
   -- an entry under another name stays
   pub with_entry-stays : (n e : ℕ) (q : Bytes) (m : ℕ) → find_entry t e q ≡ Some m → ((e ≡ d) → (q ≡ name) → ⊥) → find_entry (with_entry t d name n) e q ≡ Some m
   with_entry-stays n e q m found other =
       ⊎_elim
-        (λ here. ap (λ k. find_entry (with_entry t d name n) k q) here ∙ found-with_other n q (other here) ∙ ap (λ k. find_entry t k q) (sym here) ∙ found)
-        (λ away. found-with_beside n e q away ∙ found)
-        (cases_eq e d)
+      (λ here. ap (λ k. find_entry (with_entry t d name n) k q) here ∙ found-with_other n q (other here) ∙ ap (λ k. find_entry t k q) (sym here) ∙ found)
+      (λ away. found-with_beside n e q away ∙ found)
+      (cases_eq e d)
 
   pub found-without : find_entry (without_entry t d name) d name ≡ None
   found-without = ap (find by_name name) (entries-with_node t d (where_key by_name (is_other name) (entries_at t d)) (directory-below t d is)) ∙ find-without_same name (entries_at t d)
@@ -172,16 +171,16 @@ module _ (t : Tree) (d : ℕ) (name : Bytes) (is : is_directory_at t d ≡ true)
   pub without_entry-was : (e : ℕ) (q : Bytes) (m : ℕ) → find_entry (without_entry t d name) e q ≡ Some m → ((e ≡ d) → (q ≡ name) → ⊥) × (find_entry t e q ≡ Some m)
   without_entry-was e q m found =
       ⊎_elim
-        (λ here. ⊎_elim
-          (λ same. let gone : find_entry (without_entry t d name) e q ≡ None = ap₂ (find_entry (without_entry t d name)) here same ∙ found-without in cc)
-          (λ other. (λ _ same. other same, ap (λ k. find_entry t k q) here ∙ sym (found-without_other q other) ∙ ap (λ k. find_entry (without_entry t d name) k q) (sym here) ∙ found))
-          (cases_name q name))
-        (λ away. (λ here _. away here, sym (found-without_beside e q away) ∙ found))
-        (cases_eq e d)
+      (λ here. ⊎_elim
+      (λ same. let gone : find_entry (without_entry t d name) e q ≡ None = ap₂ (find_entry (without_entry t d name)) here same ∙ found-without in cc)
+      (λ other. (λ _ same. other same, ap (λ k. find_entry t k q) here ∙ sym (found-without_other q other) ∙ ap (λ k. find_entry (without_entry t d name) k q) (sym here) ∙ found))
+      (cases_name q name))
+      (λ away. (λ here _. away here, sym (found-without_beside e q away) ∙ found))
+      (cases_eq e d)
 
   pub without_entry-stays : (e : ℕ) (q : Bytes) (m : ℕ) → find_entry t e q ≡ Some m → ((e ≡ d) → (q ≡ name) → ⊥) → find_entry (without_entry t d name) e q ≡ Some m
   without_entry-stays e q m found other =
       ⊎_elim
-        (λ here. ap (λ k. find_entry (without_entry t d name) k q) here ∙ found-without_other q (other here) ∙ ap (λ k. find_entry t k q) (sym here) ∙ found)
-        (λ away. found-without_beside e q away ∙ found)
-        (cases_eq e d)
+      (λ here. ap (λ k. find_entry (without_entry t d name) k q) here ∙ found-without_other q (other here) ∙ ap (λ k. find_entry t k q) (sym here) ∙ found)
+      (λ away. found-without_beside e q away ∙ found)
+      (cases_eq e d)

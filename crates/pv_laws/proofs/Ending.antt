@@ -1,13 +1,13 @@
 -- The end of a process keeps states solid.
-use Rattle.std.proofs.Common.{◌≡◌, ◌≢◌, ℕ, zero, suc, ◌+◌, ◌<◌, ◌≤◌, Bool, true, false, cond, not, ◌&&◌, ◌||◌, ◌==◌, nat_le, nat_lt, List, [], ◌∷◌, map, filter, length, Option, None, Some, is_some, refl, ap, ap₂, sym, subst, ◌∙◌, ⊎_elim, arith}
+use Rattle.std.proofs.Common.{◌≡◌, ◌≢◌, ℕ, suc, ◌≤◌, Bool, true, false, cond, not, ◌&&◌, ◌==◌, nat_le, List, [], ◌∷◌, map, filter, length, Option, None, Some, is_some, refl, ap, ap₂, sym, subst, ◌∙◌, ⊎_elim, arith}
 use Rattle.std.specs.List.{list_any, list_all}
 use Rattle.std.specs.Ordering.{nat_cmp, is_lt, is_eq, eq_by_cmp}
 use Rattle.std.specs.FinMap.Entries.{find, put, is_sorted, below_all}
 use Rattle.std.proofs.lemmas.Bool.{and_parts, and_from, leb-true, eqb-true, eqb-false, eq-eqb, cases_Bool, cases_eq}
 use Rattle.std.proofs.lemmas.List.{length-map}
-use Rattle.pv_model.specs.Calls.Processes.{parent_of, with_parent, adopt, is_unclaimed, adopter, adopt_orphans, end_process}
+use Rattle.pv_model.specs.Calls.Processes.{parent_of, with_parent, adopt, is_unclaimed, adopter, end_process}
 use Rattle.pv_model.specs.State.{Process, Record, live, ended_record, State, live_process, process_at, with_process}
-use Rattle.pv_laws.specs.States.{IsRunning, IsPlaced, is_number, AreProcesses, IsSolid}
+use Rattle.pv_laws.specs.States.{IsRunning, IsPlaced, is_number, IsSolid}
 use Rattle.pv_laws.proofs.Entries.{list_all-filter}
 use Rattle.pv_laws.proofs.Members.{find_number_behind, find_number_cases, find_number-list_all, live-found, found-live}
 use Rattle.pv_laws.proofs.Processes.{find-put_same, find-put_other}
@@ -84,15 +84,15 @@ module _ {X : Type 0} (keeps : ℕ × X → Bool) where
   filtered-found [] k r is kept = cc
   filtered-found (e ∷ es) k r is kept =
       find_number_cases (find nat_cmp k (filter keeps (e ∷ es)) ≡ Some r) k r e es is
-        (λ same value. ap (λ b. find nat_cmp k (cond b (e ∷ filter keeps es) (filter keeps es))) (ap₂ (λ q v. keeps (q, v)) (sym same) value ∙ kept)
-            ∙ ap (λ b. cond b (Some e.1) (find nat_cmp k (filter keeps es))) (sym (Rattle.std.specs.Cmp.unsigned_ties k e.0) ∙ eq-eqb k e.0 same) ∙ ap Some value)
-        (λ there. elim (keeps e) as (λ b. find nat_cmp k (cond b (e ∷ filter keeps es) (filter keeps es)) ≡ Some r) [
-          | true ↦ elim (eq_by_cmp nat_cmp k e.0) as (λ t. eq_by_cmp nat_cmp k e.0 ≡ t → cond t (Some e.1) (find nat_cmp k es) ≡ Some r → cond t (Some e.1) (find nat_cmp k (filter keeps es)) ≡ Some r) [
-              | true ↦ λ _ at. at
-              | false ↦ λ _ at. filtered-found es k r at kept
-            ] refl is
-          | false ↦ filtered-found es k r there kept
-        ])
+      (λ same value. ap (λ b. find nat_cmp k (cond b (e ∷ filter keeps es) (filter keeps es))) (ap₂ (λ q v. keeps (q, v)) (sym same) value ∙ kept)
+      ∙ ap (λ b. cond b (Some e.1) (find nat_cmp k (filter keeps es))) (sym (Rattle.std.specs.Cmp.unsigned_ties k e.0) ∙ eq-eqb k e.0 same) ∙ ap Some value)
+      (λ there. elim (keeps e) as (λ b. find nat_cmp k (cond b (e ∷ filter keeps es) (filter keeps es)) ≡ Some r) [
+        | true ↦ elim (eq_by_cmp nat_cmp k e.0) as (λ t. eq_by_cmp nat_cmp k e.0 ≡ t → cond t (Some e.1) (find nat_cmp k es) ≡ Some r → cond t (Some e.1) (find nat_cmp k (filter keeps es)) ≡ Some r) [
+          | true ↦ λ _ at. at
+          | false ↦ λ _ at. filtered-found es k r at kept
+        ] refl is
+        | false ↦ filtered-found es k r there kept
+      ])
 
 -- ---- the end of a process
 
@@ -179,8 +179,8 @@ module _ (s : State) (is : IsSolid s) (pid : ℕ) (p me : Process) (at : process
   away-cases : (P : Type 0) (k : ℕ) (x : Record) → find nat_cmp k put_away.processes ≡ Some x → (k ≡ pid → x ≡ gone → P) → (k ≢ pid → find nat_cmp k s.processes ≡ Some x → P) → P
   away-cases P k x found here there =
       ⊎_elim
-        (λ eq. let value : Some gone ≡ Some x = sym (find-put_same pid gone s.processes) ∙ ap (λ j. find nat_cmp j put_away.processes) (sym eq) ∙ found in let is' : gone ≡ x = cc value in here eq (sym is'))
-        (λ other. there other (sym (find-put_other k pid gone s.processes other) ∙ found)) (cases_eq k pid)
+      (λ eq. let value : Some gone ≡ Some x = sym (find-put_same pid gone s.processes) ∙ ap (λ j. find nat_cmp j put_away.processes) (sym eq) ∙ found in let is' : gone ≡ x = cc value in here eq (sym is'))
+      (λ other. there other (sym (find-put_other k pid gone s.processes other) ∙ found)) (cases_eq k pid)
 
   in_order : is_sorted nat_cmp (mapped (adopted pid heir) put_away.processes) ≡ true
   in_order = sorted-mapped (adopted pid heir) put_away.processes ∙ sorted-put_number pid gone s.processes is.processes.ascending
@@ -197,7 +197,7 @@ module _ (s : State) (is : IsSolid s) (pid : ℕ) (p me : Process) (at : process
       let was = left-was k (live r) (live-found after k r found) in
       let old = live-adopted pid heir was.0 r was.2 in
       away-cases ((q : Process) × (process_at s k ≡ Some q) × (r ≡ record q { parent = r.parent })) k was.0 was.1
-        (λ here eq. cc (sym eq ∙ old.1)) (λ other there. (old.0, found-live s k old.0 (there ∙ ap Some old.1), old.2))
+      (λ here eq. cc (sym eq ∙ old.1)) (λ other there. (old.0, found-live s k old.0 (there ∙ ap Some old.1), old.2))
 
   -- another live process stays
   stays_live : (k : ℕ) → is_some (process_at s k) ≡ true → k ≢ pid → is_some (process_at after k) ≡ true
@@ -209,7 +209,7 @@ module _ (s : State) (is : IsSolid s) (pid : ℕ) (p me : Process) (at : process
           let there = find-put_other k pid gone s.processes other ∙ live-found s k q found in
           let turned = adopted-live pid heir q in
           ap is_some (ap live_process (filtered-found claimed (mapped (adopted pid heir) put_away.processes) k (live turned.0)
-            (mapped-found (adopted pid heir) k put_away.processes (live q) there ∙ ap Some turned.1) refl))
+          (mapped-found (adopted pid heir) k put_away.processes (live q) there ∙ ap Some turned.1) refl))
 
   not_mine : process_at put_away pid ≡ None
   not_mine = ap live_process (find-put_same pid gone s.processes)
@@ -228,10 +228,10 @@ module _ (s : State) (is : IsSolid s) (pid : ℕ) (p me : Process) (at : process
   above_lives k x found true mine has = heir_lives has
   above_lives k x found false mine has =
       stays_live (parent_of x)
-        (away-cases (is_some (process_at s (parent_of x)) ≡ true) k x found
-          (λ here eq. let up : parent_of x ≡ p.parent = ap parent_of eq ∙ same in ap (λ n. is_some (process_at s n)) up ∙ is.processes.parents pid (live p) was_found (λ none. has (up ∙ none)))
-          (λ other there. is.processes.parents k x there has))
-        (eqb-false (parent_of x) pid mine)
+      (away-cases (is_some (process_at s (parent_of x)) ≡ true) k x found
+      (λ here eq. let up : parent_of x ≡ p.parent = ap parent_of eq ∙ same in ap (λ n. is_some (process_at s n)) up ∙ is.processes.parents pid (live p) was_found (λ none. has (up ∙ none)))
+      (λ other there. is.processes.parents k x there has))
+      (eqb-false (parent_of x) pid mine)
 
   left-solid : IsSolid after
   left-solid = record {
@@ -240,35 +240,36 @@ module _ (s : State) (is : IsSolid s) (pid : ℕ) (p me : Process) (at : process
     processes = record {
       ascending = sorted-filtered claimed (mapped (adopted pid heir) put_away.processes) in_order;
       numbers = list_all-filter (λ (r : ℕ × Record). is_number s.last_process r.0) claimed (mapped (adopted pid heir) put_away.processes)
-        (keys-mapped (adopted pid heir) (is_number s.last_process) put_away.processes
-         ∙ list_all-put_number (is_number s.last_process) pid gone s.processes (find_number-list_all (is_number s.last_process) pid (live p) s.processes is.processes.numbers was_found) is.processes.numbers);
+          (keys-mapped (adopted pid heir) (is_number s.last_process) put_away.processes
+          ∙ list_all-put_number (is_number s.last_process) pid gone s.processes (find_number-list_all (is_number s.last_process) pid (live p) s.processes is.processes.numbers was_found) is.processes.numbers);
       count =
-        let few = length-filtered claimed (mapped (adopted pid heir) put_away.processes) in
-        let long = length-map {B = ℕ × Record} put_away.processes (λ e. (e.0, adopted pid heir e.1)) in
-        let put = length-put_there pid gone (live p) s.processes is.processes.ascending was_found in
-        omega (arith, few, long, put, is.processes.count);
+          let few = length-filtered claimed (mapped (adopted pid heir) put_away.processes) in
+          let long = length-map {B = ℕ × Record} put_away.processes (λ e. (e.0, adopted pid heir e.1)) in
+          let put = length-put_there pid gone (live p) s.processes is.processes.ascending was_found in
+          omega (arith, few, long, put, is.processes.count);
       last = is.processes.last;
       running = λ k r found. let old = left-live k r found in subst IsRunning (sym old.2) (running-parent old.0 r.parent (is.processes.running k old.0 old.1));
       placed = λ k r found. let old = left-live k r found in subst (IsPlaced s.tree s.files) (sym old.2) (placed-parent s.tree s.files old.0 r.parent (is.processes.placed k old.0 old.1));
       first = λ r found.
-        let was = left-was 1 (live r) (live-found after 1 r found) in
-        let old = live-adopted pid heir was.0 r was.2 in
-        let up : r.parent ≡ cond (parent_of was.0 == pid) heir (parent_of was.0) = sym (ap parent_of was.2) ∙ parent-adopted pid heir was.0 in
-        let top : parent_of was.0 ≡ 0 = away-cases (parent_of was.0 ≡ 0) 1 was.0 was.1
+          let was = left-was 1 (live r) (live-found after 1 r found) in
+          let old = live-adopted pid heir was.0 r was.2 in
+          let up : r.parent ≡ cond (parent_of was.0 == pid) heir (parent_of was.0) = sym (ap parent_of was.2) ∙ parent-adopted pid heir was.0 in
+          let top : parent_of was.0 ≡ 0 = away-cases (parent_of was.0 ≡ 0) 1 was.0 was.1
           (λ here eq. cc (sym eq ∙ old.1)) (λ other there. ap parent_of old.1 ∙ is.processes.first old.0 (found-live s 1 old.0 (there ∙ ap Some old.1))) in
-        let positive = leb-true 1 pid (and_parts (nat_le 1 pid) _ (find_number-list_all (is_number s.last_process) pid (live p) s.processes is.processes.numbers was_found)).0 in
-        up ∙ ap (λ n. cond (n == pid) heir n) top
-        ∙ ap (λ b. cond b heir 0) (Rattle.std.proofs.lemmas.Bool.ne_eqb 0 pid (λ eq. absurd (omega arith)));
+          let positive = leb-true 1 pid (and_parts (nat_le 1 pid) _ (find_number-list_all (is_number s.last_process) pid (live p) s.processes is.processes.numbers was_found)).0 in
+          up ∙ ap (λ n. cond (n == pid) heir n) top
+          ∙ ap (λ b. cond b heir 0) (Rattle.std.proofs.lemmas.Bool.ne_eqb 0 pid (λ eq. absurd (omega arith)));
       parents = λ k r found has.
-        let was = left-was k r found in
-        let up : parent_of r ≡ cond (parent_of was.0 == pid) heir (parent_of was.0) = sym (ap parent_of was.2) ∙ parent-adopted pid heir was.0 in
-        ap (λ n. is_some (process_at after n)) up ∙ above_lives k was.0 was.1 (parent_of was.0 == pid) refl (λ none. has (up ∙ none));
+          let was = left-was k r found in
+          let up : parent_of r ≡ cond (parent_of was.0 == pid) heir (parent_of was.0) = sym (ap parent_of was.2) ∙ parent-adopted pid heir was.0 in
+          ap (λ n. is_some (process_at after n)) up ∙ above_lives k was.0 was.1 (parent_of was.0 == pid) refl (λ none. has (up ∙ none));
       ended = λ k above code found.
-        let was = left-was k (ended_record above code) found in
-        let old = ended-adopted pid heir was.0 above code was.2 in
-        (eqb-false above 0 was.3,
-         away-cases (code ≤ 65535) k was.0 was.1
-          (λ here eq. let value : code ≡ status = cc (sym old.1 ∙ eq) in omega (arith, value, low)) (λ other there. (is.processes.ended k old.0 code (there ∙ ap Some old.1)).1));
+          let was = left-was k (ended_record above code) found in
+          let old = ended-adopted pid heir was.0 above code was.2 in (
+            eqb-false above 0 was.3,
+            away-cases (code ≤ 65535) k was.0 was.1
+                (λ here eq. let value : code ≡ status = cc (sym old.1 ∙ eq) in omega (arith, value, low)) (λ other there. (is.processes.ended k old.0 code (there ∙ ap Some old.1)).1),
+          );
     };
   }
 

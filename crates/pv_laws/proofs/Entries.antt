@@ -1,17 +1,17 @@
 -- Lemmas on the entries of one directory.
-use Rattle.std.proofs.Common.{◌≡◌, ◌≢◌, ℕ, zero, suc, ◌+◌, ◌<◌, ◌≤◌, Bool, true, false, cond, not, ◌&&◌, ◌||◌, ◌==◌, List, [], ◌∷◌, map, filter, length, bytes_eq, Option, None, Some, is_some, IsTrue, T, refl, ap, ap₂, sym, subst, ◌∙◌, arith, inl, inr, ◌⊎◌, ⊎_elim}
+use Rattle.std.proofs.Common.{◌≡◌, ◌≢◌, ℕ, Bool, true, false, cond, not, ◌==◌, List, [], ◌∷◌, filter, bytes_eq, None, Some, T, refl, ap, sym, subst, ◌∙◌, ⊎_elim}
 use Rattle.std.specs.Cmp.Lexicographic.{slice_cmp}
 use Rattle.std.specs.Ordering.{nat_cmp, is_eq, eq_by_cmp}
 use Rattle.std.specs.List.{list_any, list_all}
 use Rattle.std.specs.FinMap.Entries.{find, put, where_key, is_sorted, below_all, find-put, find-where_key, find_tied, is_sorted-put, is_sorted-where_key}
-use Rattle.std.proofs.lemmas.Bool.{and_parts, and_from, eqb-true, eqb-false, eq-eqb, ne_eqb, or_left, or_right, or_cases, cases_Bool}
+use Rattle.std.proofs.lemmas.Bool.{and_parts, and_from, eqb-true, eq-eqb, or_left, or_right, or_cases}
 use Rattle.std.proofs.lemmas.Cmp.{nat_list_cmp_total}
 use Rattle.std.proofs.lemmas.Map.Text.{is_eq-slice_cmp}
 use Rattle.std.proofs.lemmas.Slice.Eq.{bytes_eq-Decides}
 use Rattle.std.specs.declared.cmp.Ordering.{Ordering}
 use Rattle.std.specs.declared.cmp.Ordering.TheVariants.{Less, Equal, Greater}
 use Rattle.pv_model.specs.Bytes.{Bytes}
-use Rattle.pv_model.specs.Tree.{Entries, names_node, names_in}
+use Rattle.pv_model.specs.Tree.{Entries, names_node}
 
 abbrev pub by_name : Bytes → Bytes → Ordering
 by_name = slice_cmp nat_cmp
@@ -129,6 +129,6 @@ names_node-find n [] sorted is = cc
 names_node-find n (e ∷ es) sorted is =
     let parts = and_parts (below_all by_name e.0 es) _ sorted in
     ⊎_elim
-      (λ here. (e.0, ap (λ b. cond b (Some e.1) (find by_name e.0 es)) (tied_itself e.0) ∙ ap Some (eqb-true e.1 n here)))
-      (λ there. let found = names_node-find n es parts.1 there in (found.0, (find_behind found.0 n e es sorted found.1).1))
-      (or_cases (e.1 == n) (names_node n es) is)
+    (λ here. (e.0, ap (λ b. cond b (Some e.1) (find by_name e.0 es)) (tied_itself e.0) ∙ ap Some (eqb-true e.1 n here)))
+    (λ there. let found = names_node-find n es parts.1 there in (found.0, (find_behind found.0 n e es sorted found.1).1))
+    (or_cases (e.1 == n) (names_node n es) is)

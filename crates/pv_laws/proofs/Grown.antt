@@ -1,28 +1,28 @@
 -- Trees that calls change: their bytes, their kinds, their room.
 use Rattle.std.proofs.Common.{◌≡◌, ◌≢◌, ℕ, zero, suc, ◌+◌, ◌*◌, ◌<◌, ◌≤◌, Bool, true, false, cond, not, ◌&&◌, ◌||◌, ◌==◌, nat_le, List, [], ◌∷◌, filter, length, drop, Option, None, Some, is_some, refl, ap, sym, subst, ◌∙◌, ⊎_elim, arith}
 use Rattle.std.specs.FinMap.Entries.{find, put, where_key}
-use Rattle.std.specs.List.{list_all, list_any}
-use Rattle.std.proofs.lemmas.Bool.{and_parts, or_cases, or_left, or_right, leb-true, eqb-true, cases_eq, cases_lt, cases_Bool}
+use Rattle.std.specs.List.{list_all}
+use Rattle.std.proofs.lemmas.Bool.{and_parts, or_cases, or_left, leb-true, cases_eq, cases_lt, cases_Bool}
 use Rattle.pv_model.specs.Bytes.{Bytes}
 use Rattle.pv_model.specs.Calls.Descriptors.{with_content, with_content_of}
-use Rattle.pv_model.specs.Held.{among, trim}
-use Rattle.pv_model.specs.Numbered.{Numbered, at_number, with_number, least_free, present}
-use Rattle.pv_model.specs.Room.{entry_length, node_length, fits, is_too_long}
+use Rattle.pv_model.specs.Held.{among}
+use Rattle.pv_model.specs.Numbered.{at_number, least_free, present}
+use Rattle.pv_model.specs.Room.{entry_length, fits, is_too_long}
 use Rattle.pv_model.specs.Sealed.{is_file}
 use Rattle.pv_model.specs.State.{State, with_tree}
-use Rattle.pv_model.specs.Tree.{Entries, Node, directory_node, file_node, link_node, Tree, root, node_at, entries_of, entries_at, is_directory, is_directory_at, find_entry, named_numbers, with_node, new_number, with_new_node, with_entry, without_entry, IsWellFormed}
+use Rattle.pv_model.specs.Tree.{Entries, Node, directory_node, file_node, link_node, Tree, root, node_at, entries_of, entries_at, is_directory, is_directory_at, find_entry, named_numbers, with_node, new_number, with_new_node, with_entry, without_entry}
 use Rattle.pv_laws.specs.Held.{wanted, kept}
 use Rattle.pv_laws.specs.Room.{IsNoLonger, IsNoLarger}
-use Rattle.pv_laws.specs.States.{are_bytes, has_bytes, IsTree, IsSolid, IsWhole}
-use Rattle.pv_laws.proofs.Changes.{node_at-same, node_at-other, directory-below, some-below, found-with, with_entry-stays}
+use Rattle.pv_laws.specs.States.{are_bytes, has_bytes, IsTree, IsWhole}
+use Rattle.pv_laws.proofs.Changes.{node_at-same, node_at-other, directory-below, found-with, with_entry-stays}
 use Rattle.pv_laws.proofs.Edits.{new_number-free, stays-content}
 use Rattle.pv_laws.proofs.Entries.{by_name, is_other, list_all-put, list_all-filter}
 use Rattle.pv_laws.proofs.Numbered.{at_number-below, with_number-same_within, with_number-other_within, keep-some, keep-passes, least_free-below, least_free-within, present-all, present-drop, at_number-drop, length-drop_one}
 use Rattle.pv_laws.proofs.Rooms.{smaller-fits, smaller-not_too_long}
 use Rattle.pv_laws.proofs.Standing.{Carries, carries-self, solid-with_tree}
 use Rattle.pv_laws.proofs.Running.{IsReady}
-use Rattle.pv_laws.proofs.Trees.{ordered, among-entry, entry-among, sound}
-use Rattle.pv_laws.proofs.Trim.{held_after, tree-trim, wanted-is, wanted-root, wanted-named, wanted-held}
+use Rattle.pv_laws.proofs.Trees.{ordered, among-entry, entry-among}
+use Rattle.pv_laws.proofs.Trim.{held_after, tree-trim, wanted-is, wanted-named, wanted-held}
 use Rattle.pv_laws.proofs.Whole.{HasRoom, has_room, solid}
 
 -- ---- bytes
@@ -33,8 +33,8 @@ AllBytes t = (n : ℕ) (node : Node) → node_at t n ≡ Some node → has_bytes
 pub bytes-with_node : (t : Tree) (m : ℕ) (node : Node) → m < length t.nodes → has_bytes node ≡ true → AllBytes t → AllBytes (with_node t m node)
 bytes-with_node t m node below good all n x at =
     ⊎_elim
-      (λ same. let value : Some node ≡ Some x = sym (node_at-same t m node below) ∙ ap (node_at (with_node t m node)) (sym same) ∙ at in let eq : node ≡ x = cc value in ap has_bytes (sym eq) ∙ good)
-      (λ other. all n x (sym (node_at-other t m node n below other) ∙ at)) (cases_eq n m)
+    (λ same. let value : Some node ≡ Some x = sym (node_at-same t m node below) ∙ ap (node_at (with_node t m node)) (sym same) ∙ at in let eq : node ≡ x = cc value in ap has_bytes (sym eq) ∙ good)
+    (λ other. all n x (sym (node_at-other t m node n below other) ∙ at)) (cases_eq n m)
 
 pub bytes-entries : (t : Tree) → AllBytes t → (d : ℕ) → list_all (λ (e : Bytes × ℕ). are_bytes e.0) (entries_at t d) ≡ true
 bytes-entries t all d = by (node_at t d) refl
@@ -52,7 +52,7 @@ bytes-with_entry t d name n dir good all =
 pub bytes-without_entry : (t : Tree) (d : ℕ) (name : Bytes) → is_directory_at t d ≡ true → AllBytes t → AllBytes (without_entry t d name)
 bytes-without_entry t d name dir all =
     bytes-with_node t d (directory_node (where_key by_name (is_other name) (entries_at t d))) (directory-below t d dir)
-      (list_all-filter (λ (e : Bytes × ℕ). are_bytes e.0) (λ e. is_other name e.0) (entries_at t d) (bytes-entries t all d)) all
+    (list_all-filter (λ (e : Bytes × ℕ). are_bytes e.0) (λ e. is_other name e.0) (entries_at t d) (bytes-entries t all d)) all
 
 -- ---- kinds
 
@@ -65,11 +65,11 @@ pub carries-with_node : (t : Tree) (m : ℕ) (node : Node) → m < length t.node
 carries-with_node t m node below same = record {
   version = refl;
   directory = λ n is. ⊎_elim
-    (λ eq. ap is_directory (ap (node_at (with_node t m node)) eq ∙ node_at-same t m node below) ∙ (same (ap (λ k. is_some (node_at t k)) (sym eq) ∙ is)).0 ∙ ap (is_directory_at t) (sym eq))
-    (λ other. ap is_directory (node_at-other t m node n below other)) (cases_eq n m);
+      (λ eq. ap is_directory (ap (node_at (with_node t m node)) eq ∙ node_at-same t m node below) ∙ (same (ap (λ k. is_some (node_at t k)) (sym eq) ∙ is)).0 ∙ ap (is_directory_at t) (sym eq))
+      (λ other. ap is_directory (node_at-other t m node n below other)) (cases_eq n m);
   file = λ n is. ⊎_elim
-    (λ eq. ap is_file (ap (node_at (with_node t m node)) eq ∙ node_at-same t m node below) ∙ (same (ap (λ k. is_some (node_at t k)) (sym eq) ∙ is)).1 ∙ ap (λ k. is_file (node_at t k)) (sym eq))
-    (λ other. ap is_file (node_at-other t m node n below other)) (cases_eq n m);
+      (λ eq. ap is_file (ap (node_at (with_node t m node)) eq ∙ node_at-same t m node below) ∙ (same (ap (λ k. is_some (node_at t k)) (sym eq) ∙ is)).1 ∙ ap (λ k. is_file (node_at t k)) (sym eq))
+      (λ other. ap is_file (node_at-other t m node n below other)) (cases_eq n m);
 }
 
 directory-no_file : (o : Option Node) → is_directory o ≡ true → is_file o ≡ false
@@ -118,11 +118,13 @@ no_larger-without t d name dir =
     let below = directory-below t d dir in
     let new : Node = directory_node (where_key by_name (is_other name) (entries_at t d)) in
     record {
-      blocks = refl; inodes = refl; version = refl;
+      blocks = refl;
+      inodes = refl;
+      version = refl;
       nodes = λ n. ⊎_elim
-        (λ same. subst (λ k. IsNoLonger t.version (node_at (without_entry t d name) k) (node_at t k)) (sym same)
+          (λ same. subst (λ k. IsNoLonger t.version (node_at (without_entry t d name) k) (node_at t k)) (sym same)
           (subst (λ o. IsNoLonger t.version o (node_at t d)) (sym (node_at-same t d new below)) (shorter t d (λ e. is_other name e.0) (node_at t d) dir)))
-        (λ other. subst (λ o. IsNoLonger t.version o (node_at t n)) (sym (node_at-other t d new n below other)) (no_longer-self t.version (node_at t n))) (cases_eq n d);
+          (λ other. subst (λ o. IsNoLonger t.version o (node_at t n)) (sym (node_at-other t d new n below other)) (no_longer-self t.version (node_at t n))) (cases_eq n d);
     }
 
 -- ---- states with other trees
@@ -133,7 +135,7 @@ ready-tree s whole u tree carries room = record { solid = solid-with_tree s u (s
 pub ready-smaller : (s : State) → IsWhole s → (u : Tree) → IsTree u → Carries s.tree u → IsNoLarger u s.tree → IsReady (with_tree s u)
 ready-smaller s whole u tree carries less =
     ready-tree s whole u tree carries (has_room (with_tree s u) (smaller-fits s.tree u less whole.fits)
-      (⊎_elim (λ long. let was = smaller-not_too_long s.tree u less long in let none = whole.not_too_long in cc) (λ short. short) (cases_Bool (is_too_long u))))
+    (⊎_elim (λ long. let was = smaller-not_too_long s.tree u less long in let none = whole.not_too_long in cc) (λ short. short) (cases_Bool (is_too_long u))))
 
 -- what is there in a whole state is wanted
 pub there-wanted : (s : State) → IsWhole s → (n : ℕ) → is_some (node_at s.tree n) ≡ true → among (wanted s.tree (held_after s)) n ≡ true
@@ -171,7 +173,7 @@ module _ (s : State) (whole : IsWhole s) (d : ℕ) (name : Bytes) (node : Node) 
     entries_one : (e : ℕ) → entries_at t1 e ≡ entries_at t0 e
     entries_one e =
         ⊎_elim (λ eq. ap (entries_at t1) eq ∙ ap entries_of same_one ∙ bare ∙ sym (ap entries_of (new_number-free s.tree)) ∙ ap (entries_at t0) (sym eq))
-          (λ other. ap entries_of (same_other e other)) (cases_eq e m0)
+        (λ other. ap entries_of (same_other e other)) (cases_eq e m0)
 
     apart : d ≢ m0
     apart same = let isnt : is_directory_at t0 d ≡ false = ap (is_directory_at t0) same ∙ ap is_directory (new_number-free s.tree) in cc
@@ -182,7 +184,7 @@ module _ (s : State) (whole : IsWhole s) (d : ℕ) (name : Bytes) (node : Node) 
     there_one : (n : ℕ) → is_some (node_at t0 n) ≡ true → is_some (node_at u1 n) ≡ true
     there_one n is =
         still-there t1 d (directory_node (put by_name name m0 (entries_at t1 d))) (directory-below t1 d dir_one) n
-          (⊎_elim (λ eq. ap is_some (ap (node_at t1) eq ∙ same_one)) (λ other. ap is_some (same_other n other) ∙ is) (cases_eq n m0))
+        (⊎_elim (λ eq. ap is_some (ap (node_at t1) eq ∙ same_one)) (λ other. ap is_some (same_other n other) ∙ is) (cases_eq n m0))
 
     there_new : is_some (node_at u1 m0) ≡ true
     there_new = still-there t1 d (directory_node (put by_name name m0 (entries_at t1 d))) (directory-below t1 d dir_one) m0 (ap is_some same_one)
@@ -190,15 +192,15 @@ module _ (s : State) (whole : IsWhole s) (d : ℕ) (name : Bytes) (node : Node) 
     stays_one : (e : ℕ) (q : Bytes) (x : ℕ) → find_entry t0 e q ≡ Some x → find_entry u1 e q ≡ Some x
     stays_one e q x found =
         with_entry-stays t1 d name dir_one m0 e q x (ap (find by_name q) (entries_one e) ∙ found)
-          (λ here same. let none : find_entry t0 e q ≡ None = Rattle.std.proofs.Common.ap₂ (find_entry t0) here same ∙ free in cc)
+        (λ here same. let none : find_entry t0 e q ≡ None = Rattle.std.proofs.Common.ap₂ (find_entry t0) here same ∙ free in cc)
 
     wanted_one : (n : ℕ) → is_some (node_at t0 n) ≡ true → among (wanted u1 held) n ≡ true
     wanted_one n is =
         ⊎_elim (λ top. or_left (root == n) _ top)
-          (λ rest. ⊎_elim
-            (λ named. let found = among-entry t0 (ordered t0 whole.tree.well_formed.each_node) n named in wanted-named u1 held n (entry-among u1 found.0 found.1 n (stays_one found.0 found.1 n found.2)))
-            (λ is_held. wanted-held u1 held n (more n is_held)) (or_cases (among (named_numbers t0) n) (among (held_after s) n) rest))
-          (or_cases (root == n) _ (sym (wanted-is t0 (held_after s) n) ∙ there-wanted s whole n is))
+        (λ rest. ⊎_elim
+        (λ named. let found = among-entry t0 (ordered t0 whole.tree.well_formed.each_node) n named in wanted-named u1 held n (entry-among u1 found.0 found.1 n (stays_one found.0 found.1 n found.2)))
+        (λ is_held. wanted-held u1 held n (more n is_held)) (or_cases (among (named_numbers t0) n) (among (held_after s) n) rest))
+        (or_cases (root == n) _ (sym (wanted-is t0 (held_after s) n) ∙ there-wanted s whole n is))
 
     in_kept : (n : ℕ) → is_some (node_at u1 n) ≡ true → among (wanted u1 held) n ≡ true → is_some (node_at (kept u1 held) n) ≡ true
     in_kept n is in' = ap is_some (keep-passes (among (wanted u1 held)) u1.nodes n in') ∙ is
@@ -207,12 +209,12 @@ module _ (s : State) (whole : IsWhole s) (d : ℕ) (name : Bytes) (node : Node) 
     crowd full n below =
         ap is_some (sym (at_number-drop (kept u1 held).nodes n))
         ∙ ⊎_elim
-            (λ low. let old : is_some (node_at t0 (suc n)) ≡ true = ap is_some (at_number-drop s.tree.nodes n) ∙ least_free-below (drop 1 s.tree.nodes) n (omega arith) in
-                in_kept (suc n) (there_one (suc n) old) (wanted_one (suc n) old))
-            (λ high. let last : suc n ≡ m0 = omega arith in
-                in_kept (suc n) (ap (λ k. is_some (node_at u1 k)) last ∙ there_new)
-                  (ap (among (wanted u1 held)) last ∙ wanted-named u1 held m0 (entry-among u1 d name m0 (found-with t1 d name dir_one m0))))
-            (cases_lt n s.tree.inodes)
+        (λ low. let old : is_some (node_at t0 (suc n)) ≡ true = ap is_some (at_number-drop s.tree.nodes n) ∙ least_free-below (drop 1 s.tree.nodes) n (omega arith) in
+        in_kept (suc n) (there_one (suc n) old) (wanted_one (suc n) old))
+        (λ high. let last : suc n ≡ m0 = omega arith in
+        in_kept (suc n) (ap (λ k. is_some (node_at u1 k)) last ∙ there_new)
+        (ap (among (wanted u1 held)) last ∙ wanted-named u1 held m0 (entry-among u1 d name m0 (found-with t1 d name dir_one m0))))
+        (cases_lt n s.tree.inodes)
 
   pub new-below : fits (kept (with_new_node s.tree d name node) held) ≡ true → new_number s.tree < length s.tree.nodes
   unfolding fits
@@ -221,10 +223,10 @@ module _ (s : State) (whole : IsWhole s) (d : ℕ) (name : Bytes) (node : Node) 
       let rest : length (drop 1 s.tree.nodes) ≡ s.tree.inodes = length-drop_one s.tree.nodes s.tree.inodes numbers in
       let low = least_free-within (drop 1 s.tree.nodes) in
       ⊎_elim (λ below. below)
-        (λ past.
-            let within : m0 ≤ length s.tree.nodes = omega arith in
-            let full : least_free (drop 1 s.tree.nodes) ≡ s.tree.inodes = omega arith in
-            let many = present-all (drop 1 (kept u1 held).nodes) (suc s.tree.inodes) (crowd within full) in
-            let few = leb-true (length (present (kept u1 held).nodes)) s.tree.inodes (and_parts (nat_le (length (present (kept u1 held).nodes)) s.tree.inodes) _ fit).0 in
-            absurd (omega (arith, many, few, present-drop (kept u1 held).nodes)))
-        (cases_lt m0 (length s.tree.nodes))
+      (λ past.
+      let within : m0 ≤ length s.tree.nodes = omega arith in
+      let full : least_free (drop 1 s.tree.nodes) ≡ s.tree.inodes = omega arith in
+      let many = present-all (drop 1 (kept u1 held).nodes) (suc s.tree.inodes) (crowd within full) in
+      let few = leb-true (length (present (kept u1 held).nodes)) s.tree.inodes (and_parts (nat_le (length (present (kept u1 held).nodes)) s.tree.inodes) _ fit).0 in
+      absurd (omega (arith, many, few, present-drop (kept u1 held).nodes)))
+      (cases_lt m0 (length s.tree.nodes))

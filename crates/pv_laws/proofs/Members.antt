@@ -1,14 +1,13 @@
 -- Who holds what: the numbers that processes and open files hold, one by one.
-use Rattle.std.proofs.Common.{◌≡◌, ◌≢◌, ℕ, zero, suc, ◌<◌, ◌≤◌, Bool, true, false, cond, ◌&&◌, ◌||◌, ◌==◌, List, [], ◌∷◌, ◌++◌, map, flat_map, Option, None, Some, is_some, refl, ap, ap₂, sym, subst, ◌∙◌, ⊎_elim, arith}
-use Rattle.std.specs.List.{list_any, list_all}
+use Rattle.std.proofs.Common.{◌≡◌, ◌≢◌, ℕ, zero, suc, Bool, true, false, cond, ◌||◌, ◌==◌, List, [], ◌∷◌, map, flat_map, Option, None, Some, refl, ap, sym, ◌∙◌, ⊎_elim}
+use Rattle.std.specs.List.{list_all}
 use Rattle.std.specs.Cmp.{unsigned_ties}
 use Rattle.std.specs.Ordering.{nat_cmp, is_eq, is_lt, eq_by_cmp}
-use Rattle.std.specs.FinMap.Entries.{find, put, is_sorted, below_all}
-use Rattle.std.specs.declared.cmp.Ordering.{Ordering}
+use Rattle.std.specs.FinMap.Entries.{find, is_sorted, below_all}
 use Rattle.std.specs.declared.cmp.Ordering.TheVariants.{Less, Equal, Greater}
 use Rattle.std.proofs.lemmas.Bool.{and_parts, or_cases, or_left, or_right, eqb-true, eq-eqb, ne_eqb}
 use Rattle.std.proofs.lemmas.List.Folds.{list_any-append}
-use Rattle.pv_model.specs.Held.{among, live_processes, used_files, held_by_table, held_by_process, held_nodes, trim_files}
+use Rattle.pv_model.specs.Held.{among, live_processes, used_files, held_by_process}
 use Rattle.pv_model.specs.Numbered.{Numbered, at_number, present, keep}
 use Rattle.pv_model.specs.State.{OpenFile, Descriptor, Process, Record, live, ended_record, State, live_process, process_at}
 use Rattle.pv_laws.specs.Held.{used}
@@ -30,7 +29,7 @@ module _ {X : Type 0} (f : X → ℕ) where
   present-at (None ∷ xs) n is = let found = present-at xs n is in (suc found.0, found.1, found.2, found.3)
   present-at (Some y ∷ xs) n is =
       ⊎_elim (λ here. (0, y, refl, eqb-true (f y) n here)) (λ there. let found = present-at xs n there in (suc found.0, found.1, found.2, found.3))
-        (or_cases (f y == n) (among (map f (present xs)) n) is)
+      (or_cases (f y == n) (among (map f (present xs)) n) is)
 
 -- ---- what is found in order
 
@@ -86,21 +85,21 @@ module _ (g : Process → List ℕ) where
   among-live_in ((number, live q) ∷ ps) pid p n found is =
       list_any-append (λ m. m == n) (g q) (all_of ps)
       ∙ find_number_cases ((among (g q) n || among (all_of ps) n) ≡ true) pid (live p) (number, live q) ps found
-          (λ here same. let eq : q ≡ p = cc same in or_left (among (g q) n) _ (ap (λ x. among (g x) n) eq ∙ is))
-          (λ there. or_right (among (g q) n) _ (among-live_in ps pid p n there is))
+      (λ here same. let eq : q ≡ p = cc same in or_left (among (g q) n) _ (ap (λ x. among (g x) n) eq ∙ is))
+      (λ there. or_right (among (g q) n) _ (among-live_in ps pid p n there is))
   among-live_in ((number, ended_record parent status) ∷ ps) pid p n found is =
       find_number_cases (among (all_of ps) n ≡ true) pid (live p) (number, ended_record parent status) ps found
-        (λ here same. cc same) (λ there. among-live_in ps pid p n there is)
+      (λ here same. cc same) (λ there. among-live_in ps pid p n there is)
 
   live_in-among : (ps : List (ℕ × Record)) → is_sorted nat_cmp ps ≡ true → (n : ℕ) → among (all_of ps) n ≡ true
       → (pid : ℕ) × (p : Process) × (find nat_cmp pid ps ≡ Some (live p)) × (among (g p) n ≡ true)
   live_in-among [] sorted n is = cc
   live_in-among ((number, live q) ∷ ps) sorted n is =
       ⊎_elim
-        (λ here. (number, q, ap (λ b. cond b (Some (live q)) (find nat_cmp number ps)) (sym (unsigned_ties number number) ∙ eq-eqb number number refl), here))
-        (λ there. let found = live_in-among ps (and_parts (below_all nat_cmp number ps) _ sorted).1 n there in
-            (found.0, found.1, find_number_behind found.0 (live found.1) (number, live q) ps sorted found.2, found.3))
-        (or_cases (among (g q) n) (among (all_of ps) n) (sym (list_any-append (λ m. m == n) (g q) (all_of ps)) ∙ is))
+      (λ here. (number, q, ap (λ b. cond b (Some (live q)) (find nat_cmp number ps)) (sym (unsigned_ties number number) ∙ eq-eqb number number refl), here))
+      (λ there. let found = live_in-among ps (and_parts (below_all nat_cmp number ps) _ sorted).1 n there in
+      (found.0, found.1, find_number_behind found.0 (live found.1) (number, live q) ps sorted found.2, found.3))
+      (or_cases (among (g q) n) (among (all_of ps) n) (sym (list_any-append (λ m. m == n) (g q) (all_of ps)) ∙ is))
   live_in-among ((number, ended_record parent status) ∷ ps) sorted n is =
       let found = live_in-among ps (and_parts (below_all nat_cmp number ps) _ sorted).1 n is in
       (found.0, found.1, find_number_behind found.0 (live found.1) (number, ended_record parent status) ps sorted found.2, found.3)
@@ -127,7 +126,7 @@ pub among-held_file : (s : State) (k : ℕ) (f : OpenFile) → at_number s.files
 among-held_file s k f at is =
     list_any-append (λ m. m == f.node) (all_of held_by_process s.processes) (map (λ f. f.node) (present (keep (among (used s)) s.files)))
     ∙ or_right (among (all_of held_by_process s.processes) f.node) _
-        (among-present (λ f. f.node) (keep (among (used s)) s.files) k f (keep-passes (among (used s)) s.files k is ∙ at))
+    (among-present (λ f. f.node) (keep (among (used s)) s.files) k f (keep-passes (among (used s)) s.files k is ∙ at))
 
 -- what is held is held by a process or an open file
 pub held_cases : (P : Type 0) (s : State) → is_sorted nat_cmp s.processes ≡ true → (n : ℕ) → among (held_after s) n ≡ true
@@ -135,9 +134,9 @@ pub held_cases : (P : Type 0) (s : State) → is_sorted nat_cmp s.processes ≡ 
     → ((k : ℕ) (f : OpenFile) → at_number s.files k ≡ Some f → among (used s) k ≡ true → f.node ≡ n → P) → P
 held_cases P s sorted n is by_process by_file =
     ⊎_elim
-      (λ held. let found = live_in-among held_by_process s.processes sorted n held in by_process found.0 found.1 (found-live s found.0 found.1 found.2) found.3)
-      (λ held.
-          let found = present-at (λ f. f.node) (keep (among (used s)) s.files) n held in
-          let kept = keep-some (among (used s)) s.files found.0 found.1 found.2 in by_file found.0 found.1 kept.1 kept.0 found.3)
-      (or_cases (among (all_of held_by_process s.processes) n) _
-        (sym (list_any-append (λ m. m == n) (all_of held_by_process s.processes) (map (λ f. f.node) (present (keep (among (used s)) s.files)))) ∙ is))
+    (λ held. let found = live_in-among held_by_process s.processes sorted n held in by_process found.0 found.1 (found-live s found.0 found.1 found.2) found.3)
+    (λ held.
+    let found = present-at (λ f. f.node) (keep (among (used s)) s.files) n held in
+    let kept = keep-some (among (used s)) s.files found.0 found.1 found.2 in by_file found.0 found.1 kept.1 kept.0 found.3)
+    (or_cases (among (all_of held_by_process s.processes) n) _
+    (sym (list_any-append (λ m. m == n) (all_of held_by_process s.processes) (map (λ f. f.node) (present (keep (among (used s)) s.files)))) ∙ is))

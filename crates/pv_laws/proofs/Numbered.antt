@@ -1,5 +1,5 @@
 -- Lemmas on maps from numbers.
-use Rattle.std.proofs.Common.{◌≡◌, ◌≢◌, ℕ, zero, suc, ◌+◌, ◌<◌, ◌≤◌, Bool, true, false, ◌&&◌, List, [], ◌∷◌, length, Option, None, Some, is_some, IsTrue, refl, ap, ap₂, sym, ◌∙◌, arith, suc-le-suc, le_of_suc-le-suc, zero-le, drop}
+use Rattle.std.proofs.Common.{◌≡◌, ◌≢◌, ℕ, zero, suc, ◌+◌, ◌<◌, ◌≤◌, Bool, true, false, ◌&&◌, [], ◌∷◌, length, Option, None, Some, is_some, refl, ap, ap₂, sym, ◌∙◌, arith, suc-le-suc, le_of_suc-le-suc, zero-le, drop}
 use Rattle.pv_model.specs.Numbered.{Numbered, at_number, with_number, without_number, least_free, keep_if, keep_from, keep, present}
 
 module _ {X : Type 0} where
@@ -141,15 +141,15 @@ module _ {X : Type 0} where
   pub keep-keep : (first second : ℕ → Bool) (xs : Numbered X) → keep second (keep first xs) ≡ keep (λ n. second n && first n) xs
   keep-keep first second xs =
       same_numbered (keep second (keep first xs)) (keep (λ n. second n && first n) xs)
-        (length-keep second (keep first xs) ∙ length-keep first xs ∙ sym (length-keep (λ n. second n && first n) xs))
-        (λ n. at_number-keep second (keep first xs) n ∙ ap (keep_if (second n)) (at_number-keep first xs n)
-            ∙ keep_if-both (second n) (first n) (at_number xs n) ∙ sym (at_number-keep (λ m. second m && first m) xs n))
+      (length-keep second (keep first xs) ∙ length-keep first xs ∙ sym (length-keep (λ n. second n && first n) xs))
+      (λ n. at_number-keep second (keep first xs) n ∙ ap (keep_if (second n)) (at_number-keep first xs n)
+      ∙ keep_if-both (second n) (first n) (at_number xs n) ∙ sym (at_number-keep (λ m. second m && first m) xs n))
 
   -- tests that agree keep the same
   pub keep-agree : (f g : ℕ → Bool) (xs : Numbered X) → ((n : ℕ) → f n ≡ g n) → keep f xs ≡ keep g xs
   keep-agree f g xs same =
       same_numbered (keep f xs) (keep g xs) (length-keep f xs ∙ sym (length-keep g xs))
-        (λ n. at_number-keep f xs n ∙ ap (λ b. keep_if b (at_number xs n)) (same n) ∙ sym (at_number-keep g xs n))
+      (λ n. at_number-keep f xs n ∙ ap (λ b. keep_if b (at_number xs n)) (same n) ∙ sym (at_number-keep g xs n))
 
   -- ---- how many are there
 

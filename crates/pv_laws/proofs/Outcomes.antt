@@ -1,5 +1,5 @@
 -- Lemmas on what calls answer.
-use Rattle.std.proofs.Common.{◌≡◌, ◌≢◌, ℕ, zero, suc, pos, negsuc, Bool, true, false, cond, ◌||◌, IsTrue, IsFalse, nat_le, nat_lt, is_none, List, [], ◌∷◌, ◌++◌, Option, None, Some, length, refl, ap, ◌∙◌, sym, arith}
+use Rattle.std.proofs.Common.{◌≡◌, ℕ, suc, pos, negsuc, Bool, true, false, cond, ◌||◌, IsTrue, IsFalse, nat_le, nat_lt, List, ◌++◌, Option, None, Some, length, refl, ap, ◌∙◌, sym, arith}
 use Rattle.std.specs.FinMap.Entries.{find}
 use Rattle.std.specs.Ordering.{nat_cmp}
 use Rattle.std.proofs.lemmas.Bool.{or_parts, ltb-false, le-leb}
@@ -8,22 +8,20 @@ use Rattle.pv_model.specs.declared.call.Call.TheVariants.{Exit, GetPid, GetPpid,
 use Rattle.pv_model.specs.declared.errno.Errno.{Errno}
 use Rattle.pv_model.specs.declared.errno.Errno.TheVariants.{ENOSYS, EAGAIN}
 use Rattle.pv_model.specs.declared.open_flags.Mode.{Mode}
-use Rattle.pv_model.specs.declared.open_flags.OpenFlags.{OpenFlags}
 use Rattle.pv_model.specs.declared.open_flags.Mode.TheVariants.{Read as ReadMode, Write as WriteMode, ReadWrite}
 use Rattle.pv_model.specs.declared.outcome.Cause.{Cause}
 use Rattle.pv_model.specs.declared.outcome.Cause.TheVariants.{Promise as ByPromise}
-use Rattle.pv_model.specs.declared.outcome.Outcome.{Outcome}
 use Rattle.pv_model.specs.declared.outcome.Outcome.TheVariants.{Value, Failed, Killed, Blocked, Gone}
 use Rattle.pv_model.specs.declared.promise.Promise.{Promise}
 use Rattle.pv_model.specs.declared.promise.Promise.TheVariants.{Stdio, Rpath, Wpath, Cpath, Proc, Exec as ExecPromise, Unveil as UnveilPromise}
-use Rattle.pv_model.specs.Answer.{Answered, answer, answer_of, answer_where, answer_by_attempt, answer_by_reply, answer_without_promise, at_next_line, update, effect}
+use Rattle.pv_model.specs.Answer.{Answered, answer, answer_of, answer_where, answer_by_attempt, at_next_line, effect}
 use Rattle.pv_model.specs.Attempt.{Attempt, done, refused, ◌>>◌, refuse_if}
 use Rattle.pv_model.specs.Bytes.{Bytes}
 use Rattle.pv_model.specs.Calls.Processes.{with_result, end_process, child, fork}
 use Rattle.pv_model.specs.Effect.{Effect, answers, returns, returns_bytes, ends, waits}
 use Rattle.pv_model.specs.Errno.{errno_number}
 use Rattle.pv_model.specs.Held.{trim}
-use Rattle.pv_model.specs.Needs.{needs, needs_of_mode, needs_of_open}
+use Rattle.pv_model.specs.Needs.{needs, needs_of_mode}
 use Rattle.pv_model.specs.Promises.{Need, missing_promise, is_lenient}
 use Rattle.pv_model.specs.State.{Program, Process, State, process_at, with_process}
 use Rattle.pv_laws.specs.Calls.{told_error, OnlyTells, SameRights, IsUnharmed, OfNobody, needs_nothing, IsNewNumber}
@@ -41,24 +39,26 @@ by_choice P false x y px py = py
 pub by_answer : (P : Answered → Type 0) (program_of : Bytes → Option Program) (s : State) (pid : ℕ) (call : Call)
     → (process_at s pid ≡ None → P (record { after = s; outcome = Gone; walks = 0 }))
     → ((me : Process) → process_at s pid ≡ Some me → missing_promise me.promises (needs call) ≡ None
-        → P (answer_by_attempt s (at_call s pid me) pid (at_next_line me) (effect program_of (at_call s pid me) pid (at_next_line me) call)))
+    → P (answer_by_attempt s (at_call s pid me) pid (at_next_line me) (effect program_of (at_call s pid me) pid (at_next_line me) call)))
     → ((me : Process) (p : Promise) → process_at s pid ≡ Some me → missing_promise me.promises (needs call) ≡ Some p → is_lenient me.promises ≡ true
-        → P (answer_by_attempt s (at_call s pid me) pid (at_next_line me) (refused 0 ENOSYS (ByPromise p))))
+    → P (answer_by_attempt s (at_call s pid me) pid (at_next_line me) (refused 0 ENOSYS (ByPromise p))))
     → ((me : Process) (p : Promise) → process_at s pid ≡ Some me → missing_promise me.promises (needs call) ≡ Some p → is_lenient me.promises ≡ false
-        → P (record { after = trim (end_process s pid (at_next_line me) 6); outcome = Killed p; walks = 0 }))
+    → P (record { after = trim (end_process s pid (at_next_line me) 6); outcome = Killed p; walks = 0 }))
     → P (answer program_of s pid call)
 unfolding answer
 by_answer P program_of s pid call gone does told killed = at (process_at s pid) refl
   where
     chosen : (me : Process) (p : Promise) → process_at s pid ≡ Some me → missing_promise me.promises (needs call) ≡ Some p → (b : Bool) → is_lenient me.promises ≡ b
         → P (cond b (answer_by_attempt s (at_call s pid me) pid (at_next_line me) (refused 0 ENOSYS (ByPromise p)))
-              (record { after = trim (end_process s pid (at_next_line me) 6); outcome = Killed p; walks = 0 }))
+        (record { after = trim (end_process s pid (at_next_line me) 6); outcome = Killed p; walks = 0 }))
     chosen me p is missing true lenient = told me p is missing lenient
     chosen me p is missing false lenient = killed me p is missing lenient
+
     of : (me : Process) → process_at s pid ≡ Some me → (o : Option Promise) → missing_promise me.promises (needs call) ≡ o
         → P (answer_where program_of s (at_call s pid me) pid (at_next_line me) call o)
     of me is None missing = does me is missing
     of me is (Some p) missing = chosen me p is missing (is_lenient me.promises) refl
+
     at : (o : Option Process) → process_at s pid ≡ o → P (answer_of program_of s pid call o)
     at None is = gone is
     at (Some me) is = of me is (missing_promise me.promises (needs call)) refl
@@ -80,14 +80,22 @@ pub refused-tells : (program_of : Bytes → Option Program) (s : State) (pid : �
     → (answer program_of s pid call).outcome ≡ Failed e c → OnlyTells s pid e (answer program_of s pid call).after
 refused-tells program_of s pid call e c =
     by_answer (λ a. a.outcome ≡ Failed e c → OnlyTells s pid e a.after) program_of s pid call
-      (λ none is. cc)
-      (λ me at missing is. told_by s pid me (effect program_of (at_call s pid me) pid (at_next_line me) call) e c at is)
-      (λ me p at missing lenient is. told_by s pid me (refused 0 ENOSYS (ByPromise p)) e c at is)
-      (λ me p at missing lenient is. cc)
+    (λ none is. cc)
+    (λ me at missing is. told_by s pid me (effect program_of (at_call s pid me) pid (at_next_line me) call) e c at is)
+    (λ me p at missing lenient is. told_by s pid me (refused 0 ENOSYS (ByPromise p)) e c at is)
+    (λ me p at missing lenient is. cc)
 
 same_rights : (p : Process) (e : Errno) → SameRights p (told_error p e)
 same_rights p e = record {
-  promises = refl; execpromises = refl; table = refl; locked = refl; directory = refl; descriptors = refl; program = refl; buffer = refl; parent = refl;
+  promises = refl;
+  execpromises = refl;
+  table = refl;
+  locked = refl;
+  directory = refl;
+  descriptors = refl;
+  program = refl;
+  buffer = refl;
+  parent = refl;
 }
 
 unharmed : (s : State) (pid : ℕ) (e : Errno) (after : State) → OnlyTells s pid e after → IsUnharmed s pid after
@@ -97,8 +105,8 @@ unharmed s pid e after told = record {
   last_process = ap (λ s. s.last_process) told.2;
   others = λ q other. ap (λ s. find nat_cmp q s.processes) told.2 ∙ find-put_other q pid _ s.processes other;
   caller = λ p is.
-    let same : told.0 ≡ p = cc in
-    (told_error p e, ap (λ s. process_at s pid) told.2 ∙ process_at-same s pid (told_error told.0 e) ∙ ap (λ x. Some (told_error x e)) same, same_rights p e);
+      let same : told.0 ≡ p = cc in
+      (told_error p e, ap (λ s. process_at s pid) told.2 ∙ process_at-same s pid (told_error told.0 e) ∙ ap (λ x. Some (told_error x e)) same, same_rights p e);
 }
 
 pub refused-unharmed : (program_of : Bytes → Option Program) (s : State) (pid : ℕ) (call : Call) (e : Errno) (c : Cause)
@@ -118,10 +126,10 @@ pub blocked-leaves : (program_of : Bytes → Option Program) (s : State) (pid : 
     → (answer program_of s pid call).outcome ≡ Blocked → (answer program_of s pid call).after ≡ s
 blocked-leaves program_of s pid call =
     by_answer (λ a. a.outcome ≡ Blocked → a.after ≡ s) program_of s pid call
-      (λ none is. cc)
-      (λ me at missing is. blocked_by s (at_call s pid me) pid (at_next_line me) (effect program_of (at_call s pid me) pid (at_next_line me) call) is)
-      (λ me p at missing lenient is. cc)
-      (λ me p at missing lenient is. cc)
+    (λ none is. cc)
+    (λ me at missing is. blocked_by s (at_call s pid me) pid (at_next_line me) (effect program_of (at_call s pid me) pid (at_next_line me) call) is)
+    (λ me p at missing lenient is. cc)
+    (λ me p at missing lenient is. cc)
 
 not_gone : {P : Type 0} (s t : State) (pid : ℕ) (me : Process) (a : Attempt Effect) → (answer_by_attempt s t pid me a).outcome ≡ Gone → P
 not_gone s t pid me (done walks (after, returns n)) is = cc
@@ -134,10 +142,10 @@ pub gone-leaves : (program_of : Bytes → Option Program) (s : State) (pid : ℕ
     → (answer program_of s pid call).outcome ≡ Gone → OfNobody s pid (answer program_of s pid call)
 gone-leaves program_of s pid call =
     by_answer (λ a. a.outcome ≡ Gone → OfNobody s pid a) program_of s pid call
-      (λ none is. record { not_live = none; leaves = refl; no_walks = refl })
-      (λ me at missing is. not_gone s (at_call s pid me) pid (at_next_line me) (effect program_of (at_call s pid me) pid (at_next_line me) call) is)
-      (λ me p at missing lenient is. cc)
-      (λ me p at missing lenient is. cc)
+    (λ none is. record { not_live = none; leaves = refl; no_walks = refl })
+    (λ me at missing is. not_gone s (at_call s pid me) pid (at_next_line me) (effect program_of (at_call s pid me) pid (at_next_line me) call) is)
+    (λ me p at missing lenient is. cc)
+    (λ me p at missing lenient is. cc)
 
 -- ---- what needs no promise
 
@@ -192,10 +200,10 @@ others-kill program_of s pid p call at empty other =
     let lack = lacks call other in
     let has : (me : Process) → process_at s pid ≡ Some me → me.promises ≡ Some 0 = λ me is. let same : me ≡ p = cc in ap (λ q. q.promises) same ∙ empty in
     by_answer (λ a. (missing : Promise) × (a.outcome ≡ Killed missing)) program_of s pid call
-      (λ none. cc)
-      (λ me is missing. let found : missing_promise me.promises (needs call) ≡ Some lack.0 = ap (λ held. missing_promise held (needs call)) (has me is) ∙ lack.1 in cc)
-      (λ me q is missing lenient. let strict : is_lenient me.promises ≡ false = ap is_lenient (has me is) in cc)
-      (λ me q is missing lenient. (q, refl))
+    (λ none. cc)
+    (λ me is missing. let found : missing_promise me.promises (needs call) ≡ Some lack.0 = ap (λ held. missing_promise held (needs call)) (has me is) ∙ lack.1 in cc)
+    (λ me q is missing lenient. let strict : is_lenient me.promises ≡ false = ap is_lenient (has me is) in cc)
+    (λ me q is missing lenient. (q, refl))
 
 -- ---- process numbers
 
@@ -223,7 +231,7 @@ pub next-number : (program_of : Bytes → Option Program) (s : State) (pid n : �
 unfolding effect
 next-number program_of s pid n =
     by_answer (λ a. a.outcome ≡ Value n → IsNewNumber s n a.after) program_of s pid Fork
-      (λ none is. cc)
-      (λ me at missing is. let new = number_of (at_call s pid me) pid (at_next_line me) s n is in record { next = new.next; kept = new.kept; within = new.within })
-      (λ me p at missing lenient is. cc)
-      (λ me p at missing lenient is. cc)
+    (λ none is. cc)
+    (λ me at missing is. let new = number_of (at_call s pid me) pid (at_next_line me) s n is in record { next = new.next; kept = new.kept; within = new.within })
+    (λ me p at missing lenient is. cc)
+    (λ me p at missing lenient is. cc)

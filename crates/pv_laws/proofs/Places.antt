@@ -1,23 +1,23 @@
 -- Where walks lead, and what they read.
-use Rattle.std.proofs.Common.{◌≡◌, ◌≢◌, ℕ, zero, suc, ◌<◌, ◌≤◌, Bool, true, false, cond, if◌then◌else◌, not, ◌&&◌, ◌||◌, ◌==◌, nat_lt, nat_le, List, [], ◌∷◌, ◌++◌, filter, bytes_eq, codes, length, Option, None, Some, is_some, is_none, Result, Ok, Err, refl, ap, ap₂, sym, subst, ◌∙◌, arith, ⊎_elim}
+use Rattle.std.proofs.Common.{◌≡◌, ℕ, zero, suc, Bool, true, false, cond, if◌then◌else◌, not, ◌&&◌, ◌||◌, ◌==◌, nat_lt, nat_le, List, [], ◌∷◌, ◌++◌, filter, bytes_eq, codes, length, Option, None, Some, is_none, Ok, Err, refl, ap, ap₂, sym, subst, ◌∙◌, ⊎_elim}
 use Rattle.std.specs.FinMap.Entries.{find}
 use Rattle.std.specs.List.{list_all}
-use Rattle.std.proofs.lemmas.Bool.{and_parts, and_from, le-leb, cases_Bool, cases_eq}
+use Rattle.std.proofs.lemmas.Bool.{and_parts, and_from, le-leb, cases_eq}
 use Rattle.std.proofs.lemmas.List.Folds.{list_all-append}
 use Rattle.pv_model.specs.declared.errno.Errno.TheVariants.{ENOENT, ENOTDIR, ENAMETOOLONG}
 use Rattle.pv_model.specs.declared.follow.Follow.{Follow}
 use Rattle.pv_model.specs.declared.place.Place.{Place}
 use Rattle.pv_model.specs.declared.place.Place.TheVariants.{At, Node as Unnamed}
 use Rattle.pv_model.specs.Bytes.{Bytes, is_empty, onto_first}
-use Rattle.pv_model.specs.Numbered.{Numbered, at_number, numbered_from, numbered}
-use Rattle.pv_model.specs.Tree.{Node, directory_node, file_node, link_node, Tree, greatest_name, root, node_at, entries_of, entries_at, is_directory, is_directory_at, find_entry, names_node, first_parent, parent, is_removed, is_name, is_name_byte, is_node, is_link_text, IsWellFormed}
+use Rattle.pv_model.specs.Numbered.{Numbered, at_number, numbered_from}
+use Rattle.pv_model.specs.Tree.{Node, directory_node, file_node, link_node, Tree, greatest_name, root, node_at, entries_of, entries_at, is_directory, is_directory_at, find_entry, names_node, first_parent, parent, is_removed, is_name, is_name_byte, is_link_text, IsWellFormed}
 use Rattle.pv_model.specs.Walk.{split_slashes, pieces, is_absolute, ends_in_slash, weight, is_dot, is_dot_dot, follows_last, end_mark, Walked, Onward, Behind, enter, enter_parent, at_node, at_entry, along, no_link_left, through_link, walk, resolve}
 use Rattle.pv_laws.specs.Tree.{IsSound}
 use Rattle.pv_laws.specs.Walk
 use Rattle.pv_laws.proofs.Changes.{has_entry-directory}
-use Rattle.pv_laws.proofs.Entries.{by_name, list_all-filter}
+use Rattle.pv_laws.proofs.Entries.{by_name}
 use Rattle.pv_laws.proofs.Trees.{ordered, sound, parent-entry, parent-root}
-use Rattle.pv_laws.proofs.Walks.{walk-walks, resolve-resolves}
+use Rattle.pv_laws.proofs.Walks.{resolve-resolves}
 
 -- ---- pieces are names
 
@@ -76,9 +76,9 @@ module _ (test : ℕ → Bool) where
   pub parent-directory : (t : Tree) → IsSound t → (n d : ℕ) → parent t n ≡ Some d → is_directory_at t d ≡ true
   parent-directory t s n d up =
       ⊎_elim
-        (λ top. let same : root ≡ d = cc (sym (parent-root t) ∙ ap (parent t) (sym top) ∙ up) in ap (is_directory_at t) (sym same) ∙ s.root_is_directory)
-        (λ other. let found = parent-entry t (ordered t s.each_node) n d other up in has_entry-directory t d found.0 n found.1)
-        (cases_eq n root)
+      (λ top. let same : root ≡ d = cc (sym (parent-root t) ∙ ap (parent t) (sym top) ∙ up) in ap (is_directory_at t) (sym same) ∙ s.root_is_directory)
+      (λ other. let found = parent-entry t (ordered t s.each_node) n d other up in has_entry-directory t d found.0 n found.1)
+      (cases_eq n root)
 
   module _ (t : Tree) (s : IsSound t) (links_pass : (n : ℕ) (text : Bytes) → node_at t n ≡ Some (link_node text) → list_all test text ≡ true) (last : Bool) where
     pub walks-good : (links : ℕ) (ps : List Bytes) (mark : Bool) (at : ℕ) (r : Walked) → Walk.Walks t last links ps mark at r → is_directory_at t at ≡ true → list_all is_piece ps ≡ true → IsGood t r
@@ -95,8 +95,8 @@ module _ (test : ℕ → Bool) where
     walks-good _ _ _ _ _ (Walk.Walks.too_heavy links piece rest mark at n text ahead followed heavy) dir all = tt
     walks-good _ _ _ _ _ (Walk.Walks.through links piece rest mark at n text r ahead followed light more) dir all =
         walks-good links (pieces text ++ rest) (mark || (is_empty rest && ends_in_slash text)) (if is_absolute text then root else at) r more
-          (elim (is_absolute text) as (λ b. is_directory_at t (cond b root at) ≡ true) [ true ↦ s.root_is_directory | false ↦ dir ])
-          (list_all-append is_piece (pieces text) rest ∙ and_from _ _ (pieces-spelled text (links_pass n text ahead.is)) (and_parts (is_piece piece) _ all).1)
+        (elim (is_absolute text) as (λ b. is_directory_at t (cond b root at) ≡ true) [ true ↦ s.root_is_directory | false ↦ dir ])
+        (list_all-append is_piece (pieces text) rest ∙ and_from _ _ (pieces-spelled text (links_pass n text ahead.is)) (and_parts (is_piece piece) _ all).1)
     walks-good _ _ _ _ _ (Walk.Walks.enters links piece next rest mark at n es r ahead more) dir all =
         walks-good links (next ∷ rest) mark n r more (ap is_directory ahead.is) (and_parts (is_piece piece) _ all).1
     walks-good _ _ _ _ _ (Walk.Walks.not_entered links piece next rest mark at n executable bytes ahead) dir all = tt
@@ -117,7 +117,7 @@ module _ (test : ℕ → Bool) where
       by _ (Walk.Resolves.too_long long) = tt
       by r (Walk.Resolves.walks _ filled short more) =
           walks-good t s links_pass (follows_last follow) 32 (pieces path) (end_mark follow path) (if is_absolute path then root else start) r more
-            (elim (is_absolute path) as (λ b. is_directory_at t (cond b root start) ≡ true) [ true ↦ s.root_is_directory | false ↦ dir ]) (pieces-spelled path all)
+          (elim (is_absolute path) as (λ b. is_directory_at t (cond b root start) ≡ true) [ true ↦ s.root_is_directory | false ↦ dir ]) (pieces-spelled path all)
 
 -- ---- places of well-formed trees
 
@@ -136,12 +136,12 @@ pub piece-name : (t : Tree) (piece : Bytes) → Walk.IsLookedUp t piece → is_p
 piece-name t piece name good =
     let parts = and_parts (not (is_empty piece)) (is_spelled not_zero piece) good in
     and_from _ (not (bytes_eq piece (codes "..")))
-      (and_from _ (not (bytes_eq piece (codes ".")))
-        (and_from _ (list_all is_name_byte piece)
-          (and_from (not (is_empty piece)) (nat_le (length piece) (greatest_name t.version)) parts.0 (le-leb (length piece) (greatest_name t.version) name.short))
-          (list_all-weaker (λ b. not (b == 47) && not_zero b) is_name_byte (λ b is. let both = and_parts (not (b == 47)) (not_zero b) is in and_from (not (b == 0)) (not (b == 47)) both.1 both.0) piece parts.1))
-        (ap not name.no_dot))
-      (ap not name.no_dot_dot)
+    (and_from _ (not (bytes_eq piece (codes ".")))
+    (and_from _ (list_all is_name_byte piece)
+    (and_from (not (is_empty piece)) (nat_le (length piece) (greatest_name t.version)) parts.0 (le-leb (length piece) (greatest_name t.version) name.short))
+    (list_all-weaker (λ b. not (b == 47) && not_zero b) is_name_byte (λ b is. let both = and_parts (not (b == 47)) (not_zero b) is in and_from (not (b == 0)) (not (b == 47)) both.1 both.0) piece parts.1))
+    (ap not name.no_dot))
+    (ap not name.no_dot_dot)
 
 good-place : (t : Tree) (place : Place) → IsGoodPlace not_zero t place → Walk.IsPlace t place
 good-place t (Unnamed d) is = is
@@ -206,21 +206,21 @@ module _ (last : Bool) where
         let found : find_entry u at piece ≡ find_entry t at piece = ap (find by_name piece) (alike.entries at) in
         let there = ap (at_entry u last b (along u last b rest mark) at piece rest mark) found ∙ entry-alike b c (along u last b rest mark) (along t last c rest mark) behinds onwards at piece rest mark (find_entry t at piece) in
         λ i. if is_dot piece then enter (onwards i) at
-             else if is_dot_dot piece then enter_parent (onwards i) (up i)
-             else if nat_lt (greatest_name (alike.version i)) (length piece) then Err ENAMETOOLONG
-             else if is_none (up i) then Err ENOENT
-             else there i
+        else if is_dot_dot piece then enter_parent (onwards i) (up i)
+        else if nat_lt (greatest_name (alike.version i)) (length piece) then Err ENAMETOOLONG
+        else if is_none (up i) then Err ENOENT
+        else there i
 
     walk-alike : (links : ℕ) (ps : List Bytes) (mark : Bool) (at : ℕ) → walk u last links ps mark at ≡ walk t last links ps mark at
     walk-alike zero ps mark at = along-alike (no_link_left u last) (no_link_left t last) (λ i text rest mark at. Err Rattle.pv_model.specs.declared.errno.Errno.TheVariants.ELOOP) ps mark at
     walk-alike (suc links) ps mark at =
         let on : walk u last links ≡ walk t last links = λ i qs m a. walk-alike links qs m a i in
         along-alike (through_link u last (walk u last links)) (through_link t last (walk t last links))
-          (λ i text rest mark at. if nat_lt 1024 (weight (pieces text ++ rest)) then Err ENAMETOOLONG
-              else on i (pieces text ++ rest) (mark || (is_empty rest && ends_in_slash text)) (if is_absolute text then root else at)) ps mark at
+        (λ i text rest mark at. if nat_lt 1024 (weight (pieces text ++ rest)) then Err ENAMETOOLONG
+        else on i (pieces text ++ rest) (mark || (is_empty rest && ends_in_slash text)) (if is_absolute text then root else at)) ps mark at
 
 pub resolve-alike : (t u : Tree) → Walk.LooksAlike t u → (follow : Follow) (start : ℕ) (path : Bytes) → resolve u follow start path ≡ resolve t follow start path
 unfolding resolve
 resolve-alike t u alike follow start path =
     ap (λ (r : Walked). if is_empty path then Err ENOENT else if nat_lt 1023 (length path) then Err ENAMETOOLONG else r)
-      (walk-alike (follows_last follow) t u alike 32 (pieces path) (end_mark follow path) (if is_absolute path then root else start))
+    (walk-alike (follows_last follow) t u alike 32 (pieces path) (end_mark follow path) (if is_absolute path then root else start))

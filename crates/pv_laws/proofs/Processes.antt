@@ -1,14 +1,14 @@
 -- Lemmas on the processes of a state.
-use Rattle.std.proofs.Common.{◌≡◌, ◌≢◌, ℕ, zero, suc, Bool, true, false, cond, ◌==◌, List, [], ◌∷◌, Option, None, Some, refl, ap, ◌∙◌, sym}
+use Rattle.std.proofs.Common.{◌≡◌, ◌≢◌, ℕ, cond, List, [], ◌∷◌, Option, None, Some, refl, ap, ◌∙◌, sym}
 use Rattle.std.specs.Cmp.{tied_itself, unsigned_ties}
-use Rattle.std.specs.Ordering.{nat_cmp, is_eq, eq_by_cmp}
-use Rattle.std.specs.FinMap.Entries.{by_order, find, put, where_key, find-put}
+use Rattle.std.specs.Ordering.{nat_cmp, is_eq}
+use Rattle.std.specs.FinMap.Entries.{by_order, find, put, find-put}
 use Rattle.std.specs.declared.cmp.Ordering.{Ordering}
 use Rattle.std.specs.declared.cmp.Ordering.TheVariants.{Less, Equal, Greater}
-use Rattle.std.proofs.lemmas.Bool.{eqb-true, eqb-false, eq-eqb, ne_eqb}
+use Rattle.std.proofs.lemmas.Bool.{ne_eqb}
 use Rattle.std.proofs.lemmas.Cmp.{nat_cmp_total}
 use Rattle.pv_model.specs.Answer.{update_live, update}
-use Rattle.pv_model.specs.State.{Process, Record, live, ended_record, State, live_process, process_at, with_process}
+use Rattle.pv_model.specs.State.{Process, live, State, live_process, process_at, with_process}
 
 pub number-itself : (k : ℕ) → nat_cmp k k ≡ Equal
 number-itself k = tied_itself nat_cmp_total k

@@ -1,14 +1,14 @@
 -- Lemmas on the room that nodes need.
-use Rattle.std.proofs.Common.{◌≡◌, ℕ, zero, suc, ◌+◌, ◌-◌, ◌/◌, ◌<◌, ◌≤◌, Bool, true, false, cond, ◌&&◌, ◌||◌, nat_le, nat_lt, IsTrue, List, [], ◌∷◌, length, sum_by, Option, None, Some, refl, ap, ◌∙◌, sym, arith, ⊎_elim}
+use Rattle.std.proofs.Common.{◌≡◌, ℕ, zero, suc, ◌≤◌, Bool, true, false, cond, nat_le, nat_lt, List, [], ◌∷◌, length, sum_by, Option, None, Some, refl, ap, ◌∙◌, sym, arith, ⊎_elim}
 use Rattle.std.specs.List.{list_any}
-use Rattle.std.proofs.lemmas.Bool.{and_parts, and_from, or_cases, or_left, or_right, leb-true, leb-false, le-leb, lt-leb, ltb-true, ltb-false, lt-ltb, cases_Bool}
+use Rattle.std.proofs.lemmas.Bool.{and_parts, and_from, or_cases, or_left, or_right, leb-true, leb-false, le-leb, ltb-true, ltb-false, lt-ltb, cases_Bool}
 use Rattle.std.proofs.lemmas.List.Sums.{sum_by-cons}
 use Rattle.pv_model.specs.declared.version.Version.{Version}
 use Rattle.pv_model.specs.declared.version.Version.TheVariants.{V1, V2}
 use Rattle.pv_model.specs.Bytes.{Bytes}
 use Rattle.pv_model.specs.Calls.Descriptors.{with_content, with_content_of, is_past_greatest}
-use Rattle.pv_model.specs.Held.{among, only_nodes}
-use Rattle.pv_model.specs.Numbered.{Numbered, at_number, present, keep, with_number}
+use Rattle.pv_model.specs.Held.{among}
+use Rattle.pv_model.specs.Numbered.{Numbered, at_number, present}
 use Rattle.pv_model.specs.Room.{node_length, rounded_up, index_blocks, need, greatest_length, is_too_long, fits}
 use Rattle.pv_model.specs.Sealed.{is_file}
 use Rattle.pv_model.specs.Tree.{Node, directory_node, file_node, link_node, Tree, node_at, with_node}
@@ -70,7 +70,7 @@ module _ (v : Version) where
   longer_there (Some node ∷ xs) (None ∷ ys) less is = absurd (less zero)
   longer_there (Some node ∷ xs) (Some other ∷ ys) less is =
       ⊎_elim (λ here. or_left (longer other) _ (lt-ltb (greatest_length v) (node_length v other) (omega (arith, less zero, ltb-true (greatest_length v) (node_length v node) here))))
-        (λ there. or_right (longer other) _ (longer_there xs ys (λ n. less (suc n)) there)) (or_cases (longer node) (list_any longer (present xs)) is)
+      (λ there. or_right (longer other) _ (longer_there xs ys (λ n. less (suc n)) there)) (or_cases (longer node) (list_any longer (present xs)) is)
 
   -- one node that is too long is found
   found_longer : (xs : Numbered Node) (n : ℕ) (node : Node) → at_number xs n ≡ Some node → longer node ≡ true → list_any longer (present xs) ≡ true
@@ -90,10 +90,10 @@ unfolding fits
 smaller-fits t u less is =
     let parts = and_parts (nat_le (length (present t.nodes)) t.inodes) _ is in
     and_from _ _
-      (le-leb (length (present u.nodes)) u.inodes (omega (arith, less.inodes, fewer t.version u.nodes t.nodes less.nodes, leb-true (length (present t.nodes)) t.inodes parts.0)))
-      (ap (λ v. nat_le (sum_by (needed v) (present u.nodes)) u.blocks) less.version
-       ∙ le-leb (sum_by (needed t.version) (present u.nodes)) u.blocks
-          (omega (arith, less.blocks, needs_less t.version u.nodes t.nodes less.nodes, leb-true (sum_by (needed t.version) (present t.nodes)) t.blocks parts.1)))
+    (le-leb (length (present u.nodes)) u.inodes (omega (arith, less.inodes, fewer t.version u.nodes t.nodes less.nodes, leb-true (length (present t.nodes)) t.inodes parts.0)))
+    (ap (λ v. nat_le (sum_by (needed v) (present u.nodes)) u.blocks) less.version
+    ∙ le-leb (sum_by (needed t.version) (present u.nodes)) u.blocks
+    (omega (arith, less.blocks, needs_less t.version u.nodes t.nodes less.nodes, leb-true (sum_by (needed t.version) (present t.nodes)) t.blocks parts.1)))
 
 pub smaller-not_too_long : (t u : Tree) → IsNoLarger u t → is_too_long u ≡ true → is_too_long t ≡ true
 unfolding is_too_long
@@ -117,9 +117,9 @@ far_in t f bytes held (Some (link_node text)) at is in' far = cc
 far_in t f bytes held (Some (file_node executable old)) at is in' far =
     let u : Tree = with_node t f (file_node executable bytes) in
     too_long-at (kept u held) f (file_node executable bytes)
-      (keep-passes (among (wanted u held)) u.nodes f (wanted-held u held f in')
-       ∙ with_number-same t.nodes f (file_node executable bytes) (at_number-below t.nodes f (file_node executable old) at))
-      far
+    (keep-passes (among (wanted u held)) u.nodes f (wanted-held u held f in')
+    ∙ with_number-same t.nodes f (file_node executable bytes) (at_number-below t.nodes f (file_node executable old) at))
+    far
 
 pub far-too_long : (t : Tree) (f : ℕ) (bytes : Bytes) (held : List ℕ) → is_file (node_at t f) ≡ true → among held f ≡ true
     → is_past_greatest t (length bytes) ≡ true → is_too_long (kept (with_content t f bytes) held) ≡ true

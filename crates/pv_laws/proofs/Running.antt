@@ -1,8 +1,7 @@
 -- What goes on inside a process: registers, buffer, lines.
-use Rattle.std.proofs.Common.{◌≡◌, ◌≢◌, ℕ, zero, suc, ◌+◌, ◌-◌, ◌<◌, ◌≤◌, ℤ, pos, negsuc, Bool, true, false, cond, not, ◌&&◌, ◌==◌, nat_le, nat_lt, min, List, [], ◌∷◌, ◌++◌, map, flat_map, length, take, drop, replicate, set, slice_set, Option, None, Some, is_some, refl, ap, ap₂, sym, subst, ◌∙◌, ⊎_elim, arith}
-use Rattle.std.specs.List.{list_any, list_all}
-use Rattle.std.specs.Cmp.{unsigned_ties}
-use Rattle.std.specs.Ordering.{nat_cmp, is_eq, is_lt, eq_by_cmp, ordering_reverse}
+use Rattle.std.proofs.Common.{◌≡◌, ℕ, zero, suc, ◌≤◌, ℤ, pos, Bool, true, cond, ◌&&◌, List, [], ◌∷◌, ◌++◌, map, length, take, drop, replicate, slice_set, Option, None, Some, refl, ap, ap₂, sym, ◌∙◌, arith}
+use Rattle.std.specs.List.{list_all}
+use Rattle.std.specs.Ordering.{nat_cmp, is_eq, is_lt, ordering_reverse}
 use Rattle.std.proofs.lemmas.Cmp.{nat_cmp_total}
 use Rattle.std.specs.FinMap.Entries.{by_order, find, put, is_sorted, below_all}
 use Rattle.std.specs.declared.cmp.Ordering.{Ordering}
@@ -22,7 +21,6 @@ use Rattle.pv_model.specs.State.{Process, Record, live, ended_record, State, pro
 use Rattle.pv_laws.specs.Held.{used, kept}
 use Rattle.pv_laws.specs.States.{is_word, is_byte, are_bytes, IsRunning, IsPlaced, IsSolid, IsWhole}
 use Rattle.pv_laws.proofs.Members.{all_of, live-found, find_number-list_all}
-use Rattle.pv_laws.proofs.Processes.{number-itself, update-is}
 use Rattle.pv_laws.proofs.Trim.{held_after}
 use Rattle.pv_laws.proofs.Whole.{HasRoom, solid, solid-with_process}
 
@@ -85,7 +83,8 @@ running-result p value error good fine is = record {
   line = is.line;
   registers = (
     length-set (slice_set p.registers 0 value) 1 (pos error) ∙ length-set p.registers 0 value ∙ is.registers.0,
-    list_all-set is_word (slice_set p.registers 0 value) 1 (pos error) fine (list_all-set is_word p.registers 0 value good is.registers.1));
+    list_all-set is_word (slice_set p.registers 0 value) 1 (pos error) fine (list_all-set is_word p.registers 0 value good is.registers.1),
+  );
   buffer = is.buffer;
 }
 
@@ -96,7 +95,8 @@ running-front p bytes short good is = record {
   registers = is.registers;
   buffer = (
     length-append bytes (drop (length bytes) p.buffer) ∙ omega (arith, length-drop (length bytes) p.buffer, is.buffer.0),
-    list_all-both is_byte bytes (drop (length bytes) p.buffer) good (list_all-drop is_byte (length bytes) p.buffer is.buffer.1));
+    list_all-both is_byte bytes (drop (length bytes) p.buffer) good (list_all-drop is_byte (length bytes) p.buffer is.buffer.1),
+  );
 }
 
 pub running-next : (p : Process) → IsRunning p → IsRunning (at_next_line p)
@@ -141,7 +141,7 @@ pub not_before : {P X : Type 0} (pid : ℕ) (v : X) (e : ℕ × X) (es : List (�
 not_before pid v e es sorted less found =
     let there : find nat_cmp pid es ≡ Some v = sym (ap (λ o. cond (is_eq o) (Some e.1) (find nat_cmp pid es)) less) ∙ found in
     let behind : is_lt (nat_cmp e.0 pid) ≡ true =
-      find_number-list_all (λ k. is_lt (nat_cmp e.0 k)) pid v es (sym (below-all e.0 es) ∙ (and_parts (below_all nat_cmp e.0 es) _ sorted).0) there in
+    find_number-list_all (λ k. is_lt (nat_cmp e.0 k)) pid v es (sym (below-all e.0 es) ∙ (and_parts (below_all nat_cmp e.0 es) _ sorted).0) there in
     by (nat_cmp e.0 pid) behind (sym less ∙ nat_cmp_total.antisymm pid e.0)
   where
     by : {P : Type 0} (o : Ordering) → is_lt o ≡ true → Less ≡ ordering_reverse o → P
@@ -158,9 +158,11 @@ all_of-put g (e ∷ ps) pid p q sorted found same = by (nat_cmp pid e.0) refl
     head : (r : Record) → r ≡ live p → all_of g ((e.0, live q) ∷ ps) ≡ all_of g ((e.0, r) ∷ ps)
     head (live x) is = let eq : x ≡ p = cc is in ap (λ ns. ns ++ all_of g ps) (same ∙ ap g (sym eq))
     head (ended_record parent status) is = cc
+
     tail : (r : Record) (xs : List (ℕ × Record)) → all_of g xs ≡ all_of g ps → all_of g ((e.0, r) ∷ xs) ≡ all_of g ((e.0, r) ∷ ps)
     tail (live x) xs rest = ap (λ ns. g x ++ ns) rest
     tail (ended_record parent status) xs rest = rest
+
     by : (o : Ordering) → nat_cmp pid e.0 ≡ o → (find nat_cmp pid ps ≡ Some (live p) → all_of g (put nat_cmp pid (live q) ps) ≡ all_of g ps)
         → all_of g (by_order o ((pid, live q) ∷ e ∷ ps) ((e.0, live q) ∷ ps) (e ∷ put nat_cmp pid (live q) ps)) ≡ all_of g (e ∷ ps)
     by Less is rest = not_before pid (live p) e ps sorted is found
@@ -178,8 +180,8 @@ used-same s pid p q sorted at same = holds-put used_files s pid p q sorted at (a
 pub held-same : (s : State) (pid : ℕ) (p q : Process) → is_sorted nat_cmp s.processes ≡ true → process_at s pid ≡ Some p → SameHolds p q → held_after (with_process s pid q) ≡ held_after s
 held-same s pid p q sorted at same =
     ap₂ (λ ns us. ns ++ map (λ f. f.node) (present (keep (among us) s.files)))
-      (holds-put held_by_process s pid p q sorted at (ap₂ (λ d t. d ∷ Rattle.pv_model.specs.Held.held_by_table t) same.directory same.table))
-      (used-same s pid p q sorted at same)
+    (holds-put held_by_process s pid p q sorted at (ap₂ (λ d t. d ∷ Rattle.pv_model.specs.Held.held_by_table t) same.directory same.table))
+    (used-same s pid p q sorted at same)
 
 pub trim-same : (s : State) (pid : ℕ) (p q : Process) → is_sorted nat_cmp s.processes ≡ true → process_at s pid ≡ Some p → SameHolds p q
     → trim (with_process s pid q) ≡ with_process (trim s) pid q

@@ -1,5 +1,5 @@
 -- States whose trees or open files change.
-use Rattle.std.proofs.Common.{◌≡◌, ◌≢◌, ℕ, zero, suc, ◌+◌, ◌<◌, ◌≤◌, Bool, true, false, cond, not, ◌&&◌, ◌||◌, ◌==◌, nat_le, List, [], ◌∷◌, map, length, Option, None, Some, is_some, refl, ap, ap₂, sym, subst, ◌∙◌, ⊎_elim, arith}
+use Rattle.std.proofs.Common.{◌≡◌, ℕ, true, false, cond, not, ◌&&◌, ◌||◌, ◌==◌, nat_le, [], ◌∷◌, map, length, Option, None, Some, is_some, refl, ap, ap₂, sym, ◌∙◌, ⊎_elim, arith}
 use Rattle.std.specs.List.{list_all}
 use Rattle.std.proofs.lemmas.Bool.{and_parts, and_from, or_cases, or_left, or_right, cases_eq, cases_Bool}
 use Rattle.pv_model.specs.declared.place.Place.{Place}
@@ -7,22 +7,18 @@ use Rattle.pv_model.specs.declared.place.Place.TheVariants.{At, Node as Unnamed}
 use Rattle.pv_model.specs.declared.follow.Follow.{Follow}
 use Rattle.std.specs.Prelude.{Ok}
 use Rattle.pv_model.specs.Bytes.{Bytes, is_empty}
-use Rattle.pv_model.specs.Calls.Descriptors.{with_content, with_content_of}
 use Rattle.pv_model.specs.Held.{among, held_by_table}
-use Rattle.pv_model.specs.Numbered.{Numbered, at_number, with_number}
-use Rattle.pv_model.specs.Room.{fits, is_too_long}
+use Rattle.pv_model.specs.Numbered.{Numbered, at_number}
 use Rattle.pv_model.specs.Sealed.{is_file}
-use Rattle.pv_model.specs.State.{OpenFile, Descriptor, Process, State, writes, process_at, with_process, with_tree}
-use Rattle.pv_model.specs.Tree.{Node, directory_node, file_node, link_node, Tree, node_at, is_directory, is_directory_at, is_removed, find_entry, with_node, is_name, is_link_text}
+use Rattle.pv_model.specs.State.{OpenFile, Process, State, process_at, with_process, with_tree}
+use Rattle.pv_model.specs.Tree.{Node, link_node, Tree, node_at, is_directory, is_directory_at, is_removed, find_entry, is_name}
 use Rattle.pv_model.specs.Unveil.{Target, of_directory, of_name, Table, target_directory, target_of}
 use Rattle.pv_model.specs.Walk.{resolve}
 use Rattle.pv_laws.specs.States.{is_byte, is_text_byte, are_bytes, has_bytes, is_text, IsTree, is_listed, IsOpenFile, AreFiles, is_target, is_table, IsRunning, IsPlaced, AreProcesses, IsSolid, IsWhole}
-use Rattle.pv_laws.specs.Tree.{IsSound}
-use Rattle.pv_laws.proofs.Changes.{some-below}
-use Rattle.pv_laws.proofs.Places.{list_all-weaker, IsGoodPlace, is_piece, is_spelled, resolve-good, piece-name, link-text, not_zero}
+use Rattle.pv_laws.proofs.Places.{list_all-weaker, IsGoodPlace, is_spelled, resolve-good, piece-name, link-text, not_zero}
 use Rattle.pv_laws.proofs.Trees.{sound}
 use Rattle.pv_laws.proofs.Running.{IsReady}
-use Rattle.pv_laws.proofs.Whole.{HasRoom, has_room, solid, solid-with_process, table-same}
+use Rattle.pv_laws.proofs.Whole.{has_room, solid, solid-with_process, table-same}
 
 -- ---- places
 
@@ -45,11 +41,14 @@ link_bytes t is n text at =
 fine : (t : Tree) (place : Place) → IsGoodPlace is_text_byte t place → IsFinePlace t place
 fine t (Unnamed d) is = is
 fine t (At d name n) is =
-    let parts = and_parts (not (is_empty name)) (is_spelled is_text_byte name) is.4 in
-    (is.0, is.1, is.2,
-     piece-name t name is.3 (and_from (not (is_empty name)) _ parts.0 (list_all-weaker (λ b. not (b == 47) && is_text_byte b) (λ b. not (b == 47) && not_zero b)
-       (λ b good. let both = and_parts (not (b == 47)) (is_text_byte b) good in and_from (not (b == 47)) (not_zero b) both.0 (and_parts (not_zero b) (is_byte b) both.1).0) name parts.1)),
-     list_all-weaker (λ b. not (b == 47) && is_text_byte b) is_byte (λ b good. (and_parts (not_zero b) (is_byte b) (and_parts (not (b == 47)) (is_text_byte b) good).1).1) name parts.1)
+    let parts = and_parts (not (is_empty name)) (is_spelled is_text_byte name) is.4 in (
+      is.0,
+      is.1,
+      is.2,
+      piece-name t name is.3 (and_from (not (is_empty name)) _ parts.0 (list_all-weaker (λ b. not (b == 47) && is_text_byte b) (λ b. not (b == 47) && not_zero b)
+          (λ b good. let both = and_parts (not (b == 47)) (is_text_byte b) good in and_from (not (b == 47)) (not_zero b) both.0 (and_parts (not_zero b) (is_byte b) both.1).0) name parts.1)),
+      list_all-weaker (λ b. not (b == 47) && is_text_byte b) is_byte (λ b good. (and_parts (not_zero b) (is_byte b) (and_parts (not (b == 47)) (is_text_byte b) good).1).1) name parts.1,
+    )
 
 pub text-bytes : (text : Bytes) → is_text text ≡ true → list_all is_text_byte text ≡ true
 text-bytes text is = (and_parts (nat_le (length text) 1100) (list_all is_text_byte text) is).1
@@ -110,7 +109,7 @@ targets-there t [] all n is = cc
 targets-there t (e ∷ es) all n is =
     let parts = and_parts (is_target t e.0) (list_all (λ e. is_target t e.0) es) all in
     ⊎_elim (λ here. ap (is_directory_at t) (sym (Rattle.std.proofs.lemmas.Bool.eqb-true (target_directory e.0) n here)) ∙ of e.0 parts.0) (λ there. targets-there t es parts.1 n there)
-      (or_cases (target_directory e.0 == n) _ is)
+    (or_cases (target_directory e.0 == n) _ is)
   where
     of : (target : Target) → is_target t target ≡ true → is_directory_at t (target_directory target) ≡ true
     of (of_directory d) is = is
@@ -151,7 +150,7 @@ solid-standing s u gs is tree carries files still = record {
 pub solid-with_tree : (s : State) (u : Tree) → IsSolid s → IsTree u → Carries s.tree u → IsSolid (with_tree s u)
 solid-with_tree s u is tree carries =
     solid-standing s u s.files is tree carries
-      (record { count = is.files.count; each = λ k f at. file-carried s.tree u f carries (is.files.each k f at) }) (λ k there. there)
+    (record { count = is.files.count; each = λ k f at. file-carried s.tree u f carries (is.files.each k f at) }) (λ k there. there)
 
 -- ---- ready states
 

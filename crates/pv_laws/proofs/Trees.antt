@@ -1,19 +1,17 @@
 -- Lemmas on trees and their entries.
-use Rattle.std.proofs.Common.{◌≡◌, ◌≢◌, ◌↔◌, ℕ, zero, suc, ◌+◌, ◌<◌, ◌≤◌, Bool, true, false, cond, if◌then◌else◌, not, ◌&&◌, ◌||◌, ◌==◌, List, [], ◌∷◌, ◌++◌, map, filter, flat_map, length, Option, None, Some, is_some, IsTrue, refl, ap, ap₂, sym, ◌∙◌, arith, inl, inr, ◌⊎◌, ⊎_elim}
-use Rattle.std.specs.Cmp.Lexicographic.{slice_cmp}
-use Rattle.std.specs.Ordering.{nat_cmp, eq_by_cmp}
-use Rattle.std.specs.List.{list_any, list_all}
+use Rattle.std.proofs.Common.{◌≡◌, ◌≢◌, ◌↔◌, ℕ, zero, suc, ◌+◌, ◌≤◌, Bool, true, false, cond, ◌||◌, ◌==◌, List, [], ◌∷◌, ◌++◌, map, filter, flat_map, length, Option, None, Some, IsTrue, refl, ap, ap₂, sym, ◌∙◌, arith, inl, inr, ◌⊎◌, ⊎_elim}
+use Rattle.std.specs.Ordering.{eq_by_cmp}
 use Rattle.std.specs.FinMap.Entries.{find, is_sorted, below_all}
 use Rattle.std.proofs.Math.ListN.{length-append}
 use Rattle.std.proofs.lemmas.List.{length-map}
-use Rattle.std.proofs.lemmas.Bool.{and_parts, and_from, eqb-true, eqb-false, eq-eqb, ne_eqb, or_left, or_right, or_cases, or_parts, cases_Bool, cases_eq}
+use Rattle.std.proofs.lemmas.Bool.{and_parts, eqb-true, eq-eqb, ne_eqb, or_left, or_right, or_cases, or_parts, cases_Bool}
 use Rattle.std.proofs.lemmas.List.Folds.{list_any-append}
 use Rattle.pv_model.specs.Bytes.{Bytes}
 use Rattle.pv_model.specs.Held.{among}
 use Rattle.pv_model.specs.Numbered.{Numbered, at_number, numbered_from, numbered}
-use Rattle.pv_model.specs.Tree.{Entries, Node, directory_node, file_node, link_node, Tree, root, node_at, entries_of, entries_at, is_directory, is_directory_at, find_entry, names_node, first_parent, parent, names_in, names_of, named_numbers, is_node, IsReached, from_root, by_entry, IsWellFormed}
+use Rattle.pv_model.specs.Tree.{Entries, Node, directory_node, file_node, link_node, Tree, root, node_at, entries_of, entries_at, is_directory_at, find_entry, names_node, first_parent, parent, names_in, names_of, named_numbers, is_node, IsWellFormed}
 use Rattle.pv_laws.specs.Tree.{IsSound}
-use Rattle.pv_laws.proofs.Entries.{by_name, tied_itself, tied-same, not_tied, find-names_node, names_node-find, find_behind}
+use Rattle.pv_laws.proofs.Entries.{by_name, tied_itself, tied-same, find-names_node, names_node-find, find_behind}
 
 -- what is in the entries of the node at a number
 abbrev pub names_at : ℕ → Numbered Node → ℕ → Bool
@@ -33,7 +31,7 @@ named-at n k [] is = cc
 named-at n k (None ∷ xs) is = let found = named-at n (suc k) xs is in (suc found.0, found.1)
 named-at n k (Some node ∷ xs) is =
     ⊎_elim (λ here. (0, sym (among-names n (entries_of (Some node))) ∙ here)) (λ there. let found = named-at n (suc k) xs there in (suc found.0, found.1))
-      (or_cases _ _ (sym (list_any-append (λ m. m == n) (map (λ e. e.1) (entries_of (Some node))) (named_from (suc k) xs)) ∙ is))
+    (or_cases _ _ (sym (list_any-append (λ m. m == n) (map (λ e. e.1) (entries_of (Some node))) (named_from (suc k) xs)) ∙ is))
 
 at-named : (n k : ℕ) (xs : Numbered Node) (d : ℕ) → names_at n xs d ≡ true → among (named_from k xs) n ≡ true
 at-named n k [] d is = cc
@@ -53,7 +51,7 @@ parent-at n k [] d is = cc
 parent-at n k (None ∷ xs) d is = let found = parent-at n (suc k) xs d is in (suc found.0, omega (arith, found.1), found.2)
 parent-at n k (Some node ∷ xs) d is =
     elim (names_node n (entries_of (Some node))) as (λ b. names_node n (entries_of (Some node)) ≡ b → cond b (Some k) (first_parent n (numbered_from (suc k) xs)) ≡ Some d
-        → (i : ℕ) × (d ≡ k + i) × (names_at n (Some node ∷ xs) i ≡ true)) [
+    → (i : ℕ) × (d ≡ k + i) × (names_at n (Some node ∷ xs) i ≡ true)) [
       | true ↦ λ names here. let same : k ≡ d = cc here in (0, omega arith, names)
       | false ↦ λ names there. let found = parent-at n (suc k) xs d there in (suc found.0, omega (arith, found.1), found.2)
     ] refl is
@@ -64,7 +62,7 @@ parent-none n k (None ∷ xs) none zero = refl
 parent-none n k (None ∷ xs) none (suc i) = parent-none n (suc k) xs none i
 parent-none n k (Some node ∷ xs) none i =
     elim (names_node n (entries_of (Some node))) as (λ b. names_node n (entries_of (Some node)) ≡ b → cond b (Some k) (first_parent n (numbered_from (suc k) xs)) ≡ None
-        → names_at n (Some node ∷ xs) i ≡ false) [
+    → names_at n (Some node ∷ xs) i ≡ false) [
       | true ↦ λ names here. cc here
       | false ↦ λ names there. by i names (parent-none n (suc k) xs there)
     ] refl none
@@ -96,7 +94,7 @@ counted : (n d : ℕ) (es : Entries) → names_node n es ≡ true → 1 ≤ leng
 counted n d [] is = cc
 counted n d (e ∷ es) is =
     ⊎_elim (λ here. omega (arith, ap length (names_in-here n d e es here))) (λ there. omega (arith, no_shorter n d e es, counted n d es there))
-      (or_cases (e.1 == n) (names_node n es) is)
+    (or_cases (e.1 == n) (names_node n es) is)
 
 uncounted : (n d : ℕ) (es : Entries) → names_node n es ≡ false → names_in n es d ≡ []
 uncounted n d [] is = refl
@@ -125,7 +123,7 @@ found_at : (n : ℕ) (name : Bytes) (e : Bytes × ℕ) (es : Entries) → find b
     → ((name ≡ e.0) × (e.1 ≡ n)) ⊎ (find by_name name es ≡ Some n)
 found_at n name e es is =
     elim (eq_by_cmp by_name name e.0) as (λ b. eq_by_cmp by_name name e.0 ≡ b → cond b (Some e.1) (find by_name name es) ≡ Some n
-        → ((name ≡ e.0) × (e.1 ≡ n)) ⊎ (find by_name name es ≡ Some n)) [
+    → ((name ≡ e.0) × (e.1 ≡ n)) ⊎ (find by_name name es ≡ Some n)) [
       | true ↦ λ tied here. inl (tied-same name e.0 tied, cc here)
       | false ↦ λ tied there. inr there
     ] refl is
@@ -141,10 +139,10 @@ once_in : (n d : ℕ) (es : Entries) → length (names_in n es d) ≤ 1 → (nam
 once_in n d [] once name other a b = cc
 once_in n d (e ∷ es) once name other a b =
     ⊎_elim
-      (λ here. ⊎_elim (λ too. here.0 ∙ sym too.0) (λ there. crowded n d e es once here.1 other there) (found_at n other e es b))
-      (λ there. ⊎_elim (λ here. crowded n d e es once here.1 name there)
-          (λ too. once_in n d es (omega (arith, no_shorter n d e es)) name other there too) (found_at n other e es b))
-      (found_at n name e es a)
+    (λ here. ⊎_elim (λ too. here.0 ∙ sym too.0) (λ there. crowded n d e es once here.1 other there) (found_at n other e es b))
+    (λ there. ⊎_elim (λ here. crowded n d e es once here.1 name there)
+    (λ too. once_in n d es (omega (arith, no_shorter n d e es)) name other there too) (found_at n other e es b))
+    (found_at n name e es a)
 
 at_once : (n d : ℕ) (es : Entries) → is_sorted by_name es ≡ true
     → ((name other : Bytes) → find by_name name es ≡ Some n → find by_name other es ≡ Some n → name ≡ other) → length (names_in n es d) ≤ 1
@@ -152,16 +150,16 @@ at_once n d [] sorted same = omega arith
 at_once n d (e ∷ es) sorted same =
     let parts = and_parts (below_all by_name e.0 es) _ sorted in
     let rest : length (names_in n es d) ≤ 1 = at_once n d es parts.1 (λ name other a b.
-        same name other (find_behind name n e es sorted a).1 (find_behind other n e es sorted b).1) in
+    same name other (find_behind name n e es sorted a).1 (find_behind other n e es sorted b).1) in
     ⊎_elim
-      (λ here. ⊎_elim
-          (λ more. let found = names_node-find n es parts.1 more in
-              let first : find by_name e.0 (e ∷ es) ≡ Some n = ap (λ b. cond b (Some e.1) (find by_name e.0 es)) (tied_itself e.0) ∙ ap Some (eqb-true e.1 n here) in
-              absurd ((find_behind found.0 n e es sorted found.1).0 (same found.0 e.0 (find_behind found.0 n e es sorted found.1).1 first)))
-          (λ none. omega (arith, ap length (names_in-here n d e es here), ap length (uncounted n d es none)))
-          (cases_Bool (names_node n es)))
-      (λ other. omega (arith, ap length (names_in-other n d e es other)))
-      (cases_Bool (e.1 == n))
+    (λ here. ⊎_elim
+    (λ more. let found = names_node-find n es parts.1 more in
+    let first : find by_name e.0 (e ∷ es) ≡ Some n = ap (λ b. cond b (Some e.1) (find by_name e.0 es)) (tied_itself e.0) ∙ ap Some (eqb-true e.1 n here) in
+    absurd ((find_behind found.0 n e es sorted found.1).0 (same found.0 e.0 (find_behind found.0 n e es sorted found.1).1 first)))
+    (λ none. omega (arith, ap length (names_in-here n d e es here), ap length (uncounted n d es none)))
+    (cases_Bool (names_node n es)))
+    (λ other. omega (arith, ap length (names_in-other n d e es other)))
+    (cases_Bool (e.1 == n))
 
 -- one directory
 once_at : (n k : ℕ) (xs : Numbered Node) → length (names_from n k xs) ≤ 1 → (d e : ℕ) → names_at n xs d ≡ true → names_at n xs e ≡ true → d ≡ e
@@ -208,18 +206,18 @@ one_name n k (Some node ∷ xs) sorted same =
     let es = entries_of (Some node) in
     let here : length (names_in n es k) ≤ 1 = at_once n k es (sorted 0) (λ name other a b. (same 0 name 0 other a b).1) in
     let there : length (names_from n (suc k) xs) ≤ 1 =
-      one_name n (suc k) xs (λ d. sorted (suc d)) (λ d name e other a b. let both = same (suc d) name (suc e) other a b in (omega (arith, both.0), both.1)) in
+    one_name n (suc k) xs (λ d. sorted (suc d)) (λ d name e other a b. let both = same (suc d) name (suc e) other a b in (omega (arith, both.0), both.1)) in
     ⊎_elim
-      (λ names.
-          let found = names_node-find n es (sorted 0) names in
-          let none : (d : ℕ) → names_at n xs d ≡ false = λ d.
-            ⊎_elim
-              (λ too. let other = names_node-find n (entries_of (at_number xs d)) (sorted (suc d)) too in
-                  absurd (omega (arith, (same 0 found.0 (suc d) other.0 found.1 other.1).0)))
-              (λ no. no) (cases_Bool (names_at n xs d)) in
-          omega (arith, ap length (uncounted_from n (suc k) xs none), length-append (names_in n es k) (names_from n (suc k) xs)))
-      (λ none. omega (arith, ap length (uncounted n k es none), length-append (names_in n es k) (names_from n (suc k) xs)))
-      (cases_Bool (names_node n es))
+    (λ names.
+    let found = names_node-find n es (sorted 0) names in
+    let none : (d : ℕ) → names_at n xs d ≡ false = λ d.
+    ⊎_elim
+    (λ too. let other = names_node-find n (entries_of (at_number xs d)) (sorted (suc d)) too in
+    absurd (omega (arith, (same 0 found.0 (suc d) other.0 found.1 other.1).0)))
+    (λ no. no) (cases_Bool (names_at n xs d)) in
+    omega (arith, ap length (uncounted_from n (suc k) xs none), length-append (names_in n es k) (names_from n (suc k) xs)))
+    (λ none. omega (arith, ap length (uncounted n k es none), length-append (names_in n es k) (names_from n (suc k) xs)))
+    (cases_Bool (names_node n es))
 
 -- ---- trees
 
@@ -301,8 +299,8 @@ sound t w = record {
   each_node = w.each_node;
   root_is_directory = w.root_is_directory;
   root_is_unnamed = λ d name n is same.
-    let one : 1 ≤ length (names_of t root) = counted_from root 0 t.nodes d (entry-names t d name root (is ∙ ap Some same)) in
-    absurd (omega (arith, ap length w.root_is_unnamed));
+      let one : 1 ≤ length (names_of t root) = counted_from root 0 t.nodes d (entry-names t d name root (is ∙ ap Some same)) in
+      absurd (omega (arith, ap length w.root_is_unnamed));
   entries_are_nodes = w.entries_are_nodes;
   directories_once = λ n is. once-same t n (w.directories_once n is);
   named_are_reached = w.named_are_reached;

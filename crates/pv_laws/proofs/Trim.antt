@@ -1,18 +1,18 @@
 -- Lemmas on trim.
-use Rattle.std.proofs.Common.{◌≡◌, ◌≢◌, ℕ, Bool, true, false, not, ◌&&◌, ◌||◌, ◌==◌, [], ◌∷◌, ◌++◌, List, Option, None, Some, is_some, IsTrue, refl, ap, ap₂, ◌∙◌, sym, ⊎_elim, inl, inr, ◌⊎◌}
+use Rattle.std.proofs.Common.{◌≡◌, ℕ, Bool, true, false, ◌&&◌, ◌||◌, ◌==◌, [], List, Option, None, Some, is_some, refl, ap, ◌∙◌, sym, ⊎_elim}
 use Rattle.std.specs.List.{list_any}
 use Rattle.std.specs.Cmp.{both_ways}
-use Rattle.std.proofs.lemmas.Bool.{eqb-true, eq-eqb, cases_eq, cases_Bool, or_left, or_right, or_parts, or_cases, or_from}
+use Rattle.std.proofs.lemmas.Bool.{eq-eqb, cases_eq, cases_Bool, or_left, or_right, or_cases}
 use Rattle.std.proofs.lemmas.List.Folds.{list_any-append}
 use Rattle.pv_model.specs.Bytes.{Bytes}
 use Rattle.pv_model.specs.Held.{among, only_nodes, held_nodes, trim_nodes, trim_files, trim}
-use Rattle.pv_model.specs.Numbered.{keep, keep_if, at_number}
+use Rattle.pv_model.specs.Numbered.{keep, keep_if}
 use Rattle.pv_model.specs.State.{State}
-use Rattle.pv_model.specs.Tree.{Entries, Node, directory_node, file_node, link_node, Tree, root, node_at, entries_of, entries_at, is_directory, is_directory_at, find_entry, named_numbers, IsReached, from_root, by_entry, IsWellFormed}
-use Rattle.pv_laws.specs.Held.{EachIsNamed, used, wanted, kept, is_wanted, IsTrimmed}
+use Rattle.pv_model.specs.Tree.{Node, directory_node, file_node, link_node, Tree, root, node_at, entries_of, entries_at, is_directory, is_directory_at, find_entry, named_numbers, IsReached, from_root, by_entry, IsWellFormed}
+use Rattle.pv_laws.specs.Held.{EachIsNamed, used, wanted, kept, IsTrimmed}
 use Rattle.pv_laws.specs.Tree.{IsSound}
-use Rattle.pv_laws.proofs.Numbered.{keep-all, keep-keep, keep-agree, keep-some, keep-passes, keep-fails, at_number-keep, length-keep, same_numbered}
-use Rattle.pv_laws.proofs.Trees.{IsOrdered, ordered, among-entry, entry-among, sound, well_formed}
+use Rattle.pv_laws.proofs.Numbered.{keep-all, keep-keep, keep-agree, keep-some, keep-passes, keep-fails, at_number-keep, length-keep}
+use Rattle.pv_laws.proofs.Trees.{ordered, among-entry, entry-among, sound, well_formed}
 
 -- a tree of which each node is among the numbers stays as it is
 pub only_nodes_all : (t : Tree) (ns : List ℕ) → ((n : ℕ) (node : Node) → node_at t n ≡ Some node → among ns n ≡ true) → only_nodes t ns ≡ t
@@ -36,10 +36,10 @@ wanted-held t held n is = wanted-is t held n ∙ or_right (root == n) _ (or_righ
 pub kept_all : (t : Tree) (held : List ℕ) → EachIsNamed t → kept t held ≡ t
 kept_all t held each =
     only_nodes_all t (wanted t held) (λ n node is.
-      ⊎_elim
-        (λ same. or_left (root == n) _ (eq-eqb root n (sym same)))
-        (λ other. wanted-named t held n (each.named n other (ap is_some is)))
-        (cases_eq n root))
+    ⊎_elim
+    (λ same. or_left (root == n) _ (eq-eqb root n (sym same)))
+    (λ other. wanted-named t held n (each.named n other (ap is_some is)))
+    (cases_eq n root))
 
 pub trim_nodes_all : (s : State) → EachIsNamed s.tree → trim_nodes s ≡ s
 trim_nodes_all s each = ap (λ t. record s { tree = t }) (kept_all s.tree (held_nodes s) each)
@@ -64,16 +64,16 @@ wanted-covers t held = record { top = refl; named = wanted-named t held }
 unwanted_is_empty : (t : Tree) (ns : List ℕ) → IsSound t → Covers t ns → (d : ℕ) → among ns d ≡ false → entries_at t d ≡ []
 unwanted_is_empty t ns s covers d out =
     no_entries (node_at t d) (λ is. s.removed_are_empty d is
-      (λ same. let top : among ns d ≡ true = ap (among ns) same ∙ covers.top in cc)
-      (λ e name found. let in' = covers.named d (entry-among t e name d found) in cc))
+    (λ same. let top : among ns d ≡ true = ap (among ns) same ∙ covers.top in cc)
+    (λ e name found. let in' = covers.named d (entry-among t e name d found) in cc))
 
 -- all entries stay
 pub entries-only : (t : Tree) (ns : List ℕ) → IsSound t → Covers t ns → (d : ℕ) → entries_at (only_nodes t ns) d ≡ entries_at t d
 entries-only t ns s covers d =
     ⊎_elim
-      (λ in'. ap entries_of (keep-passes (among ns) t.nodes d in'))
-      (λ out. ap entries_of (keep-fails (among ns) t.nodes d out) ∙ sym (unwanted_is_empty t ns s covers d out))
-      (cases_Bool (among ns d))
+    (λ in'. ap entries_of (keep-passes (among ns) t.nodes d in'))
+    (λ out. ap entries_of (keep-fails (among ns) t.nodes d out) ∙ sym (unwanted_is_empty t ns s covers d out))
+    (cases_Bool (among ns d))
 
 pub find-only : (t : Tree) (ns : List ℕ) → IsSound t → Covers t ns → (d : ℕ) (name : Bytes) → find_entry (only_nodes t ns) d name ≡ find_entry t d name
 find-only t ns s covers d name = ap (λ es. Rattle.std.specs.FinMap.Entries.find Rattle.pv_laws.proofs.Entries.by_name name es) (entries-only t ns s covers d)
@@ -94,7 +94,7 @@ only-sound t ns s covers =
     let same = find-only t ns s covers in
     let was : (d : ℕ) (name : Bytes) (n : ℕ) → find_entry u d name ≡ Some n → find_entry t d name ≡ Some n = λ d name n is. sym (same d name) ∙ is in
     let directory : (n : ℕ) → is_directory_at u n ≡ true → is_directory_at t n ≡ true =
-      λ n is. was_directory (among ns n) (node_at t n) (ap is_directory (sym (at_number-keep (among ns) t.nodes n)) ∙ is) in
+    λ n is. was_directory (among ns n) (node_at t n) (ap is_directory (sym (at_number-keep (among ns) t.nodes n)) ∙ is) in
     record {
       numbers = length-keep (among ns) t.nodes ∙ s.numbers;
       no_zero = λ n node is. s.no_zero n node (keep-some (among ns) t.nodes n node is).1;
@@ -102,11 +102,11 @@ only-sound t ns s covers =
       root_is_directory = ap is_directory (keep-passes (among ns) t.nodes root covers.top) ∙ s.root_is_directory;
       root_is_unnamed = λ d name n is. s.root_is_unnamed d name n (was d name n is);
       entries_are_nodes = λ d name n is.
-        ap is_some (keep-passes (among ns) t.nodes n (covers.named n (entry-among t d name n (was d name n is)))) ∙ s.entries_are_nodes d name n (was d name n is);
+          ap is_some (keep-passes (among ns) t.nodes n (covers.named n (entry-among t d name n (was d name n is)))) ∙ s.entries_are_nodes d name n (was d name n is);
       directories_once = λ n is d name e other a b. s.directories_once n (directory n is) d name e other (was d name n a) (was e other n b);
       named_are_reached = λ d name n is. reached-along t u (λ e other m found. same e other ∙ found) n (s.named_are_reached d name n (was d name n is));
       removed_are_empty = λ d is other none.
-        entries-only t ns s covers d ∙ s.removed_are_empty d (directory d is) other (λ e name found. none e name (same e name ∙ found));
+          entries-only t ns s covers d ∙ s.removed_are_empty d (directory d is) other (λ e name found. none e name (same e name ∙ found));
     }
 
 -- the same numbers are named
@@ -115,8 +115,8 @@ among-only t ns s covers n =
     let u : Tree = only_nodes t ns in
     let same = find-only t ns s covers in
     both_ways (among (named_numbers u) n) (among (named_numbers t) n)
-      (λ is. let found = among-entry u (ordered u (only-sound t ns s covers).each_node) n is in entry-among t found.0 found.1 n (sym (same found.0 found.1) ∙ found.2))
-      (λ is. let found = among-entry t (ordered t s.each_node) n is in entry-among u found.0 found.1 n (same found.0 found.1 ∙ found.2))
+    (λ is. let found = among-entry u (ordered u (only-sound t ns s covers).each_node) n is in entry-among t found.0 found.1 n (sym (same found.0 found.1) ∙ found.2))
+    (λ is. let found = among-entry t (ordered t s.each_node) n is in entry-among u found.0 found.1 n (same found.0 found.1 ∙ found.2))
 
 implied : (a b : Bool) → (a ≡ true → b ≡ true) → (a && b) ≡ a
 implied true b is = is refl
@@ -127,15 +127,15 @@ pub kept_in_turn : (t : Tree) (many few : List ℕ) → IsSound t → ((n : ℕ)
 kept_in_turn t many few s fewer =
     let u : Tree = kept t many in
     let same : (n : ℕ) → among (wanted u few) n ≡ among (wanted t few) n = λ n.
-      wanted-is u few n ∙ ap (λ b. (root == n) || (b || among few n)) (among-only t (wanted t many) s (wanted-covers t many) n) ∙ sym (wanted-is t few n) in
+    wanted-is u few n ∙ ap (λ b. (root == n) || (b || among few n)) (among-only t (wanted t many) s (wanted-covers t many) n) ∙ sym (wanted-is t few n) in
     let weaker : (n : ℕ) → among (wanted t few) n ≡ true → among (wanted t many) n ≡ true = λ n is.
-      ⊎_elim (λ top. or_left (root == n) _ top)
-        (λ rest. ⊎_elim (λ named. wanted-named t many n named) (λ held. wanted-held t many n (fewer n held)) (or_cases (among (named_numbers t) n) (among few n) rest))
-        (or_cases (root == n) _ (sym (wanted-is t few n) ∙ is)) in
+    ⊎_elim (λ top. or_left (root == n) _ top)
+    (λ rest. ⊎_elim (λ named. wanted-named t many n named) (λ held. wanted-held t many n (fewer n held)) (or_cases (among (named_numbers t) n) (among few n) rest))
+    (or_cases (root == n) _ (sym (wanted-is t few n) ∙ is)) in
     ap (λ nodes. record t { nodes = nodes })
-      (keep-keep (among (wanted t many)) (among (wanted u few)) t.nodes
-       ∙ keep-agree (λ n. among (wanted u few) n && among (wanted t many) n) (among (wanted t few)) t.nodes
-          (λ n. ap (λ b. b && among (wanted t many) n) (same n) ∙ implied (among (wanted t few) n) (among (wanted t many) n) (weaker n)))
+    (keep-keep (among (wanted t many)) (among (wanted u few)) t.nodes
+    ∙ keep-agree (λ n. among (wanted u few) n && among (wanted t many) n) (among (wanted t few)) t.nodes
+    (λ n. ap (λ b. b && among (wanted t many) n) (same n) ∙ implied (among (wanted t few) n) (among (wanted t many) n) (weaker n)))
 
 -- ---- states
 
@@ -184,7 +184,7 @@ unfolding trim
 trim_once s w =
     let files = keep (among (used s)) s.files in
     let again : keep (among (used s)) files ≡ files =
-      keep-keep (among (used s)) (among (used s)) s.files ∙ keep-agree (λ n. among (used s) n && among (used s) n) (among (used s)) s.files (λ n. self (among (used s) n)) in
+    keep-keep (among (used s)) (among (used s)) s.files ∙ keep-agree (λ n. among (used s) n && among (used s) n) (among (used s)) s.files (λ n. self (among (used s) n)) in
     let t : Tree = kept s.tree (held_after s) in
     ap (λ fs. record (record s { files = fs }) { tree = kept t (held_nodes (record s { files = fs })) }) again
     ∙ ap (λ u. record (record s { files = files }) { tree = u }) (kept_in_turn s.tree (held_after s) (held_after s) (sound s.tree w) (λ n is. is))

@@ -1,14 +1,12 @@
 -- Lemmas on walks.
-use Rattle.std.proofs.Common.{◌≡◌, ◌↔◌, ℕ, zero, suc, ◌<◌, ◌≤◌, Bool, true, false, cond, if◌then◌else◌, not, ◌&&◌, ◌||◌, ◌==◌, nat_lt, nat_le, List, [], ◌∷◌, ◌++◌, bytes_eq, codes, length, Option, None, Some, is_some, is_none, Result, Ok, Err, refl, ap, ap₂, sym, subst, ◌∙◌, arith, inl, inr, ◌⊎◌, ⊎_elim}
+use Rattle.std.proofs.Common.{◌≡◌, ◌↔◌, ℕ, zero, suc, ◌<◌, ◌≤◌, Bool, true, false, cond, if◌then◌else◌, not, ◌&&◌, ◌||◌, ◌==◌, nat_lt, List, [], ◌∷◌, ◌++◌, codes, length, Option, None, Some, Ok, Err, refl, ap, sym, subst, ◌∙◌, arith}
 use Rattle.std.specs.List.{list_all}
 use Rattle.std.proofs.lemmas.Bool.{ltb-true, ltb-false, lt-ltb, le-ltb, cases_Bool}
-use Rattle.pv_model.specs.declared.errno.Errno.{Errno}
-use Rattle.pv_model.specs.declared.errno.Errno.TheVariants.{ENOENT, ENOTDIR, ELOOP, ENAMETOOLONG}
+use Rattle.pv_model.specs.declared.errno.Errno.TheVariants.{ENOENT, ENAMETOOLONG}
 use Rattle.pv_model.specs.declared.follow.Follow.{Follow}
-use Rattle.pv_model.specs.declared.place.Place.{Place}
 use Rattle.pv_model.specs.declared.place.Place.TheVariants.{At, Node as Unnamed}
 use Rattle.pv_model.specs.Bytes.{Bytes, is_empty}
-use Rattle.pv_model.specs.Tree.{Node, directory_node, file_node, link_node, Tree, greatest_name, root, node_at, entries_at, is_directory_at, find_entry, parent, is_removed, is_name, IsWellFormed}
+use Rattle.pv_model.specs.Tree.{Node, directory_node, file_node, link_node, Tree, greatest_name, root, node_at, find_entry, parent, is_removed}
 use Rattle.pv_model.specs.Walk.{pieces, is_absolute, ends_in_slash, weight, is_dot, is_dot_dot, follows_last, end_mark, Walked, Onward, Behind, enter, enter_parent, at_node, at_entry, along, no_link_left, through_link, walk, resolve}
 use Rattle.pv_laws.specs.Walk
 
@@ -85,7 +83,7 @@ module _ (t : Tree) (last : Bool) where
         → ((m : ℕ) → Walk.Walks t last links rest mark m (along t last behind rest mark m))
         → (b c : Bool) → is_dot piece ≡ b → is_dot_dot piece ≡ c
         → Walk.Walks t last links (piece ∷ rest) mark at (cond b (enter (along t last behind rest mark) at) (cond c (enter_parent (along t last behind rest mark) (parent t at))
-            (if nat_lt (greatest_name t.version) (length piece) then Err ENAMETOOLONG else if is_removed t at then Err ENOENT else at_entry t last behind (along t last behind rest mark) at piece rest mark (find_entry t at piece))))
+        (if nat_lt (greatest_name t.version) (length piece) then Err ENAMETOOLONG else if is_removed t at then Err ENOENT else at_entry t last behind (along t last behind rest mark) at piece rest mark (find_entry t at piece))))
     dots_walk piece rest mark at onward true c dot dots = Walk.Walks.stays links piece rest mark at _ dot (onward at)
     dots_walk piece rest mark at onward false true dot dots = parent_walks piece rest mark at dots onward (parent t at) refl
     dots_walk piece rest mark at onward false false dot dots = name_walks piece rest mark at dot dots onward (nat_lt (greatest_name t.version) (length piece)) refl
@@ -99,17 +97,17 @@ module _ (t : Tree) (last : Bool) where
   walk-walks zero ps mark at = along-walks zero (no_link_left t last) (λ piece rest mark at n text ahead followed. Walk.Walks.out_of_links piece rest mark at n text ahead followed) ps mark at
   walk-walks (suc links) ps mark at =
       along-walks (suc links) (through_link t last (walk t last links))
-        (λ piece rest mark at n text ahead followed. by piece rest mark at n text ahead followed (walk-walks links) (nat_lt 1024 (weight (pieces text ++ rest))) refl) ps mark at
+      (λ piece rest mark at n text ahead followed. by piece rest mark at n text ahead followed (walk-walks links) (nat_lt 1024 (weight (pieces text ++ rest))) refl) ps mark at
     where
       by : (piece : Bytes) (rest : List Bytes) (mark : Bool) (at n : ℕ) (text : Bytes) → Walk.IsAhead t at piece n (link_node text) → Walk.is_followed rest mark last ≡ true
           → ((ps : List Bytes) (mark : Bool) (at : ℕ) → Walk.Walks t last links ps mark at (walk t last links ps mark at))
           → (b : Bool) → nat_lt 1024 (weight (pieces text ++ rest)) ≡ b
           → Walk.Walks t last (suc links) (piece ∷ rest) mark at
-              (cond b (Err ENAMETOOLONG) (walk t last links (pieces text ++ rest) (mark || (is_empty rest && ends_in_slash text)) (if is_absolute text then root else at)))
+          (cond b (Err ENAMETOOLONG) (walk t last links (pieces text ++ rest) (mark || (is_empty rest && ends_in_slash text)) (if is_absolute text then root else at)))
       by piece rest mark at n text ahead followed on true is = Walk.Walks.too_heavy links piece rest mark at n text ahead followed (ltb-true 1024 (weight (pieces text ++ rest)) is)
       by piece rest mark at n text ahead followed on false is =
           Walk.Walks.through links piece rest mark at n text _ ahead followed (ltb-false 1024 (weight (pieces text ++ rest)) is)
-            (on (pieces text ++ rest) (mark || (is_empty rest && ends_in_slash text)) (if is_absolute text then root else at))
+          (on (pieces text ++ rest) (mark || (is_empty rest && ends_in_slash text)) (if is_absolute text then root else at))
 
   -- ---- and the relation gives no other answer
 
@@ -193,11 +191,11 @@ module _ (t : Tree) (last : Bool) where
   walks-walk _ _ _ _ _ (Walk.Walks.too_heavy links piece rest mark at n text ahead followed heavy) =
       along-link (behind_of (suc links)) piece rest mark at n text true ahead followed
       ∙ ap (λ b. cond b (Err ENAMETOOLONG) (walk t last links (pieces text ++ rest) (mark || (is_empty rest && ends_in_slash text)) (if is_absolute text then root else at)))
-          (lt-ltb 1024 (weight (pieces text ++ rest)) heavy)
+      (lt-ltb 1024 (weight (pieces text ++ rest)) heavy)
   walks-walk _ _ _ _ _ (Walk.Walks.through links piece rest mark at n text r ahead followed light more) =
       along-link (behind_of (suc links)) piece rest mark at n text true ahead followed
       ∙ ap (λ b. cond b (Err ENAMETOOLONG) (walk t last links (pieces text ++ rest) (mark || (is_empty rest && ends_in_slash text)) (if is_absolute text then root else at)))
-          (le-ltb 1024 (weight (pieces text ++ rest)) light)
+      (le-ltb 1024 (weight (pieces text ++ rest)) light)
       ∙ walks-walk links (pieces text ++ rest) (mark || (is_empty rest && ends_in_slash text)) (if is_absolute text then root else at) r more
   walks-walk _ _ _ _ _ (Walk.Walks.enters links piece next rest mark at n es r ahead more) =
       walk-along links (piece ∷ next ∷ rest) mark at ∙ along-ahead (behind_of links) piece (next ∷ rest) mark at n (directory_node es) ahead
@@ -277,5 +275,5 @@ pub slashes-root : (t : Tree) (follow : Follow) (start : ℕ) (path : Bytes) →
     → resolve t follow start path ≡ Ok (Unnamed root)
 slashes-root t follow start path filled all short =
     let way : Walk.Walks t (follows_last follow) 32 (pieces path) (end_mark follow path) (from start path) (Ok (Unnamed root)) =
-      rw (slash_pieces path all, slash_absolute path filled all) (Walk.Walks.arrives 32 (end_mark follow path) root) in
+    rw (slash_pieces path all, slash_absolute path filled all) (Walk.Walks.arrives 32 (end_mark follow path) root) in
     resolves-resolve t follow start path (Ok (Unnamed root)) (Walk.Resolves.walks (Ok (Unnamed root)) filled short way)

@@ -1,5 +1,5 @@
 -- Laws of what is held, and of what trim keeps.
-use Rattle.std.specs.Prelude.{◌≡◌, ◌≢◌, ℕ, Bool, true, false, ◌||◌, ◌==◌, IsTrue, IsFalse, List, ◌∷◌, ◌++◌, flat_map, Option, None, is_some}
+use Rattle.std.specs.Prelude.{◌≡◌, ◌≢◌, ℕ, Bool, ◌||◌, ◌==◌, IsTrue, IsFalse, List, ◌∷◌, ◌++◌, flat_map, None, is_some}
 use Rattle.pv_model.specs.Held.{among, live_processes, used_files, held_nodes, only_nodes, trim_files, trim_nodes, trim}
 use Rattle.pv_model.specs.Numbered.{at_number}
 use Rattle.pv_model.specs.State.{State}

@@ -1,5 +1,5 @@
 -- What every state of a run is.
-use Rattle.std.specs.Prelude.{◌≡◌, ◌≢◌, ◌⊎◌, ℕ, suc, ◌+◌, ◌≤◌, ℤ, pos, negsuc, Bool, true, false, not, ◌&&◌, ◌||◌, ◌==◌, IsTrue, IsFalse, nat_le, nat_lt, List, [], ◌∷◌, length, Option, None, Some, is_some}
+use Rattle.std.specs.Prelude.{◌≡◌, ◌≢◌, ℕ, suc, ◌≤◌, ℤ, pos, negsuc, Bool, true, not, ◌&&◌, ◌||◌, ◌==◌, IsTrue, IsFalse, nat_le, nat_lt, List, length, Option, None, Some, is_some}
 use Rattle.std.specs.FinMap.Entries.{find, is_sorted}
 use Rattle.std.specs.List.{list_all}
 use Rattle.std.specs.Ordering.{nat_cmp}
@@ -21,7 +21,7 @@ use Rattle.pv_model.specs.Held.{trim}
 use Rattle.pv_model.specs.Numbered.{Numbered, at_number}
 use Rattle.pv_model.specs.Room.{fits, is_too_long}
 use Rattle.pv_model.specs.Sealed.{is_file}
-use Rattle.pv_model.specs.State.{OpenFile, Descriptor, Program, Process, Record, live, ended_record, State, writes, first_state, live_process, process_at}
+use Rattle.pv_model.specs.State.{OpenFile, Descriptor, Program, Process, Record, ended_record, State, writes, first_state, process_at}
 use Rattle.pv_model.specs.Step.{step, run}
 use Rattle.pv_model.specs.Tree.{Node, directory_node, file_node, link_node, Tree, node_at, is_directory_at, is_name, IsWellFormed}
 use Rattle.pv_model.specs.Unveil.{Target, of_directory, of_name, Table}
