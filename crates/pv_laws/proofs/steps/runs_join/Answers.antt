@@ -1,0 +1,5 @@
+use Rattle.pv_laws.proofs.Runs.{run-append}
+use Rattle.pv_laws.proofs.steps.runs_join.Goals as goal
+
+pub returns : goal.returns
+returns c = run-append

@@ -1,0 +1,23 @@
+//! Laws of the room that nodes need.
+
+ghost use Rattle.pv_laws.specs.Room.{NeedGrows, SmallerFits, SmallerIsNotTooLong, FarIsTooLong};
+
+/// A longer content needs no fewer blocks.
+pub fn need_grows()
+    ensures { NeedGrows }
+{}
+
+/// A tree that fits still fits with nodes less, or with shorter ones.
+pub fn smaller_fits()
+    ensures { SmallerFits }
+{}
+
+/// A tree with nodes less, or with shorter ones, has no node that is too long where there was none.
+pub fn smaller_is_not_too_long()
+    ensures { SmallerIsNotTooLong }
+{}
+
+/// What the early tests of write and ftruncate refuse, the tree would be refused for.
+pub fn far_is_too_long()
+    ensures { FarIsTooLong }
+{}
