@@ -1,5 +1,4 @@
 pub mod Numbered
-pub mod Runs
 pub mod Trim
 pub mod Entries
 pub mod Trees

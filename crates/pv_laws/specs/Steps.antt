@@ -2,11 +2,7 @@
 use Rattle.std.specs.Prelude.{◌≡◌, ℕ, List, ◌++◌, Option}
 use Rattle.pv_model.specs.Bytes.{Bytes}
 use Rattle.pv_model.specs.State.{Program, State}
-use Rattle.pv_model.specs.Step.{Run, run}
-
--- a run, and behind it another that begins where it ended
-abbrev pub run_then : Run → (State → Run) → Run
-run_then now rest = record { lines = now.lines ++ (rest now.final).lines; final = (rest now.final).final }
+use Rattle.pv_model.specs.Step.{run, run_then}
 
 -- a run over one list and then another is the run over both
 abbrev pub RunsJoin : Type 0
