@@ -22,7 +22,8 @@ use Rattle.pv_model.specs.Numbered.{Numbered, at_number, with_number, without_nu
 use Rattle.pv_model.specs.Perms.{covers, letter_r, letter_x, read_letters}
 use Rattle.pv_model.specs.State.{OpenFile, Descriptor, Program, Process, State, process_at, with_process}
 use Rattle.pv_model.specs.Tree.{Node, directory_node, file_node, link_node, node_at, is_directory_at}
-use Rattle.pv_model.specs.Unveil.{Target, Table, entry_for, letters_at, with_letters, target_of}
+use Rattle.pv_model.specs.declared.target.Target.{Target}
+use Rattle.pv_model.specs.Unveil.{Table, entry_for, letters_at, with_letters, target_of}
 use Rattle.pv_laws.specs.States.{is_byte, are_bytes, is_text, is_text_or_none, is_target, is_table, SpellsPrograms, IsRunning, IsPlaced, IsWhole}
 use Rattle.pv_laws.proofs.Attempts.{Leads, leads-bind, leads-then, leads-refuse_if, leads-demand, leads-walk, leads-place, leads-any}
 use Rattle.pv_laws.proofs.Members.{find_number-list_all, live-found}

@@ -12,7 +12,9 @@ use Rattle.pv_model.specs.Numbered.{Numbered, at_number}
 use Rattle.pv_model.specs.Sealed.{is_file}
 use Rattle.pv_model.specs.State.{OpenFile, Process, State, process_at, with_process, with_tree}
 use Rattle.pv_model.specs.Tree.{Node, link_node, Tree, node_at, is_directory, is_directory_at, is_removed, find_entry, is_name}
-use Rattle.pv_model.specs.Unveil.{Target, of_directory, of_name, Table, target_directory, target_of}
+use Rattle.pv_model.specs.declared.target.Target.{Target}
+use Rattle.pv_model.specs.declared.target.Target.TheVariants.{Directory as of_directory, Name as of_name}
+use Rattle.pv_model.specs.Unveil.{Table, target_directory, target_of}
 use Rattle.pv_model.specs.Walk.{resolve}
 use Rattle.pv_laws.specs.States.{is_byte, is_text_byte, are_bytes, has_bytes, is_text, IsTree, is_listed, IsOpenFile, AreFiles, is_target, is_table, IsRunning, IsPlaced, AreProcesses, IsSolid, IsWhole}
 use Rattle.pv_laws.proofs.Places.{list_all-weaker, IsGoodPlace, is_spelled, resolve-good, piece-name, link-text, not_zero}

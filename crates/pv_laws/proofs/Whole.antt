@@ -13,7 +13,9 @@ use Rattle.pv_model.specs.Room.{fits, is_too_long}
 use Rattle.pv_model.specs.Sealed.{is_file}
 use Rattle.pv_model.specs.State.{OpenFile, Process, Record, live, ended_record, State, process_at, with_process}
 use Rattle.pv_model.specs.Tree.{Node, Tree, node_at, is_directory, is_directory_at, is_name}
-use Rattle.pv_model.specs.Unveil.{Target, of_directory, of_name, Table, target_directory}
+use Rattle.pv_model.specs.declared.target.Target.{Target}
+use Rattle.pv_model.specs.declared.target.Target.TheVariants.{Directory as of_directory, Name as of_name}
+use Rattle.pv_model.specs.Unveil.{Table, target_directory}
 use Rattle.pv_laws.specs.Held.{used, wanted, kept}
 use Rattle.pv_laws.specs.Room.{IsNoLonger, IsNoLarger}
 use Rattle.pv_laws.specs.States.{are_bytes, is_listed, IsOpenFile, is_target, is_table, IsRunning, IsPlaced, is_number, IsSolid, IsWhole}

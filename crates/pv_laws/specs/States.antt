@@ -24,7 +24,9 @@ use Rattle.pv_model.specs.Sealed.{is_file}
 use Rattle.pv_model.specs.State.{OpenFile, Descriptor, Program, Process, Record, ended_record, State, writes, first_state, process_at}
 use Rattle.pv_model.specs.Step.{step, run}
 use Rattle.pv_model.specs.Tree.{Node, directory_node, file_node, link_node, Tree, node_at, is_directory_at, is_name, IsWellFormed}
-use Rattle.pv_model.specs.Unveil.{Target, of_directory, of_name, Table}
+use Rattle.pv_model.specs.declared.target.Target.{Target}
+use Rattle.pv_model.specs.declared.target.Target.TheVariants.{Directory as of_directory, Name as of_name}
+use Rattle.pv_model.specs.Unveil.{Table}
 use Rattle.pv_laws.specs.Held.{EachIsNamed}
 
 -- ---- numbers, bytes and texts
