@@ -6,6 +6,8 @@ ghost use Rattle.std.specs.Ordering.{nat_cmp};
 ghost use Rattle.pv_model.specs.Numbered.{at_number};
 ghost use Rattle.pv_model.specs.PlainTree.{plain_node};
 
+mod growing;
+
 use crate::{Name, Version};
 use std::marker::Model;
 
