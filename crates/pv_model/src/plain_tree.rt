@@ -7,6 +7,8 @@ ghost use Rattle.pv_model.specs.Numbered.{at_number, numbered};
 ghost use Rattle.pv_model.specs.Tree.{entries_of, names_node, first_parent};
 ghost use Rattle.pv_model.specs.PlainTree.{plain_node};
 
+mod growing;
+
 use crate::limits::ROOT;
 use crate::{Name, Version};
 use std::marker::Model;

@@ -12,9 +12,9 @@ use Rattle.pv_model.specs.Grammar.Lines.{lines_of, decimal_of}
 use Rattle.pv_model.specs.Grammar.Manifests.{Taking, Listed, Manifest, onto_listed, or_form, is_schedule_line, entries_from, with_line_end, sizes_of, are_sizes, behind_sizes, with_entries, if_sizes, manifest_by, entry_by, directory_line, file_line, program_line}
 use Rattle.pv_model.specs.Grammar.Arguments.{text_at, word_at, one_argument, two_arguments}
 use Rattle.pv_model.specs.Manifest.{Entry as ManifestEntry}
-use Rattle.pv_run.specs.declared.reader.manifest.Bundle.{Bundle}
-use Rattle.pv_run.specs.declared.reader.manifest.Entry.{Entry}
-use Rattle.pv_run.specs.declared.reader.manifest.Taken.{Taken}
+use Rattle.pv_run.specs.declared.reader.bundle.Bundle.{Bundle}
+use Rattle.pv_run.specs.declared.reader.bundle.Entry.{Entry}
+use Rattle.pv_run.specs.declared.reader.bundle.Taken.{Taken}
 use Rattle.pv_run.specs.Offered.{offered_entry_by, offered_entry, offered_bundle}
 use Rattle.pv_run.specs.Reading.{up_to_greatest, held_sizes, entry_of_line, taking_of, Takes, RefusesManifest}
 

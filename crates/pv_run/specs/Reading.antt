@@ -1,5 +1,5 @@
 -- What a reader that was given bytes answers, by what the bytes spell.
-use Rattle.std.specs.Prelude.{◌≡◌, ℕ, if◌then◌else◌, ◌==◌, ◌+◌, min, Bool, List, [], ◌∷◌, length, drop, ◌≤◌, map, option_map, Option, None, Some, Result, Ok, Err}
+use Rattle.std.specs.Prelude.{◌≡◌, ℕ, IsTrue, if◌then◌else◌, ◌==◌, ◌+◌, min, Bool, List, [], ◌∷◌, length, drop, ◌≤◌, map, option_map, Option, None, Some, Result, Ok, Err}
 use Rattle.std.specs.Borrow.{Bor}
 use Rattle.std.specs.Global.{Vec}
 use Rattle.pv_model.specs.declared.fault.ParseFault.{ParseFault}
@@ -15,11 +15,13 @@ use Rattle.pv_model.specs.Grammar.Lines.{lines_of, decimal_of}
 use Rattle.pv_model.specs.Grammar.Manifests.{Taking, Listed, Manifest}
 use Rattle.pv_model.specs.Manifest.{make, Entry as ManifestEntry}
 use Rattle.pv_model.specs.PlainTree.{plain_node}
-use Rattle.pv_run.specs.declared.reader.manifest.Bundle.{Bundle}
-use Rattle.pv_run.specs.declared.reader.manifest.Entry.{Entry}
-use Rattle.pv_run.specs.declared.reader.manifest.Taken.{Taken}
+use Rattle.pv_run.specs.Made.{IsMade}
+use Rattle.pv_run.specs.declared.reader.bundle.Bundle.{Bundle}
+use Rattle.pv_run.specs.declared.reader.bundle.Entry.{Entry}
+use Rattle.pv_run.specs.declared.reader.bundle.Taken.{Taken}
 use Rattle.pv_model.specs.State.{Program}
 use Rattle.pv_model.specs.Step.{Schedule}
+use Rattle.pv_model.specs.Tree.{Tree, root, is_directory_at}
 use Rattle.pv_model.specs.Walk.{split_slashes}
 
 -- a value and the bytes behind it are what was to be read, or nothing was to be read
@@ -106,3 +108,13 @@ Takes (Some t) taking behind = (taking ≡ Some (taking_of t)) × (t.lines ≤ l
 -- sizes, each held at the greatest of 32 bits
 abbrev pub held_sizes : ℕ × ℕ → ℕ × ℕ
 held_sizes p = (up_to_greatest p.0, up_to_greatest p.1)
+
+-- a tree is what was to be made, or the fault is
+abbrev pub GivesTree : Result Tree ManifestFault → Result Tree ManifestFault → Type 0
+GivesTree (Ok t) made = made ≡ Ok t
+GivesTree (Err fault) made = RefusesManifest fault made
+
+-- what a tree is while entries are added to it
+pub record IsGrown (t : Tree) : Type 0 where
+  pub made : IsMade t
+  pub rooted : IsTrue (is_directory_at t root)

@@ -6,37 +6,12 @@ ghost use Rattle.pv_model.specs.Grammar.Manifests.{are_sizes, sizes_of, director
 ghost use Rattle.pv_run.specs.Offered.{offered_entry_by, offered_entry, offered_bundle};
 ghost use Rattle.pv_run.specs.Reading.{held_sizes, Takes, GivesListed, GivesBundle};
 
+use super::bundle::{Bundle, Entry, Taken};
 use super::arguments::{one_text, text_and_size, two_sizes, two_texts};
 use super::lines::{split_line, split_word};
 use super::paths::is_manifest_path;
 use pv_model::{ManifestFault, PlainNode};
 use std::alloc::{AllocError, Global};
-
-/// An entry of a manifest: the number of its line, the path, and the node that it makes there.
-#[derive(Drop)]
-pub struct Entry {
-    pub line: u32,
-    pub path: Vec<u8>,
-    pub node: PlainNode,
-}
-
-/// A bundle: the sizes of the image, the entries of its manifest, and the text of its schedule.
-#[derive(Drop)]
-pub struct Bundle<'a> {
-    pub blocks: u16,
-    pub inodes: u16,
-    pub entries: Vec<Entry>,
-    pub behind: &'a [u8],
-}
-
-/// What a line of a manifest makes, how many of the lines behind it belong to it, and the text behind those.
-#[derive(Drop)]
-pub struct Taken<'a> {
-    pub path: Vec<u8>,
-    pub node: PlainNode,
-    pub lines: u32,
-    pub rest: &'a [u8],
-}
 
 // The blocks and inodes that the first line of a manifest tells, each held at 4,294,967,295.
 fn sizes(line: &[u8]) -> Option<(u32, u32)>

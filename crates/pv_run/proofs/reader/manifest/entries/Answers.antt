@@ -3,7 +3,7 @@ use Rattle.std.specs.Prelude.{bytes_eq}
 use Rattle.pv_model.specs.Bytes.{Bytes}
 use Rattle.pv_model.specs.Grammar.Lines.{lines_of}
 use Rattle.pv_model.specs.Grammar.Manifests.{Taking}
-use Rattle.pv_run.specs.declared.reader.manifest.Taken.{Taken}
+use Rattle.pv_run.specs.declared.reader.bundle.Taken.{Taken}
 use Rattle.pv_run.specs.Offered.{offered_entry}
 use Rattle.pv_run.specs.Reading.{Takes}
 use Rattle.pv_run.proofs.Manifests.{IsListedSoFar-room, IsListedSoFar-fewer, IsListedSoFar-step}
