@@ -25,3 +25,5 @@ pub mod Grown
 pub mod ByTree
 pub mod ByOpen
 pub mod BySteps
+pub mod Others
+pub mod Rests
