@@ -27,3 +27,4 @@ pub mod ByOpen
 pub mod BySteps
 pub mod Others
 pub mod Rests
+pub mod Apart

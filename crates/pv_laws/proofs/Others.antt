@@ -23,7 +23,7 @@ use Rattle.pv_laws.proofs.Trim.{held_after, tree-trim}
 -- ---- lists of processes that are alike
 
 module _ (pid : ℕ) where
-  alike-find : (xs ys : List (ℕ × Record)) → AreAlikeBut pid xs ys → find nat_cmp pid xs ≡ find nat_cmp pid ys
+  pub alike-find : (xs ys : List (ℕ × Record)) → AreAlikeBut pid xs ys → find nat_cmp pid xs ≡ find nat_cmp pid ys
   alike-find [] [] is = refl
   alike-find [] (y ∷ ys) is = absurd is
   alike-find (x ∷ xs) [] is = absurd is
@@ -34,7 +34,7 @@ module _ (pid : ℕ) where
           | false ↦ λ apart. alike-find xs ys is.3
         ] refl)
 
-  alike-length : (xs ys : List (ℕ × Record)) → AreAlikeBut pid xs ys → length xs ≡ length ys
+  pub alike-length : (xs ys : List (ℕ × Record)) → AreAlikeBut pid xs ys → length xs ≡ length ys
   alike-length [] [] is = refl
   alike-length [] (y ∷ ys) is = absurd is
   alike-length (x ∷ xs) [] is = absurd is
@@ -48,7 +48,7 @@ module _ (pid : ℕ) where
   alike-all [] = tt
   alike-all (y ∷ ys) = (refl, alike-self y.1, λ _. refl, alike-all ys)
 
-  alike-put : (r : Record) (xs ys : List (ℕ × Record)) → AreAlikeBut pid xs ys → AreAlikeBut pid (put nat_cmp pid r xs) (put nat_cmp pid r ys)
+  pub alike-put : (r : Record) (xs ys : List (ℕ × Record)) → AreAlikeBut pid xs ys → AreAlikeBut pid (put nat_cmp pid r xs) (put nat_cmp pid r ys)
   alike-put r [] [] is = (refl, alike-self r, λ _. refl, tt)
   alike-put r [] (y ∷ ys) is = absurd is
   alike-put r (x ∷ xs) [] is = absurd is
@@ -74,7 +74,7 @@ module _ (pid : ℕ) where
   mine : ℕ × Record → Bool
   mine r = parent_of r.1 == pid
 
-  alike-parent : (r q : Record) → IsSameOutside r q → parent_of r ≡ parent_of q
+  pub alike-parent : (r q : Record) → IsSameOutside r q → parent_of r ≡ parent_of q
   alike-parent (live p) (live q) is = ap (λ (x : Process). x.parent) is
   alike-parent (live p) (ended_record above status) is = absurd is
   alike-parent (ended_record above status) (live q) is = absurd is
@@ -88,21 +88,21 @@ Alike pid (refused w e c) (refused v f d) = (w ≡ v) × (e ≡ f) × (c ≡ d)
 Alike pid _ _ = ⊥
 
 module _ (pid : ℕ) where
-  alike-after : (n : ℕ) (a b : Attempt Effect) → Alike pid a b → Alike pid (after_walks n a) (after_walks n b)
+  pub alike-after : (n : ℕ) (a b : Attempt Effect) → Alike pid a b → Alike pid (after_walks n a) (after_walks n b)
   alike-after n (done w (x, r)) (done v (y, q)) is = (ap (λ k. n + k) is.0, is.1, is.2)
   alike-after n (done w (x, r)) (refused v f d) is = absurd is
   alike-after n (refused w e c) (done v (y, q)) is = absurd is
   alike-after n (refused w e c) (refused v f d) is = (ap (λ k. n + k) is.0, is.1, is.2)
 
-  alike-bind : {B : Type 0} (a : Attempt B) (k h : B → Attempt Effect) → ((v : B) → Alike pid (k v) (h v)) → Alike pid (a >>= k) (a >>= h)
+  pub alike-bind : {B : Type 0} (a : Attempt B) (k h : B → Attempt Effect) → ((v : B) → Alike pid (k v) (h v)) → Alike pid (a >>= k) (a >>= h)
   alike-bind (done w v) k h is = alike-after w (k v) (h v) (is v)
   alike-bind (refused w e c) k h is = (refl, refl, refl)
 
-  alike-then : {B : Type 0} (a : Attempt B) (k h : Attempt Effect) → Alike pid k h → Alike pid (a >> k) (a >> h)
+  pub alike-then : {B : Type 0} (a : Attempt B) (k h : Attempt Effect) → Alike pid k h → Alike pid (a >> k) (a >> h)
   alike-then (done w v) k h is = alike-after w k h is
   alike-then (refused w e c) k h is = (refl, refl, refl)
 
-  alike-room : (x y : State) (n : ℕ) → (trim x).tree ≡ (trim y).tree → process_at x pid ≡ process_at y pid → Alike pid (with_room x >>= (λ roomy. answers roomy n)) (with_room y >>= (λ roomy. answers roomy n))
+  pub alike-room : (x y : State) (n : ℕ) → (trim x).tree ≡ (trim y).tree → process_at x pid ≡ process_at y pid → Alike pid (with_room x >>= (λ roomy. answers roomy n)) (with_room y >>= (λ roomy. answers roomy n))
   alike-room x y n tree at =
       subst (λ t. Alike pid ((refuse_if EFBIG (is_too_long t) >> (refuse_if ENOSPC (not (fits t)) >> give x)) >>= (λ roomy. answers roomy n)) (with_room y >>= (λ roomy. answers roomy n))) (sym tree)
         (by (is_too_long (trim y).tree) (fits (trim y).tree))
@@ -113,7 +113,7 @@ module _ (pid : ℕ) where
       by false false = (refl, refl, refl)
 
   -- trees that are left when the processes are alike
-  alike-tree : (x : State) (ps : List (ℕ × Record)) → AreAlikeBut pid ps x.processes → (trim (record x { processes = ps })).tree ≡ (trim x).tree
+  pub alike-tree : (x : State) (ps : List (ℕ × Record)) → AreAlikeBut pid ps x.processes → (trim (record x { processes = ps })).tree ≡ (trim x).tree
   unfolding trim
   alike-tree x ps is =
       ap₂ (λ (hs us : List ℕ). Rattle.pv_laws.specs.Held.kept x.tree (hs ++ map (λ f. f.node) (present (keep (among us) x.files))))
