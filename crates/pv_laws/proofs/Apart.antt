@@ -1,38 +1,29 @@
 -- A step's text does not depend on the registers and the buffer of another process.
-use Rattle.std.proofs.Common.{◌≡◌, ◌≢◌, ℕ, zero, suc, ◌+◌, ◌-◌, ◌*◌, ◌%◌, ◌<◌, ◌≤◌, ℤ, pos, negsuc, Bool, true, false, cond, not, ◌&&◌, ◌||◌, ◌==◌, if◌then◌else◌, nat_le, nat_lt, List, [], ◌∷◌, ◌++◌, map, filter, length, replicate, slice_set, Option, None, Some, is_some, Result, Ok, Err, refl, ap, sym, subst, ◌∙◌, ⊎_elim, arith, min, ◌+ℤ◌, take, drop, option_map, ap₂, is_none, option_and_then}
-use Rattle.pv_model.specs.Attempt.{Attempt, refused, ◌>>=◌, ◌>>◌, give, refuse, refuse_if, demand}
-use Rattle.pv_model.specs.Bytes.{Bytes, is_empty, little_endian}
-use Rattle.pv_model.specs.Calls.Descriptors.{without_descriptor, with_descriptor, with_duplicate, is_number, within, close, dup, dup2, fstat, fchdir, directory_of, if_mode, is_behind, next_name, open_file_for, read, seek_base, lseek, list_name, getdents, natural, is_past_greatest, with_content, write_place, write_end, after_write, write, ftruncate, is_link, contradicts, follow_of, new_open_file, with_open_file, open_node, open_from, open_here, start_of, open_at}
-use Rattle.pv_model.specs.Calls.Paths.{link_text, chdir, stat_following, readlink, same_node, contains_directory, is_directory_there, entries_there, ends_in_dot, make, mkdir, symlink, link, unlink, rmdir, move_entry, rename}
-use Rattle.pv_model.specs.Calls.Processes.{exit_status, exit, getpid, getppid, execve, with_program, descriptor_after_exec, executable_bytes}
-use Rattle.pv_model.specs.Calls.Restraints.{asked_promises, unless_refused, entries_of_table, add_entry, add_target, refuse_if_locked, pledge, unveil}
-use Rattle.pv_model.specs.Effect.{Effect, answers, answers_bytes, returns, returns_bytes, ends, waits, walk_from, judge, node_of, descriptor_at, open_file, open_file_of, status, status_of, sort_number, size_of, with_file, bytes_of, with_room, name_of, overwrite, resize}
-use Rattle.pv_model.specs.Held.{among, trim, held_by_process}
+use Rattle.std.proofs.Common.{◌≡◌, ℕ, zero, suc, ℤ, pos, Bool, true, false, cond, not, ◌&&◌, ◌||◌, ◌==◌, if◌then◌else◌, nat_le, nat_lt, List, [], ◌∷◌, ◌++◌, map, filter, length, Option, None, Some, is_some, refl, ap, sym, subst, ◌∙◌, ◌+ℤ◌, take, option_map, ap₂, is_none}
+use Rattle.pv_model.specs.Attempt.{Attempt, refused, ◌>>=◌, ◌>>◌, give, refuse_if, demand}
+use Rattle.pv_model.specs.Bytes.{Bytes, is_empty}
+use Rattle.pv_model.specs.Calls.Descriptors.{without_descriptor, with_descriptor, is_number, within, close, dup, dup2, fstat, fchdir, directory_of, next_name, open_file_for, read, seek_base, lseek, list_name, getdents, natural, is_past_greatest, with_content, write_end, after_write, write, ftruncate, is_link, contradicts, follow_of, with_open_file, open_node, open_from, start_of, open_at}
+use Rattle.pv_model.specs.Calls.Paths.{link_text, chdir, stat_following, readlink, same_node, contains_directory, is_directory_there, entries_there, ends_in_dot, make, symlink, link, unlink, rmdir, move_entry, rename}
+use Rattle.pv_model.specs.Calls.Processes.{execve, with_program, executable_bytes}
+use Rattle.pv_model.specs.Calls.Restraints.{asked_promises, unless_refused, add_target, refuse_if_locked, pledge, unveil}
+use Rattle.pv_model.specs.Effect.{Effect, answers, answers_bytes, returns, returns_bytes, ends, waits, walk_from, judge, node_of, descriptor_at, open_file, status, bytes_of, with_room, name_of, resize}
+use Rattle.pv_model.specs.Held.{trim}
 use Rattle.pv_model.specs.Needs.{letters_of_open}
-use Rattle.pv_model.specs.Numbered.{Numbered, at_number, with_number, without_number, least_free}
-use Rattle.pv_model.specs.Perms.{covers, letter_r, letter_x, read_letters, letter_c}
-use Rattle.pv_model.specs.Promises.{Promises, narrow_promises, is_lenient}
-use Rattle.pv_model.specs.Room.{node_length, greatest_length, fits, is_too_long}
-use Rattle.pv_model.specs.Sealed.{is_file}
-use Rattle.pv_model.specs.State.{OpenFile, Descriptor, Program, Process, State, process_at, with_process, reads, writes, with_tree}
-use Rattle.pv_model.specs.Tree.{Node, directory_node, file_node, link_node, Tree, node_at, is_directory_at, Entries, greatest_name, entries_of, entries_at, is_name, is_name_byte, is_node, root, is_directory, is_removed, find_entry, new_number, with_node, with_new_node, with_entry, without_entry, is_link_text}
-use Rattle.pv_model.specs.Unveil.{Target, Table, entry_for, letters_at, with_letters, target_of}
-use Rattle.pv_model.specs.Walk.{resolve, is_absolute}
+use Rattle.pv_model.specs.Numbered.{with_number, least_free}
+use Rattle.pv_model.specs.Perms.{letter_r, letter_x, read_letters, letter_c}
+use Rattle.pv_model.specs.Promises.{narrow_promises, is_lenient}
+use Rattle.pv_model.specs.State.{OpenFile, Program, Process, State, process_at, with_process, reads, writes, with_tree}
+use Rattle.pv_model.specs.Tree.{Node, directory_node, file_node, link_node, Tree, node_at, is_directory_at, entries_at, is_directory, new_number, with_new_node, with_entry, without_entry}
+use Rattle.pv_model.specs.Unveil.{target_of}
 use Rattle.pv_model.specs.declared.call.Start.{Start}
 use Rattle.pv_model.specs.declared.call.Start.TheVariants.{WorkingDirectory, Descriptor as AtDescriptor}
 use Rattle.pv_model.specs.declared.call.Whence.{Whence}
-use Rattle.pv_model.specs.declared.errno.Errno.TheVariants.{EPERM, ENOENT, E2BIG, ENOEXEC, EBADF, EACCES, ENOTDIR, EINVAL, EMFILE, EISDIR, EFBIG, EBUSY, EEXIST, ENAMETOOLONG, ENOTEMPTY, ENFILE, ELOOP}
+use Rattle.pv_model.specs.declared.errno.Errno.TheVariants.{EPERM, ENOENT, ENOEXEC, EBADF, EACCES, ENOTDIR, EINVAL, EMFILE, EISDIR, EFBIG, EBUSY, EEXIST, ENAMETOOLONG, ENOTEMPTY, ENFILE, ELOOP}
 use Rattle.pv_model.specs.declared.follow.Follow.{Follow}
 use Rattle.pv_model.specs.declared.follow.Follow.TheVariants.{Last, Keep, KeepTrimmed}
-use Rattle.pv_model.specs.declared.open_flags.Mode.{Mode}
 use Rattle.pv_model.specs.declared.open_flags.OpenFlags.{OpenFlags}
-use Rattle.pv_model.specs.declared.outcome.Cause.TheVariants.{Unveil as ByUnveil}
 use Rattle.pv_model.specs.declared.perms.Perms.{Perms}
 use Rattle.pv_model.specs.declared.place.Place.{Place}
-use Rattle.pv_model.specs.declared.place.Place.TheVariants.{At, Node as Unnamed}
-use Rattle.pv_model.specs.declared.version.Version.{Version}
-use Rattle.pv_model.specs.declared.version.Version.TheVariants.{V1, V2}
-use Rattle.std.specs.FinMap.Entries.{find, where_key}
 use Rattle.std.specs.List.{list_all}
 use Rattle.std.specs.Ordering.{nat_cmp}
 use Rattle.pv_model.specs.declared.call.Call.{Call}
@@ -42,7 +33,7 @@ use Rattle.pv_model.specs.declared.outcome.Outcome.{Outcome}
 use Rattle.pv_model.specs.declared.outcome.Outcome.TheVariants as TheOutcome
 use Rattle.pv_model.specs.declared.outcome.Cause.TheVariants.{Promise as ByPromise}
 use Rattle.pv_model.specs.declared.promise.Promise.{Promise}
-use Rattle.pv_model.specs.Answer.{Answered, answer, answer_of, answer_where, answer_by_attempt, answer_by_reply, answer_without_promise, at_next_line, with_front, update_live, update, effect}
+use Rattle.pv_model.specs.Answer.{Answered, answer, answer_of, answer_where, answer_by_attempt, answer_by_reply, at_next_line, with_front, update_live, update, effect}
 use Rattle.pv_model.specs.Attempt.{done}
 use Rattle.pv_model.specs.Calls.Processes.{with_result, end_process, parent_of, statuses, child, fork, children, reap, wait}
 use Rattle.pv_model.specs.Effect.{Reply}
@@ -56,7 +47,7 @@ use Rattle.std.specs.Prelude.{codes}
 use Rattle.std.specs.FinMap.Entries.{put, find-put, find-where_key}
 use Rattle.std.specs.Cmp.{unsigned_ties}
 use Rattle.std.specs.Ordering.{is_eq}
-use Rattle.std.proofs.lemmas.Bool.{eqb-true, cases_Bool}
+use Rattle.std.proofs.lemmas.Bool.{eqb-true}
 use Rattle.std.proofs.lemmas.Cmp.{nat_cmp_total}
 use Rattle.std.specs.declared.cmp.Ordering.TheVariants.{Equal}
 use Rattle.pv_laws.specs.Steps.{IsSameOutside, AreAlikeBut}
@@ -76,11 +67,11 @@ alike-children pid n ((k, r) ∷ xs) ((j, q) ∷ ys) is =
     let as1 = filter (λ r. parent_of r.1 == n) xs in
     let bs1 = filter (λ r. parent_of r.1 == n) ys in
     subst (λ m. (statuses (cond (m == n) ((k, r) ∷ as1) as1) ≡ statuses (cond (parent_of q == n) ((j, q) ∷ bs1) bs1)) × (is_empty (cond (m == n) ((k, r) ∷ as1) as1) ≡ is_empty (cond (parent_of q == n) ((j, q) ∷ bs1) bs1)))
-      (sym (alike-parent pid r q is.1))
-      (elim (parent_of q == n) as (λ b. (statuses (cond b ((k, r) ∷ as1) as1) ≡ statuses (cond b ((j, q) ∷ bs1) bs1)) × (is_empty (cond b ((k, r) ∷ as1) as1) ≡ is_empty (cond b ((j, q) ∷ bs1) bs1))) [
-        | true ↦ (head r q is.1 as1 bs1 rest.0, refl)
-        | false ↦ rest
-      ])
+    (sym (alike-parent pid r q is.1))
+    (elim (parent_of q == n) as (λ b. (statuses (cond b ((k, r) ∷ as1) as1) ≡ statuses (cond b ((j, q) ∷ bs1) bs1)) × (is_empty (cond b ((k, r) ∷ as1) as1) ≡ is_empty (cond b ((j, q) ∷ bs1) bs1))) [
+      | true ↦ (head r q is.1 as1 bs1 rest.0, refl)
+      | false ↦ rest
+    ])
   where
     head : (r q : Record) → IsSameOutside r q → (as1 bs1 : List (ℕ × Record)) → statuses as1 ≡ statuses bs1 → statuses ((k, r) ∷ as1) ≡ statuses ((j, q) ∷ bs1)
     head (live p) (live o) same as1 bs1 rest = rest
@@ -121,26 +112,30 @@ module _ (s : State) (pid : ℕ) (me : Process) (qs : List (ℕ × Record)) (ali
   same-fork : Alike pid (fork other pid me) (fork s pid me)
   same-fork =
       subst (λ n. Alike pid (refuse_if EAGAIN (nat_le 32 n || nat_lt 99999 number) >> answers (forked other) number) (fork s pid me)) (sym (alike-length pid qs s.processes alike))
-        (alike-then pid (refuse_if EAGAIN (nat_le 32 (length s.processes) || nat_lt 99999 number)) (answers (forked other) number) (answers (forked s) number)
-          (refl, refl,
-           ap live_process (find-put nat_cmp nat_cmp_total pid number (live (child s pid me)) qs
-             ∙ ap (cond (Rattle.std.specs.Ordering.eq_by_cmp nat_cmp pid number) (Some (live (child s pid me)))) (alike-find pid qs s.processes alike)
-             ∙ sym (find-put nat_cmp nat_cmp_total pid number (live (child s pid me)) s.processes))))
+      (alike-then pid (refuse_if EAGAIN (nat_le 32 (length s.processes) || nat_lt 99999 number)) (answers (forked other) number) (answers (forked s) number) (
+        refl,
+        refl,
+        ap live_process (find-put nat_cmp nat_cmp_total pid number (live (child s pid me)) qs
+            ∙ ap (cond (Rattle.std.specs.Ordering.eq_by_cmp nat_cmp pid number) (Some (live (child s pid me)))) (alike-find pid qs s.processes alike)
+            ∙ sym (find-put nat_cmp nat_cmp_total pid number (live (child s pid me)) s.processes)),
+      ))
 
   same-reap : (ss : List (ℕ × ℕ)) → Alike pid (reap other pid me ss) (reap s pid me ss)
   same-reap [] = (refl, refl, mine-same)
   same-reap ((k, status) ∷ rs) =
       let p : ℕ → Bool = λ n. not (n == k) in
-      let agrees : (x : ℕ) → nat_cmp pid x ≡ Equal → p x ≡ p pid = λ x tied. ap p (sym (eqb-true pid x (unsigned_ties pid x ∙ ap is_eq tied))) in
-      (refl, refl,
-       ap live_process (find-where_key nat_cmp p pid agrees qs ∙ ap (λ o. cond (p pid) o None) (alike-find pid qs s.processes alike) ∙ sym (find-where_key nat_cmp p pid agrees s.processes)))
+      let agrees : (x : ℕ) → nat_cmp pid x ≡ Equal → p x ≡ p pid = λ x tied. ap p (sym (eqb-true pid x (unsigned_ties pid x ∙ ap is_eq tied))) in (
+        refl,
+        refl,
+        ap live_process (find-where_key nat_cmp p pid agrees qs ∙ ap (λ o. cond (p pid) o None) (alike-find pid qs s.processes alike) ∙ sym (find-where_key nat_cmp p pid agrees s.processes)),
+      )
 
   same-wait : Alike pid (wait other pid me) (wait s pid me)
   same-wait =
       let both = alike-children pid pid qs s.processes alike in
       subst (λ b. Alike pid (refuse_if ECHILD b >> reap other pid me (statuses (children other pid me))) (wait s pid me)) (sym both.1)
-        (alike-then pid (refuse_if ECHILD (is_empty (children s pid me))) (reap other pid me (statuses (children other pid me))) (reap s pid me (statuses (children s pid me)))
-          (subst (λ ss. Alike pid (reap other pid me ss) (reap s pid me (statuses (children s pid me)))) (sym both.0) (same-reap (statuses (children s pid me)))))
+      (alike-then pid (refuse_if ECHILD (is_empty (children s pid me))) (reap other pid me (statuses (children other pid me))) (reap s pid me (statuses (children s pid me)))
+      (subst (λ ss. Alike pid (reap other pid me ss) (reap s pid me (statuses (children s pid me)))) (sym both.0) (same-reap (statuses (children s pid me)))))
 
   -- restraints
 
@@ -150,9 +145,9 @@ module _ (s : State) (pid : ℕ) (me : Process) (qs : List (ℕ × Record)) (ali
       alike-bind pid (asked_promises execpromises) (Rests.pledge_2 other pid me asked) (Rests.pledge_2 s pid me asked) (λ exec_asked.
       alike-bind pid (unless_refused (narrow_promises (is_lenient me.promises) me.promises asked)) (Rests.pledge_3 other pid me exec_asked) (Rests.pledge_3 s pid me exec_asked) (λ kept.
       alike-bind pid (unless_refused (narrow_promises (is_lenient me.promises) me.execpromises exec_asked))
-        (λ exec_kept. answers (with_process other pid (record me { promises = kept; execpromises = exec_kept })) 0)
-        (λ exec_kept. answers (with_process s pid (record me { promises = kept; execpromises = exec_kept })) 0)
-        (λ exec_kept. (refl, refl, put-same (record me { promises = kept; execpromises = exec_kept }))))))
+      (λ exec_kept. answers (with_process other pid (record me { promises = kept; execpromises = exec_kept })) 0)
+      (λ exec_kept. answers (with_process s pid (record me { promises = kept; execpromises = exec_kept })) 0)
+      (λ exec_kept. (refl, refl, put-same (record me { promises = kept; execpromises = exec_kept }))))))
 
   same-unveil : (path letters : Option Bytes) → Alike pid (unveil other pid me path letters) (unveil s pid me path letters)
   same-unveil None None = (refl, refl, put-same (record me { locked = true }))
@@ -178,7 +173,7 @@ module _ (s : State) (pid : ℕ) (me : Process) (qs : List (ℕ × Record)) (ali
       places me.directory Last path letter_r (Rests.chdir_1 other pid me) (Rests.chdir_1 s pid me) (λ place.
       alike-bind pid (demand ENOENT (node_of place)) (Rests.chdir_2 other pid me) (Rests.chdir_2 s pid me) (λ n.
       alike-then pid (refuse_if ENOTDIR (not (is_directory_at s.tree n))) (answers (with_process other pid (record me { directory = n })) 0) (answers (with_process s pid (record me { directory = n })) 0)
-        (refl, refl, put-same (record me { directory = n }))))
+      (refl, refl, put-same (record me { directory = n }))))
 
   same-stat : (follow : Follow) (path : Bytes) → Alike pid (stat_following other pid me follow path) (stat_following s pid me follow path)
   same-stat follow path =
@@ -221,7 +216,7 @@ module _ (s : State) (pid : ℕ) (me : Process) (qs : List (ℕ × Record)) (ali
   same-rmdir : (path : Bytes) → Alike pid (rmdir other pid me path) (rmdir s pid me path)
   same-rmdir path =
       alike-then pid (refuse_if EINVAL (ends_in_dot path)) (walk_from other me.directory Keep path >>= (λ place. judge other me place letter_c >> Rests.rmdir_1 other pid me place))
-        (walk_from s me.directory Keep path >>= (λ place. judge s me place letter_c >> Rests.rmdir_1 s pid me place)) (
+      (walk_from s me.directory Keep path >>= (λ place. judge s me place letter_c >> Rests.rmdir_1 s pid me place)) (
       places me.directory Keep path letter_c (Rests.rmdir_1 other pid me) (Rests.rmdir_1 s pid me) (λ place.
       alike-bind pid (demand ENOENT (node_of place)) (Rests.rmdir_2 other pid me place) (Rests.rmdir_2 s pid me place) (λ n.
       alike-then pid (refuse_if ENOTDIR (not (is_directory_at s.tree n))) (Rests.rmdir_3 other pid me place n) (Rests.rmdir_3 s pid me place n) (
@@ -234,21 +229,21 @@ module _ (s : State) (pid : ℕ) (me : Process) (qs : List (ℕ × Record)) (ali
       alike-then pid (refuse_if EISDIR (is_directory_there s.tree there && not (is_directory_at s.tree n))) (Rests.move_3 other pid me n d name e new there) (Rests.move_3 s pid me n d name e new there) (
       alike-then pid (refuse_if ENOTDIR (is_directory_at s.tree n && is_some there && not (is_directory_there s.tree there))) (Rests.move_4 other pid me n d name e new there) (Rests.move_4 s pid me n d name e new there) (
       alike-then pid (refuse_if ENOTEMPTY (not (is_empty (entries_there s.tree there)))) (Rests.move_5 other pid me n d name e new) (Rests.move_5 s pid me n d name e new)
-        (room-tree (with_entry (without_entry s.tree d name) e new n) 0))))
+      (room-tree (with_entry (without_entry s.tree d name) e new n) 0))))
 
   same-rename : (path new : Bytes) → Alike pid (rename other pid me path new) (rename s pid me path new)
   same-rename path new =
       alike-then pid (refuse_if EINVAL (ends_in_dot path || ends_in_dot new)) (walk_from other me.directory Keep path >>= (λ old_place. judge other me old_place letter_c >> Rests.rename_1 other pid me new old_place))
-        (walk_from s me.directory Keep path >>= (λ old_place. judge s me old_place letter_c >> Rests.rename_1 s pid me new old_place)) (
+      (walk_from s me.directory Keep path >>= (λ old_place. judge s me old_place letter_c >> Rests.rename_1 s pid me new old_place)) (
       places me.directory Keep path letter_c (Rests.rename_1 other pid me new) (Rests.rename_1 s pid me new) (λ old_place.
       places me.directory Keep new letter_c (Rests.rename_2 other pid me old_place) (Rests.rename_2 s pid me old_place) (λ new_place.
       alike-bind pid (demand ENOENT (node_of old_place)) (Rests.rename_3 other pid me old_place new_place) (Rests.rename_3 s pid me old_place new_place) (λ n.
       alike-bind pid (demand EBUSY (name_of old_place)) (Rests.rename_4 other pid me new_place n) (Rests.rename_4 s pid me new_place n) (λ p.
       alike-bind pid (demand EBUSY (name_of new_place)) (Rests.rename_5 other pid me new_place n p) (Rests.rename_5 s pid me new_place n p) (λ q.
-        elim (same_node (node_of new_place) n) as (λ b. Alike pid (if b then answers other 0 else move_entry other pid me n p.0 p.1 q.0 q.1 (node_of new_place)) (if b then answers s 0 else move_entry s pid me n p.0 p.1 q.0 q.1 (node_of new_place))) [
-          | true ↦ (refl, refl, mine-same)
-          | false ↦ same-move n p.0 p.1 q.0 q.1 (node_of new_place)
-        ]))))))
+      elim (same_node (node_of new_place) n) as (λ b. Alike pid (if b then answers other 0 else move_entry other pid me n p.0 p.1 q.0 q.1 (node_of new_place)) (if b then answers s 0 else move_entry s pid me n p.0 p.1 q.0 q.1 (node_of new_place))) [
+        | true ↦ (refl, refl, mine-same)
+        | false ↦ same-move n p.0 p.1 q.0 q.1 (node_of new_place)
+      ]))))))
 
   -- descriptors
 
@@ -261,25 +256,25 @@ module _ (s : State) (pid : ℕ) (me : Process) (qs : List (ℕ × Record)) (ali
   same-fchdir : (d : ℤ) → Alike pid (fchdir other pid me d) (fchdir s pid me d)
   same-fchdir d =
       alike-bind pid (directory_of s pid me d) (λ directory. answers (with_process other pid (record me { directory = directory })) 0) (λ directory. answers (with_process s pid (record me { directory = directory })) 0)
-        (λ n. (refl, refl, put-same (record me { directory = n })))
+      (λ n. (refl, refl, put-same (record me { directory = n })))
 
   same-close : (d : ℤ) → Alike pid (close other pid me d) (close s pid me d)
   same-close d =
       alike-then pid (demand EBADF (descriptor_at me d)) (answers (with_process other pid (record me { descriptors = without_descriptor me.descriptors d })) 0) (answers (with_process s pid (record me { descriptors = without_descriptor me.descriptors d })) 0)
-        (refl, refl, put-same (record me { descriptors = without_descriptor me.descriptors d }))
+      (refl, refl, put-same (record me { descriptors = without_descriptor me.descriptors d }))
 
   same-dup : (d : ℤ) → Alike pid (dup other pid me d) (dup s pid me d)
   same-dup d =
       alike-bind pid (demand EBADF (descriptor_at me d)) (Rests.dup_1 other pid me) (Rests.dup_1 s pid me) (λ x.
       alike-then pid (refuse_if EMFILE (nat_le 16 (least_free me.descriptors))) (answers (with_descriptor other pid me other x.file false) (least_free me.descriptors)) (answers (with_descriptor s pid me s x.file false) (least_free me.descriptors))
-        (refl, refl, put-same (record me { descriptors = with_number me.descriptors (least_free me.descriptors) (record { file = x.file; close_on_exec = false }) })))
+      (refl, refl, put-same (record me { descriptors = with_number me.descriptors (least_free me.descriptors) (record { file = x.file; close_on_exec = false }) })))
 
   same-dup2 : (d e : ℤ) → Alike pid (dup2 other pid me d e) (dup2 s pid me d e)
   same-dup2 d e =
       alike-bind pid (demand EBADF (descriptor_at me d)) (Rests.dup2_1 other pid me d e) (Rests.dup2_1 s pid me d e) (λ x.
       alike-bind pid (demand EBADF (within 15 e)) (Rests.dup2_2 other pid me d x) (Rests.dup2_2 s pid me d x) (λ n.
-        let q : Process = record me { descriptors = with_number me.descriptors n (record x { close_on_exec = false }) } in
-        elim (is_number d n) as (λ b. Alike pid (answers (if b then other else with_process other pid q) n) (answers (if b then s else with_process s pid q) n)) [ true ↦ (refl, refl, mine-same) | false ↦ (refl, refl, put-same q) ]))
+      let q : Process = record me { descriptors = with_number me.descriptors n (record x { close_on_exec = false }) } in
+      elim (is_number d n) as (λ b. Alike pid (answers (if b then other else with_process other pid q) n) (answers (if b then s else with_process s pid q) n)) [ true ↦ (refl, refl, mine-same) | false ↦ (refl, refl, put-same q) ]))
 
   same-lseek : (d by : ℤ) (whence : Whence) → Alike pid (lseek other pid me d by whence) (lseek s pid me d by whence)
   same-lseek d by whence =
@@ -309,7 +304,7 @@ module _ (s : State) (pid : ℕ) (me : Process) (qs : List (ℕ × Record)) (ali
       alike-then pid (refuse_if EINVAL (not (writes f.1.mode))) (Rests.ftruncate_2 other pid me n f.1) (Rests.ftruncate_2 s pid me n f.1) (
       alike-bind pid (demand EINVAL (natural n)) (Rests.ftruncate_3 other pid me f.1) (Rests.ftruncate_3 s pid me f.1) (λ size.
       alike-then pid (refuse_if EFBIG (is_past_greatest s.tree size)) (Rests.ftruncate_4 other pid me f.1 size) (Rests.ftruncate_4 s pid me f.1 size)
-        (room-tree (with_content s.tree f.1.node (resize (bytes_of (node_at s.tree f.1.node)) size)) 0))))
+      (room-tree (with_content s.tree f.1.node (resize (bytes_of (node_at s.tree f.1.node)) size)) 0))))
 
   same-getdents : (d : ℤ) → Alike pid (getdents other pid me d) (getdents s pid me d)
   same-getdents d =
@@ -326,7 +321,7 @@ module _ (s : State) (pid : ℕ) (me : Process) (qs : List (ℕ × Record)) (ali
   same-opened f n t =
       let q : Process = record me { descriptors = with_number me.descriptors (least_free me.descriptors) (record { file = least_free s.files; close_on_exec = f.close_on_exec }) } in
       alike-room pid (with_open_file other pid me f n t) (with_open_file s pid me f n t) (least_free me.descriptors)
-        (alike-tree pid (with_open_file s pid me f n t) (put nat_cmp pid (live q) qs) (alike-put pid (live q) qs s.processes alike)) (put-same q)
+      (alike-tree pid (with_open_file s pid me f n t) (put nat_cmp pid (live q) qs) (alike-put pid (live q) qs s.processes alike)) (put-same q)
 
   same-open_node : (f : OpenFlags) (name : Option (ℕ × Bytes)) (node : Option ℕ) → Alike pid (open_node other pid me f name node >>= Rests.open_7 other pid me) (open_node s pid me f name node >>= Rests.open_7 s pid me)
   same-open_node f name (Some n) =
@@ -349,7 +344,7 @@ module _ (s : State) (pid : ℕ) (me : Process) (qs : List (ℕ × Record)) (ali
       alike-then pid (refuse_if ELOOP (is_link (Rests.node_there s pid me place))) (Rests.open_4 other pid me f place) (Rests.open_4 s pid me f place) (
       alike-then pid (refuse_if ENOTDIR (f.directory && not (is_directory (Rests.node_there s pid me place)))) (Rests.open_5 other pid me f place) (Rests.open_5 s pid me f place) (
       alike-then pid (refuse_if EISDIR (is_directory (Rests.node_there s pid me place) && writes f.mode)) (Rests.open_6 other pid me f place) (Rests.open_6 s pid me f place)
-        (same-open_node f (name_of place) (node_of place)))))))))))
+      (same-open_node f (name_of place) (node_of place)))))))))))
 
   same-open_at : (start : Start) (path : Bytes) (f : OpenFlags) → Alike pid (open_at other pid me start path f) (open_at s pid me start path f)
   same-open_at WorkingDirectory path f = same-open_from (give me.directory) path f
@@ -418,7 +413,7 @@ told-done b c x y s t pid me w waits same = record { outcome = refl; walks = ref
 told-alike : (b c s t : State) (pid : ℕ) (me : Process) (a d : Attempt Effect) → Alike pid a d → IsToldAlike pid (answer_by_attempt b s pid me a) (answer_by_attempt c t pid me d)
 told-alike b c s t pid me (done w (x, r)) (done v (y, q)) is =
     subst (λ k. IsToldAlike pid (answer_by_reply b s pid me w r x) (answer_by_reply c t pid me k q y)) is.0
-      (subst (λ k. IsToldAlike pid (answer_by_reply b s pid me w r x) (answer_by_reply c t pid me w k y)) is.1 (told-done b c x y s t pid me w r is.2))
+    (subst (λ k. IsToldAlike pid (answer_by_reply b s pid me w r x) (answer_by_reply c t pid me w k y)) is.1 (told-done b c x y s t pid me w r is.2))
 told-alike b c s t pid me (done w (x, r)) (refused v f d) is = absurd is
 told-alike b c s t pid me (refused w e d) (done v (y, q)) is = absurd is
 told-alike b c s t pid me (refused w e d) (refused v f g) is = record { outcome = ap₂ (λ x y. TheOutcome.Failed x y) is.1 is.2; walks = is.0; buffer = λ m len said. cc }
@@ -453,11 +448,11 @@ module _ (program_of : Bytes → Option Program) (s : State) (pid : ℕ) (others
       → IsToldAlike pid (answer_where program_of changed (at_call changed pid p) pid (at_next_line p) call o) (answer_where program_of s (at_call s pid p) pid (at_next_line p) call o)
   told-where p call None =
       told-alike changed s (at_call changed pid p) (at_call s pid p) pid (at_next_line p) (effect program_of (at_call changed pid p) pid (at_next_line p) call) (effect program_of (at_call s pid p) pid (at_next_line p) call)
-        (same-effect (at_call s pid p) pid (at_next_line p) (put nat_cmp pid (live (at_next_line p)) others) (alike-put pid (live (at_next_line p)) others s.processes alike) program_of call)
+      (same-effect (at_call s pid p) pid (at_next_line p) (put nat_cmp pid (live (at_next_line p)) others) (alike-put pid (live (at_next_line p)) others s.processes alike) program_of call)
   told-where p call (Some q) =
       elim (is_lenient p.promises) as (λ b. IsToldAlike pid
-          (if b then answer_by_attempt changed (at_call changed pid p) pid (at_next_line p) (refused 0 ENOSYS (ByPromise q)) else record { after = trim (end_process changed pid (at_next_line p) 6); outcome = TheOutcome.Killed q; walks = 0 })
-          (if b then answer_by_attempt s (at_call s pid p) pid (at_next_line p) (refused 0 ENOSYS (ByPromise q)) else record { after = trim (end_process s pid (at_next_line p) 6); outcome = TheOutcome.Killed q; walks = 0 })) [
+      (if b then answer_by_attempt changed (at_call changed pid p) pid (at_next_line p) (refused 0 ENOSYS (ByPromise q)) else record { after = trim (end_process changed pid (at_next_line p) 6); outcome = TheOutcome.Killed q; walks = 0 })
+      (if b then answer_by_attempt s (at_call s pid p) pid (at_next_line p) (refused 0 ENOSYS (ByPromise q)) else record { after = trim (end_process s pid (at_next_line p) 6); outcome = TheOutcome.Killed q; walks = 0 })) [
         | true ↦ record { outcome = refl; walks = refl; buffer = λ m len said. cc }
         | false ↦ record { outcome = refl; walks = refl; buffer = λ m len said. cc }
       ]
@@ -466,8 +461,8 @@ module _ (program_of : Bytes → Option Program) (s : State) (pid : ℕ) (others
   unfolding answer
   told-answer p call at =
       subst (λ o. IsToldAlike pid (answer_of program_of changed pid call o) (answer_of program_of s pid call (process_at s pid))) (sym (ap live_process (alike-find pid others s.processes alike) ∙ at))
-        (subst (λ o. IsToldAlike pid (answer_of program_of changed pid call (Some p)) (answer_of program_of s pid call o)) (sym at)
-          (told-where p call (missing_promise p.promises (needs call))))
+      (subst (λ o. IsToldAlike pid (answer_of program_of changed pid call (Some p)) (answer_of program_of s pid call o)) (sym at)
+      (told-where p call (missing_promise p.promises (needs call))))
 
   next-alike : (p : Process) → process_at s pid ≡ Some p → (n : Next) → (step_by program_of changed pid p n).lines ≡ (step_by program_of s pid p n).lines
   next-alike p at (inside q) = refl

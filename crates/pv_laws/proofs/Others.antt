@@ -1,24 +1,20 @@
 -- A step's text does not depend on the registers and the buffer of another process.
-use Rattle.std.proofs.Common.{◌≡◌, ◌≢◌, ℕ, zero, suc, ◌+◌, ℤ, pos, negsuc, Bool, true, false, cond, not, ◌&&◌, ◌||◌, ◌==◌, if◌then◌else◌, nat_le, nat_lt, List, [], ◌∷◌, ◌++◌, map, filter, length, Option, None, Some, is_some, is_none, Result, Ok, Err, option_and_then, refl, ap, ap₂, sym, subst, ◌∙◌, ⊎_elim}
-use Rattle.std.specs.Ordering.{nat_cmp, is_eq, eq_by_cmp}
-use Rattle.std.specs.FinMap.Entries.{by_order, find, put, where_key, find-where_key}
+use Rattle.std.proofs.Common.{◌≡◌, ℕ, suc, ◌+◌, Bool, true, false, cond, not, ◌==◌, List, [], ◌∷◌, ◌++◌, map, length, Some, refl, ap, ap₂, sym, subst, ◌∙◌}
+use Rattle.std.specs.Ordering.{nat_cmp, eq_by_cmp}
+use Rattle.std.specs.FinMap.Entries.{by_order, find, put}
 use Rattle.std.specs.Cmp.{unsigned_ties}
-use Rattle.std.specs.declared.cmp.Ordering.{Ordering}
 use Rattle.std.specs.declared.cmp.Ordering.TheVariants.{Less, Equal, Greater}
 use Rattle.std.proofs.lemmas.Bool.{eqb-true}
 use Rattle.pv_model.specs.declared.errno.Errno.TheVariants.{EFBIG, ENOSPC}
 use Rattle.pv_model.specs.Attempt.{Attempt, done, refused, after_walks, ◌>>=◌, ◌>>◌, give, refuse_if}
-use Rattle.pv_model.specs.Bytes.{Bytes}
-use Rattle.pv_model.specs.Calls.Processes.{parent_of, statuses}
+use Rattle.pv_model.specs.Calls.Processes.{parent_of}
 use Rattle.pv_model.specs.Effect.{Effect, answers, with_room}
 use Rattle.pv_model.specs.Held.{among, used_files, held_by_process, trim}
 use Rattle.pv_model.specs.Numbered.{present, keep}
 use Rattle.pv_model.specs.Room.{fits, is_too_long}
-use Rattle.pv_model.specs.State.{Process, Record, live, ended_record, State, live_process, process_at, with_process}
+use Rattle.pv_model.specs.State.{Process, Record, live, ended_record, State, process_at}
 use Rattle.pv_laws.specs.Steps.{IsSameOutside, AreAlikeBut}
 use Rattle.pv_laws.proofs.Members.{all_of}
-use Rattle.pv_laws.proofs.Processes.{process_at-same}
-use Rattle.pv_laws.proofs.Trim.{held_after, tree-trim}
 
 -- ---- lists of processes that are alike
 
@@ -30,9 +26,9 @@ module _ (pid : ℕ) where
   alike-find (x ∷ xs) (y ∷ ys) is =
       ap (λ k. cond (eq_by_cmp nat_cmp pid k) (Some x.1) (find nat_cmp pid xs)) is.0
       ∙ (elim (eq_by_cmp nat_cmp pid y.0) as (λ b. eq_by_cmp nat_cmp pid y.0 ≡ b → cond b (Some x.1) (find nat_cmp pid xs) ≡ cond b (Some y.1) (find nat_cmp pid ys)) [
-          | true ↦ λ tied. ap Some (is.2 (sym (eqb-true pid y.0 (unsigned_ties pid y.0 ∙ tied))))
-          | false ↦ λ apart. alike-find xs ys is.3
-        ] refl)
+        | true ↦ λ tied. ap Some (is.2 (sym (eqb-true pid y.0 (unsigned_ties pid y.0 ∙ tied))))
+        | false ↦ λ apart. alike-find xs ys is.3
+      ] refl)
 
   pub alike-length : (xs ys : List (ℕ × Record)) → AreAlikeBut pid xs ys → length xs ≡ length ys
   alike-length [] [] is = refl
@@ -54,12 +50,12 @@ module _ (pid : ℕ) where
   alike-put r (x ∷ xs) [] is = absurd is
   alike-put r (x ∷ xs) (y ∷ ys) is =
       subst (λ o. AreAlikeBut pid (by_order o ((pid, r) ∷ x ∷ xs) ((x.0, r) ∷ xs) (x ∷ put nat_cmp pid r xs)) (by_order (nat_cmp pid y.0) ((pid, r) ∷ y ∷ ys) ((y.0, r) ∷ ys) (y ∷ put nat_cmp pid r ys)))
-        (ap (nat_cmp pid) (sym is.0))
-        (elim (nat_cmp pid y.0) as (λ o. AreAlikeBut pid (by_order o ((pid, r) ∷ x ∷ xs) ((x.0, r) ∷ xs) (x ∷ put nat_cmp pid r xs)) (by_order o ((pid, r) ∷ y ∷ ys) ((y.0, r) ∷ ys) (y ∷ put nat_cmp pid r ys))) [
-          | Less ↦ (refl, alike-self r, λ _. refl, is)
-          | Equal ↦ (is.0, alike-self r, λ _. refl, is.3)
-          | Greater ↦ (is.0, is.1, is.2, alike-put r xs ys is.3)
-        ])
+      (ap (nat_cmp pid) (sym is.0))
+      (elim (nat_cmp pid y.0) as (λ o. AreAlikeBut pid (by_order o ((pid, r) ∷ x ∷ xs) ((x.0, r) ∷ xs) (x ∷ put nat_cmp pid r xs)) (by_order o ((pid, r) ∷ y ∷ ys) ((y.0, r) ∷ ys) (y ∷ put nat_cmp pid r ys))) [
+        | Less ↦ (refl, alike-self r, λ _. refl, is)
+        | Equal ↦ (is.0, alike-self r, λ _. refl, is.3)
+        | Greater ↦ (is.0, is.1, is.2, alike-put r xs ys is.3)
+      ])
 
   alike-held : (g : Process → List ℕ) → ((p q : Process) → p ≡ record q { registers = p.registers; buffer = p.buffer } → g p ≡ g q)
       → (xs ys : List (ℕ × Record)) → AreAlikeBut pid xs ys → all_of g xs ≡ all_of g ys
@@ -105,7 +101,7 @@ module _ (pid : ℕ) where
   pub alike-room : (x y : State) (n : ℕ) → (trim x).tree ≡ (trim y).tree → process_at x pid ≡ process_at y pid → Alike pid (with_room x >>= (λ roomy. answers roomy n)) (with_room y >>= (λ roomy. answers roomy n))
   alike-room x y n tree at =
       subst (λ t. Alike pid ((refuse_if EFBIG (is_too_long t) >> (refuse_if ENOSPC (not (fits t)) >> give x)) >>= (λ roomy. answers roomy n)) (with_room y >>= (λ roomy. answers roomy n))) (sym tree)
-        (by (is_too_long (trim y).tree) (fits (trim y).tree))
+      (by (is_too_long (trim y).tree) (fits (trim y).tree))
     where
       by : (long fit : Bool) → Alike pid ((refuse_if EFBIG long >> (refuse_if ENOSPC (not fit) >> give x)) >>= (λ roomy. answers roomy n)) ((refuse_if EFBIG long >> (refuse_if ENOSPC (not fit) >> give y)) >>= (λ roomy. answers roomy n))
       by true fit = (refl, refl, refl)
@@ -117,5 +113,5 @@ module _ (pid : ℕ) where
   unfolding trim
   alike-tree x ps is =
       ap₂ (λ (hs us : List ℕ). Rattle.pv_laws.specs.Held.kept x.tree (hs ++ map (λ f. f.node) (present (keep (among us) x.files))))
-        (alike-held pid held_by_process (λ p q same. ap held_by_process same) ps x.processes is)
-        (alike-held pid used_files (λ p q same. ap used_files same) ps x.processes is)
+      (alike-held pid held_by_process (λ p q same. ap held_by_process same) ps x.processes is)
+      (alike-held pid used_files (λ p q same. ap used_files same) ps x.processes is)

@@ -1,40 +1,25 @@
 -- The rest of each call, from each of its steps on.
-use Rattle.std.proofs.Common.{◌≡◌, ◌≢◌, ℕ, zero, suc, ◌+◌, ◌-◌, ◌*◌, ◌%◌, ◌<◌, ◌≤◌, ℤ, pos, negsuc, Bool, true, false, cond, not, ◌&&◌, ◌||◌, ◌==◌, if◌then◌else◌, nat_le, nat_lt, List, [], ◌∷◌, ◌++◌, map, filter, length, replicate, slice_set, Option, None, Some, is_some, Result, Ok, Err, refl, ap, sym, subst, ◌∙◌, ⊎_elim, arith, min, ◌+ℤ◌, take, drop, option_map, ap₂, is_none, option_and_then}
-use Rattle.pv_model.specs.Attempt.{Attempt, refused, ◌>>=◌, ◌>>◌, give, refuse, refuse_if, demand}
-use Rattle.pv_model.specs.Bytes.{Bytes, is_empty, little_endian}
-use Rattle.pv_model.specs.Calls.Descriptors.{without_descriptor, with_descriptor, with_duplicate, is_number, within, close, dup, dup2, fstat, fchdir, directory_of, if_mode, is_behind, next_name, open_file_for, read, seek_base, lseek, list_name, getdents, natural, is_past_greatest, with_content, write_place, write_end, after_write, write, ftruncate, is_link, contradicts, follow_of, new_open_file, with_open_file, open_node, open_from, open_here, start_of, open_at}
-use Rattle.pv_model.specs.Calls.Paths.{link_text, chdir, stat_following, readlink, same_node, contains_directory, is_directory_there, entries_there, ends_in_dot, make, mkdir, symlink, link, unlink, rmdir, move_entry, rename}
-use Rattle.pv_model.specs.Calls.Processes.{exit_status, exit, getpid, getppid, execve, with_program, descriptor_after_exec, executable_bytes}
-use Rattle.pv_model.specs.Calls.Restraints.{asked_promises, unless_refused, entries_of_table, add_entry, add_target, refuse_if_locked, pledge, unveil}
-use Rattle.pv_model.specs.Effect.{Effect, answers, answers_bytes, returns, returns_bytes, ends, waits, walk_from, judge, node_of, descriptor_at, open_file, open_file_of, status, status_of, sort_number, size_of, with_file, bytes_of, with_room, name_of, overwrite, resize}
-use Rattle.pv_model.specs.Held.{among, trim, held_by_process}
+use Rattle.std.proofs.Common.{ℕ, ◌+◌, ℤ, pos, false, not, ◌&&◌, if◌then◌else◌, nat_le, length, Option, Some, is_some, ◌+ℤ◌, take, drop, is_none, option_and_then}
+use Rattle.pv_model.specs.Attempt.{Attempt, ◌>>=◌, ◌>>◌, give, refuse_if, demand}
+use Rattle.pv_model.specs.Bytes.{Bytes, is_empty}
+use Rattle.pv_model.specs.Calls.Descriptors.{with_descriptor, with_duplicate, within, next_name, seek_base, list_name, natural, is_past_greatest, with_content, write_end, after_write, is_link, follow_of, open_node}
+use Rattle.pv_model.specs.Calls.Paths.{link_text, same_node, is_directory_there, entries_there, move_entry}
+use Rattle.pv_model.specs.Calls.Processes.{with_program, executable_bytes}
+use Rattle.pv_model.specs.Calls.Restraints.{asked_promises, unless_refused, add_target, refuse_if_locked}
+use Rattle.pv_model.specs.Effect.{Effect, answers, answers_bytes, walk_from, judge, node_of, status, with_file, bytes_of, with_room, name_of, resize}
 use Rattle.pv_model.specs.Needs.{letters_of_open}
-use Rattle.pv_model.specs.Numbered.{Numbered, at_number, with_number, without_number, least_free}
-use Rattle.pv_model.specs.Perms.{covers, letter_r, letter_x, read_letters, letter_c}
+use Rattle.pv_model.specs.Numbered.{least_free}
+use Rattle.pv_model.specs.Perms.{letter_c}
 use Rattle.pv_model.specs.Promises.{Promises, narrow_promises, is_lenient}
-use Rattle.pv_model.specs.Room.{node_length, greatest_length, fits, is_too_long}
-use Rattle.pv_model.specs.Sealed.{is_file}
-use Rattle.pv_model.specs.State.{OpenFile, Descriptor, Program, Process, State, process_at, with_process, reads, writes, with_tree}
-use Rattle.pv_model.specs.Tree.{Node, directory_node, file_node, link_node, Tree, node_at, is_directory_at, Entries, greatest_name, entries_of, entries_at, is_name, is_name_byte, is_node, root, is_directory, is_removed, find_entry, new_number, with_node, with_new_node, with_entry, without_entry, is_link_text}
-use Rattle.pv_model.specs.Unveil.{Target, Table, entry_for, letters_at, with_letters, target_of}
-use Rattle.pv_model.specs.Walk.{resolve, is_absolute}
-use Rattle.pv_model.specs.declared.call.Start.{Start}
-use Rattle.pv_model.specs.declared.call.Start.TheVariants.{WorkingDirectory, Descriptor as AtDescriptor}
+use Rattle.pv_model.specs.State.{OpenFile, Descriptor, Program, Process, State, with_process, writes, with_tree}
+use Rattle.pv_model.specs.Tree.{Node, node_at, is_directory_at, entries_at, is_directory, with_new_node, with_entry, without_entry}
+use Rattle.pv_model.specs.Unveil.{Table, target_of}
 use Rattle.pv_model.specs.declared.call.Whence.{Whence}
-use Rattle.pv_model.specs.declared.errno.Errno.TheVariants.{EPERM, ENOENT, E2BIG, ENOEXEC, EBADF, EACCES, ENOTDIR, EINVAL, EMFILE, EISDIR, EFBIG, EBUSY, EEXIST, ENAMETOOLONG, ENOTEMPTY, ENFILE, ELOOP}
-use Rattle.pv_model.specs.declared.follow.Follow.{Follow}
-use Rattle.pv_model.specs.declared.follow.Follow.TheVariants.{Last, Keep, KeepTrimmed}
-use Rattle.pv_model.specs.declared.open_flags.Mode.{Mode}
+use Rattle.pv_model.specs.declared.errno.Errno.TheVariants.{EPERM, ENOENT, ENOEXEC, EBADF, EACCES, ENOTDIR, EINVAL, EMFILE, EISDIR, EFBIG, EBUSY, EEXIST, ENOTEMPTY, ENFILE, ELOOP}
+use Rattle.pv_model.specs.declared.follow.Follow.TheVariants.{Last, Keep}
 use Rattle.pv_model.specs.declared.open_flags.OpenFlags.{OpenFlags}
-use Rattle.pv_model.specs.declared.outcome.Cause.TheVariants.{Unveil as ByUnveil}
 use Rattle.pv_model.specs.declared.perms.Perms.{Perms}
 use Rattle.pv_model.specs.declared.place.Place.{Place}
-use Rattle.pv_model.specs.declared.place.Place.TheVariants.{At, Node as Unnamed}
-use Rattle.pv_model.specs.declared.version.Version.{Version}
-use Rattle.pv_model.specs.declared.version.Version.TheVariants.{V1, V2}
-use Rattle.std.specs.FinMap.Entries.{find, where_key}
-use Rattle.std.specs.List.{list_all}
-use Rattle.std.specs.Ordering.{nat_cmp}
 
 module _ (s : State) (pid : ℕ) (me : Process) where
   abbrev pub pledge_3 : Option Promises → Option Promises → Attempt Effect
