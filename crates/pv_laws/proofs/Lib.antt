@@ -24,3 +24,6 @@ pub mod Grown
 pub mod ByTree
 pub mod ByOpen
 pub mod BySteps
+pub mod Others
+pub mod Rests
+pub mod Apart
