@@ -62,10 +62,10 @@ offered_flags f h =
     let h3 = first_of _ (not f.truncate) h4 in
     let h2 = first_of _ (not f.create) h3 in
     plain_flags f.mode f.append f.create f.truncate f.exclusive f.no_follow f.directory f.close_on_exec (first_of (is_for_reading f.mode) (not f.append) h2)
-        (not_so f.append (second_of (is_for_reading f.mode) (not f.append) h2)) (not_so f.create (second_of _ (not f.create) h3))
-        (not_so f.truncate (second_of _ (not f.truncate) h4)) (not_so f.exclusive (second_of _ (not f.exclusive) h5))
-        (not_so f.no_follow (second_of _ (not f.no_follow) h6)) (not_so f.directory (second_of _ (not f.directory) h7))
-        (not_so f.close_on_exec (second_of _ (not f.close_on_exec) h))
+    (not_so f.append (second_of (is_for_reading f.mode) (not f.append) h2)) (not_so f.create (second_of _ (not f.create) h3))
+    (not_so f.truncate (second_of _ (not f.truncate) h4)) (not_so f.exclusive (second_of _ (not f.exclusive) h5))
+    (not_so f.no_follow (second_of _ (not f.no_follow) h6)) (not_so f.directory (second_of _ (not f.directory) h7))
+    (not_so f.close_on_exec (second_of _ (not f.close_on_exec) h))
 
 nothing_missing : (lenient : Bool) (missing : Option Promise) → unless_missing lenient missing ≡ Allowed → missing ≡ None
 nothing_missing lenient None h = refl
@@ -104,4 +104,4 @@ module _ (program_of : Bytes → Option Program) (t : Tree) (o : Owned) (call : 
   answer_killed p made owned kill =
       let parts = kills (is_lenient o.process.promises) (missing_promise o.process.promises (needs call)) p kill in
       rw (parts.0, parts.1) (ap (λ after. let a : Answered = record { after = after; outcome = Killed p; walks = 0 } in a)
-          (trim_ended t made o owned.files_in_all (at_next_line o.process) owned.no_parent 6))
+      (trim_ended t made o owned.files_in_all (at_next_line o.process) owned.no_parent 6))

@@ -18,3 +18,5 @@ pub mod Schedules
 pub mod SlotLemmas
 pub mod Streaming
 pub mod Trim
+pub mod Building
+pub mod Grown

@@ -38,12 +38,12 @@ module _ (t : Tree) (o : Owned) (promises execpromises : Option Bytes) (asked ex
       → pledge (state_with t o) 1 o.process promises execpromises ≡ done 0 (state_with t (with_owner o (with_pledged v)), returns 0)
   pledge_kept v e =
       rw (first, second, after_none, after_none) (kept (state_with t o) o.process
-          (narrow_promises (is_lenient o.process.promises) o.process.promises asked)
-          (narrow_promises (is_lenient o.process.promises) o.process.execpromises exec_asked) v e)
+      (narrow_promises (is_lenient o.process.promises) o.process.promises asked)
+      (narrow_promises (is_lenient o.process.promises) o.process.execpromises exec_asked) v e)
 
   pub pledge_refused : (p : Promise) → narrow_both (pledged o.process) asked exec_asked ≡ Err p
       → pledge (state_with t o) 1 o.process promises execpromises ≡ refused 0 EPERM (ByPromise p)
   pledge_refused p e =
       rw (first, second, after_none, after_none) (refused_promise (state_with t o) o.process
-          (narrow_promises (is_lenient o.process.promises) o.process.promises asked)
-          (narrow_promises (is_lenient o.process.promises) o.process.execpromises exec_asked) p e)
+      (narrow_promises (is_lenient o.process.promises) o.process.promises asked)
+      (narrow_promises (is_lenient o.process.promises) o.process.execpromises exec_asked) p e)

@@ -34,11 +34,11 @@ pub resolve_along : (t : Tree) (start : ℕ) (path : Bytes) (w : Walked) → is_
 unfolding resolve
 resolve_along t start path w absolute short same =
     chosen (is_empty path) (nat_lt 1023 (length path)) (is_absolute path) (Err ENOENT) (Err ENAMETOOLONG)
-        (λ at. walk t true 32 (pieces path) (ends_in_slash path) at) start (not_empty path absolute) short absolute
+    (λ at. walk t true 32 (pieces path) (ends_in_slash path) at) start (not_empty path absolute) short absolute
     ∙ walk_along t (pieces path) (ends_in_slash path) root w same 32
 
 pub resolve_long : (t : Tree) (start : ℕ) (path : Bytes) → is_absolute path ≡ true → nat_lt 1023 (length path) ≡ true → resolve t Last start path ≡ Err ENAMETOOLONG
 unfolding resolve
 resolve_long t start path absolute long =
     refused_long (is_empty path) (nat_lt 1023 (length path)) (Err ENOENT) (Err ENAMETOOLONG)
-        (walk t true 32 (pieces path) (ends_in_slash path) (if is_absolute path then root else start)) (not_empty path absolute) long
+    (walk t true 32 (pieces path) (ends_in_slash path) (if is_absolute path then root else start)) (not_empty path absolute) long

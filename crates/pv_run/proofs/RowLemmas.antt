@@ -25,7 +25,7 @@ module _ (t : Tree) (made : IsMade t) (before : State) (o : Owned) where
   answered_tried o1 o2 walks (Ok n) attempt e tidy same =
       ap (answer_by_attempt before (state_with t o) 1 o.process) e
       ∙ ap (λ after. let a : Answered = record { after = after; outcome = Value n; walks = walks } in a)
-          (trim_made t made (with_owner o1 (λ p. with_result p (pos n) 0)) ∙ ap (λ x. state_with t (told x (Ok n))) tidy)
+      (trim_made t made (with_owner o1 (λ p. with_result p (pos n) 0)) ∙ ap (λ x. state_with t (told x (Ok n))) tidy)
   answered_tried o1 o2 walks (Err e) attempt is tidy same =
       ap (answer_by_attempt before (state_with t o) 1 o.process) is
       ∙ ap (λ x. let a : Answered = record { after = state_with t (told x (Err e)); outcome = Failed e.0 e.1; walks = walks } in a) (sym same)
@@ -38,8 +38,8 @@ module _ (t : Tree) (made : IsMade t) (before : State) (o : Owned) where
   answered_bytes o1 o2 walks bytes attempt e tidy =
       ap (answer_by_attempt before (state_with t o) 1 o.process) e
       ∙ ap (λ after. let a : Answered = record { after = after; outcome = Text (record { value = length bytes; len = length bytes }); walks = walks } in a)
-          (trim_made t made (with_owner o1 (λ p. with_front bytes (with_result p (pos (length bytes)) 0)))
-          ∙ ap (λ x. state_with t (with_owner (with_owner x (λ p. with_result p (pos (length bytes)) 0)) (with_front bytes))) tidy)
+      (trim_made t made (with_owner o1 (λ p. with_front bytes (with_result p (pos (length bytes)) 0)))
+      ∙ ap (λ x. state_with t (with_owner (with_owner x (λ p. with_result p (pos (length bytes)) 0)) (with_front bytes))) tidy)
 
   -- the same, with the process and the answer as they were told
   pub answered_told : (o1 o2 o3 : Owned) (tried : Tried) (answer : Answer) (attempt : Attempt Effect)

@@ -65,7 +65,7 @@ descriptors_set_some k (None ∷ fs) (suc i) f within =
 descriptors_set_some k (Some e ∷ fs) (suc i) f within =
     let rest : i < length fs = omega arith in
     ap (λ ds. Some (descriptor_of k) ∷ ds)
-        (descriptors_set_some (suc k) fs i f rest ∙ ap (λ n. with_number (descriptors_from (suc k) fs) i (descriptor_of n)) (one_later k i))
+    (descriptors_set_some (suc k) fs i f rest ∙ ap (λ n. with_number (descriptors_from (suc k) fs) i (descriptor_of n)) (one_later k i))
 
 -- another offset changes no descriptor
 pub descriptors_stay : (k : ℕ) (fs : Files) (i : ℕ) (e f : Opened) → at_number fs i ≡ Some e → descriptors_from k (slice_set fs i (Some f)) ≡ descriptors_from k fs

@@ -19,10 +19,9 @@ mod files;
 mod process;
 mod walk;
 
-pub(crate) use answer::Answer;
-
 use crate::kernel::calls::carry_out;
 use crate::kernel::process::Process;
+pub(crate) use answer::Answer;
 use pv_model::{Call, Instruction, Outcome, PlainTree};
 use std::marker::Model;
 

@@ -200,7 +200,11 @@ fn node_there(tree: &PlainTree, place: &Place) -> Option<u16>
 fn walks_begun(path: &[u8]) -> u8
     ensures { result ≡ (if begins_walk path.now then 1 else 0) }
 {
-    if path.is_empty() || path.len() > PATH { 0 } else { 1 }
+    if path.is_empty() || path.len() > PATH {
+        0
+    } else {
+        1
+    }
 }
 
 /// Opens what a path names for reading, under the least free descriptor: open(2).

@@ -112,7 +112,11 @@ fn finish(tree: &PlainTree, at: u16, piece: &[u8], mark: bool) -> Result<Place, 
         return Err(Errno::ENAMETOOLONG);
     }
     let Some(number) = tree.find(at, piece) else {
-        return if mark { Err(Errno::ENOENT) } else { Ok(named_place(at, piece, None)) };
+        return if mark {
+            Err(Errno::ENOENT)
+        } else {
+            Ok(named_place(at, piece, None))
+        };
     };
     match tree.node(number) {
         Some(PlainNode::File { .. }) if mark => Err(Errno::ENOTDIR),

@@ -10,12 +10,12 @@ pub returns-in_default-node_there-clause-row : goal.returns-in_default-node_ther
 returns-in_default-node_there-clause-row c =
     rw c.refusal-in_default-node_there.ensures
     (open_absent c.args.tree.now c.requires.made c.args.process.now c.facts.ensures c.args.path.now c.in-Some.number c.walks_begun-walks.result
-        c.in-Some.ensures.within c.in-Some.ensures.descriptor c.in-Some.ensures.file (sym c.walks_begun-walks.ensures) c.in-Ok.place
-        (c.in-Ok.ensures c.args.process.now.process.directory) c.in_default-node_there.ensures.node)
+    c.in-Some.ensures.within c.in-Some.ensures.descriptor c.in-Some.ensures.file (sym c.walks_begun-walks.ensures) c.in-Ok.place
+    (c.in-Ok.ensures c.args.process.now.process.directory) c.in_default-node_there.ensures.node)
 
 pub returns-clause-row : goal.returns-clause-row
 returns-clause-row c =
     open_found c.args.tree.now c.requires.made c.args.process.now c.facts.ensures c.args.path.now c.in-Some.number c.walks_begun-walks.result
-        c.in-Some.ensures.within c.in-Some.ensures.descriptor c.in-Some.ensures.file (sym c.walks_begun-walks.ensures) c.in-Ok.place
-        (c.in-Ok.ensures c.args.process.now.process.directory) c.in-Some-node_there.node c.in-Some-node_there.ensures.node c.in-Some-node_there.ensures.there
+    c.in-Some.ensures.within c.in-Some.ensures.descriptor c.in-Some.ensures.file (sym c.walks_begun-walks.ensures) c.in-Ok.place
+    (c.in-Ok.ensures c.args.process.now.process.directory) c.in-Some-node_there.node c.in-Some-node_there.ensures.node c.in-Some-node_there.ensures.there
     ∙ ap (λ o. done c.walks_begun-walks.result (state_with c.args.tree.now o, returns c.in-Some.number)) (sym c.open.ensures)

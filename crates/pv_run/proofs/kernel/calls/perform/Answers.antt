@@ -20,7 +20,7 @@ unfolding effect
 returns-in-Exit c = λ program_of before.
     rw c.in-Exit.is
     (ap (λ after. let a : Answered = record { after = after; outcome = Exited; walks = 0 } in a)
-        (trim_ended c.args.tree.now c.requires.made c.args.process.now c.facts.ensures.files_in_all c.args.process.now.process c.facts.ensures.no_parent (exit_status c.in-Exit.field-0)))
+    (trim_ended c.args.tree.now c.requires.made c.args.process.now c.facts.ensures.files_in_all c.args.process.now.process c.facts.ensures.no_parent (exit_status c.in-Exit.field-0)))
 
 pub returns-in-GetPid : goal.returns-in-GetPid
 unfolding effect
@@ -29,7 +29,7 @@ returns-in-GetPid c = λ program_of before.
     let one : Tried = record { walks = 0; result = Ok 1 } in
     rw c.in-GetPid.is
     (answered_told c.args.tree.now c.requires.made before o o o c.tell.new.process one c.tell.result (getpid (state_with c.args.tree.now o) 1 o.process)
-        refl c.facts-in-GetPid.ensures.tidy (tt {0}) c.tell.ensures.told c.tell.ensures.answer)
+    refl c.facts-in-GetPid.ensures.tidy (tt {0}) c.tell.ensures.told c.tell.ensures.answer)
 
 pub returns-in-Pledge : goal.returns-in-Pledge
 unfolding effect
@@ -37,8 +37,8 @@ returns-in-Pledge c = λ program_of before.
     let o = c.args.process.now in
     rw c.in-Pledge.is
     (answered_told c.args.tree.now c.requires.made before o c.pledge-tried.new.process c.pledge-tried.new.process c.tell-in-Pledge.new.process c.pledge-tried.result c.tell-in-Pledge.result
-        (pledge (state_with c.args.tree.now o) 1 o.process c.in-Pledge.promises c.in-Pledge.execpromises)
-        (c.pledge-tried.ensures.row c.args.tree.now) c.facts-in-Pledge.ensures.tidy c.pledge-tried.ensures.unchanged c.tell-in-Pledge.ensures.told c.tell-in-Pledge.ensures.answer)
+    (pledge (state_with c.args.tree.now o) 1 o.process c.in-Pledge.promises c.in-Pledge.execpromises)
+    (c.pledge-tried.ensures.row c.args.tree.now) c.facts-in-Pledge.ensures.tidy c.pledge-tried.ensures.unchanged c.tell-in-Pledge.ensures.told c.tell-in-Pledge.ensures.answer)
 
 pub returns-in-Open : goal.returns-in-Open
 unfolding effect
@@ -49,8 +49,8 @@ returns-in-Open c = λ program_of before.
     let row = rw c.as_slice.ensures.value at c.open-tried.ensures.row in
     rw (c.in-Open.is, flags)
     (answered_told c.args.tree.now c.requires.made before o c.open-tried.new.process c.open-tried.new.process c.tell-in-Open.new.process c.open-tried.result c.tell-in-Open.result
-        (open_here (state_with c.args.tree.now o) 1 o.process c.in-Open.path plain_reading)
-        row c.facts-in-Open.ensures.tidy c.open-tried.ensures.unchanged c.tell-in-Open.ensures.told c.tell-in-Open.ensures.answer)
+    (open_here (state_with c.args.tree.now o) 1 o.process c.in-Open.path plain_reading)
+    row c.facts-in-Open.ensures.tidy c.open-tried.ensures.unchanged c.tell-in-Open.ensures.told c.tell-in-Open.ensures.answer)
 
 pub returns-in-Close : goal.returns-in-Close
 unfolding effect
@@ -61,8 +61,8 @@ returns-in-Close c = λ program_of before.
     let closed : Owned = record c.close-tried.new.process { files = o.files } in
     rw c.in-Close.is
     (answered_told c.args.tree.now c.requires.made before o closed c.close-tried.new.process c.tell-in-Close.new.process c.close-tried.result c.tell-in-Close.result
-        (close (state_with c.args.tree.now o) 1 o.process c.in-Close.d)
-        row c.close-tried.ensures.tidy c.close-tried.ensures.unchanged c.tell-in-Close.ensures.told c.tell-in-Close.ensures.answer)
+    (close (state_with c.args.tree.now o) 1 o.process c.in-Close.d)
+    row c.close-tried.ensures.tidy c.close-tried.ensures.unchanged c.tell-in-Close.ensures.told c.tell-in-Close.ensures.answer)
 
 pub returns-in-Read : goal.returns-in-Read
 unfolding effect

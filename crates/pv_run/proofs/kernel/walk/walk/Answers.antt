@@ -20,5 +20,5 @@ pub returns : goal.returns
 returns c = λ start.
     let short : nat_lt 1023 (length c.args.path.now) ≡ false = grind (arith, nat_tests) in
     resolve_along c.args.tree.now start c.args.path.now c.follow_pieces.result
-        (first_true (is_absolute c.args.path.now) (list_all is_plain_piece (pieces c.args.path.now)) c.requires) short
-        (λ behind. ap (λ mark. along c.args.tree.now true behind (pieces c.args.path.now) mark root) (sym c.ends_in_slash.ensures) ∙ c.follow_pieces.ensures behind)
+    (first_true (is_absolute c.args.path.now) (list_all is_plain_piece (pieces c.args.path.now)) c.requires) short
+    (λ behind. ap (λ mark. along c.args.tree.now true behind (pieces c.args.path.now) mark root) (sym c.ends_in_slash.ensures) ∙ c.follow_pieces.ensures behind)
