@@ -1,6 +1,7 @@
 -- Programs, read line by line.
 use Rattle.std.proofs.Common.{◌≡◌, ◌∙◌, ap, ℕ, suc, ◌+◌, Bool, true, false, cond, eqb, min, List, [], ◌∷◌, ◌++◌, length, Result, Ok, Err, refl, sym, subst, arith, append_assoc}
-use Rattle.std.specs.Prelude.{IsTrue}
+use Rattle.std.specs.Prelude.{IsTrue, IfOk}
+use Rattle.std.specs.Global.{Vec}
 use Rattle.std.specs.List.{list_all}
 use Rattle.std.proofs.lemmas.Bool.{eq-eqb, ne_eqb}
 use Rattle.std.proofs.lemmas.List.{append-nil}
@@ -14,6 +15,7 @@ use Rattle.pv_model.specs.Grammar.Lines.{lines_of, word_of}
 use Rattle.pv_model.specs.Grammar.Instructions.{instruction_of}
 use Rattle.pv_model.specs.Grammar.Programs.{onto_program, or_line, program_from, read_program}
 use Rattle.pv_model.specs.State.{Program}
+use Rattle.pv_run.specs.Reading.{GivesProgram}
 use Rattle.pv_run.specs.Offered.{is_offered_instruction, is_offered_word, only_offered, offered_by, offered_instruction, offered_program}
 
 -- the instructions that were read, before those that are still to be read
@@ -126,3 +128,11 @@ programs_agree count (line ∷ ls) n p e = line_agrees count n line ls p (eqb n 
 pub offered_is_read : (bytes : Bytes) (p : Program) → offered_program bytes ≡ Ok p → (read_program bytes ≡ Ok p) × IsTrue (list_all is_offered_instruction p)
 unfolding offered_program read_program
 offered_is_read bytes p e = programs_agree (min (length (lines_of bytes)) 256) (lines_of bytes) 1 p e
+
+pub offered_is_spelled : (bytes : Bytes) (r : Result (Vec Instruction) ParseFault) → GivesProgram r (offered_program bytes) → IfOk r (λ p. read_program bytes ≡ Ok p.items)
+offered_is_spelled bytes (Ok p) given = (offered_is_read bytes p.items given).0
+offered_is_spelled bytes (Err fault) given = tt
+
+pub offered_alone : (bytes : Bytes) (r : Result (Vec Instruction) ParseFault) → GivesProgram r (offered_program bytes) → IfOk r (λ p. IsTrue (list_all is_offered_instruction p.items))
+offered_alone bytes (Ok p) given = (offered_is_read bytes p.items given).1
+offered_alone bytes (Err fault) given = tt
