@@ -44,7 +44,7 @@ module _ {X Y : Type 0} (f : X → Y) where
   pub IsFreeFrom-step : (at : ℕ) (xs : List (Option X)) (x : X) → at < length xs → get_or xs at None ≡ Some x → IsFreeFrom f at xs → IsFreeFrom f (at + 1) xs
   IsFreeFrom-step at xs x within taken kept =
       let here : least_free (map (option_map f) (drop at xs)) ≡ suc (least_free (map (option_map f) (drop (at + 1) xs))) =
-          ap (λ ys. least_free (map (option_map f) ys)) (drop_more xs at None within) ∙ rw taken refl in
+      ap (λ ys. least_free (map (option_map f) ys)) (drop_more xs at None within) ∙ rw taken refl in
       record { is = omega (arith, here, kept.is) }
 
 -- ---- the place of an entry
@@ -168,7 +168,7 @@ made_in_turn t d n name node is within there =
 pub made_is : (nodes after : List (Option PlainNode)) (blocks inodes d n : ℕ) (name : Bytes) (node : Node) → n ≡ new_number (plain_tree nodes blocks inodes) → n < length nodes
     → IsTrue (is_directory_at (plain_tree nodes blocks inodes) d)
     → map (option_map plain_node) after
-      ≡ with_number (with_number (map (option_map plain_node) nodes) d (directory_node (put order name n (entries_of (at_number (map (option_map plain_node) nodes) d))))) n node
+    ≡ with_number (with_number (map (option_map plain_node) nodes) d (directory_node (put order name n (entries_of (at_number (map (option_map plain_node) nodes) d))))) n node
     → plain_tree after blocks inodes ≡ with_new_node (plain_tree nodes blocks inodes) d name node
 made_is nodes after blocks inodes d n name node least within there is =
     let seen-length : length (map (option_map plain_node) nodes) ≡ length nodes = length-map nodes (option_map plain_node) in
@@ -247,7 +247,7 @@ module _ (i count used : ℕ) (nodes : List (Option PlainNode)) (kept : IsRoomSo
       let on = left (Some node) within is in
       let not_long : is_long (plain_node node) ≡ false = le-ltb _ _ (omega (arith, length-is, short)) in
       let more : sum_by need_of (plain_node node ∷ present (view (drop (i + 1) nodes))) ≡ need_of (plain_node node) + sum_by need_of (present (view (drop (i + 1) nodes))) =
-          sum_by-cons need_of (plain_node node) (present (view (drop (i + 1) nodes))) in
+      sum_by-cons need_of (plain_node node) (present (view (drop (i + 1) nodes))) in
       let b-is : b ≡ need_of (plain_node node) = need-is ∙ ap (need V1) length-is in
       record {
         long =
@@ -266,7 +266,7 @@ module _ (i count used : ℕ) (nodes : List (Option PlainNode)) (kept : IsRoomSo
       let on = left (Some node) within is in
       let too_long : is_long (plain_node node) ≡ true = lt-ltb _ _ over in
       let whole : true ≡ list_any is_long (present (view nodes)) =
-          sym (ap (λ t. t || list_any is_long (present (view (drop (i + 1) nodes)))) too_long) ∙ ap (λ xs. list_any is_long (present xs)) (sym on) ∙ kept.long in
+      sym (ap (λ t. t || list_any is_long (present (view (drop (i + 1) nodes)))) too_long) ∙ ap (λ xs. list_any is_long (present xs)) (sym on) ∙ kept.long in
       ap (λ t. not t && fits (plain_tree nodes blocks inodes)) whole
 
   at_end : length nodes ≤ i → (list_any is_long (present (view nodes)) ≡ false) × (length (present (view nodes)) ≡ count) × (sum_by need_of (present (view nodes)) ≡ used)

@@ -1,6 +1,8 @@
 pub mod Arguments
 pub mod AttemptLaws
+pub mod Building
 pub mod CallLemmas
+pub mod Grown
 pub mod Instructions
 pub mod Lines
 pub mod Manifests
@@ -17,6 +19,7 @@ pub mod Resolve
 pub mod RowLemmas
 pub mod Schedules
 pub mod SlotLemmas
+pub mod Starting
 pub mod Stepping
 pub mod Streaming
 pub mod Trim

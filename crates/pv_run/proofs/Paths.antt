@@ -30,7 +30,7 @@ onto_piece : (b : ℕ) (bs : Bytes) (end : ℕ) → split_slashes bs ≡ take en
     → onto_first b (split_slashes bs) ≡ take (1 + end) (b ∷ bs) ∷ pieces_behind (rest_of (drop (1 + end) (b ∷ bs)))
 onto_piece b bs end h = let one_more : 1 + end ≡ suc end = omega arith in rw (h, one_more) refl
 
-first_piece : (bs : Bytes) → split_slashes bs ≡ take (end_of_piece bs) bs ∷ pieces_behind (rest_of (drop (end_of_piece bs) bs))
+pub first_piece : (bs : Bytes) → split_slashes bs ≡ take (end_of_piece bs) bs ∷ pieces_behind (rest_of (drop (end_of_piece bs) bs))
 first_piece [] = refl
 first_piece (b ∷ bs) =
     elim (b == 47) as (λ t. cond t ([] ∷ split_slashes bs) (onto_first b (split_slashes bs))

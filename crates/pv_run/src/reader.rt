@@ -9,6 +9,7 @@ mod paths;
 mod program;
 mod schedule;
 
-pub(crate) use manifest::{Bundle, bundle_of};
+pub(crate) use build::build;
+pub(crate) use manifest::bundle_of;
 pub(crate) use program::program as read_program;
 pub(crate) use schedule::schedule as read_schedule;

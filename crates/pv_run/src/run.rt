@@ -1,5 +1,5 @@
 //! Runs of bundles.
-ghost use Rattle.std.specs.Prelude.{◌≡◌, ◌⊎◌, ◌≤◌, length, vec_len, Some, IsTrue, IfOk, IfErr, IfSome};
+ghost use Rattle.std.specs.Prelude.{◌≡◌, ◌⊎◌, ◌≤◌, length, Some, IsTrue, IfOk, IfErr, IfSome};
 ghost use Rattle.pv_model.specs.Grammar.Programs.{program_of};
 ghost use Rattle.pv_model.specs.Step.{boot};
 ghost use Rattle.pv_model.specs.Stream.{Rose};
@@ -9,7 +9,7 @@ ghost use Rattle.pv_run.specs.Run.{HasRun, IsBundleFault, IsStartFault, IsTextOf
 ghost use Rattle.pv_run.specs.Streams.{GivesMoreThan};
 
 use crate::kernel::Kernel;
-use crate::reader::read_program;
+use crate::reader::{build, bundle_of, read_program, read_schedule};
 use crate::running::{run_schedule, step_count};
 use crate::stream::{SOURCE_BYTES, read_whole, write_whole};
 use pv_model::{Failed, Instruction, PlainNode, PlainTree, RunFault, Sink, Source};
@@ -37,6 +37,7 @@ fn init(alloc: Global, tree: &PlainTree) -> Result<Vec<Instruction>, RunFault>
     ensures program { IfOk result (λ p. first_program tree.now ≡ Ok p.items) }
     ensures offered { IfOk result (λ p. IsTrue (list_all is_offered_instruction p.items)) }
     ensures fault { IfErr result (λ f. RefusesStart f (first_program tree.now)) }
+    ensures kind { IfErr result IsStartFault }
 {
     let Some(number) = tree.find(1, b"init") else {
         return Ok(Vec::new(alloc));
@@ -56,13 +57,19 @@ fn start(alloc: Global, bytes: &[u8]) -> Result<Ready, RunFault>
     requires { length bytes.now ≤ SOURCE_BYTES }
     ensures asked { IfOk result (λ r. started bytes.now ≡ Ok (started_from r.kernel r.schedule.items)) }
     ensures machine { IfOk result (λ r. boot program_of r.kernel.tree ≡ Some r.kernel) }
-    ensures short { IfOk result (λ r. vec_len r.schedule ≤ 65536) }
+    ensures short { IfOk result (λ r. length r.schedule.items ≤ 65536) }
     ensures fault { IfErr result (λ f. RefusesStart f (started bytes.now)) }
     ensures kind { IfErr result IsStartFault }
 {
-    let _ = alloc;
-    let _ = bytes;
-    Err(RunFault::Memory)
+    let bundle = bundle_of(alloc, bytes)?;
+    let behind = bundle.behind;
+    let tree = build(alloc, bundle)?;
+    let schedule = read_schedule(alloc, behind)?;
+    let program = init(alloc, &tree)?;
+    Ok(Ready {
+        kernel: Kernel::boot(tree, program),
+        schedule,
+    })
 }
 
 // The text of a bundle's run, with its summary.

@@ -38,7 +38,6 @@ impl<'a> Source for Bytes<'a> {
     }
 }
 
-
 /// A sink that gathers bytes in memory. Where memory is refused, a write fails.
 #[derive(Drop)]
 pub struct Gathered {

@@ -50,7 +50,7 @@ fn add_entry(
     requires absent { find (slice_cmp nat_cmp) name (entries_of (at_number (map (option_map plain_node) nodes.old.items) directory)) ≡ None }
     ensures ok { OnOk result (map (option_map plain_node) nodes.new.items
         ≡ with_number (map (option_map plain_node) nodes.old.items) directory
-            (directory_node (put (slice_cmp nat_cmp) name number (entries_of (at_number (map (option_map plain_node) nodes.old.items) directory))))) }
+        (directory_node (put (slice_cmp nat_cmp) name number (entries_of (at_number (map (option_map plain_node) nodes.old.items) directory))))) }
     ensures err { OnErr result (map (option_map plain_node) nodes.new.items ≡ map (option_map plain_node) nodes.old.items) }
     ensures len { length nodes.new.items ≡ length nodes.old.items }
 {

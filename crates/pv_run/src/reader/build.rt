@@ -34,8 +34,7 @@ fn container<'a>(tree: &PlainTree, path: &'a [u8]) -> Option<(u16, &'a [u8])>
     ensures short { IfSome result (λ p. length p.1.now ≤ 60) }
 {
     let mut directory: u16 = 1;
-    let (_, names) = split_piece(path);
-    let (mut name, mut rest) = split_piece(names?);
+    let (mut name, mut rest) = split_piece(&path[1..]);
     while let Some(behind) = rest {
         directory = enter(tree, directory, name)?;
         (name, rest) = split_piece(behind);
@@ -84,7 +83,7 @@ fn data_blocks_of(blocks: u16, inodes: u16) -> u16
 /// that its name is there, `Err(Room(n))` that the image has no room for it, and `Err(Memory)` that
 /// memory was refused.
 pub fn build(alloc: Global, bundle: Bundle) -> Result<PlainTree, ManifestFault>
-    ensures tree { GivesTree result (tree_of (manifest_of bundle)) }
+    ensures tree { GivesTree result (tree_of (manifest_of bundle.entry)) }
     ensures made { IfOk result IsMade }
 {
     let blocks = data_blocks_of(bundle.blocks, bundle.inodes);

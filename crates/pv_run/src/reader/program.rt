@@ -1,8 +1,10 @@
 //! The program that bytes spell.
-ghost use Rattle.std.specs.Prelude.{◌≡◌, ℕ, option_map, option_and_then};
+ghost use Rattle.std.specs.Prelude.{◌≡◌, ℕ, IsTrue, IfOk, Ok, option_map, option_and_then};
+ghost use Rattle.std.specs.List.{list_all};
 ghost use Rattle.pv_model.specs.declared.instruction.Instruction.TheVariants.{Exit as ExitLine, GetPid as GetPidLine, Pledge as PledgeLine, Close as CloseLine, Read as ReadLine};
 ghost use Rattle.pv_model.specs.Grammar.Arguments.{text_at, text_or_null_at, flags_at, operand_at, one_argument, two_arguments, no_argument};
-ghost use Rattle.pv_run.specs.Offered.{is_plain_reading, offered_by, offered_instruction, offered_program, plain_open};
+ghost use Rattle.pv_model.specs.Grammar.Programs.{read_program};
+ghost use Rattle.pv_run.specs.Offered.{is_offered_instruction, is_plain_reading, offered_by, offered_instruction, offered_program, plain_open};
 ghost use Rattle.pv_run.specs.Reading.{GivesProgram};
 
 use super::arguments::{one_operand, text_and_flags, two_operands, two_texts_or_null};
@@ -116,12 +118,9 @@ fn instruction(line: &[u8]) -> Result<Instruction, What>
     by_word(word, rest)
 }
 
-/// The program that bytes spell, each line an offered instruction.
-///
-/// `Err(Line(n, what))` names the least line that is none, counted from 1, and the 257th where there
-/// are more than 256; `Err(Memory)` says that memory was refused.
+// The program that bytes spell, each line an offered instruction.
 #[tactic(auto, unfolding(crate::specs::Offered::offered_program))]
-pub fn program(alloc: Global, bytes: &[u8]) -> Result<Vec<Instruction>, ParseFault>
+fn offered(alloc: Global, bytes: &[u8]) -> Result<Vec<Instruction>, ParseFault>
     ensures { GivesProgram result (offered_program bytes.now) }
 {
     let mut program = Vec::new(alloc);
@@ -139,4 +138,18 @@ pub fn program(alloc: Global, bytes: &[u8]) -> Result<Vec<Instruction>, ParseFau
         rest = behind;
     }
     Ok(program)
+}
+
+/// The program that bytes spell, each line an offered instruction.
+///
+/// `Err(Line(n, what))` names the least line that is none, counted from 1, and the 257th where there
+/// are more than 256; `Err(Memory)` says that memory was refused.
+pub fn program(alloc: Global, bytes: &[u8]) -> Result<Vec<Instruction>, ParseFault>
+    // What is read, or which line is none.
+    ensures exact { GivesProgram result (offered_program bytes.now) }
+    // What is read is the program of the machine, and no instruction of it is one that is not offered.
+    ensures spelled { IfOk result (λ p. read_program bytes.now ≡ Ok p.items) }
+    ensures offered { IfOk result (λ p. IsTrue (list_all is_offered_instruction p.items)) }
+{
+    offered(alloc, bytes)
 }

@@ -18,9 +18,9 @@ pub unreachable-requires : goal.unreachable-requires
 unreachable-requires c =
     elim c.in_default.branch [
       | in_default-via-in-Some+in-File-1 w ↦
-        only_directory c.args.nodes.now.items c.args.directory c.index_mut.result.now c.requires.within c.index_mut.ensures.value c.requires.there (λ entries e. cc)
+          only_directory c.args.nodes.now.items c.args.directory c.index_mut.result.now c.requires.within c.index_mut.ensures.value c.requires.there (λ entries e. cc)
       | in_default-via-in-None-1 w ↦
-        only_directory c.args.nodes.now.items c.args.directory c.index_mut.result.now c.requires.within c.index_mut.ensures.value c.requires.there (λ entries e. cc)
+          only_directory c.args.nodes.now.items c.args.directory c.index_mut.result.now c.requires.within c.index_mut.ensures.value c.requires.there (λ entries e. cc)
     ]
 
 pub returns-clause-ok : goal.returns-clause-ok
