@@ -18,6 +18,8 @@ mod answer;
 mod calls;
 mod files;
 mod process;
+#[cfg(test)]
+mod tests;
 mod walk;
 
 use crate::kernel::calls::carry_out;

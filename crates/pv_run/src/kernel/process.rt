@@ -71,7 +71,7 @@ impl Process {
         }
     }
 
-    /// What holds of the process at any time.
+    /// Does nothing: its contract tells what holds of the process at any time.
     pub(crate) fn facts(&self)
         ensures { IsOwned self.now }
     {
