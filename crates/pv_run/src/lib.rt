@@ -6,5 +6,7 @@ mod reader;
 pub mod run;
 mod running;
 pub mod stream;
+#[cfg(test)]
+mod tests;
 
 pub use run::{Summary, run_tree};

@@ -1,0 +1,219 @@
+//! Runs of whole bundles.
+ghost use Rattle.std.specs.Prelude.{None};
+
+use crate::stream::{Bytes, Gathered};
+use crate::{Summary, run_tree};
+use pv_model::{Failed, ManifestFault, RunFault, Sink, Source};
+use std::test::Fail;
+
+const MOTD: &[u8] = b"image 16 16\ndir \"/etc\"\nbytes \"/etc/motd\" \"hello\"\nexec \"/init\" 5\npledge \"stdio rpath\" null\nopen \"/etc/motd\" r\nread r0 100\nclose 0\nexit 0\nschedule\n1 5\n";
+
+const MOTD_TRACE: &[u8] = b"    1 CALL  pledge(\"stdio rpath\", null)\n    1 RET   pledge 0\n    1 CALL  open(\"/etc/motd\", r)\n    1 NAMI  \"/etc/motd\"\n    1 RET   open 0\n    1 CALL  read(0, 100)\n    1 GIO   read 5 68656c6c6f\n    1 RET   read 5\n    1 CALL  close(0)\n    1 RET   close 0\n    1 CALL  exit(0)\n";
+
+// A source that gives some bytes, one at a time, and then fails.
+#[derive(Drop)]
+struct Broken<'a> {
+    rest: &'a [u8],
+    failures: u64,
+}
+
+impl<'a> Source for Broken<'a> {
+    ghost remaining = { λ _. None };
+
+    ghost failures = { λ s. s.failures };
+
+    fn read(&mut self, buffer: &mut [u8]) -> Result<usize, Failed> {
+        match self.rest.split_first() {
+            Some((first, rest)) if !buffer.is_empty() => {
+                buffer[0] = *first;
+                self.rest = rest;
+                Ok(1)
+            }
+            _ => {
+                self.failures = self.failures.saturating_add(1);
+                Err(Failed)
+            }
+        }
+    }
+}
+
+// A sink that takes so many bytes and then fails, by an error or by taking nothing.
+#[derive(Drop)]
+struct Full {
+    taken: Gathered,
+    room: usize,
+    takes_nothing: bool,
+    failures: u64,
+}
+
+impl Sink for Full {
+    ghost told = { λ _. None };
+
+    ghost failures = { λ s. s.failures };
+
+    fn write(&mut self, buffer: &[u8]) -> Result<usize, Failed> {
+        let count = self.room.min(buffer.len());
+        if count > 0 && self.taken.write(&buffer[..count]).is_ok() {
+            self.room -= count;
+            return Ok(count);
+        }
+        self.failures = self.failures.saturating_add(1);
+        if self.takes_nothing {
+            return Ok(0);
+        }
+        Err(Failed)
+    }
+}
+
+// Checks that a bundle has just this trace.
+fn expect_trace(rt: &HostRuntime, bundle: &[u8], wanted: &[u8]) {
+    let mut trace = Gathered::new(rt.alloc());
+    let result = run_tree(rt.alloc(), &mut Bytes::new(bundle), &mut trace);
+    assert!(rt; result.is_ok());
+    assert!(rt; trace.bytes.as_slice() == wanted);
+}
+
+// Checks that a bundle is refused so, and that nothing is written.
+fn expect_fault(rt: &HostRuntime, bundle: &[u8], wanted: RunFault) {
+    let mut trace = Gathered::new(rt.alloc());
+    let result = run_tree(rt.alloc(), &mut Bytes::new(bundle), &mut trace);
+    assert!(rt; result == Err(wanted));
+    assert!(rt; trace.bytes.is_empty());
+}
+
+#[test]
+fn reads_one_file(rt: HostRuntime) {
+    expect_trace(&rt, MOTD, MOTD_TRACE);
+}
+
+#[test]
+fn summary_counts_steps_and_lines(rt: HostRuntime) {
+    let mut trace = Gathered::new(rt.alloc());
+    let result = run_tree(rt.alloc(), &mut Bytes::new(MOTD), &mut trace);
+    assert!(rt; result == Ok(Summary { steps: 5, lines: 11 }));
+}
+
+#[test]
+fn smallest_image_exits_and_is_gone(rt: HostRuntime) {
+    expect_trace(
+        &rt,
+        b"image 2 1\nschedule\n1\n2\n",
+        b"    1 CALL  exit(0)\n    2 GONE  no such process\n",
+    );
+}
+
+#[test]
+fn error_is_lost_with_a_later_pledge(rt: HostRuntime) {
+    expect_trace(
+        &rt,
+        b"image 64 64\ndir \"/etc\"\nbytes \"/etc/motd\" \"hello\"\nexec \"/init\" 4\npledge \"stdio error\" null\nopen \"/etc/motd\" r\npledge \"stdio rpath\" null\nopen \"/etc/motd\" r\nschedule\n1 4\n",
+        b"    1 CALL  pledge(\"stdio error\", null)\n    1 RET   pledge 0\n    1 CALL  open(\"/etc/motd\", r)\n    1 PLDG  open, \"rpath\", refused\n    1 RET   open -1 errno 78 ENOSYS\n    1 CALL  pledge(\"stdio rpath\", null)\n    1 RET   pledge 0\n    1 CALL  open(\"/etc/motd\", r)\n    1 PLDG  open, \"rpath\", killed\n    1 PSIG  SIGABRT\n",
+    );
+}
+
+#[test]
+fn promise_texts_are_read(rt: HostRuntime) {
+    expect_trace(
+        &rt,
+        b"image 64 64\nexec \"/init\" 6\npledge \"  stdio  stdio \" null\npledge \"stdio foo\" null\npledge \"stdio\\x09rpath\" null\npledge \"stdio rpath\" null\npledge \"\" null\ngetpid\nschedule\n1 6\n",
+        b"    1 CALL  pledge(\"  stdio  stdio \", null)\n    1 RET   pledge 0\n    1 CALL  pledge(\"stdio foo\", null)\n    1 RET   pledge -1 errno 22 EINVAL\n    1 CALL  pledge(\"stdio\\x09rpath\", null)\n    1 RET   pledge -1 errno 22 EINVAL\n    1 CALL  pledge(\"stdio rpath\", null)\n    1 PLDG  pledge, \"rpath\", increase\n    1 RET   pledge -1 errno 1 EPERM\n    1 CALL  pledge(\"\", null)\n    1 RET   pledge 0\n    1 CALL  getpid()\n    1 PLDG  getpid, \"stdio\", killed\n    1 PSIG  SIGABRT\n",
+    );
+}
+
+// A bundle that opens a path of so many slashes.
+fn slashes(rt: &HostRuntime, count: usize) -> Result<Vec<u8>, Fail> {
+    let mut bundle = Vec::from_slice(rt.alloc(), b"image 64 64\nexec \"/init\" 1\nopen \"")?;
+    for _ in 0..count {
+        bundle.push(b'/')?;
+    }
+    bundle.extend_from_slice(b"\" r\nschedule\n1\n")?;
+    Ok(bundle)
+}
+
+// Whether bytes end so.
+fn ends_with(bytes: &[u8], end: &[u8]) -> bool {
+    bytes.ends_with(end)
+}
+
+#[test]
+fn longest_path_is_the_root(rt: HostRuntime) -> Result<(), Fail> {
+    let mut trace = Gathered::new(rt.alloc());
+    let longest = slashes(&rt, 1023)?;
+    assert!(rt; run_tree(rt.alloc(), &mut Bytes::new(&longest), &mut trace).is_ok());
+    assert!(rt; ends_with(&trace.bytes, b"    1 RET   open 0\n"));
+    let mut trace = Gathered::new(rt.alloc());
+    let longer = slashes(&rt, 1024)?;
+    assert!(rt; run_tree(rt.alloc(), &mut Bytes::new(&longer), &mut trace).is_ok());
+    assert!(rt; ends_with(&trace.bytes, b"r)\n    1 RET   open -1 errno 63 ENAMETOOLONG\n"));
+    Ok(())
+}
+
+#[test]
+fn schedules_and_first_programs_are_refused(rt: HostRuntime) {
+    expect_fault(&rt, b"image 2 1\nschedule\n1\n0\n", RunFault::Schedule(2));
+    expect_fault(
+        &rt,
+        b"image 8 8\ndir \"/init\"\nschedule\n1\n",
+        RunFault::Init(0),
+    );
+    expect_fault(
+        &rt,
+        b"image 8 8\nexec \"/init\" 2\ngetpid\nfork\nschedule\n1\n",
+        RunFault::Init(2),
+    );
+    expect_fault(
+        &rt,
+        b"image 8 8\nexec \"/init\" 1\nfork\nschedule\n0\n",
+        RunFault::Schedule(1),
+    );
+}
+
+#[test]
+fn manifests_are_refused(rt: HostRuntime) {
+    let cases: [(&[u8], ManifestFault); 10] = [
+        (b"", ManifestFault::Form(1)),
+        (b"image 1 1\nfoo\nschedule\n", ManifestFault::Form(2)),
+        (b"image 1 1\nschedule\n", ManifestFault::Size),
+        (b"image 2 17\nschedule\n", ManifestFault::Size),
+        (b"image 8 8\n", ManifestFault::Form(2)),
+        (b"image 8 8\nexec \"/x\" 2\nschedule\n", ManifestFault::Form(2)),
+        (b"image 2 1\ndir \"/a\"\nschedule\n", ManifestFault::Room(2)),
+        (b"image 8 8\ndir \"/a/b\"\nschedule\n", ManifestFault::Parent(2)),
+        (b"image 8 8\ndir \"/a\"\ndir \"/a\"\nschedule\n", ManifestFault::Exists(3)),
+        (b"image 8 8\nlink \"/a\" \"b\"\nschedule\n", ManifestFault::Form(2)),
+    ];
+    for case in cases {
+        expect_fault(&rt, case.0, RunFault::Manifest(case.1));
+    }
+}
+
+#[test]
+fn source_that_fails_is_told(rt: HostRuntime) {
+    for length in [0, 1, 100, 150] {
+        let mut trace = Gathered::new(rt.alloc());
+        let mut source = Broken {
+            rest: &MOTD[..length],
+            failures: 0,
+        };
+        let result = run_tree(rt.alloc(), &mut source, &mut trace);
+        assert!(rt; result == Err(RunFault::Read));
+        assert!(rt; source.failures == 1);
+        assert!(rt; trace.bytes.is_empty());
+    }
+}
+
+#[test]
+fn sink_that_fails_has_a_beginning(rt: HostRuntime) {
+    for room in 0..MOTD_TRACE.len() {
+        let mut trace = Full {
+            taken: Gathered::new(rt.alloc()),
+            room,
+            takes_nothing: room % 2 == 0,
+            failures: 0,
+        };
+        let result = run_tree(rt.alloc(), &mut Bytes::new(MOTD), &mut trace);
+        assert!(rt; result == Err(RunFault::WriteTrace));
+        assert!(rt; trace.failures == 1);
+        assert!(rt; trace.taken.bytes.as_slice() == &MOTD_TRACE[..room]);
+    }
+}
