@@ -106,8 +106,10 @@ impl Pledge {
         promises: Option<Promises>,
         execpromises: Option<Promises>,
     ) -> Result<(), Promise>
-        ensures narrowed { OnOk result (narrow_both self.old (bits_of promises) (bits_of execpromises) ≡ Ok self.new) }
-        ensures refused { IfErr result (λ p. narrow_both self.old (bits_of promises) (bits_of execpromises) ≡ Err p) }
+        ensures narrowed { OnOk result
+            (narrow_both self.old (bits_of promises) (bits_of execpromises) ≡ Ok self.new) }
+        ensures refused { IfErr result
+            (λ p. narrow_both self.old (bits_of promises) (bits_of execpromises) ≡ Err p) }
         ensures unchanged { OnErr result (self.new ≡ self.old) }
     {
         let lenient = is_lenient(self.promises);

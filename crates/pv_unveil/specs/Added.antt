@@ -17,8 +17,10 @@ refusal Locked = refused 0 EPERM ByLock
 refusal (Increase k) = refused 0 EPERM (ByUnveil (Some k))
 refusal Many = refuse E2BIG
 
--- refused under the lock; else an entry that is there may only lose letters, and a new one is the next
+-- an entry that is there may only lose letters, and a new one is the next
+abbrev pub put_in : Table → Target → Perms → Attempt Table
+put_in table target letters = add_entry table target letters (entry_for table target)
+
+-- the same, refused under the lock
 abbrev pub add_to : Unveiled → Target → Perms → Attempt Table
-add_to unveiled target letters =
-    let table = entries_of_table unveiled.table in
-    refuse_if_locked unveiled.locked >> add_entry table target letters (entry_for table target)
+add_to unveiled target letters = refuse_if_locked unveiled.locked >> put_in (entries_of_table unveiled.table) target letters

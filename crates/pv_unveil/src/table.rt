@@ -1,13 +1,13 @@
 //! What a process has unveiled.
-ghost use Rattle.std.specs.Prelude.{◌≡◌, ◌<◌, length, OnErr, IfOk, IfErr, None, Some, true, false, ◌↔◌, IsTrue, option_map, slice_get, slice_set};
+ghost use Rattle.std.specs.Prelude.{◌≡◌, ◌<◌, length, OnOk, OnErr, IfOk, IfErr, None, Some, true, false, ◌↔◌, IsTrue, option_map, slice_get, slice_set};
 ghost use Rattle.pv_model.specs.Attempt.{give};
-ghost use Rattle.pv_model.specs.Calls.Restraints.{add_entry};
 ghost use Rattle.pv_model.specs.Unveil.{entry_for, letters_at};
-ghost use Rattle.pv_unveil.specs.Added.{refusal};
+ghost use Rattle.pv_unveil.specs.Added.{refusal, put_in};
 
 use crate::entries::{entry_for, letters_at};
 use crate::rights::judge_in;
 use arrayvec::ArrayVec;
+use pv_model::limits::UNVEILS;
 use pv_model::{Judgement, Perms, Place, PlainTree, Target};
 use std::marker::Model;
 
@@ -27,7 +27,7 @@ pub enum AddFault {
 /// There is no table before the first entry, and then nothing is hidden.
 #[derive(Drop)]
 pub struct Table {
-    entries: ArrayVec<(Target, Perms), 64>,
+    entries: ArrayVec<(Target, Perms), UNVEILS>,
     locked: bool,
 }
 
@@ -40,7 +40,7 @@ impl Model for Table {
 }
 
 // Puts another entry in place of entry `k`.
-fn replace(entries: &mut ArrayVec<(Target, Perms), 64>, k: u8, entry: (Target, Perms))
+fn replace(entries: &mut ArrayVec<(Target, Perms), UNVEILS>, k: u8, entry: (Target, Perms))
     requires { k < length entries.old.items }
     ensures { entries.new.items ≡ slice_set entries.old.items k entry }
 {
@@ -49,14 +49,14 @@ fn replace(entries: &mut ArrayVec<(Target, Perms), 64>, k: u8, entry: (Target, P
 
 // Adds an entry, or puts fewer letters in the one for the target.
 fn put(
-    entries: &mut ArrayVec<(Target, Perms), 64>,
+    entries: &mut ArrayVec<(Target, Perms), UNVEILS>,
     target: Target,
     letters: Perms,
 ) -> Result<u8, AddFault>
-    ensures added { IfOk result (λ _. add_entry entries.old.items target letters (entry_for entries.old.items target) ≡ give entries.new.items) }
+    ensures added { OnOk result (put_in entries.old.items target letters ≡ give entries.new.items) }
     ensures number { IfOk result (λ k. entry_for entries.new.items target ≡ Some k) }
     ensures letters { IfOk result (λ k. letters_at entries.new.items k ≡ letters) }
-    ensures refused { IfErr result (λ fault. add_entry entries.old.items target letters (entry_for entries.old.items target) ≡ refusal fault) }
+    ensures refused { IfErr result (λ fault. put_in entries.old.items target letters ≡ refusal fault) }
     ensures unchanged { OnErr result (entries.new ≡ entries.old) }
 {
     match entry_for(entries.as_slice(), &target) {
@@ -127,7 +127,8 @@ impl Table {
     /// The target of entry `k`.
     pub fn target(&self, k: u8) -> &Target
         requires { k < length (entries_of_table self.now.table) }
-        ensures { option_map (λ e. e.0) (slice_get (entries_of_table self.now.table) k) ≡ Some result.now }
+        ensures { option_map (λ e. e.0) (slice_get (entries_of_table self.now.table) k)
+            ≡ Some result.now }
     {
         &self.entries.as_slice()[k as usize].0
     }
@@ -145,9 +146,12 @@ impl Table {
     /// The answer is the number of the entry: the entries have theirs by arrival, from 0. A fault leaves the
     /// table as it was. The first entry brings the table into force.
     pub fn add(&mut self, target: Target, letters: Perms) -> Result<u8, AddFault>
-        ensures added { IfOk result (λ _. IsSomeAnd self.new.table (λ table. add_to self.old target letters ≡ give table)) }
-        ensures number { IfOk result (λ k. entry_for (entries_of_table self.new.table) target ≡ Some k) }
-        ensures letters { IfOk result (λ k. letters_at (entries_of_table self.new.table) k ≡ letters) }
+        ensures added { OnOk result
+            (IsSomeAnd self.new.table (λ table. add_to self.old target letters ≡ give table)) }
+        ensures number { IfOk result
+            (λ k. entry_for (entries_of_table self.new.table) target ≡ Some k) }
+        ensures letters { IfOk result
+            (λ k. letters_at (entries_of_table self.new.table) k ≡ letters) }
         ensures lock_stays { self.new.locked ≡ self.old.locked }
 
         // The first that applies, in the order of `AddFault`.
