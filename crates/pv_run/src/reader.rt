@@ -8,3 +8,6 @@ mod manifest;
 mod paths;
 mod program;
 mod schedule;
+
+#[cfg(test)]
+mod tests;
