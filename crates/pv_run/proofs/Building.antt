@@ -25,7 +25,8 @@ use Rattle.pv_model.proofs.TreesGrow.{at_new_number, at_number-other, directory_
 use Rattle.pv_run.specs.declared.reader.bundle.Bundle.{Bundle}
 use Rattle.pv_run.specs.declared.reader.bundle.Entry.{Entry}
 use Rattle.pv_run.specs.Made.{IsMade}
-use Rattle.pv_run.specs.Reading.{pieces_behind, entry_of_line, manifest_of, IsGrown, RefusesManifest}
+use Rattle.pv_run.specs.Bundles.{entry_of_line, manifest_of, IsGrown, RefusesManifest}
+use Rattle.pv_run.specs.Reading.{pieces_behind}
 use Rattle.pv_run.proofs.Grown.{IsGrown-empty}
 use Rattle.pv_run.proofs.Paths.{end_of_piece, rest_of, first_piece}
 use Rattle.pv_run.proofs.Manifests.{refuses_along}

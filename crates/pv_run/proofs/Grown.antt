@@ -17,7 +17,7 @@ use Rattle.pv_model.specs.Room.{need, is_too_long, fits}
 use Rattle.pv_model.specs.Tree.{Entries, Node, directory_node, Tree, root, entries_of, is_directory, is_directory_at, find_entry, new_number, with_new_node, named_numbers}
 use Rattle.pv_model.proofs.TreesGrow.{at_new_number, directory_within, directory_not_free}
 use Rattle.pv_run.specs.Made.{IsMade}
-use Rattle.pv_run.specs.Reading.{IsGrown}
+use Rattle.pv_run.specs.Bundles.{IsGrown}
 
 or_true : (a b : Bool) → b ≡ true → (a || b) ≡ true
 or_true true b e = refl

@@ -16,7 +16,8 @@ use Rattle.pv_run.specs.declared.reader.bundle.Bundle.{Bundle}
 use Rattle.pv_run.specs.declared.reader.bundle.Entry.{Entry}
 use Rattle.pv_run.specs.declared.reader.bundle.Taken.{Taken}
 use Rattle.pv_run.specs.Offered.{offered_entry_by, offered_entry, offered_bundle}
-use Rattle.pv_run.specs.Reading.{up_to_greatest, held_sizes, entry_of_line, taking_of, Takes, RefusesManifest}
+use Rattle.pv_run.specs.Bundles.{held_sizes, entry_of_line, taking_of, Takes, RefusesManifest}
+use Rattle.pv_run.specs.Reading.{up_to_greatest}
 
 -- ---- the text of a program
 

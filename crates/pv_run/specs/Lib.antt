@@ -1,3 +1,4 @@
+pub mod Bundles
 pub mod Ended
 pub mod Fetched
 pub mod Kernel

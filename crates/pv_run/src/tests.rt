@@ -4,6 +4,8 @@ ghost use Rattle.std.specs.Prelude.{None};
 use crate::stream::{Bytes, Gathered};
 use crate::{Summary, run_tree};
 use pv_model::{Failed, ManifestFault, RunFault, Sink, Source};
+use std::alloc::Global;
+use std::process::Abort;
 use std::test::Fail;
 
 const MOTD: &[u8] = b"image 16 16\ndir \"/etc\"\nbytes \"/etc/motd\" \"hello\"\nexec \"/init\" 5\npledge \"stdio rpath\" null\nopen \"/etc/motd\" r\nread r0 100\nclose 0\nexit 0\nschedule\n1 5\n";
@@ -66,7 +68,7 @@ impl Sink for Full {
 }
 
 // Checks that a bundle has just this trace.
-fn expect_trace(rt: &HostRuntime, bundle: &[u8], wanted: &[u8]) {
+fn expect_trace<R: Abort + AllocGlobal>(rt: &R, bundle: &[u8], wanted: &[u8]) {
     let mut trace = Gathered::new(rt.alloc());
     let result = run_tree(rt.alloc(), &mut Bytes::new(bundle), &mut trace);
     assert!(rt; result.is_ok());
@@ -74,7 +76,7 @@ fn expect_trace(rt: &HostRuntime, bundle: &[u8], wanted: &[u8]) {
 }
 
 // Checks that a bundle is refused so, and that nothing is written.
-fn expect_fault(rt: &HostRuntime, bundle: &[u8], wanted: RunFault) {
+fn expect_fault<R: Abort + AllocGlobal>(rt: &R, bundle: &[u8], wanted: RunFault) {
     let mut trace = Gathered::new(rt.alloc());
     let result = run_tree(rt.alloc(), &mut Bytes::new(bundle), &mut trace);
     assert!(rt; result == Err(wanted));
@@ -121,8 +123,8 @@ fn promise_texts_are_read(rt: HostRuntime) {
 }
 
 // A bundle that opens a path of so many slashes.
-fn slashes(rt: &HostRuntime, count: usize) -> Result<Vec<u8>, Fail> {
-    let mut bundle = Vec::from_slice(rt.alloc(), b"image 64 64\nexec \"/init\" 1\nopen \"")?;
+fn slashes(alloc: Global, count: usize) -> Result<Vec<u8>, Fail> {
+    let mut bundle = Vec::from_slice(alloc, b"image 64 64\nexec \"/init\" 1\nopen \"")?;
     for _ in 0..count {
         bundle.push(b'/')?;
     }
@@ -138,11 +140,11 @@ fn ends_with(bytes: &[u8], end: &[u8]) -> bool {
 #[test]
 fn longest_path_is_the_root(rt: HostRuntime) -> Result<(), Fail> {
     let mut trace = Gathered::new(rt.alloc());
-    let longest = slashes(&rt, 1023)?;
+    let longest = slashes(rt.alloc(), 1023)?;
     assert!(rt; run_tree(rt.alloc(), &mut Bytes::new(&longest), &mut trace).is_ok());
     assert!(rt; ends_with(&trace.bytes, b"    1 RET   open 0\n"));
     let mut trace = Gathered::new(rt.alloc());
-    let longer = slashes(&rt, 1024)?;
+    let longer = slashes(rt.alloc(), 1024)?;
     assert!(rt; run_tree(rt.alloc(), &mut Bytes::new(&longer), &mut trace).is_ok());
     assert!(rt; ends_with(&trace.bytes, b"r)\n    1 RET   open -1 errno 63 ENAMETOOLONG\n"));
     Ok(())

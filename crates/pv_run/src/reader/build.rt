@@ -5,7 +5,7 @@ ghost use Rattle.pv_model.specs.Grammar.Manifests.{is_manifest_path, enter_direc
 ghost use Rattle.pv_model.specs.Tree.{root, find_entry, is_directory_at};
 ghost use Rattle.pv_model.specs.Walk.{pieces};
 ghost use Rattle.pv_run.specs.Made.{IsMade};
-ghost use Rattle.pv_run.specs.Reading.{entry_of_line, manifest_of, IsGrown, RefusesManifest, GivesTree};
+ghost use Rattle.pv_run.specs.Bundles.{entry_of_line, manifest_of, IsGrown, RefusesManifest, GivesTree};
 
 use super::bundle::{Bundle, Entry};
 use super::paths::split_piece;

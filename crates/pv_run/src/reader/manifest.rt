@@ -4,7 +4,7 @@ ghost use Rattle.pv_model.specs.Grammar.Arguments.{text_at, word_at, one_argumen
 ghost use Rattle.pv_model.specs.Grammar.Lines.{lines_of, decimal_of};
 ghost use Rattle.pv_model.specs.Grammar.Manifests.{are_sizes, sizes_of, directory_line, file_line, program_line, entries_from, with_line_end};
 ghost use Rattle.pv_run.specs.Offered.{offered_entry_by, offered_entry, offered_bundle};
-ghost use Rattle.pv_run.specs.Reading.{held_sizes, Takes, GivesListed, GivesBundle};
+ghost use Rattle.pv_run.specs.Bundles.{held_sizes, Takes, GivesListed, GivesBundle};
 
 use super::arguments::{one_text, text_and_size, two_sizes, two_texts};
 use super::bundle::{Bundle, Entry, Taken};

@@ -6,7 +6,7 @@ use Rattle.pv_model.specs.PlainTree.{plain_node}
 use Rattle.pv_model.specs.Room.{is_too_long, fits}
 use Rattle.pv_model.specs.Tree.{root, find_entry}
 use Rattle.pv_model.specs.Walk.{pieces}
-use Rattle.pv_run.specs.Reading.{IsGrown}
+use Rattle.pv_run.specs.Bundles.{IsGrown}
 use Rattle.pv_run.proofs.Building.{add_parent, add_exists, add_room, add_made, absent_from, full_has_no_room}
 use Rattle.pv_run.proofs.Grown.{IsGrown-step}
 use Rattle.pv_run.proofs.reader.build.add.Goals as goal

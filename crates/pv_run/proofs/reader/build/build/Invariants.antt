@@ -1,5 +1,5 @@
 use Rattle.std.specs.Vec.Iter.{into_iter_items}
-use Rattle.pv_run.specs.Reading.{manifest_of}
+use Rattle.pv_run.specs.Bundles.{manifest_of}
 use Rattle.pv_run.proofs.Building.{IsBuiltSoFar}
 use Rattle.pv_run.proofs.reader.build.build.Given as goal
 

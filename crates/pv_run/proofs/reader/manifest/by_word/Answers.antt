@@ -1,7 +1,7 @@
 use Rattle.std.proofs.Common.{sym, ◌∙◌, ap, subst}
 use Rattle.std.specs.Prelude.{bytes_eq, IfOk}
 use Rattle.pv_model.specs.Grammar.Lines.{lines_of}
-use Rattle.pv_run.specs.Reading.{Takes}
+use Rattle.pv_run.specs.Bundles.{Takes}
 use Rattle.pv_run.proofs.Manifests.{directory_is, file_is, program_is, other_entry}
 use Rattle.pv_run.proofs.reader.manifest.by_word.Goals as goal
 

@@ -5,7 +5,7 @@ use Rattle.pv_model.specs.Grammar.Lines.{lines_of}
 use Rattle.pv_model.specs.Grammar.Manifests.{Taking}
 use Rattle.pv_run.specs.declared.reader.bundle.Taken.{Taken}
 use Rattle.pv_run.specs.Offered.{offered_entry}
-use Rattle.pv_run.specs.Reading.{Takes}
+use Rattle.pv_run.specs.Bundles.{Takes}
 use Rattle.pv_run.proofs.Manifests.{IsListedSoFar-room, IsListedSoFar-fewer, IsListedSoFar-step}
 use Rattle.pv_run.proofs.reader.manifest.entries.Goals as goal
 
