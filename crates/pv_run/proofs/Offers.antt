@@ -72,7 +72,7 @@ offered_from k [] n p is = record { spelled = is; offered = let same : [] ≡ p 
 offered_from k (line ∷ lines) n p is =
     by_count (n == 257) _ _ p
     (by_line n (offered_instruction k line) (instruction_of k line) (program_from (offered_instruction k) lines (suc n)) (program_from (instruction_of k) lines (suc n)) p
-      (line_offered k line) (λ q h. offered_from k lines (suc n) q h))
+    (line_offered k line) (λ q h. offered_from k lines (suc n) q h))
     is
 
 -- the program that was read is the one that the bytes spell

@@ -54,9 +54,9 @@ started_from s schedule = record { tree = s.tree; state = s; schedule = schedule
 unfoldable pub started : Bytes → Result Started RunFault
 started bytes =
     and_then of_manifest (offered_bundle bytes) (λ manifest.
-      and_then of_manifest (tree_of manifest) (λ t.
-        and_then of_schedule (schedule_of_lines manifest.listed.behind) (λ schedule.
-          and_then as_it_is (first_program t) (λ program. Ok (started_with t schedule program)))))
+    and_then of_manifest (tree_of manifest) (λ t.
+    and_then of_schedule (schedule_of_lines manifest.listed.behind) (λ schedule.
+    and_then as_it_is (first_program t) (λ program. Ok (started_with t schedule program)))))
 
 -- the text of the machine's run
 abbrev pub text_of : Started → Bytes

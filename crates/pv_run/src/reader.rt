@@ -8,6 +8,8 @@ mod manifest;
 mod paths;
 mod program;
 mod schedule;
+#[cfg(test)]
+mod tests;
 
 pub(crate) use build::build;
 pub(crate) use manifest::bundle_of;

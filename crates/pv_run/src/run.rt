@@ -44,10 +44,12 @@ fn init(alloc: Global, tree: &PlainTree) -> Result<Vec<Instruction>, RunFault>
     };
     match tree.node(number) {
         None => Ok(Vec::new(alloc)),
-        Some(PlainNode::File {
-            executable: true,
-            bytes,
-        }) => Ok(read_program(alloc, bytes)?),
+        Some(
+            PlainNode::File {
+                executable: true,
+                bytes,
+            },
+        ) => Ok(read_program(alloc, bytes)?),
         Some(_) => Err(RunFault::Init(0)),
     }
 }

@@ -8,9 +8,11 @@ use std::alloc::Global;
 use std::process::Abort;
 use std::test::Fail;
 
-const MOTD: &[u8] = b"image 16 16\ndir \"/etc\"\nbytes \"/etc/motd\" \"hello\"\nexec \"/init\" 5\npledge \"stdio rpath\" null\nopen \"/etc/motd\" r\nread r0 100\nclose 0\nexit 0\nschedule\n1 5\n";
+const MOTD: &[u8] =
+    b"image 16 16\ndir \"/etc\"\nbytes \"/etc/motd\" \"hello\"\nexec \"/init\" 5\npledge \"stdio rpath\" null\nopen \"/etc/motd\" r\nread r0 100\nclose 0\nexit 0\nschedule\n1 5\n";
 
-const MOTD_TRACE: &[u8] = b"    1 CALL  pledge(\"stdio rpath\", null)\n    1 RET   pledge 0\n    1 CALL  open(\"/etc/motd\", r)\n    1 NAMI  \"/etc/motd\"\n    1 RET   open 0\n    1 CALL  read(0, 100)\n    1 GIO   read 5 68656c6c6f\n    1 RET   read 5\n    1 CALL  close(0)\n    1 RET   close 0\n    1 CALL  exit(0)\n";
+const MOTD_TRACE: &[u8] =
+    b"    1 CALL  pledge(\"stdio rpath\", null)\n    1 RET   pledge 0\n    1 CALL  open(\"/etc/motd\", r)\n    1 NAMI  \"/etc/motd\"\n    1 RET   open 0\n    1 CALL  read(0, 100)\n    1 GIO   read 5 68656c6c6f\n    1 RET   read 5\n    1 CALL  close(0)\n    1 RET   close 0\n    1 CALL  exit(0)\n";
 
 // A source that gives some bytes, one at a time, and then fails.
 #[derive(Drop)]
@@ -92,7 +94,13 @@ fn reads_one_file(rt: HostRuntime) {
 fn summary_counts_steps_and_lines(rt: HostRuntime) {
     let mut trace = Gathered::new(rt.alloc());
     let result = run_tree(rt.alloc(), &mut Bytes::new(MOTD), &mut trace);
-    assert!(rt; result == Ok(Summary { steps: 5, lines: 11 }));
+    assert!(rt;
+        result
+            == Ok(Summary {
+                steps: 5,
+                lines: 11
+            })
+    );
 }
 
 #[test]
@@ -146,7 +154,12 @@ fn longest_path_is_the_root(rt: HostRuntime) -> Result<(), Fail> {
     let mut trace = Gathered::new(rt.alloc());
     let longer = slashes(rt.alloc(), 1024)?;
     assert!(rt; run_tree(rt.alloc(), &mut Bytes::new(&longer), &mut trace).is_ok());
-    assert!(rt; ends_with(&trace.bytes, b"r)\n    1 RET   open -1 errno 63 ENAMETOOLONG\n"));
+    assert!(rt;
+        ends_with(
+            &trace.bytes,
+            b"r)\n    1 RET   open -1 errno 63 ENAMETOOLONG\n"
+        )
+    );
     Ok(())
 }
 
@@ -178,11 +191,23 @@ fn manifests_are_refused(rt: HostRuntime) {
         (b"image 1 1\nschedule\n", ManifestFault::Size),
         (b"image 2 17\nschedule\n", ManifestFault::Size),
         (b"image 8 8\n", ManifestFault::Form(2)),
-        (b"image 8 8\nexec \"/x\" 2\nschedule\n", ManifestFault::Form(2)),
+        (
+            b"image 8 8\nexec \"/x\" 2\nschedule\n",
+            ManifestFault::Form(2),
+        ),
         (b"image 2 1\ndir \"/a\"\nschedule\n", ManifestFault::Room(2)),
-        (b"image 8 8\ndir \"/a/b\"\nschedule\n", ManifestFault::Parent(2)),
-        (b"image 8 8\ndir \"/a\"\ndir \"/a\"\nschedule\n", ManifestFault::Exists(3)),
-        (b"image 8 8\nlink \"/a\" \"b\"\nschedule\n", ManifestFault::Form(2)),
+        (
+            b"image 8 8\ndir \"/a/b\"\nschedule\n",
+            ManifestFault::Parent(2),
+        ),
+        (
+            b"image 8 8\ndir \"/a\"\ndir \"/a\"\nschedule\n",
+            ManifestFault::Exists(3),
+        ),
+        (
+            b"image 8 8\nlink \"/a\" \"b\"\nschedule\n",
+            ManifestFault::Form(2),
+        ),
     ];
     for case in cases {
         expect_fault(&rt, case.0, RunFault::Manifest(case.1));
@@ -194,7 +219,7 @@ fn source_that_fails_is_told(rt: HostRuntime) {
     for length in [0, 1, 100, 150] {
         let mut trace = Gathered::new(rt.alloc());
         let mut source = Broken {
-            rest: &MOTD[..length],
+            rest: MOTD.get(..length).unwrap_or(MOTD),
             failures: 0,
         };
         let result = run_tree(rt.alloc(), &mut source, &mut trace);

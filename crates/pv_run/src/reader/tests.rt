@@ -29,7 +29,8 @@ fn repeated(alloc: Global, bytes: &[u8], count: u32) -> Result<Vec<u8>, AllocErr
 
 #[test]
 fn bundle_of_one_program(rt: HostRuntime) -> Result<(), Fail> {
-    let bytes = b"image 16 16\ndir \"/etc\"\nbytes \"/etc/motd\" \"h\\x65llo\"\nexec \"/init\" 2\nopen \"/etc/motd\" r\nexit 0\nschedule\n1 5\n";
+    let bytes =
+        b"image 16 16\ndir \"/etc\"\nbytes \"/etc/motd\" \"h\\x65llo\"\nexec \"/init\" 2\nopen \"/etc/motd\" r\nexit 0\nschedule\n1 5\n";
     let read = bundle_of(rt.alloc(), bytes)?;
     let turns = schedule(rt.alloc(), read.behind)?;
     assert_eq!(rt; turns.as_slice(), [(1, 5)].as_slice());
@@ -49,7 +50,10 @@ fn bundle_of_one_program(rt: HostRuntime) -> Result<(), Fail> {
     match tree.node(4) {
         Some(PlainNode::File { executable, bytes }) => {
             assert!(rt; *executable);
-            assert_eq!(rt; bytes.as_slice(), b"open \"/etc/motd\" r\nexit 0\n".as_slice());
+            assert_eq!(rt;
+                bytes.as_slice(),
+                b"open \"/etc/motd\" r\nexit 0\n".as_slice()
+            );
         }
         _ => return Err("the program is there".into()),
     }
@@ -60,72 +64,196 @@ fn bundle_of_one_program(rt: HostRuntime) -> Result<(), Fail> {
 fn form_of_a_bundle(rt: HostRuntime) {
     let alloc = rt.alloc();
     assert_eq!(rt; fault_of(alloc, b""), Some(ManifestFault::Form(1)));
-    assert_eq!(rt; fault_of(alloc, b"schedule\n"), Some(ManifestFault::Form(1)));
-    assert_eq!(rt; fault_of(alloc, b"image 16\nschedule\n"), Some(ManifestFault::Form(1)));
-    assert_eq!(rt; fault_of(alloc, b"image 16 016\nschedule\n"), Some(ManifestFault::Form(1)));
-    assert_eq!(rt; fault_of(alloc, b"image 16 16 \nschedule\n"), Some(ManifestFault::Form(1)));
-    assert_eq!(rt; fault_of(alloc, b"image 16 16\n"), Some(ManifestFault::Form(2)));
+    assert_eq!(rt;
+        fault_of(alloc, b"schedule\n"),
+        Some(ManifestFault::Form(1))
+    );
+    assert_eq!(rt;
+        fault_of(alloc, b"image 16\nschedule\n"),
+        Some(ManifestFault::Form(1))
+    );
+    assert_eq!(rt;
+        fault_of(alloc, b"image 16 016\nschedule\n"),
+        Some(ManifestFault::Form(1))
+    );
+    assert_eq!(rt;
+        fault_of(alloc, b"image 16 16 \nschedule\n"),
+        Some(ManifestFault::Form(1))
+    );
+    assert_eq!(rt;
+        fault_of(alloc, b"image 16 16\n"),
+        Some(ManifestFault::Form(2))
+    );
     assert_eq!(rt; fault_of(alloc, b"image 16 16\nschedule"), None);
-    assert_eq!(rt; fault_of(alloc, b"image 16 16\n\nschedule\n"), Some(ManifestFault::Form(2)));
-    assert_eq!(rt; fault_of(alloc, b"image 16 16\ndir \"/a\"\nlink \"/l\" \"a\"\nschedule\n"), Some(ManifestFault::Form(3)));
-    assert_eq!(rt; fault_of(alloc, b"image 0 0\ndir \"/a\"\nimage 16 16\nschedule\n"), Some(ManifestFault::Form(3)));
+    assert_eq!(rt;
+        fault_of(alloc, b"image 16 16\n\nschedule\n"),
+        Some(ManifestFault::Form(2))
+    );
+    assert_eq!(rt;
+        fault_of(
+            alloc,
+            b"image 16 16\ndir \"/a\"\nlink \"/l\" \"a\"\nschedule\n"
+        ),
+        Some(ManifestFault::Form(3))
+    );
+    assert_eq!(rt;
+        fault_of(alloc, b"image 0 0\ndir \"/a\"\nimage 16 16\nschedule\n"),
+        Some(ManifestFault::Form(3))
+    );
 }
 
 #[test]
 fn paths_of_a_bundle(rt: HostRuntime) {
     let alloc = rt.alloc();
-    assert_eq!(rt; fault_of(alloc, b"image 16 16\ndir \"/\"\nschedule\n"), Some(ManifestFault::Form(2)));
-    assert_eq!(rt; fault_of(alloc, b"image 16 16\ndir \"a\"\nschedule\n"), Some(ManifestFault::Form(2)));
-    assert_eq!(rt; fault_of(alloc, b"image 16 16\ndir \"/a/\"\nschedule\n"), Some(ManifestFault::Form(2)));
-    assert_eq!(rt; fault_of(alloc, b"image 16 16\ndir \"//a\"\nschedule\n"), Some(ManifestFault::Form(2)));
-    assert_eq!(rt; fault_of(alloc, b"image 16 16\ndir \"/..\"\nschedule\n"), Some(ManifestFault::Form(2)));
-    assert_eq!(rt; fault_of(alloc, b"image 16 16\ndir \"/...\"\nschedule\n"), None);
+    assert_eq!(rt;
+        fault_of(alloc, b"image 16 16\ndir \"/\"\nschedule\n"),
+        Some(ManifestFault::Form(2))
+    );
+    assert_eq!(rt;
+        fault_of(alloc, b"image 16 16\ndir \"a\"\nschedule\n"),
+        Some(ManifestFault::Form(2))
+    );
+    assert_eq!(rt;
+        fault_of(alloc, b"image 16 16\ndir \"/a/\"\nschedule\n"),
+        Some(ManifestFault::Form(2))
+    );
+    assert_eq!(rt;
+        fault_of(alloc, b"image 16 16\ndir \"//a\"\nschedule\n"),
+        Some(ManifestFault::Form(2))
+    );
+    assert_eq!(rt;
+        fault_of(alloc, b"image 16 16\ndir \"/..\"\nschedule\n"),
+        Some(ManifestFault::Form(2))
+    );
+    assert_eq!(rt;
+        fault_of(alloc, b"image 16 16\ndir \"/...\"\nschedule\n"),
+        None
+    );
 }
 
 #[test]
 fn lines_of_an_executable(rt: HostRuntime) {
     let alloc = rt.alloc();
     // Lines that belong to a program are no lines of the manifest.
-    assert_eq!(rt; fault_of(alloc, b"image 16 16\nexec \"/p\" 2\nschedule\nx\nschedule\n"), None);
-    assert_eq!(rt; fault_of(alloc, b"image 16 16\nexec \"/p\" 0\ny\nschedule\n"), Some(ManifestFault::Form(3)));
-    assert_eq!(rt; fault_of(alloc, b"image 16 16\nexec \"/p\" 2\nx\nschedule\n"), Some(ManifestFault::Form(5)));
-    assert_eq!(rt; fault_of(alloc, b"image 16 16\nexec \"/p\" 3\nx\nschedule\n"), Some(ManifestFault::Form(2)));
-    assert_eq!(rt; fault_of(alloc, b"image 16 16\nexec \"/p\" 10000\nx\nschedule\n"), Some(ManifestFault::Form(2)));
+    assert_eq!(rt;
+        fault_of(
+            alloc,
+            b"image 16 16\nexec \"/p\" 2\nschedule\nx\nschedule\n"
+        ),
+        None
+    );
+    assert_eq!(rt;
+        fault_of(alloc, b"image 16 16\nexec \"/p\" 0\ny\nschedule\n"),
+        Some(ManifestFault::Form(3))
+    );
+    assert_eq!(rt;
+        fault_of(alloc, b"image 16 16\nexec \"/p\" 2\nx\nschedule\n"),
+        Some(ManifestFault::Form(5))
+    );
+    assert_eq!(rt;
+        fault_of(alloc, b"image 16 16\nexec \"/p\" 3\nx\nschedule\n"),
+        Some(ManifestFault::Form(2))
+    );
+    assert_eq!(rt;
+        fault_of(alloc, b"image 16 16\nexec \"/p\" 10000\nx\nschedule\n"),
+        Some(ManifestFault::Form(2))
+    );
 }
 
 #[test]
 fn sizes_of_an_image(rt: HostRuntime) {
     let alloc = rt.alloc();
-    assert_eq!(rt; fault_of(alloc, b"image 16 0\nschedule\n"), Some(ManifestFault::Size));
+    assert_eq!(rt;
+        fault_of(alloc, b"image 16 0\nschedule\n"),
+        Some(ManifestFault::Size)
+    );
     assert_eq!(rt; fault_of(alloc, b"image 8192 4096\nschedule\n"), None);
-    assert_eq!(rt; fault_of(alloc, b"image 8193 4096\nschedule\n"), Some(ManifestFault::Size));
-    assert_eq!(rt; fault_of(alloc, b"image 8192 4097\nschedule\n"), Some(ManifestFault::Size));
+    assert_eq!(rt;
+        fault_of(alloc, b"image 8193 4096\nschedule\n"),
+        Some(ManifestFault::Size)
+    );
+    assert_eq!(rt;
+        fault_of(alloc, b"image 8192 4097\nschedule\n"),
+        Some(ManifestFault::Size)
+    );
     // Two blocks of 16 inodes each, and the first.
     assert_eq!(rt; fault_of(alloc, b"image 3 32\nschedule\n"), None);
-    assert_eq!(rt; fault_of(alloc, b"image 2 32\nschedule\n"), Some(ManifestFault::Size));
-    assert_eq!(rt; fault_of(alloc, b"image 18446744073709551632 16\nschedule\n"), Some(ManifestFault::Size));
+    assert_eq!(rt;
+        fault_of(alloc, b"image 2 32\nschedule\n"),
+        Some(ManifestFault::Size)
+    );
+    assert_eq!(rt;
+        fault_of(alloc, b"image 18446744073709551632 16\nschedule\n"),
+        Some(ManifestFault::Size)
+    );
 }
 
 #[test]
 fn entries_that_do_not_apply(rt: HostRuntime) {
     let alloc = rt.alloc();
-    assert_eq!(rt; fault_of(alloc, b"image 16 16\ndir \"/a\"\ndir \"/b/c\"\nschedule\n"), Some(ManifestFault::Parent(3)));
-    assert_eq!(rt; fault_of(alloc, b"image 16 16\nbytes \"/f\" \"\"\ndir \"/f/d\"\nschedule\n"), Some(ManifestFault::Parent(3)));
-    assert_eq!(rt; fault_of(alloc, b"image 16 16\ndir \"/a\"\nbytes \"/a\" \"\"\nschedule\n"), Some(ManifestFault::Exists(3)));
+    assert_eq!(rt;
+        fault_of(alloc, b"image 16 16\ndir \"/a\"\ndir \"/b/c\"\nschedule\n"),
+        Some(ManifestFault::Parent(3))
+    );
+    assert_eq!(rt;
+        fault_of(
+            alloc,
+            b"image 16 16\nbytes \"/f\" \"\"\ndir \"/f/d\"\nschedule\n"
+        ),
+        Some(ManifestFault::Parent(3))
+    );
+    assert_eq!(rt;
+        fault_of(
+            alloc,
+            b"image 16 16\ndir \"/a\"\nbytes \"/a\" \"\"\nschedule\n"
+        ),
+        Some(ManifestFault::Exists(3))
+    );
     // Lines count those of a program.
-    assert_eq!(rt; fault_of(alloc, b"image 16 16\nexec \"/a\" 1\n\nbytes \"/a\" \"\"\nschedule\n"), Some(ManifestFault::Exists(4)));
+    assert_eq!(rt;
+        fault_of(
+            alloc,
+            b"image 16 16\nexec \"/a\" 1\n\nbytes \"/a\" \"\"\nschedule\n"
+        ),
+        Some(ManifestFault::Exists(4))
+    );
 }
 
 #[test]
 fn room_of_an_image(rt: HostRuntime) -> Result<(), Fail> {
     let alloc = rt.alloc();
     // The root takes the only inode, or with its entry the only block.
-    assert_eq!(rt; fault_of(alloc, b"image 16 1\ndir \"/a\"\nschedule\n"), Some(ManifestFault::Room(2)));
-    assert_eq!(rt; fault_of(alloc, b"image 3 16\ndir \"/a\"\nbytes \"/b\" \"\"\nschedule\n"), None);
-    assert_eq!(rt; fault_of(alloc, b"image 3 16\ndir \"/a\"\nbytes \"/b\" \"x\"\nschedule\n"), Some(ManifestFault::Room(3)));
-    assert_eq!(rt; fault_of(alloc, b"image 3 16\ndir \"/a\"\nbytes \"/a/b\" \"\"\nschedule\n"), Some(ManifestFault::Room(3)));
+    assert_eq!(rt;
+        fault_of(alloc, b"image 16 1\ndir \"/a\"\nschedule\n"),
+        Some(ManifestFault::Room(2))
+    );
+    assert_eq!(rt;
+        fault_of(
+            alloc,
+            b"image 3 16\ndir \"/a\"\nbytes \"/b\" \"\"\nschedule\n"
+        ),
+        None
+    );
+    assert_eq!(rt;
+        fault_of(
+            alloc,
+            b"image 3 16\ndir \"/a\"\nbytes \"/b\" \"x\"\nschedule\n"
+        ),
+        Some(ManifestFault::Room(3))
+    );
+    assert_eq!(rt;
+        fault_of(
+            alloc,
+            b"image 3 16\ndir \"/a\"\nbytes \"/a/b\" \"\"\nschedule\n"
+        ),
+        Some(ManifestFault::Room(3))
+    );
     // 5,121 bytes are eleven blocks, of which the last wants one more that holds its number.
-    let lines = repeated(alloc, b"0123456789abcdef0123456789abcdef0123456789abcdef0123456789abcde\n", 80)?;
+    let lines = repeated(
+        alloc,
+        b"0123456789abcdef0123456789abcdef0123456789abcdef0123456789abcde\n",
+        80,
+    )?;
     let mut enough = b"image 15 16\nexec \"/f\" 81\n".to_vec(alloc)?;
     enough.extend_from_slice(lines.as_slice())?;
     enough.extend_from_slice(b"\nschedule\n")?;
@@ -134,7 +262,10 @@ fn room_of_an_image(rt: HostRuntime) -> Result<(), Fail> {
     little.extend_from_slice(b"\nschedule\n")?;
     if enough.len() < 1_000_000 && little.len() < 1_000_000 {
         assert_eq!(rt; fault_of(alloc, enough.as_slice()), None);
-        assert_eq!(rt; fault_of(alloc, little.as_slice()), Some(ManifestFault::Room(2)));
+        assert_eq!(rt;
+            fault_of(alloc, little.as_slice()),
+            Some(ManifestFault::Room(2))
+        );
         return Ok(());
     }
     Err("the bundles are short".into())
@@ -142,7 +273,8 @@ fn room_of_an_image(rt: HostRuntime) -> Result<(), Fail> {
 
 #[test]
 fn program_of_each_offered_word(rt: HostRuntime) -> Result<(), Fail> {
-    let bytes = b"pledge \"stdio\" null\nopen \"/a\" r\nread r0 -1\nclose 2147483647\ngetpid\nexit r7";
+    let bytes =
+        b"pledge \"stdio\" null\nopen \"/a\" r\nread r0 -1\nclose 2147483647\ngetpid\nexit r7";
     let lines = program(rt.alloc(), bytes)?;
     assert_eq!(rt; lines.len(), 6);
     match lines.get(0) {
@@ -163,24 +295,69 @@ fn program_of_each_offered_word(rt: HostRuntime) -> Result<(), Fail> {
 #[test]
 fn lines_that_are_no_instructions(rt: HostRuntime) -> Result<(), Fail> {
     let alloc = rt.alloc();
-    assert_eq!(rt; program(alloc, b"exit 0\nfork\n").err(), Some(ParseFault::Line(2, What::Word)));
-    assert_eq!(rt; program(alloc, b"\n").err(), Some(ParseFault::Line(1, What::Word)));
-    assert_eq!(rt; program(alloc, b" exit 0").err(), Some(ParseFault::Line(1, What::Word)));
-    assert_eq!(rt; program(alloc, b"exit  0").err(), Some(ParseFault::Line(1, What::Argument)));
-    assert_eq!(rt; program(alloc, b"exit 0 ").err(), Some(ParseFault::Line(1, What::Argument)));
-    assert_eq!(rt; program(alloc, b"exit -0").err(), Some(ParseFault::Line(1, What::Argument)));
-    assert_eq!(rt; program(alloc, b"exit 2147483648").err(), Some(ParseFault::Line(1, What::Argument)));
+    assert_eq!(rt;
+        program(alloc, b"exit 0\nfork\n").err(),
+        Some(ParseFault::Line(2, What::Word))
+    );
+    assert_eq!(rt;
+        program(alloc, b"\n").err(),
+        Some(ParseFault::Line(1, What::Word))
+    );
+    assert_eq!(rt;
+        program(alloc, b" exit 0").err(),
+        Some(ParseFault::Line(1, What::Word))
+    );
+    assert_eq!(rt;
+        program(alloc, b"exit  0").err(),
+        Some(ParseFault::Line(1, What::Argument))
+    );
+    assert_eq!(rt;
+        program(alloc, b"exit 0 ").err(),
+        Some(ParseFault::Line(1, What::Argument))
+    );
+    assert_eq!(rt;
+        program(alloc, b"exit -0").err(),
+        Some(ParseFault::Line(1, What::Argument))
+    );
+    assert_eq!(rt;
+        program(alloc, b"exit 2147483648").err(),
+        Some(ParseFault::Line(1, What::Argument))
+    );
     assert_eq!(rt; program(alloc, b"exit -2147483648").err(), None);
-    assert_eq!(rt; program(alloc, b"exit r8").err(), Some(ParseFault::Line(1, What::Argument)));
-    assert_eq!(rt; program(alloc, b"pledge \"\\x00\" null").err(), Some(ParseFault::Line(1, What::Argument)));
-    assert_eq!(rt; program(alloc, b"pledge \"\\x4A\" null").err(), Some(ParseFault::Line(1, What::Argument)));
+    assert_eq!(rt;
+        program(alloc, b"exit r8").err(),
+        Some(ParseFault::Line(1, What::Argument))
+    );
+    assert_eq!(rt;
+        program(alloc, b"pledge \"\\x00\" null").err(),
+        Some(ParseFault::Line(1, What::Argument))
+    );
+    assert_eq!(rt;
+        program(alloc, b"pledge \"\\x4A\" null").err(),
+        Some(ParseFault::Line(1, What::Argument))
+    );
     // These are instructions of the machine, but are not offered.
-    assert_eq!(rt; program(alloc, b"open \"/a\" w").err(), Some(ParseFault::Line(1, What::Argument)));
-    assert_eq!(rt; program(alloc, b"open \"/a\" r+cloexec").err(), Some(ParseFault::Line(1, What::Argument)));
-    assert_eq!(rt; program(alloc, b"open \"a\" r").err(), Some(ParseFault::Line(1, What::Argument)));
-    assert_eq!(rt; program(alloc, b"open \"/a/../b\" r").err(), Some(ParseFault::Line(1, What::Argument)));
+    assert_eq!(rt;
+        program(alloc, b"open \"/a\" w").err(),
+        Some(ParseFault::Line(1, What::Argument))
+    );
+    assert_eq!(rt;
+        program(alloc, b"open \"/a\" r+cloexec").err(),
+        Some(ParseFault::Line(1, What::Argument))
+    );
+    assert_eq!(rt;
+        program(alloc, b"open \"a\" r").err(),
+        Some(ParseFault::Line(1, What::Argument))
+    );
+    assert_eq!(rt;
+        program(alloc, b"open \"/a/../b\" r").err(),
+        Some(ParseFault::Line(1, What::Argument))
+    );
     let many = repeated(alloc, b"getpid\n", 257)?;
-    assert_eq!(rt; program(alloc, many.as_slice()).err(), Some(ParseFault::Line(257, What::TooMany)));
+    assert_eq!(rt;
+        program(alloc, many.as_slice()).err(),
+        Some(ParseFault::Line(257, What::TooMany))
+    );
     let full = repeated(alloc, b"getpid\n", 256)?;
     assert_eq!(rt; program(alloc, full.as_slice()).err(), None);
     Ok(())
@@ -196,23 +373,53 @@ fn texts_up_to_their_limit(rt: HostRuntime) -> Result<(), Fail> {
     let mut longer = b"pledge \"".to_vec(alloc)?;
     longer.extend_from_slice(repeated(alloc, b"a", 1_101)?.as_slice())?;
     longer.extend_from_slice(b"\" null")?;
-    assert_eq!(rt; program(alloc, longer.as_slice()).err(), Some(ParseFault::Line(1, What::Argument)));
+    assert_eq!(rt;
+        program(alloc, longer.as_slice()).err(),
+        Some(ParseFault::Line(1, What::Argument))
+    );
     Ok(())
 }
 
 #[test]
 fn turns_of_a_schedule(rt: HostRuntime) -> Result<(), Fail> {
     let alloc = rt.alloc();
-    assert_eq!(rt; schedule(alloc, b"1\n99999 99999")?.as_slice(), [(1, 1), (99_999, 99_999)].as_slice());
+    assert_eq!(rt;
+        schedule(alloc, b"1\n99999 99999")?.as_slice(),
+        [(1, 1), (99_999, 99_999)].as_slice()
+    );
     assert_eq!(rt; schedule(alloc, b"")?.len(), 0);
-    assert_eq!(rt; schedule(alloc, b"1\n0\n").err(), Some(ScheduleFault::Line(2)));
-    assert_eq!(rt; schedule(alloc, b"1 0\n").err(), Some(ScheduleFault::Line(1)));
-    assert_eq!(rt; schedule(alloc, b"01\n").err(), Some(ScheduleFault::Line(1)));
-    assert_eq!(rt; schedule(alloc, b"100000\n").err(), Some(ScheduleFault::Line(1)));
-    assert_eq!(rt; schedule(alloc, b"1  5\n").err(), Some(ScheduleFault::Line(1)));
-    assert_eq!(rt; schedule(alloc, b"1 5 \n").err(), Some(ScheduleFault::Line(1)));
-    assert_eq!(rt; schedule(alloc, b"1\n\n1\n").err(), Some(ScheduleFault::Line(2)));
+    assert_eq!(rt;
+        schedule(alloc, b"1\n0\n").err(),
+        Some(ScheduleFault::Line(2))
+    );
+    assert_eq!(rt;
+        schedule(alloc, b"1 0\n").err(),
+        Some(ScheduleFault::Line(1))
+    );
+    assert_eq!(rt;
+        schedule(alloc, b"01\n").err(),
+        Some(ScheduleFault::Line(1))
+    );
+    assert_eq!(rt;
+        schedule(alloc, b"100000\n").err(),
+        Some(ScheduleFault::Line(1))
+    );
+    assert_eq!(rt;
+        schedule(alloc, b"1  5\n").err(),
+        Some(ScheduleFault::Line(1))
+    );
+    assert_eq!(rt;
+        schedule(alloc, b"1 5 \n").err(),
+        Some(ScheduleFault::Line(1))
+    );
+    assert_eq!(rt;
+        schedule(alloc, b"1\n\n1\n").err(),
+        Some(ScheduleFault::Line(2))
+    );
     let many = repeated(alloc, b"1\n", 65_537)?;
-    assert_eq!(rt; schedule(alloc, many.as_slice()).err(), Some(ScheduleFault::Line(65_537)));
+    assert_eq!(rt;
+        schedule(alloc, many.as_slice()).err(),
+        Some(ScheduleFault::Line(65_537))
+    );
     Ok(())
 }
