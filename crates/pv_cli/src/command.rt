@@ -24,13 +24,17 @@ fn parser<'a>(alloc: Global) -> Result<Parser<'a>, AllocError> {
     let file = Arg::new(alloc, "FILE")
         .required(true)
         .action(ArgAction::Set)
-        .help("a bundle: a manifest, the line `schedule`, and a schedule; `-` is the standard input");
+        .help(
+            "a bundle: a manifest, the line `schedule`, and a schedule; `-` is the standard input",
+        );
     let run_tree = Parser::new(alloc, "run-tree")
         .about("Run a bundle and write its trace")
         .arg(file)?;
     Parser::new(alloc, "pvsim")
         .version("0.1.0")
-        .about("A teaching kernel with OpenBSD's pledge and unveil. With no words it runs the bundle on its standard input.")
+        .about(
+            "A teaching kernel with OpenBSD's pledge and unveil. With no words it runs the bundle on its standard input.",
+        )
         .subcommand_required(true)
         .subcommand(run_tree)
 }

@@ -29,13 +29,13 @@ behind_front (Err e) new mid old front text told is = told
 -- how many lines a step has
 pub length_lines_by : (pid : ℕ) (front : List ℕ) (call : Call) (outcome : Outcome) (walks : ℕ)
     → length (lines_by pid front call outcome walks)
-      ≡ 1 + min walks (length (walked_paths call)) + length (promise_lines_of pid call outcome) + length (unveil_lines_of pid call walks outcome)
-        + length (moved_lines_of pid front call outcome) + length (end_lines pid call outcome)
+    ≡ 1 + min walks (length (walked_paths call)) + length (promise_lines_of pid call outcome) + length (unveil_lines_of pid call walks outcome)
+    + length (moved_lines_of pid front call outcome) + length (end_lines pid call outcome)
 unfolding lines_by
 length_lines_by pid front call outcome walks =
     let paths : length (path_lines_of pid call walks) ≡ min walks (length (walked_paths call)) = length-map (take walks (walked_paths call)) (path_line pid) ∙ length-take walks (walked_paths call) in
     length-append (call_lines_of pid call ++ path_lines_of pid call walks ++ promise_lines_of pid call outcome ++ unveil_lines_of pid call walks outcome ++ moved_lines_of pid front call outcome) (end_lines pid call outcome)
     ∙ ap (λ n. n + length (end_lines pid call outcome)) (length-append (call_lines_of pid call ++ path_lines_of pid call walks ++ promise_lines_of pid call outcome ++ unveil_lines_of pid call walks outcome) (moved_lines_of pid front call outcome)
-      ∙ ap (λ n. n + length (moved_lines_of pid front call outcome)) (length-append (call_lines_of pid call ++ path_lines_of pid call walks ++ promise_lines_of pid call outcome) (unveil_lines_of pid call walks outcome)
-        ∙ ap (λ n. n + length (unveil_lines_of pid call walks outcome)) (length-append (call_lines_of pid call ++ path_lines_of pid call walks) (promise_lines_of pid call outcome)
-          ∙ ap (λ n. n + length (promise_lines_of pid call outcome)) (length-append (call_lines_of pid call) (path_lines_of pid call walks) ∙ ap (λ n. 1 + n) paths))))
+    ∙ ap (λ n. n + length (moved_lines_of pid front call outcome)) (length-append (call_lines_of pid call ++ path_lines_of pid call walks ++ promise_lines_of pid call outcome) (unveil_lines_of pid call walks outcome)
+    ∙ ap (λ n. n + length (unveil_lines_of pid call walks outcome)) (length-append (call_lines_of pid call ++ path_lines_of pid call walks) (promise_lines_of pid call outcome)
+    ∙ ap (λ n. n + length (promise_lines_of pid call outcome)) (length-append (call_lines_of pid call) (path_lines_of pid call walks) ∙ ap (λ n. 1 + n) paths))))

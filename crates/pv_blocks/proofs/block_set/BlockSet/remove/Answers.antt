@@ -1,0 +1,8 @@
+use Rattle.std.proofs.Common.{arith}
+use Rattle.pv_blocks.specs.BlockSet.{is_member}
+use Rattle.pv_blocks.proofs.Bits.{is_set-without_bit}
+use Rattle.pv_blocks.proofs.block_set.BlockSet.remove.Goals as goal
+
+pub returns : goal.returns
+unfolding is_member
+returns c = record { after = is_set-without_bit c.args.self.now.words c.args.k (omega arith) }
