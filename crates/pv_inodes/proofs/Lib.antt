@@ -1,0 +1,16 @@
+pub mod Becoming
+pub mod Bytes
+pub mod Contents
+pub mod Edits
+pub mod Emptiness
+pub mod Growth
+pub mod Heads
+pub mod InUse
+pub mod Leaving
+pub mod Making
+pub mod Numbers
+pub mod Ownership
+pub mod Patches
+pub mod Pushes
+pub mod Reading
+pub mod Splices

@@ -1,0 +1,14 @@
+use Rattle.std.proofs.Common.{◌≡◌, ◌-◌, ◌≤◌, length, take}
+use Rattle.pv_model.specs.Effect.{overwrite}
+use Rattle.pv_inodes.specs.Files.{bytes_at, with_bytes}
+use Rattle.pv_inodes.proofs.inodes.Inodes.overwrite.Given as goal
+
+-- the front of the bytes is written
+abbrev pub invariant-loop-done : goal.invariant-loop-done
+invariant-loop-done l = record {
+  within : l.done ≤ length l.bytes;
+  written : l.self ≡ with_bytes l.initial.self l.inode (overwrite (bytes_at l.initial.self l.inode) l.at (take l.done l.bytes));
+}
+
+abbrev pub decreases-loop-done : goal.decreases-loop-done
+decreases-loop-done l = length l.bytes - l.done

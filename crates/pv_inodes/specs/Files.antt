@@ -1,0 +1,97 @@
+-- What inodes hold, by their numbers.
+use Rattle.std.specs.Prelude.{ℕ, zero, suc, ◌<◌, ◌≤◌, [], ◌∷◌, length, drop, sum_by, Option, None, Some, IsSome, option_map}
+use Rattle.pv_model.specs.declared.sort.Sort.{Sort}
+use Rattle.pv_model.specs.declared.sort.Sort.TheVariants.{Directory, File, Executable, Symlink}
+use Rattle.pv_model.specs.declared.version.Version.TheVariants.{V1}
+use Rattle.pv_model.specs.Bytes.{Bytes}
+use Rattle.pv_model.specs.Effect.{overwrite, resize}
+use Rattle.pv_model.specs.Numbered.{Numbered, at_number, with_number, without_number, least_free, present}
+use Rattle.pv_model.specs.Room.{need}
+
+-- what an inode holds
+pub record Contained : Type 0 where
+  pub sort : Sort
+  pub bytes : Bytes
+
+-- what the inodes hold, by their numbers from 1 on, and how many data blocks there are
+pub record Files : Type 0 where
+  pub nodes : Numbered Contained
+  pub blocks : ℕ
+
+-- the number that an inode has for what it is
+abbrev pub sort_number : Sort → ℕ
+sort_number Directory = 1
+sort_number File = 2
+sort_number Executable = 3
+sort_number Symlink = 4
+
+abbrev pub sort_of : ℕ → Sort
+sort_of (suc zero) = Directory
+sort_of (suc (suc zero)) = File
+sort_of (suc (suc (suc zero))) = Executable
+sort_of _ = Symlink
+
+-- what an inode holds
+abbrev pub held : Files → ℕ → Option Contained
+held f n = at_number f.nodes n
+
+-- an inode holds something
+abbrev pub IsUsed : Files → ℕ → Type 0
+IsUsed f n = IsSome (held f n)
+
+abbrev pub bytes_of : Option Contained → Bytes
+bytes_of None = []
+bytes_of (Some c) = c.bytes
+
+-- the bytes of an inode; a free one has none
+abbrev pub bytes_at : Files → ℕ → Bytes
+bytes_at f n = bytes_of (held f n)
+
+-- the sort of an inode that is in use
+abbrev pub sort_at : Files → ℕ → Option Sort
+sort_at f n = option_map (λ c. c.sort) (held f n)
+
+-- the data blocks that a content needs
+abbrev pub room_of : Contained → ℕ
+room_of c = need V1 (length c.bytes)
+
+-- the data blocks that all contents need
+abbrev pub total_room : Files → ℕ
+total_room f = sum_by room_of (present f.nodes)
+
+-- there are data blocks enough
+abbrev pub HasRoom : Files → Type 0
+HasRoom f = total_room f ≤ f.blocks
+
+-- data blocks are wanting
+abbrev pub LacksRoom : Files → Type 0
+LacksRoom f = f.blocks < total_room f
+
+abbrev pub replaced : Files → ℕ → Option Contained → Bytes → Files
+replaced f n None bytes = f
+replaced f n (Some c) bytes = record f { nodes = with_number f.nodes n (record c { bytes = bytes }) }
+
+-- the files with other bytes in an inode that is in use
+abbrev pub with_bytes : Files → ℕ → Bytes → Files
+with_bytes f n bytes = replaced f n (held f n) bytes
+
+-- the files after bytes were written over an inode's, from a place on; to write none changes nothing
+abbrev pub written : Files → ℕ → ℕ → Bytes → Files
+written f n at [] = f
+written f n at (b ∷ bytes) = with_bytes f n (overwrite (bytes_at f n) at (b ∷ bytes))
+
+-- the files after an inode's bytes were cut, or lengthened with zeros
+abbrev pub cut : Files → ℕ → ℕ → Files
+cut f n size = with_bytes f n (resize (bytes_at f n) size)
+
+-- the files with an inode in use that has no bytes
+abbrev pub with_new : Files → ℕ → Sort → Files
+with_new f n sort = record f { nodes = with_number f.nodes n (record { sort = sort; bytes = [] }) }
+
+-- the files with an inode free
+abbrev pub without : Files → ℕ → Files
+without f n = record f { nodes = without_number f.nodes n }
+
+-- the least inode that is free, or one more than there are
+abbrev pub new_number : Files → ℕ
+new_number f = suc (least_free (drop 1 f.nodes))

@@ -1,0 +1,4 @@
+pub mod Files
+pub mod Layout
+pub mod Owning
+pub mod Sound
