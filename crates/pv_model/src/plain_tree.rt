@@ -16,7 +16,9 @@ use std::marker::Model;
 /// A node: a directory with its entries in the order of their names, or a file.
 #[derive(Drop)]
 pub enum PlainNode {
+    /// A directory: its names, in the order of their bytes, with the numbers of their nodes.
     Directory(Vec<(Name, u16)>),
+    /// A file, which may be executed or not, and its bytes.
     File { executable: bool, bytes: Vec<u8> },
 }
 
