@@ -5,13 +5,13 @@ use Rattle.std.proofs.lemmas.Slice.Eq.{bytes_eq-Decides}
 use Rattle.pv_model.specs.declared.fault.What.{What}
 use Rattle.pv_model.specs.declared.fault.What.TheVariants.{Word, Argument}
 use Rattle.pv_model.specs.declared.instruction.Instruction.{Instruction}
-use Rattle.pv_model.specs.declared.instruction.Instruction.TheVariants.{Exit, GetPid, Pledge, Open, Close, Read}
+use Rattle.pv_model.specs.declared.instruction.Instruction.TheVariants.{Exit, GetPid, Pledge, Unveil, Open, Close, Read}
 use Rattle.pv_model.specs.declared.instruction.Operand.{Operand}
 use Rattle.pv_model.specs.declared.open_flags.OpenFlags.{OpenFlags}
 use Rattle.pv_model.specs.Bytes.{Bytes}
 use Rattle.pv_model.specs.Grammar.Arguments.{text_at, text_or_null_at, flags_at, operand_at, no_argument, one_argument, two_arguments}
 use Rattle.pv_model.specs.Grammar.Instructions.{instruction_by, or_argument}
-use Rattle.pv_run.specs.Offered.{is_plain_reading, is_plain_path, plain_open, only_offered, offered_by}
+use Rattle.pv_run.specs.Offered.{is_plain_reading, is_plain_path, is_plain_path_or_null, plain_open, plain_unveil, only_offered, offered_by}
 
 is_word : (word name : Bytes) → bytes_eq word name ≡ true → word ≡ name
 is_word word name same = (bytes_eq-Decides word name).0 same
@@ -69,8 +69,21 @@ pub exit_is : (lines : ℕ) (word rest : Bytes) → bytes_eq word (codes "exit")
 unfolding offered_by instruction_by
 exit_is lines word rest same = rw (is_word word (codes "exit") same) (exit_read (one_argument operand_at rest))
 
+unveil_by : (t : Bool) (path letters : Option Bytes) → ok_or (cond t (Some (Unveil path letters)) None) Argument ≡ cond t (Ok (Unveil path letters)) (Err Argument)
+unveil_by true path letters = refl
+unveil_by false path letters = refl
+
+unveil_read : (o : Option (Option Bytes × Option Bytes)) → ok_or (option_and_then plain_unveil o) Argument ≡ only_offered (or_argument (option_map (λ p. Unveil p.0 p.1) o))
+unveil_read None = refl
+unveil_read (Some p) = unveil_by (is_plain_path_or_null p.0) p.0 p.1
+
+pub unveil_is : (lines : ℕ) (word rest : Bytes) → bytes_eq word (codes "unveil") ≡ true
+    → ok_or (option_and_then plain_unveil (two_arguments text_or_null_at text_or_null_at rest)) Argument ≡ offered_by lines word rest
+unfolding offered_by instruction_by
+unveil_is lines word rest same = rw (is_word word (codes "unveil") same) (unveil_read (two_arguments text_or_null_at text_or_null_at rest))
+
 -- what begins with another word is not offered
 pub other_word : (lines : ℕ) (word rest : Bytes) → bytes_eq word (codes "pledge") ≡ false → bytes_eq word (codes "open") ≡ false → bytes_eq word (codes "read") ≡ false
-    → bytes_eq word (codes "close") ≡ false → bytes_eq word (codes "getpid") ≡ false → bytes_eq word (codes "exit") ≡ false → Err Word ≡ offered_by lines word rest
+    → bytes_eq word (codes "close") ≡ false → bytes_eq word (codes "getpid") ≡ false → bytes_eq word (codes "exit") ≡ false → bytes_eq word (codes "unveil") ≡ false → Err Word ≡ offered_by lines word rest
 unfolding offered_by
-other_word lines word rest a b c d e f = rw (a, b, c, d, e, f) refl
+other_word lines word rest a b c d e f g = rw (a, b, c, d, e, f, g) refl

@@ -24,3 +24,4 @@ pub mod Stepping
 pub mod Streaming
 pub mod Trim
 pub mod Turns
+pub mod UnveilLemmas

@@ -2,13 +2,13 @@
 use Rattle.std.specs.Prelude.{ℕ, Bool, true, false, not, ◌&&◌, if◌then◌else◌, min, List, [], ◌∷◌, length, codes, bytes_eq, Option, None, Some, Result, Ok, Err}
 use Rattle.std.specs.List.{list_all, list_any}
 use Rattle.pv_model.specs.declared.call.Call.{Call}
-use Rattle.pv_model.specs.declared.call.Call.TheVariants.{Exit, GetPid, Pledge, Open, Close, Read}
+use Rattle.pv_model.specs.declared.call.Call.TheVariants.{Exit, GetPid, Pledge, Unveil, Open, Close, Read}
 use Rattle.pv_model.specs.declared.fault.ManifestFault.{ManifestFault}
 use Rattle.pv_model.specs.declared.fault.ParseFault.{ParseFault}
 use Rattle.pv_model.specs.declared.fault.What.{What}
 use Rattle.pv_model.specs.declared.fault.What.TheVariants.{Word, Argument}
 use Rattle.pv_model.specs.declared.instruction.Instruction.{Instruction}
-use Rattle.pv_model.specs.declared.instruction.Instruction.TheVariants.{Exit as ExitLine, GetPid as GetPidLine, Pledge as PledgeLine, Open as OpenLine, Close as CloseLine, Read as ReadLine}
+use Rattle.pv_model.specs.declared.instruction.Instruction.TheVariants.{Exit as ExitLine, GetPid as GetPidLine, Pledge as PledgeLine, Open as OpenLine, Close as CloseLine, Read as ReadLine, Unveil as UnveilLine}
 use Rattle.pv_model.specs.declared.open_flags.Mode.{Mode}
 use Rattle.pv_model.specs.declared.open_flags.Mode.TheVariants.{Read as ForReading}
 use Rattle.pv_model.specs.declared.open_flags.OpenFlags.{OpenFlags}
@@ -28,6 +28,11 @@ is_no_dot piece = not (is_dot piece) && not (is_dot_dot piece)
 abbrev pub is_plain_path : Bytes → Bool
 is_plain_path path = is_absolute path && list_all is_no_dot (pieces path)
 
+-- the same, if there is a path
+abbrev pub is_plain_path_or_null : Option Bytes → Bool
+is_plain_path_or_null None = true
+is_plain_path_or_null (Some path) = is_plain_path path
+
 abbrev pub is_for_reading : Mode → Bool
 is_for_reading ForReading = true
 is_for_reading _ = false
@@ -46,6 +51,7 @@ is_offered_call (Pledge promises execpromises) = true
 is_offered_call (Open path flags) = is_plain_reading flags && is_plain_path path
 is_offered_call (Read d n) = true
 is_offered_call (Close d) = true
+is_offered_call (Unveil path letters) = is_plain_path_or_null path
 is_offered_call _ = false
 
 -- the instructions that are offered
@@ -56,15 +62,20 @@ is_offered_instruction (PledgeLine promises execpromises) = true
 is_offered_instruction (OpenLine path flags) = is_plain_reading flags && is_plain_path path
 is_offered_instruction (ReadLine d n) = true
 is_offered_instruction (CloseLine d) = true
+is_offered_instruction (UnveilLine path letters) = is_plain_path_or_null path
 is_offered_instruction _ = false
 
 -- an `open` with its arguments, if it is offered
 abbrev pub plain_open : Bytes × OpenFlags → Option Instruction
 plain_open p = if is_plain_reading p.1 && is_plain_path p.0 then Some (OpenLine p.0 p.1) else None
 
+-- an `unveil` with its arguments, if it is offered
+abbrev pub plain_unveil : Option Bytes × Option Bytes → Option Instruction
+plain_unveil p = if is_plain_path_or_null p.0 then Some (UnveilLine p.0 p.1) else None
+
 -- the first words of the instructions that are offered
 abbrev pub offered_words : List Bytes
-offered_words = codes "pledge" ∷ codes "open" ∷ codes "read" ∷ codes "close" ∷ codes "getpid" ∷ codes "exit" ∷ []
+offered_words = codes "pledge" ∷ codes "open" ∷ codes "read" ∷ codes "close" ∷ codes "getpid" ∷ codes "exit" ∷ codes "unveil" ∷ []
 
 abbrev pub is_offered_word : Bytes → Bool
 is_offered_word word = list_any (bytes_eq word) offered_words

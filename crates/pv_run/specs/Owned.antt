@@ -1,10 +1,12 @@
 -- What the one process of the machine has: itself and its open files; and the states that it makes.
-use Rattle.std.specs.Prelude.{◌≡◌, ℕ, [], ◌∷◌, length, replicate, None}
+use Rattle.std.specs.Prelude.{◌≡◌, ℕ, true, [], ◌∷◌, length, replicate, Option, None}
 use Rattle.pv_model.specs.Held.{among, used_files}
 use Rattle.pv_model.specs.Numbered.{Numbered, keep, without_number}
 use Rattle.pv_model.specs.State.{OpenFile, Process, Program, live, State, first_process}
 use Rattle.pv_model.specs.Tree.{Tree}
+use Rattle.pv_model.specs.Unveil.{Table}
 use Rattle.pv_promises.specs.Pledge.{Pledged}
+use Rattle.pv_unveil.specs.Unveiled.{Unveiled}
 
 -- the process and the open files of the system, which are all its own
 pub record Owned : Type 0 where
@@ -34,7 +36,6 @@ tidied o = record o { files = keep (among (used_files o.process)) o.files }
 pub record IsOwned (o : Owned) : Type 0 where
   pub tidy : tidied o ≡ o
   pub files_in_all : length o.files ≡ 128
-  pub no_table : o.process.table ≡ None
   pub no_parent : o.process.parent ≡ 0
 
 -- the promises of a process, and the process with others
@@ -43,6 +44,16 @@ pledged p = record { promises = p.promises; execpromises = p.execpromises }
 
 abbrev pub with_pledged : Pledged → Process → Process
 with_pledged v p = record p { promises = v.promises; execpromises = v.execpromises }
+
+-- what a process has unveiled, and the process with a lock or with another table
+abbrev pub unveiled : Process → Unveiled
+unveiled p = record { table = p.table; locked = p.locked }
+
+abbrev pub with_lock : Process → Process
+with_lock p = record p { locked = true }
+
+abbrev pub with_table : Option Table → Process → Process
+with_table table p = record p { table = table }
 
 abbrev pub without_descriptor_at : ℕ → Process → Process
 without_descriptor_at k p = record p { descriptors = without_number p.descriptors k }

@@ -1,5 +1,5 @@
 -- The process as the definitions have it.
-use Rattle.std.specs.Prelude.{◌≡◌, suc, false, length, IsTrue, None}
+use Rattle.std.specs.Prelude.{◌≡◌, suc, length, IsTrue}
 use Rattle.std.specs.List.{list_all}
 use Rattle.pv_model.specs.Tree.{root}
 use Rattle.pv_run.specs.declared.kernel.process.Process.TheInside.{Inside}
@@ -12,8 +12,8 @@ owned_of p = record {
   process = record {
     promises = p.pledge.promises;
     execpromises = p.pledge.execpromises;
-    table = None;
-    locked = false;
+    table = p.unveiled.table;
+    locked = p.unveiled.locked;
     directory = root;
     descriptors = descriptors_from 0 p.files;
     program = p.program.items;

@@ -1,8 +1,8 @@
 //! A small kernel: one process, and the calls that are offered so far.
 //!
 //! Contracts see the state of the machine, as the definitions have it. `process` is the process with its descriptors and
-//! open files, `files` the table of these, `walk` the walk along a path, `calls` has a function for each call, and
-//! `answer` tells the process what its call came to.
+//! open files, `files` the table of these, `walk` the walk along a path, `calls` has a function for each call, `unveil`
+//! those for unveil(2), and `answer` tells the process what its call came to.
 ghost use Rattle.std.specs.Prelude.{◌≡◌, IsTrue, IsSome, option_map, ◌≤◌, length, Option};
 ghost use Rattle.std.specs.List.{list_all};
 ghost use Rattle.pv_model.specs.Answer.{answer};
@@ -20,6 +20,7 @@ mod files;
 mod process;
 #[cfg(test)]
 mod tests;
+mod unveil;
 mod walk;
 
 use crate::kernel::calls::carry_out;

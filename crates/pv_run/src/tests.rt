@@ -130,6 +130,80 @@ fn promise_texts_are_read(rt: HostRuntime) {
     );
 }
 
+#[test]
+fn unveiled_directory_is_no_prefix(rt: HostRuntime) {
+    expect_trace(
+        &rt,
+        b"image 64 64\ndir \"/tmp\"\nbytes \"/tmpfoo\" \"x\"\nexec \"/init\" 2\nunveil \"/tmp\" \"r\"\nopen \"/tmpfoo\" r\nschedule\n1 2\n",
+        b"    1 CALL  unveil(\"/tmp\", \"r\")\n    1 NAMI  \"/tmp\"\n    1 RET   unveil 0\n    1 CALL  open(\"/tmpfoo\", r)\n    1 NAMI  \"/tmpfoo\"\n    1 UNVL  none, needs r\n    1 RET   open -1 errno 2 ENOENT\n",
+    );
+}
+
+#[test]
+fn nearest_unveiled_directory_governs(rt: HostRuntime) {
+    expect_trace(
+        &rt,
+        b"image 64 64\ndir \"/a\"\nbytes \"/a/x\" \"x\"\ndir \"/a/b\"\nbytes \"/a/b/x\" \"x\"\nexec \"/init\" 4\nunveil \"/a\" \"r\"\nunveil \"/a/b\" \"\"\nopen \"/a/x\" r\nopen \"/a/b/x\" r\nschedule\n1 4\n",
+        b"    1 CALL  unveil(\"/a\", \"r\")\n    1 NAMI  \"/a\"\n    1 RET   unveil 0\n    1 CALL  unveil(\"/a/b\", \"\")\n    1 NAMI  \"/a/b\"\n    1 RET   unveil 0\n    1 CALL  open(\"/a/x\", r)\n    1 NAMI  \"/a/x\"\n    1 RET   open 0\n    1 CALL  open(\"/a/b/x\", r)\n    1 NAMI  \"/a/b/x\"\n    1 UNVL  entry 1, needs r\n    1 RET   open -1 errno 13 EACCES\n",
+    );
+}
+
+#[test]
+fn letters_only_go_and_the_lock_stays(rt: HostRuntime) {
+    expect_trace(
+        &rt,
+        b"image 64 64\ndir \"/a\"\ndir \"/b\"\nexec \"/init\" 5\nunveil \"/a\" \"r\"\nunveil \"/a\" \"rw\"\nunveil \"/b\" \"rw\"\nunveil null null\nunveil \"/b\" \"r\"\nschedule\n1 5\n",
+        b"    1 CALL  unveil(\"/a\", \"r\")\n    1 NAMI  \"/a\"\n    1 RET   unveil 0\n    1 CALL  unveil(\"/a\", \"rw\")\n    1 NAMI  \"/a\"\n    1 UNVL  entry 0, needs rw\n    1 RET   unveil -1 errno 1 EPERM\n    1 CALL  unveil(\"/b\", \"rw\")\n    1 NAMI  \"/b\"\n    1 RET   unveil 0\n    1 CALL  unveil(null, null)\n    1 RET   unveil 0\n    1 CALL  unveil(\"/b\", \"r\")\n    1 UNVL  locked\n    1 RET   unveil -1 errno 1 EPERM\n",
+    );
+}
+
+#[test]
+fn unveiled_file_may_lose_its_letters(rt: HostRuntime) {
+    expect_trace(
+        &rt,
+        b"image 64 64\nbytes \"/f\" \"x\"\nexec \"/init\" 5\nunveil \"/f\" \"r\"\nopen \"/f\" r\nopen \"/g\" r\nunveil \"/f\" \"\"\nopen \"/f\" r\nschedule\n1 5\n",
+        b"    1 CALL  unveil(\"/f\", \"r\")\n    1 NAMI  \"/f\"\n    1 RET   unveil 0\n    1 CALL  open(\"/f\", r)\n    1 NAMI  \"/f\"\n    1 RET   open 0\n    1 CALL  open(\"/g\", r)\n    1 NAMI  \"/g\"\n    1 UNVL  none, needs r\n    1 RET   open -1 errno 2 ENOENT\n    1 CALL  unveil(\"/f\", \"\")\n    1 NAMI  \"/f\"\n    1 RET   unveil 0\n    1 CALL  open(\"/f\", r)\n    1 NAMI  \"/f\"\n    1 UNVL  entry 0, needs r\n    1 RET   open -1 errno 13 EACCES\n",
+    );
+}
+
+#[test]
+fn refused_unveil_hides_nothing(rt: HostRuntime) {
+    expect_trace(
+        &rt,
+        b"image 64 64\nexec \"/init\" 4\nunveil null \"r\"\nunveil \"/a\" \"rq\"\nunveil \"/no/x\" \"r\"\nopen \"/\" r\nschedule\n1 4\n",
+        b"    1 CALL  unveil(null, \"r\")\n    1 RET   unveil -1 errno 22 EINVAL\n    1 CALL  unveil(\"/a\", \"rq\")\n    1 RET   unveil -1 errno 22 EINVAL\n    1 CALL  unveil(\"/no/x\", \"r\")\n    1 NAMI  \"/no/x\"\n    1 RET   unveil -1 errno 2 ENOENT\n    1 CALL  open(\"/\", r)\n    1 NAMI  \"/\"\n    1 RET   open 0\n",
+    );
+}
+
+// A bundle that unveils /n0, /n1 and so on, so many names of which none is there.
+fn absent_names(alloc: Global, count: u32) -> Result<String, Fail> {
+    let mut bundle = format!(in alloc; "image 64 64\nexec \"/init\" {count}\n")?;
+    for k in 0..count {
+        bundle.push_str(&format!(in alloc; "unveil \"/n{k}\" \"r\"\n")?)?;
+    }
+    bundle.push_str(&format!(in alloc; "schedule\n1 {count}\n")?)?;
+    Ok(bundle)
+}
+
+#[test]
+fn there_are_64_entries(rt: HostRuntime) -> Result<(), Fail> {
+    let alloc = rt.alloc();
+    let bundle = absent_names(alloc, 65)?;
+    let mut wanted = String::new(alloc);
+    for k in 0..65 {
+        wanted.push_str(&format!(in alloc;
+            "    1 CALL  unveil(\"/n{k}\", \"r\")\n    1 NAMI  \"/n{k}\"\n"
+        )?)?;
+        wanted.push_str(if k < 64 {
+            "    1 RET   unveil 0\n"
+        } else {
+            "    1 RET   unveil -1 errno 7 E2BIG\n"
+        })?;
+    }
+    expect_trace(&rt, bundle.as_bytes(), wanted.as_bytes());
+    Ok(())
+}
+
 // A bundle that opens a path of so many slashes.
 fn slashes(alloc: Global, count: usize) -> Result<Vec<u8>, Fail> {
     let mut bundle = Vec::from_slice(alloc, b"image 64 64\nexec \"/init\" 1\nopen \"")?;

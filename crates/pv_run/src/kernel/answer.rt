@@ -1,5 +1,6 @@
 //! What a call answers, and how its process is told.
 ghost use Rattle.std.specs.Prelude.{◌≡◌, IsOk, OnErr};
+ghost use Rattle.pv_model.specs.declared.outcome.Cause.TheVariants.{Plain};
 ghost use Rattle.pv_run.specs.Rows.{told, outcome_of};
 
 use crate::kernel::process::Process;
@@ -17,6 +18,16 @@ pub(crate) struct Answer {
 pub(crate) struct Tried {
     pub(crate) walks: u8,
     pub(crate) result: Result<u16, (Errno, Cause)>,
+}
+
+/// A refusal that the call itself decides, after some walks.
+pub(crate) fn refusal(walks: u8, errno: Errno) -> Tried
+    ensures { result ≡ record { walks = walks; result = Err (errno, Plain) } }
+{
+    Tried {
+        walks,
+        result: Err((errno, Cause::Plain)),
+    }
 }
 
 /// Tells a process what its call came to, and gives the answer.

@@ -8,7 +8,6 @@ ghost use Rattle.pv_model.specs.Calls.Descriptors.{open_here, close, read};
 ghost use Rattle.pv_model.specs.Calls.Restraints.{asked_promises, pledge};
 ghost use Rattle.pv_model.specs.Effect.{bytes_of, node_of, returns_bytes};
 ghost use Rattle.pv_model.specs.State.{Program, State};
-ghost use Rattle.pv_model.specs.Walk.{begins_walk};
 ghost use Rattle.pv_model.specs.Tree.{Tree, node_at, is_directory_at};
 ghost use Rattle.pv_promises.specs.Pledge.{bits_of};
 ghost use Rattle.pv_run.specs.Made.{IsMade};
@@ -16,23 +15,16 @@ ghost use Rattle.pv_run.specs.Offered.{is_offered_call, is_plain_path};
 ghost use Rattle.pv_run.specs.Owned.{state_with, tidied};
 ghost use Rattle.pv_run.specs.Rows.{answered, attempt_of, is_readable, plain_reading};
 
-use crate::kernel::answer::{Answer, Tried, tell};
+use crate::kernel::answer::{Answer, Tried, refusal, tell};
 use crate::kernel::files::{Opened, within};
 use crate::kernel::process::Process;
-use crate::kernel::walk::walk;
-use pv_model::limits::{BUFFER, PATH};
-use pv_model::{Call, Cause, Errno, Outcome, Place, PlainNode, PlainTree, Promises, Taken, Text};
+use crate::kernel::unveil::{permitted, unveil};
+use crate::kernel::walk::{walk, walks_begun};
+use pv_model::limits::BUFFER;
+use pv_model::{
+    Call, Cause, Errno, Outcome, Perms, Place, PlainNode, PlainTree, Promises, Taken, Text,
+};
 use pv_promises::{Decision, read_promises};
-
-// A refusal that the call itself decides, after some walks.
-fn refusal(walks: u8, errno: Errno) -> Tried
-    ensures { result ≡ record { walks = walks; result = Err (errno, Plain) } }
-{
-    Tried {
-        walks,
-        result: Err((errno, Cause::Plain)),
-    }
-}
 
 // The set that is asked for, if one is.
 fn asked(text: &Option<Text>) -> Result<Option<Promises>, Errno>
@@ -196,27 +188,16 @@ fn node_there(tree: &PlainTree, place: &Place) -> Option<u16>
     }
 }
 
-// How many walks a path begins: one, unless it is empty or too long.
-fn walks_begun(path: &[u8]) -> u8
-    ensures { result ≡ (if begins_walk path.now then 1 else 0) }
-{
-    if path.is_empty() || path.len() > PATH {
-        0
-    } else {
-        1
-    }
-}
-
 /// Opens what a path names for reading, under the least free descriptor: open(2).
 ///
-/// With 16 descriptors open it is EMFILE; else an error of the walk, or ENOENT where nothing is there.
+/// With 16 descriptors open it is EMFILE; else an error of the walk; else what the unveiled places say: ENOENT where
+/// none governs the place, EACCES where the one that does lacks the letter r; or ENOENT where nothing is there.
 pub(crate) fn open(tree: &PlainTree, process: &mut Process, path: &[u8]) -> Tried
     requires made { IsMade tree.now }
     requires plain { IsTrue (is_plain_path path.now) }
     ensures row { open_here (state_with tree.now process.old) 1 process.old.process path.now plain_reading ≡ attempt_of (state_with tree.now process.new) result }
     ensures unchanged { OnErr result.result (process.new ≡ process.old) }
 {
-    process.facts();
     let Some(number) = process.free_number() else {
         return refusal(0, Errno::EMFILE);
     };
@@ -225,6 +206,12 @@ pub(crate) fn open(tree: &PlainTree, process: &mut Process, path: &[u8]) -> Trie
         Ok(place) => place,
         Err(errno) => return refusal(walks, errno),
     };
+    if let Err(refused) = permitted(process.judge(tree, &place, Perms::R)) {
+        return Tried {
+            walks,
+            result: Err(refused),
+        };
+    }
     let Some(node) = node_there(tree, &place) else {
         return refusal(walks, Errno::ENOENT);
     };
@@ -274,6 +261,11 @@ fn perform(tree: &PlainTree, process: &mut Process, call: &Call) -> Answer
             tell(process, tried)
         }
         Call::Read(d, n) => read(tree, process, *d, *n),
+        Call::Unveil(path, letters) => {
+            let tried = unveil(tree, process, path, letters);
+            process.facts();
+            tell(process, tried)
+        }
         _ => unreachable!(),
     }
 }

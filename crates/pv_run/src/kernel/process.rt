@@ -11,18 +11,26 @@ ghost use Rattle.pv_run.specs.Offered.{is_offered_instruction, is_offered_call};
 ghost use Rattle.pv_model.specs.Answer.{at_next_line, with_front};
 ghost use Rattle.pv_model.specs.Calls.Processes.{with_result};
 ghost use Rattle.pv_promises.specs.Decision.{decision};
+ghost use Rattle.std.specs.Option.{IsSomeAnd};
+ghost use Rattle.pv_model.specs.Attempt.{give};
+ghost use Rattle.pv_model.specs.Unveil.{judgement};
+ghost use Rattle.pv_unveil.specs.Added.{add_to, refusal};
 
 use crate::kernel::files::{Opened, free_number, within};
 use pv_model::limits::{BUFFER, DESCRIPTORS, REGISTERS};
-use pv_model::{Call, Instruction, Operand, Promise, Promises, Text};
+use pv_model::{
+    Call, Instruction, Judgement, Operand, Perms, Place, PlainTree, Promise, Promises, Target, Text,
+};
 use pv_promises::{Decision, Pledge};
+use pv_unveil::{AddFault, Table};
 use std::marker::Model;
 
-/// The process: what it has promised, its open files by their descriptors, its program and its next line, its
+/// The process: what it has promised, what it has unveiled, its open files by their descriptors, its program and its next line, its
 /// registers and its buffer.
 #[derive(Drop)]
 pub(crate) struct Process {
     pledge: Pledge,
+    unveiled: Table,
     files: [Option<Opened>; DESCRIPTORS],
     program: Vec<Instruction>,
     at: usize,
@@ -53,7 +61,7 @@ fn copy(text: &Option<Text>) -> Option<Text>
 }
 
 impl Process {
-    ghost use Rattle.pv_run.specs.Owned.{IsOwned, first_owned, with_owner, with_pledged, pledged, state_with, tidied, without_descriptor_at};
+    ghost use Rattle.pv_run.specs.Owned.{IsOwned, first_owned, with_owner, with_pledged, pledged, with_lock, with_table, unveiled, state_with, tidied, without_descriptor_at};
     ghost use Rattle.pv_run.specs.Slots.{file_of, descriptor_of, with_opened};
 
     /// A process at the first line of its program.
@@ -63,6 +71,7 @@ impl Process {
     {
         Process {
             pledge: Pledge::new(),
+            unveiled: Table::new(),
             files: [None; DESCRIPTORS],
             program,
             at: 0,
@@ -138,6 +147,7 @@ impl Process {
             Instruction::Open(path, flags) => Call::Open(path.copy(), *flags),
             Instruction::Close(d) => Call::Close(self.operand(*d)),
             Instruction::Read(d, n) => Call::Read(self.operand(*d), self.operand(*n)),
+            Instruction::Unveil(path, letters) => Call::Unveil(copy(path), copy(letters)),
             _ => unreachable!(),
         }
     }
@@ -165,6 +175,40 @@ impl Process {
         ensures unchanged { OnErr result (self.new ≡ self.old) }
     {
         self.pledge.narrow(promises, execpromises)
+    }
+
+    /// Whether what it has unveiled is locked.
+    pub(crate) fn is_locked(&self) -> bool
+        ensures { result ≡ self.now.process.locked }
+    {
+        self.unveiled.is_locked()
+    }
+
+    /// Locks what it has unveiled, unveil(2).
+    pub(crate) fn lock(&mut self)
+        ensures { self.new ≡ with_owner self.old with_lock }
+    {
+        self.unveiled.lock();
+    }
+
+    /// Adds a target to what it has unveiled, unveil(2), or leaves the one that is there with these letters.
+    pub(crate) fn unveil(&mut self, target: Target, letters: Perms) -> Result<(), AddFault>
+        ensures added { OnOk result (IsSomeAnd self.new.process.table (λ table. add_to (unveiled self.old.process) target letters ≡ give table)) }
+        ensures refused { IfErr result (λ fault. add_to (unveiled self.old.process) target letters ≡ refusal fault) }
+        ensures only { OnOk result (self.new ≡ with_owner self.old (with_table self.new.process.table)) }
+        ensures unchanged { OnErr result (self.new ≡ self.old) }
+    {
+        match self.unveiled.add(target, letters) {
+            Ok(_) => Ok(()),
+            Err(fault) => Err(fault),
+        }
+    }
+
+    /// What is said of a place by what it has unveiled, for the letters that a call needs.
+    pub(crate) fn judge(&self, tree: &PlainTree, place: &Place, needed: Perms) -> Judgement
+        ensures { result ≡ judgement tree.now self.now.process.table place.now needed }
+    {
+        self.unveiled.judge(tree, place, needed)
     }
 
     /// The least number that is free for a descriptor and its open file, if there is one.

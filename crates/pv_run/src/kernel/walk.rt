@@ -1,11 +1,11 @@
 //! The walk along a path, symlink(7): from the root, through directories, in a tree with no links.
-ghost use Rattle.std.specs.Prelude.{◌≡◌, ◌<◌, ◌≤◌, ◌==◌, not, ◌∷◌, [], length, IsTrue, is_some, position, MatchOption, IfSome, IfOk, nat_lt, List, ℕ, Bool, true};
+ghost use Rattle.std.specs.Prelude.{◌≡◌, ◌<◌, ◌≤◌, ◌==◌, if◌then◌else◌, not, ◌∷◌, [], length, IsTrue, is_some, position, MatchOption, IfSome, IfOk, nat_lt, List, ℕ, Bool, true};
 ghost use Rattle.std.specs.Bool.{OnFalse};
 ghost use Rattle.std.specs.List.{list_all};
 ghost use Rattle.pv_model.specs.declared.follow.Follow.{Follow};
 ghost use Rattle.pv_model.specs.Bytes.{Bytes};
 ghost use Rattle.pv_model.specs.Tree.{root, greatest_name, parent};
-ghost use Rattle.pv_model.specs.Walk.{pieces, along, ends_in_slash, resolve, Behind};
+ghost use Rattle.pv_model.specs.Walk.{begins_walk, pieces, along, ends_in_slash, resolve, Behind};
 ghost use Rattle.pv_run.specs.Offered.{is_plain_path};
 ghost use Rattle.pv_run.specs.Walk.{entered, is_plain_piece};
 
@@ -142,6 +142,17 @@ fn follow_pieces(tree: &PlainTree, path: &[u8], mark: bool) -> Result<Place, Err
         rest = after;
     }
     finish(tree, at, piece, mark)
+}
+
+/// How many walks a path begins: one, unless it is empty or too long.
+pub(crate) fn walks_begun(path: &[u8]) -> u8
+    ensures { result ≡ (if begins_walk path.now then 1 else 0) }
+{
+    if path.is_empty() || path.len() > PATH {
+        0
+    } else {
+        1
+    }
 }
 
 /// The place that a path names, symlink(7): the path begins with a slash and has no piece `.` or `..`.

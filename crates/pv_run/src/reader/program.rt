@@ -4,7 +4,7 @@ ghost use Rattle.std.specs.List.{list_all};
 ghost use Rattle.pv_model.specs.declared.instruction.Instruction.TheVariants.{Exit as ExitLine, GetPid as GetPidLine, Pledge as PledgeLine, Close as CloseLine, Read as ReadLine};
 ghost use Rattle.pv_model.specs.Grammar.Arguments.{text_at, text_or_null_at, flags_at, operand_at, one_argument, two_arguments, no_argument};
 ghost use Rattle.pv_model.specs.Grammar.Programs.{read_program};
-ghost use Rattle.pv_run.specs.Offered.{is_offered_instruction, is_plain_reading, offered_by, offered_instruction, offered_program, plain_open};
+ghost use Rattle.pv_run.specs.Offered.{is_offered_instruction, is_plain_reading, offered_by, offered_instruction, offered_program, plain_open, plain_unveil};
 ghost use Rattle.pv_run.specs.Reading.{GivesProgram};
 
 use super::arguments::{one_operand, text_and_flags, two_operands, two_texts_or_null};
@@ -85,6 +85,19 @@ fn exit(rest: &[u8]) -> Option<Instruction>
     Some(Instruction::Exit(code))
 }
 
+// The instruction `unveil` with these arguments: with a path without dots, if with one.
+fn unveil(rest: &[u8]) -> Option<Instruction>
+    ensures { result ≡ option_and_then plain_unveil (two_arguments text_or_null_at text_or_null_at rest.now) }
+{
+    let (path, letters) = two_texts_or_null(rest)?;
+    if let Some(path) = &path {
+        if !is_plain_path(path.as_slice()) {
+            return None;
+        }
+    }
+    Some(Instruction::Unveil(path, letters))
+}
+
 // The instruction that its first word and what stands behind it spell, if it is offered.
 fn by_word(word: &[u8], rest: &[u8]) -> Result<Instruction, What>
     ensures { (lines : ℕ) → result ≡ offered_by lines word.now rest.now }
@@ -106,6 +119,9 @@ fn by_word(word: &[u8], rest: &[u8]) -> Result<Instruction, What>
     }
     if word == b"exit".as_slice() {
         return exit(rest).ok_or(What::Argument);
+    }
+    if word == b"unveil".as_slice() {
+        return unveil(rest).ok_or(What::Argument);
     }
     Err(What::Word)
 }

@@ -274,9 +274,9 @@ fn room_of_an_image(rt: HostRuntime) -> Result<(), Fail> {
 #[test]
 fn program_of_each_offered_word(rt: HostRuntime) -> Result<(), Fail> {
     let bytes =
-        b"pledge \"stdio\" null\nopen \"/a\" r\nread r0 -1\nclose 2147483647\ngetpid\nexit r7";
+        b"pledge \"stdio\" null\nopen \"/a\" r\nread r0 -1\nclose 2147483647\ngetpid\nexit r7\nunveil \"/a\" \"r\"\nunveil null \"\"";
     let lines = program(rt.alloc(), bytes)?;
-    assert_eq!(rt; lines.len(), 6);
+    assert_eq!(rt; lines.len(), 8);
     match lines.get(0) {
         Some(Instruction::Pledge(Some(promises), None)) => {
             assert_eq!(rt; promises.as_slice(), b"stdio".as_slice());
@@ -288,6 +288,8 @@ fn program_of_each_offered_word(rt: HostRuntime) -> Result<(), Fail> {
     assert!(rt; matches!(lines.get(3), Some(Instruction::Close(_))));
     assert!(rt; matches!(lines.get(4), Some(Instruction::GetPid)));
     assert!(rt; matches!(lines.get(5), Some(Instruction::Exit(_))));
+    assert!(rt; matches!(lines.get(6), Some(Instruction::Unveil(Some(_), Some(_)))));
+    assert!(rt; matches!(lines.get(7), Some(Instruction::Unveil(None, Some(_)))));
     assert_eq!(rt; program(rt.alloc(), b"")?.len(), 0);
     Ok(())
 }
@@ -306,6 +308,10 @@ fn lines_that_are_no_instructions(rt: HostRuntime) -> Result<(), Fail> {
     assert_eq!(rt;
         program(alloc, b" exit 0").err(),
         Some(ParseFault::Line(1, What::Word))
+    );
+    assert_eq!(rt;
+        program(alloc, b"unveil \"/a/..\" \"r\"\n").err(),
+        Some(ParseFault::Line(1, What::Argument))
     );
     assert_eq!(rt;
         program(alloc, b"exit  0").err(),

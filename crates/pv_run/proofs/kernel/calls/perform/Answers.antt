@@ -6,7 +6,7 @@ use Rattle.pv_model.specs.Answer.{Answered, effect}
 use Rattle.pv_model.specs.declared.outcome.Outcome.TheVariants.{Exited}
 use Rattle.pv_model.specs.Calls.Descriptors.{open_here, close}
 use Rattle.pv_model.specs.Calls.Processes.{exit_status, getpid}
-use Rattle.pv_model.specs.Calls.Restraints.{pledge}
+use Rattle.pv_model.specs.Calls.Restraints.{pledge, unveil}
 use Rattle.pv_run.specs.Offered.{is_plain_reading, is_plain_path}
 use Rattle.pv_run.specs.Owned.{Owned, state_with}
 use Rattle.pv_run.specs.Rows.{plain_reading}
@@ -70,3 +70,12 @@ returns-in-Read c = λ program_of before.
     let fits : SFits w32 c.in-Read.d = search rules in
     let fits_too : SFits w32 c.in-Read.n = search rules in
     rw c.in-Read.is (rw (to_z-of_z w32 c.in-Read.d fits, to_z-of_z w32 c.in-Read.n fits_too) at (c.read.ensures before))
+
+pub returns-in-Unveil : goal.returns-in-Unveil
+unfolding effect
+returns-in-Unveil c = λ program_of before.
+    let o = c.args.process.now in
+    rw c.in-Unveil.is
+    (answered_told c.args.tree.now c.requires.made before o c.unveil-tried.new.process c.unveil-tried.new.process c.tell-in-Unveil.new.process c.unveil-tried.result c.tell-in-Unveil.result
+    (unveil (state_with c.args.tree.now o) 1 o.process c.in-Unveil.path c.in-Unveil.letters)
+    c.unveil-tried.ensures.row c.facts-in-Unveil.ensures.tidy c.unveil-tried.ensures.unchanged c.tell-in-Unveil.ensures.told c.tell-in-Unveil.ensures.answer)

@@ -2,7 +2,7 @@
 use Rattle.std.proofs.Common.{sym, ◌∙◌, ap}
 use Rattle.std.specs.Prelude.{ok_or, bytes_eq}
 use Rattle.pv_model.specs.declared.fault.What.TheVariants.{Argument}
-use Rattle.pv_run.proofs.Instructions.{pledge_is, open_is, read_is, close_is, getpid_is, exit_is, other_word}
+use Rattle.pv_run.proofs.Instructions.{pledge_is, open_is, read_is, close_is, getpid_is, exit_is, unveil_is, other_word}
 use Rattle.pv_run.proofs.reader.program.by_word.Goals as goal
 
 pub returns-then-eq : goal.returns-then-eq
@@ -23,6 +23,9 @@ returns-then-eq-5 c = λ lines. c.ok_or-then-eq-5.ensures.value ∙ ap (λ o. ok
 pub returns-then-eq-6 : goal.returns-then-eq-6
 returns-then-eq-6 c = λ lines. c.ok_or-then-eq-6.ensures.value ∙ ap (λ o. ok_or o Argument) c.exit.ensures ∙ exit_is lines c.args.word.now c.args.rest.now (sym (ap (bytes_eq c.args.word.now) c.as_slice-6.ensures) ∙ sym c.eq-6.ensures ∙ c.if-eq-6.true)
 
+pub returns-then-eq-7 : goal.returns-then-eq-7
+returns-then-eq-7 c = λ lines. c.ok_or-then-eq-7.ensures.value ∙ ap (λ o. ok_or o Argument) c.unveil.ensures ∙ unveil_is lines c.args.word.now c.args.rest.now (sym (ap (bytes_eq c.args.word.now) c.as_slice-7.ensures) ∙ sym c.eq-7.ensures ∙ c.if-eq-7.true)
+
 pub returns : goal.returns
 returns c =
     λ lines. other_word lines c.args.word.now c.args.rest.now
@@ -32,3 +35,4 @@ returns c =
     (sym (ap (bytes_eq c.args.word.now) c.as_slice-4.ensures) ∙ sym c.eq-4.ensures ∙ c.if-eq-4.false)
     (sym (ap (bytes_eq c.args.word.now) c.as_slice-5.ensures) ∙ sym c.eq-5.ensures ∙ c.if-eq-5.false)
     (sym (ap (bytes_eq c.args.word.now) c.as_slice-6.ensures) ∙ sym c.eq-6.ensures ∙ c.if-eq-6.false)
+    (sym (ap (bytes_eq c.args.word.now) c.as_slice-7.ensures) ∙ sym c.eq-7.ensures ∙ c.if-eq-7.false)

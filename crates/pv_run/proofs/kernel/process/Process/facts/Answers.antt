@@ -8,6 +8,5 @@ pub returns : goal.returns
 returns c = subst IsOwned c.self.view_is (record {
   tidy = ap (λ files. record (owned_of c.self.inside) { files = files }) (keep_files c.self.inside.files c.self.inside.files (IsSub-refl c.self.inside.files));
   files_in_all = length_files c.self.inside.files c.self.invariant.sixteen;
-  no_table = refl;
   no_parent = refl;
 })
