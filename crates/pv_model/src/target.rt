@@ -1,4 +1,5 @@
 //! What an entry of an unveil table is for.
+ghost use Rattle.std.specs.Prelude.{◌≡◌};
 
 use crate::Name;
 
@@ -15,5 +16,20 @@ pub enum Target {
 impl Default for Target {
     fn default() -> Target {
         Target::Directory(0)
+    }
+}
+
+impl Target {
+    /// Another target that is the same.
+    pub fn copy(&self) -> Target
+        ensures { result ≡ self.now }
+    {
+        match self {
+            Target::Directory(number) => Target::Directory(*number),
+            Target::Name { dir, name } => Target::Name {
+                dir: *dir,
+                name: name.copy(),
+            },
+        }
     }
 }

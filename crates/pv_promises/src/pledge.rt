@@ -120,6 +120,14 @@ impl Pledge {
         Ok(())
     }
 
+    /// What execve(2) leaves: the promises become the execpromises, and are absent where these are. The
+    /// execpromises stay.
+    pub fn after_exec(&mut self)
+        ensures { self.new ≡ record self.old { promises = self.old.execpromises } }
+    {
+        self.promises = self.execpromises;
+    }
+
     /// What a call meets, by the first promise that it needs and that is not held, pledge(2).
     pub fn decide(&self, call: &Call) -> Decision
         ensures { result ≡ decision self.now.promises (needs call.now) }

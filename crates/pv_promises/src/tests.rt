@@ -88,3 +88,22 @@ fn refuses_an_increase(rt: HostRuntime) -> Result<(), Fail> {
     assert_eq!(rt; pledge.promises(), Some(held));
     Ok(())
 }
+
+#[test]
+fn changes_by_execve(rt: HostRuntime) -> Result<(), Fail> {
+    let mut pledge = Pledge::new();
+    let promises = read_promises("stdio exec".as_bytes())?;
+    let execpromises = read_promises("stdio rpath".as_bytes())?;
+    assert_eq!(rt; pledge.narrow(Some(promises), None), Ok(()));
+    let mut without = pledge;
+    without.after_exec();
+    assert_eq!(rt; without.promises(), None);
+    assert_eq!(rt; without.execpromises(), None);
+    assert_eq!(rt; pledge.narrow(None, Some(execpromises)), Ok(()));
+    for _execve in 0..2 {
+        pledge.after_exec();
+        assert_eq!(rt; pledge.promises(), Some(execpromises));
+        assert_eq!(rt; pledge.execpromises(), Some(execpromises));
+    }
+    Ok(())
+}

@@ -36,7 +36,7 @@ fn directory_rights(entries: &[(Target, Perms)], tree: &PlainTree, directory: u1
 }
 
 // The entry that governs a place: of a directory the one that governs it, and of a name its own, or else
-/// the one that governs the directory in which it stands.
+// the one that governs the directory in which it stands.
 #[tactic(auto, unfolding(pv_model::specs::Unveil::governing_entry))]
 fn governing_entry(entries: &[(Target, Perms)], tree: &PlainTree, place: &Place) -> Option<u8>
     requires { length entries.now ≤ 64 }

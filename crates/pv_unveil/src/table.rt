@@ -1,5 +1,5 @@
 //! What a process has unveiled.
-ghost use Rattle.std.specs.Prelude.{◌≡◌, ◌<◌, length, OnOk, OnErr, IfOk, IfErr, None, Some, true, false, ◌↔◌, IsTrue, option_map, slice_get, slice_set};
+ghost use Rattle.std.specs.Prelude.{◌≡◌, ◌<◌, length, OnOk, OnErr, IfOk, IfErr, None, Some, true, false, ◌↔◌, IsTrue, if◌then◌else◌, ◌&&◌, option_map, slice_get, slice_set};
 ghost use Rattle.pv_model.specs.Attempt.{give};
 ghost use Rattle.pv_model.specs.Unveil.{entry_for, letters_at};
 ghost use Rattle.pv_unveil.specs.Added.{refusal, put_in};
@@ -162,6 +162,31 @@ impl Table {
             return Err(AddFault::Locked);
         }
         put(&mut self.entries, target, letters)
+    }
+
+    /// Another table with the same entries and lock, as fork(2) gives the child.
+    pub fn copy(&self) -> Table
+        ensures { result ≡ self.now }
+    {
+        let mut entries = ArrayVec::new();
+        for (target, letters) in self.entries.as_slice() {
+            entries.push((target.copy(), *letters));
+        }
+        Table {
+            entries,
+            locked: self.locked,
+        }
+    }
+
+    /// What execve(2) leaves: where it does not keep the table, neither entries nor lock.
+    pub fn after_exec(&mut self, keeps: bool)
+        ensures table { self.new.table ≡ (if keeps then self.old.table else None) }
+        ensures lock { self.new.locked ≡ (keeps && self.old.locked) }
+    {
+        if !keeps {
+            self.entries = ArrayVec::new();
+            self.locked = false;
+        }
     }
 
     /// What the table says of a place, for the letters that a call needs.

@@ -130,3 +130,28 @@ fn adds_entries(rt: HostRuntime) {
     table.lock();
     assert_eq!(rt; table.add(Target::Directory(64), R), Err(AddFault::Locked));
 }
+
+#[test]
+fn goes_or_stays_at_execve(rt: HostRuntime) {
+    let mut table = Table::new();
+    let named = Target::Name {
+        dir: 1,
+        name: name(&rt, "f"),
+    };
+    assert_eq!(rt; table.add(Target::Directory(2), RW), Ok(0));
+    assert_eq!(rt; table.add(named, R), Ok(1));
+    table.lock();
+    let mut copy = table.copy();
+    assert!(rt; copy.is_locked());
+    assert_eq!(rt; copy.len(), 2);
+    assert!(rt; copy.letters(0) == RW && copy.letters(1) == R);
+    assert!(rt;
+        matches!(copy.target(1), Target::Name { dir: 1, name } if name.as_slice() == b"f".as_slice())
+    );
+    copy.after_exec(true);
+    assert!(rt; copy.is_locked() && copy.len() == 2);
+    copy.after_exec(false);
+    assert!(rt; copy.is_empty() && !copy.is_locked());
+    assert_eq!(rt; copy.add(Target::Directory(3), R), Ok(0));
+    assert!(rt; table.is_locked() && table.len() == 2);
+}
