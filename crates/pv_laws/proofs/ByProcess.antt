@@ -43,6 +43,13 @@ within-limit limit (pos n) k is =
     ] refl is
 within-limit limit (negsuc n) k is = cc
 
+-- the descriptors that an execve keeps
+pub kept_descriptor : (ds : Numbered Descriptor) (d : ℕ) (x : Descriptor) → at_number (map descriptor_after_exec ds) d ≡ Some x → at_number ds d ≡ Some x
+kept_descriptor [] d x is = cc
+kept_descriptor (None ∷ ds) zero x is = cc
+kept_descriptor (Some y ∷ ds) zero x is = elim (y.close_on_exec) as (λ b. cond b None (Some y) ≡ Some x → Some y ≡ Some x) [ true ↦ λ none. cc | false ↦ λ some. some ] is
+kept_descriptor (o ∷ ds) (suc d) x is = kept_descriptor ds d x is
+
 module _ (s : State) (pid : ℕ) (me : Process) (whole : IsWhole s) (at : process_at s pid ≡ Some me) where
   -- the caller changes its restraints or its place, and nothing inside
   abbrev stays_running : (q : Process) → q.program ≡ me.program → q.line ≡ me.line → q.registers ≡ me.registers → q.buffer ≡ me.buffer → IsRunning q
@@ -154,12 +161,6 @@ module _ (s : State) (pid : ℕ) (me : Process) (whole : IsWhole s) (at : proces
       )))))
 
   -- execve
-
-  kept_descriptor : (ds : Numbered Descriptor) (d : ℕ) (x : Descriptor) → at_number (map descriptor_after_exec ds) d ≡ Some x → at_number ds d ≡ Some x
-  kept_descriptor [] d x is = cc
-  kept_descriptor (None ∷ ds) zero x is = cc
-  kept_descriptor (Some y ∷ ds) zero x is = elim (y.close_on_exec) as (λ b. cond b None (Some y) ≡ Some x → Some y ≡ Some x) [ true ↦ λ none. cc | false ↦ λ some. some ] is
-  kept_descriptor (o ∷ ds) (suc d) x is = kept_descriptor ds d x is
 
   abbrev execve_4 : Program → Attempt Effect
   execve_4 program = answers (with_process s pid (with_program s pid me program)) 0

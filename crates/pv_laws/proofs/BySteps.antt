@@ -82,7 +82,7 @@ call-keeps_whole program_of spells s pid call is whole =
 -- ---- instructions
 
 -- what comes next is good
-abbrev IsGoodNext : Process → Next → Type 0
+abbrev pub IsGoodNext : Process → Next → Type 0
 IsGoodNext p (inside q) = IsRunning q × SameHolds p q
 IsGoodNext p (calls_for call) = is_call call ≡ true
 
@@ -195,7 +195,7 @@ line_at test [] k i all is = cc
 line_at test (x ∷ xs) zero i all is = let same : x ≡ i = cc is in ap test (sym same) ∙ (and_parts (test x) _ all).0
 line_at test (x ∷ xs) (suc k) i all is = line_at test xs k i (and_parts (test x) (list_all test xs) all).1 is
 
-good-next : (p : Process) → IsRunning p → IsGoodNext p (next p)
+pub good-next : (p : Process) → IsRunning p → IsGoodNext p (next p)
 good-next p is = by (slice_get p.program (p.line - 1)) refl
   where
     by : (o : Option Instruction) → slice_get p.program (p.line - 1) ≡ o → IsGoodNext p (next_by p o)

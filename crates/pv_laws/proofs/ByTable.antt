@@ -22,6 +22,31 @@ use Rattle.pv_laws.proofs.Running.{IsReady, running-result, length-little_endian
 use Rattle.pv_laws.proofs.Standing.{my-running, my-placed}
 use Rattle.pv_laws.proofs.Whole.{has_room, list_all-put_number, sorted-put_number, put-cases, with_process-cases, still-live}
 
+-- the first child that has ended is one
+pub first-ended : (ps : List (ℕ × Record)) (mine : ℕ × Record → Bool) → is_sorted nat_cmp ps ≡ true → (k status : ℕ) (rs : List (ℕ × ℕ)) → statuses (filter mine ps) ≡ (k, status) ∷ rs
+    → (parent : ℕ) × (find nat_cmp k ps ≡ Some (ended_record parent status))
+first-ended [] mine sorted k status rs is = cc
+first-ended ((n, r) ∷ ps) mine sorted k status rs is =
+    let rest : statuses (filter mine ps) ≡ (k, status) ∷ rs → (parent : ℕ) × (find nat_cmp k ((n, r) ∷ ps) ≡ Some (ended_record parent status)) =
+    λ there. let found = first-ended ps mine (and_parts (below_all nat_cmp n ps) _ sorted).1 k status rs there in (found.0, find_number_behind k (ended_record found.0 status) (n, r) ps sorted found.1) in
+    elim (mine (n, r)) as (λ b. statuses (cond b ((n, r) ∷ filter mine ps) (filter mine ps)) ≡ (k, status) ∷ rs → (parent : ℕ) × (find nat_cmp k ((n, r) ∷ ps) ≡ Some (ended_record parent status))) [
+      | true ↦ λ at_head. head n r ps (filter mine ps) k status rs at_head rest
+      | false ↦ λ there. rest there
+    ] is
+  where
+    head : (n : ℕ) (r : Record) (ps qs : List (ℕ × Record)) (k status : ℕ) (rs : List (ℕ × ℕ)) → statuses ((n, r) ∷ qs) ≡ (k, status) ∷ rs
+        → (statuses qs ≡ (k, status) ∷ rs → (parent : ℕ) × (find nat_cmp k ((n, r) ∷ ps) ≡ Some (ended_record parent status)))
+        → (parent : ℕ) × (find nat_cmp k ((n, r) ∷ ps) ≡ Some (ended_record parent status))
+    head n (live p) ps qs k status rs is rest = rest is
+    head n (ended_record parent code) ps qs k status rs is rest =
+        let pair : ◌≡◌ {A = ℕ × ℕ} (n, code) (k, status) = cc is in
+        let number : n ≡ k = ap (λ (p : ℕ × ℕ). p.0) pair in
+        let left : code ≡ status = ap (λ (p : ℕ × ℕ). p.1) pair in (
+          parent,
+          ap (λ q. find nat_cmp q ((n, ended_record parent code) ∷ ps)) (sym number)
+              ∙ ap (λ o. cond (is_eq o) (Some (ended_record parent code)) (find nat_cmp n ps)) (number-itself n) ∙ ap (λ c. Some (ended_record parent c)) left,
+        )
+
 module _ (s : State) (pid : ℕ) (me : Process) (whole : IsWhole s) (at : process_at s pid ≡ Some me) where
   abbrev number : ℕ
   number = suc s.last_process
@@ -75,31 +100,6 @@ module _ (s : State) (pid : ℕ) (me : Process) (whole : IsWhole s) (at : proces
       let few : length s.processes < 32 = leb-false 32 (length s.processes) parts.0 in
       let low : number ≤ 99999 = ltb-false 99999 number parts.1 in
       (ready-forked few low, omega arith))
-
-  -- the first child that has ended is one
-  first-ended : (ps : List (ℕ × Record)) (mine : ℕ × Record → Bool) → is_sorted nat_cmp ps ≡ true → (k status : ℕ) (rs : List (ℕ × ℕ)) → statuses (filter mine ps) ≡ (k, status) ∷ rs
-      → (parent : ℕ) × (find nat_cmp k ps ≡ Some (ended_record parent status))
-  first-ended [] mine sorted k status rs is = cc
-  first-ended ((n, r) ∷ ps) mine sorted k status rs is =
-      let rest : statuses (filter mine ps) ≡ (k, status) ∷ rs → (parent : ℕ) × (find nat_cmp k ((n, r) ∷ ps) ≡ Some (ended_record parent status)) =
-      λ there. let found = first-ended ps mine (and_parts (below_all nat_cmp n ps) _ sorted).1 k status rs there in (found.0, find_number_behind k (ended_record found.0 status) (n, r) ps sorted found.1) in
-      elim (mine (n, r)) as (λ b. statuses (cond b ((n, r) ∷ filter mine ps) (filter mine ps)) ≡ (k, status) ∷ rs → (parent : ℕ) × (find nat_cmp k ((n, r) ∷ ps) ≡ Some (ended_record parent status))) [
-        | true ↦ λ at_head. head n r ps (filter mine ps) k status rs at_head rest
-        | false ↦ λ there. rest there
-      ] is
-    where
-      head : (n : ℕ) (r : Record) (ps qs : List (ℕ × Record)) (k status : ℕ) (rs : List (ℕ × ℕ)) → statuses ((n, r) ∷ qs) ≡ (k, status) ∷ rs
-          → (statuses qs ≡ (k, status) ∷ rs → (parent : ℕ) × (find nat_cmp k ((n, r) ∷ ps) ≡ Some (ended_record parent status)))
-          → (parent : ℕ) × (find nat_cmp k ((n, r) ∷ ps) ≡ Some (ended_record parent status))
-      head n (live p) ps qs k status rs is rest = rest is
-      head n (ended_record parent code) ps qs k status rs is rest =
-          let pair : ◌≡◌ {A = ℕ × ℕ} (n, code) (k, status) = cc is in
-          let number : n ≡ k = ap (λ (p : ℕ × ℕ). p.0) pair in
-          let left : code ≡ status = ap (λ (p : ℕ × ℕ). p.1) pair in (
-            parent,
-            ap (λ q. find nat_cmp q ((n, ended_record parent code) ∷ ps)) (sym number)
-                ∙ ap (λ o. cond (is_eq o) (Some (ended_record parent code)) (find nat_cmp n ps)) (number-itself n) ∙ ap (λ c. Some (ended_record parent c)) left,
-          )
 
   abbrev spared : ℕ → ℕ × Record → Bool
   spared k r = not (r.0 == k)

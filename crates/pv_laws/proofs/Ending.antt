@@ -16,18 +16,18 @@ use Rattle.pv_laws.proofs.Whole.{list_all-put_number, length-put_there, sorted-p
 -- ---- lists in order, mapped and filtered
 
 module _ {X : Type 0} (f : X → X) where
-  abbrev mapped : List (ℕ × X) → List (ℕ × X)
+  abbrev pub mapped : List (ℕ × X) → List (ℕ × X)
   mapped es = map (λ e. (e.0, f e.1)) es
 
   below-mapped : (k : ℕ) (es : List (ℕ × X)) → below_all nat_cmp k (mapped es) ≡ below_all nat_cmp k es
   below-mapped k [] = refl
   below-mapped k (e ∷ es) = ap (λ b. is_lt (nat_cmp k e.0) && b) (below-mapped k es)
 
-  sorted-mapped : (es : List (ℕ × X)) → is_sorted nat_cmp (mapped es) ≡ is_sorted nat_cmp es
+  pub sorted-mapped : (es : List (ℕ × X)) → is_sorted nat_cmp (mapped es) ≡ is_sorted nat_cmp es
   sorted-mapped [] = refl
   sorted-mapped (e ∷ es) = ap₂ (λ a b. a && b) (below-mapped e.0 es) (sorted-mapped es)
 
-  found-mapped : (k : ℕ) (es : List (ℕ × X)) (r : X) → find nat_cmp k (mapped es) ≡ Some r → (x : X) × (find nat_cmp k es ≡ Some x) × (f x ≡ r)
+  pub found-mapped : (k : ℕ) (es : List (ℕ × X)) (r : X) → find nat_cmp k (mapped es) ≡ Some r → (x : X) × (find nat_cmp k es ≡ Some x) × (f x ≡ r)
   found-mapped k [] r is = cc
   found-mapped k (e ∷ es) r is =
       elim (eq_by_cmp nat_cmp k e.0) as (λ b. cond b (Some (f e.1)) (find nat_cmp k (mapped es)) ≡ Some r → (x : X) × (cond b (Some e.1) (find nat_cmp k es) ≡ Some x) × (f x ≡ r)) [
@@ -35,7 +35,7 @@ module _ {X : Type 0} (f : X → X) where
         | false ↦ λ there. found-mapped k es r there
       ] is
 
-  mapped-found : (k : ℕ) (es : List (ℕ × X)) (x : X) → find nat_cmp k es ≡ Some x → find nat_cmp k (mapped es) ≡ Some (f x)
+  pub mapped-found : (k : ℕ) (es : List (ℕ × X)) (x : X) → find nat_cmp k es ≡ Some x → find nat_cmp k (mapped es) ≡ Some (f x)
   mapped-found k [] x is = cc
   mapped-found k (e ∷ es) x is =
       elim (eq_by_cmp nat_cmp k e.0) as (λ b. cond b (Some e.1) (find nat_cmp k es) ≡ Some x → cond b (Some (f e.1)) (find nat_cmp k (mapped es)) ≡ Some (f x)) [
@@ -100,14 +100,14 @@ abbrev one_or_none : Bool → ℕ
 one_or_none b = cond b 1 0
 
 -- what becomes of a child of process `old`
-abbrev adopted : ℕ → ℕ → Record → Record
+abbrev pub adopted : ℕ → ℕ → Record → Record
 adopted old new r = cond (parent_of r == old) (with_parent r new) r
 
 adopt-is : (old new : ℕ) (e : ℕ × Record) → adopt old new e ≡ (e.0, adopted old new e.1)
 adopt-is old new e =
     elim (parent_of e.1 == old) as (λ b. cond b (e.0, with_parent e.1 new) e ≡ (e.0, cond b (with_parent e.1 new) e.1)) [ true ↦ refl | false ↦ refl ]
 
-map-adopt : (old new : ℕ) (es : List (ℕ × Record)) → map (adopt old new) es ≡ mapped (adopted old new) es
+pub map-adopt : (old new : ℕ) (es : List (ℕ × Record)) → map (adopt old new) es ≡ mapped (adopted old new) es
 map-adopt old new [] = refl
 map-adopt old new (e ∷ es) = ap₂ (λ x (xs : List (ℕ × Record)). x ∷ xs) (adopt-is old new e) (map-adopt old new es)
 
@@ -119,11 +119,11 @@ parent-adopted : (old new : ℕ) (r : Record) → parent_of (adopted old new r) 
 parent-adopted old new r =
     elim (parent_of r == old) as (λ b. parent_of (cond b (with_parent r new) r) ≡ cond b new (parent_of r)) [ true ↦ parent-with r new | false ↦ refl ]
 
-adopted-live : (old new : ℕ) (p : Process) → (q : Process) × (adopted old new (live p) ≡ live q)
+pub adopted-live : (old new : ℕ) (p : Process) → (q : Process) × (adopted old new (live p) ≡ live q)
 adopted-live old new p = elim (p.parent == old) as (λ b. (q : Process) × (cond b (live (record p { parent = new })) (live p) ≡ live q)) [ true ↦ (record p { parent = new }, refl) | false ↦ (p, refl) ]
 
 -- what is live was, with whatever parent
-live-adopted : (old new : ℕ) (r : Record) (p : Process) → adopted old new r ≡ live p → (q : Process) × (r ≡ live q) × (p ≡ record q { parent = p.parent })
+pub live-adopted : (old new : ℕ) (r : Record) (p : Process) → adopted old new r ≡ live p → (q : Process) × (r ≡ live q) × (p ≡ record q { parent = p.parent })
 live-adopted old new (live q) p is =
     elim (q.parent == old) as (λ b. cond b (live (record q { parent = new })) (live q) ≡ live p → (x : Process) × (live q ≡ live x) × (p ≡ record x { parent = p.parent })) [
       | true ↦ λ at. let same : record q { parent = new } ≡ p = cc at in (q, refl, sym same ∙ ap (λ (x : Process). record q { parent = x.parent }) same)

@@ -72,7 +72,7 @@ carries-with_node t m node below same = record {
       (λ other. ap is_file (node_at-other t m node n below other)) (cases_eq n m);
 }
 
-directory-no_file : (o : Option Node) → is_directory o ≡ true → is_file o ≡ false
+pub directory-no_file : (o : Option Node) → is_directory o ≡ true → is_file o ≡ false
 directory-no_file None is = cc
 directory-no_file (Some (directory_node es)) is = refl
 directory-no_file (Some (file_node executable bytes)) is = cc

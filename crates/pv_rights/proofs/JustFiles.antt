@@ -1,0 +1,239 @@
+-- What justifies changes of entries and of files.
+use Rattle.std.proofs.Common.{◌≡◌, ◌≢◌, ℕ, suc, Bool, true, false, cond, if◌then◌else◌, [], length, Option, None, Some, refl, ap, sym, subst, ◌∙◌, ⊎_elim}
+use Rattle.std.proofs.lemmas.Bool.{cases_eq}
+use Rattle.std.specs.FinMap.Entries.{find}
+use Rattle.pv_model.specs.declared.call.Call.{Call}
+use Rattle.pv_model.specs.declared.judgement.Judgement.TheVariants.{Allowed, Denied}
+use Rattle.pv_model.specs.declared.open_flags.OpenFlags.{OpenFlags}
+use Rattle.pv_model.specs.declared.perms.Perms.{Perms}
+use Rattle.pv_model.specs.declared.place.Place.{Place}
+use Rattle.pv_model.specs.Answer.{at_next_line, update}
+use Rattle.pv_model.specs.Bytes.{Bytes}
+use Rattle.pv_model.specs.Calls.Descriptors.{with_content}
+use Rattle.pv_model.specs.Calls.Processes.{end_process}
+use Rattle.pv_model.specs.Effect.{Reply, node_of, bytes_of}
+use Rattle.pv_model.specs.Held.{trim}
+use Rattle.pv_model.specs.Needs.{letters_of_mode, letters_of_open}
+use Rattle.pv_model.specs.Perms.{no_letters, join_letters, covers, letter_c}
+use Rattle.pv_model.specs.Sealed.{is_file}
+use Rattle.pv_model.specs.State.{Program, Process, State, process_at}
+use Rattle.pv_model.specs.Touch.{Touch, change_file, change_entry, file_bytes, Touches, Justifies, change_by_descriptor, change_by_open, entry_by_place}
+use Rattle.pv_model.specs.Tree.{Node, file_node, Tree, node_at, entries_of, is_directory_at, find_entry, with_entry, without_entry, with_new_node}
+use Rattle.pv_model.specs.Unveil.{Table, letters_at, judge_entry, governing_entry, judgement}
+use Rattle.pv_laws.specs.States.{is_call, IsTree, IsWhole}
+use Rattle.pv_laws.proofs.ByTree.{FineName, named-place}
+use Rattle.pv_laws.proofs.Changes.{shape-without_entry}
+use Rattle.pv_laws.proofs.Ending.{tree-end}
+use Rattle.pv_laws.proofs.Entries.{by_name}
+use Rattle.pv_laws.proofs.Outcomes.{at_call}
+use Rattle.pv_laws.proofs.Processes.{process_at-same, tree-update}
+use Rattle.pv_laws.proofs.Replies.{whole-at_call}
+use Rattle.pv_rights.specs.Justice.{IsExplained}
+use Rattle.pv_rights.proofs.Changed.{cases_entry, content-other, entries-content, file-beside, entry-with_other, entry-without_other, new-within, entry-new_other, file-new, entry-trim, file-trim}
+use Rattle.pv_rights.proofs.Does
+use Rattle.pv_rights.proofs.Narrowing.{covers-along}
+use Rattle.pv_rights.proofs.Touched.{touched, back}
+
+-- ---- fewer letters
+
+judged-fewer : (t : Tree) (table : Option Table) (place : Place) (many few : Perms) → covers many few ≡ true → judgement t table place many ≡ Allowed → judgement t table place few ≡ Allowed
+unfolding judgement
+judged-fewer t None place many few fewer allowed = refl
+judged-fewer t (Some table) place many few fewer allowed = by (governing_entry t table place) allowed
+  where
+    by : (o : Option ℕ) → judge_entry table many o ≡ Allowed → judge_entry table few o ≡ Allowed
+    by None is = cc
+    by (Some k) is =
+        elim (covers (letters_at table k) many) as (λ b. covers (letters_at table k) many ≡ b → cond b Allowed (Denied k) ≡ Allowed → judge_entry table few (Some k) ≡ Allowed) [
+          | true ↦ λ has _. ap (λ b. cond b Allowed (Denied k)) (covers-along (letters_at table k) many few has fewer)
+          | false ↦ λ hasnt none. cc none
+        ] refl is
+
+-- an open that makes asks for c
+making : (flags : OpenFlags) → flags.create ≡ true → covers (letters_of_open flags) letter_c ≡ true
+making flags create =
+    ap (λ b. covers (join_letters (letters_of_mode flags.mode) (if b then letter_c else no_letters)) letter_c) create
+    ∙ by (letters_of_mode flags.mode)
+  where
+    by : (a : Perms) → covers (join_letters a letter_c) letter_c ≡ true
+    by a = all a.r a.w a.x a.c
+      where
+        all : (r w x c : Bool) → covers (join_letters (record { r = r; w = w; x = x; c = c }) letter_c) letter_c ≡ true
+        all true true true true = refl
+        all true true true false = refl
+        all true true false true = refl
+        all true true false false = refl
+        all true false true true = refl
+        all true false true false = refl
+        all true false false true = refl
+        all true false false false = refl
+        all false true true true = refl
+        all false true true false = refl
+        all false true false true = refl
+        all false true false false = refl
+        all false false true true = refl
+        all false false true false = refl
+        all false false false true = refl
+        all false false false false = refl
+
+module _ (s : State) (pid : ℕ) (me : Process) (call : Call) (whole : IsWhole s) (at : process_at s pid ≡ Some me) (is_good : is_call call ≡ true) where
+  abbrev Change : Place → ℕ × Bytes → Type 0
+  Change = Does.MayChange s pid me call
+
+  abbrev J : Touch → Type 0
+  J = Justifies s me call
+
+  fine-name : (place : Place) (p : ℕ × Bytes) → Change place p → FineName s.tree p (node_of place)
+  fine-name place p change = named-place s.tree place p (change.fine whole at is_good) change.name
+
+  many : (u : Tree) → IsTree u → u.inodes ≡ s.tree.inodes → length u.nodes ≡ length s.tree.nodes
+  many u tree same = tree.well_formed.numbers ∙ ap suc same ∙ sym whole.tree.well_formed.numbers
+
+  -- a directory stays one beside a change of entries
+  between-directory : (p : ℕ × Bytes) → is_directory_at s.tree p.0 ≡ true → (q : ℕ) → is_directory_at s.tree q ≡ true → is_directory_at (without_entry s.tree p.0 p.1) q ≡ true
+  between-directory p dir q into = (shape-without_entry s.tree p.0 p.1 dir whole.tree.well_formed.each_node).directory q ∙ into
+
+  -- ---- entries
+
+  module _ (d : ℕ) (name : Bytes) where
+    abbrev Differs : Tree → Type 0
+    Differs t = find_entry t d name ≢ find_entry s.tree d name
+
+    named-so : (p : ℕ × Bytes) → (d ≡ p.0) → (name ≡ p.1) → ◌≡◌ {A = Option (ℕ × Bytes)} (Some p) (Some (d, name))
+    named-so p here same = λ i. Some (sym here i, sym same i)
+
+    at_place : (place : Place) (p : ℕ × Bytes) → Change place p → (d ≡ p.0) → (name ≡ p.1) → J (change_entry d name)
+    at_place place p change here same =
+        entry_by_place place d name change.allowed (change.name ∙ named-so p here same)
+
+    made : (p : ℕ × Bytes) (node : Node) (u : Tree) → u ≡ with_new_node s.tree p.0 p.1 node → IsTree u → is_directory_at s.tree p.0 ≡ true → entries_of (Some node) ≡ [] → Differs u
+        → ((d ≡ p.0) → (name ≡ p.1) → J (change_entry d name)) → J (change_entry d name)
+    made p node u is tree dir bare differs there =
+        let below = new-within s.tree p node (ap (λ (t : Tree). length t.nodes) (sym is) ∙ many u tree (ap (λ (t : Tree). t.inodes) is)) in
+        ⊎_elim (λ here. there here.0 here.1)
+        (λ other. absurd (differs (ap (λ (t : Tree). find_entry t d name) is ∙ entry-new_other s.tree p node dir bare below d name other))) (cases_entry d p.0 name p.1)
+
+    pub entries-by : (after : State) (r : Reply) → Does.Does s pid me call after r → IsTree after.tree → Differs after.tree → J (change_entry d name)
+    entries-by _ _ (Does.stays r) tree differs = absurd (differs refl)
+    entries-by _ _ (Does.restrains q r no_more same goes) tree differs = absurd (differs refl)
+    entries-by _ _ (Does.begins path program is) tree differs = absurd (differs refl)
+    entries-by _ _ (Does.closes n) tree differs = absurd (differs refl)
+    entries-by _ _ (Does.copies e x n is) tree differs = absurd (differs refl)
+    entries-by _ _ (Does.forks is) tree differs = absurd (differs refl)
+    entries-by _ _ (Does.reaps k r ended goes) tree differs = absurd (differs refl)
+    entries-by _ _ (Does.moves k old new r there node mode goes) tree differs = absurd (differs refl)
+    entries-by _ _ (Does.cuts f bytes has) tree differs = absurd (differs (ap (find by_name name) (entries-content s.tree f bytes d)))
+    entries-by _ _ (Does.writes_bytes f bytes k old new n has there node mode) tree differs = absurd (differs (ap (find by_name name) (entries-content s.tree f bytes d)))
+    entries-by _ _ (Does.makes place p node change free bare) tree differs = made p node _ refl tree (fine-name place p change).directory bare differs (λ here same. at_place place p change here same)
+    entries-by _ _ (Does.links place p n change) tree differs =
+        ⊎_elim (λ here. at_place place p change here.0 here.1)
+        (λ other. absurd (differs (entry-with_other s.tree p.0 p.1 n (fine-name place p change).directory d name other))) (cases_entry d p.0 name p.1)
+    entries-by _ _ (Does.unlinks place p change) tree differs =
+        ⊎_elim (λ here. at_place place p change here.0 here.1)
+        (λ other. absurd (differs (entry-without_other s.tree p.0 p.1 (fine-name place p change).directory d name other))) (cases_entry d p.0 name p.1)
+    entries-by _ _ (Does.renames place p there q n from into) tree differs =
+        let dir = (fine-name place p from).directory in
+        ⊎_elim (λ here. at_place place p from here.0 here.1)
+        (λ other. ⊎_elim (λ here. at_place there q into here.0 here.1)
+        (λ apart. absurd (differs
+        (entry-with_other (without_entry s.tree p.0 p.1) q.0 q.1 n (between-directory p dir q.0 (fine-name there q into).directory) d name apart
+        ∙ entry-without_other s.tree p.0 p.1 dir d name other))) (cases_entry d q.0 name q.1)) (cases_entry d p.0 name p.1)
+    entries-by _ _ (Does.opens flags place n m flagged allowed is) tree differs =
+        absurd (differs (by flags.truncate))
+      where
+        by : (b : Bool) → find_entry (if b then with_content s.tree n [] else s.tree) d name ≡ find_entry s.tree d name
+        by true = ap (find by_name name) (entries-content s.tree n [] d)
+        by false = refl
+    entries-by _ _ (Does.creates flags place p m flagged allowed create named free fine) tree differs =
+        let fine_name = named-place s.tree place p (fine whole at is_good) named in
+        made p (file_node false []) _ refl tree fine_name.directory refl differs (λ here same.
+        entry_by_place place d name (allowed.0, judged-fewer s.tree me.table place (letters_of_open flags) letter_c (making flags create) allowed.1)
+        (named ∙ named-so p here same))
+
+  -- ---- files
+
+  module _ (f : ℕ) (file : is_file (node_at s.tree f) ≡ true) where
+    abbrev Changes : Tree → Type 0
+    Changes t = bytes_of (node_at t f) ≢ bytes_of (node_at s.tree f)
+
+    stays-same : (t : Tree) → node_at t f ≡ node_at s.tree f → Changes t → J (change_file f)
+    stays-same t same changes = absurd (changes (ap bytes_of same))
+
+    cut-by : (g : ℕ) (bytes : Bytes) → J (change_file g) → Changes (with_content s.tree g bytes) → J (change_file f)
+    cut-by g bytes justified changes =
+        ⊎_elim (λ here. subst (λ n. J (change_file n)) (sym here) justified) (λ other. stays-same (with_content s.tree g bytes) (content-other s.tree g bytes f other) changes) (cases_eq f g)
+
+    made-file : (p : ℕ × Bytes) (node : Node) (u : Tree) → u ≡ with_new_node s.tree p.0 p.1 node → IsTree u → is_directory_at s.tree p.0 ≡ true → entries_of (Some node) ≡ [] → Changes u → J (change_file f)
+    made-file p node u is tree dir bare changes =
+        let below = new-within s.tree p node (ap (λ (t : Tree). length t.nodes) (sym is) ∙ many u tree (ap (λ (t : Tree). t.inodes) is)) in
+        stays-same u (ap (λ (t : Tree). node_at t f) is ∙ file-new s.tree p node dir bare below f file) changes
+
+    pub files-by : (after : State) (r : Reply) → Does.Does s pid me call after r → IsTree after.tree → Changes after.tree → J (change_file f)
+    files-by _ _ (Does.stays r) tree changes = absurd (changes refl)
+    files-by _ _ (Does.restrains q r no_more same goes) tree changes = absurd (changes refl)
+    files-by _ _ (Does.begins path program is) tree changes = absurd (changes refl)
+    files-by _ _ (Does.closes n) tree changes = absurd (changes refl)
+    files-by _ _ (Does.copies e x n is) tree changes = absurd (changes refl)
+    files-by _ _ (Does.forks is) tree changes = absurd (changes refl)
+    files-by _ _ (Does.reaps k r ended goes) tree changes = absurd (changes refl)
+    files-by _ _ (Does.moves k old new r there node mode goes) tree changes = absurd (changes refl)
+    files-by _ _ (Does.cuts g bytes has) tree changes = cut-by g bytes (change_by_descriptor g has) changes
+    files-by _ _ (Does.writes_bytes g bytes k old new n has there node mode) tree changes = cut-by g bytes (change_by_descriptor g has) changes
+    files-by _ _ (Does.makes place p node change free bare) tree changes = made-file p node _ refl tree (fine-name place p change).directory bare changes
+    files-by _ _ (Does.links place p n change) tree changes = stays-same (with_entry s.tree p.0 p.1 n) (file-beside s.tree p.0 _ f (fine-name place p change).directory file) changes
+    files-by _ _ (Does.unlinks place p change) tree changes = stays-same (without_entry s.tree p.0 p.1) (file-beside s.tree p.0 _ f (fine-name place p change).directory file) changes
+    files-by _ _ (Does.renames place p there q n from into) tree changes =
+        let dir = (fine-name place p from).directory in
+        let first = file-beside s.tree p.0 _ f dir file in
+        stays-same (with_entry (without_entry s.tree p.0 p.1) q.0 q.1 n) (file-beside (without_entry s.tree p.0 p.1) q.0 _ f (between-directory p dir q.0 (fine-name there q into).directory) (ap is_file first ∙ file) ∙ first) changes
+    files-by _ _ (Does.opens flags place n m flagged allowed is) tree changes = by flags.truncate refl changes
+      where
+        by : (b : Bool) → flags.truncate ≡ b → Changes (if b then with_content s.tree n [] else s.tree) → J (change_file f)
+        by true cut changes = cut-by n [] (change_by_open flags place n flagged cut allowed is) changes
+        by false cut changes = absurd (changes refl)
+    files-by _ _ (Does.creates flags place p m flagged allowed create named free fine) tree changes =
+        made-file p (file_node false []) _ refl tree (named-place s.tree place p (fine whole at is_good) named).directory refl changes
+
+-- ---- the laws
+
+pub entries-justified : (program_of : Bytes → Option Program) (s : State) (pid : ℕ) (d : ℕ) (name : Bytes) → IsWhole s → Touches program_of s pid (change_entry d name) → IsExplained s pid (change_entry d name)
+entries-justified program_of s pid d name whole changes =
+    let T : State → Type 0 = λ y. find_entry y.tree d name ≢ find_entry s.tree d name in
+    let t = touched program_of s pid whole T
+    (λ differs. differs refl)
+    (λ p q at same differs. differs refl)
+    (λ y me status tree ascending differs.
+    differs (entry-trim (end_process y pid me status) (subst IsTree (sym (tree-end y pid me status ∙ tree)) whole.tree) d name ∙ ap (λ (u : Tree). find_entry u d name) (tree-end y pid me status ∙ tree)))
+    changes in
+    let same : find_entry (trim (update t.after pid t.told)).tree d name ≡ find_entry t.after.tree d name =
+    entry-trim (update t.after pid t.told) (subst IsTree (sym (tree-update t.after pid t.told)) t.tree) d name ∙ ap (λ (u : Tree). find_entry u d name) (tree-update t.after pid t.told) in (
+      t.me,
+      t.call,
+      t.at,
+      t.next_is,
+      t.held,
+      back s pid t.me t.call (change_entry d name)
+          (entries-by (at_call s pid t.me) pid (at_next_line t.me) t.call (whole-at_call s pid t.me whole t.at) (process_at-same s pid (at_next_line t.me)) t.is d name t.after t.reply t.does t.tree
+          (λ eq. t.touch (same ∙ eq))),
+    )
+
+pub files-justified : (program_of : Bytes → Option Program) (s : State) (pid : ℕ) (f : ℕ) → IsWhole s → Touches program_of s pid (change_file f) → IsExplained s pid (change_file f)
+files-justified program_of s pid f whole changes =
+    let T : State → Type 0 = λ y. (is_file (node_at y.tree f) ≡ true) × (file_bytes y f ≢ file_bytes s f) in
+    let t = touched program_of s pid whole T
+    (λ differs. differs.1 refl)
+    (λ p q at same differs. differs.1 refl)
+    (λ y me status tree ascending differs.
+    differs.1 (ap bytes_of (file-trim (end_process y pid me status) f differs.0 ∙ ap (λ (u : Tree). node_at u f) (tree-end y pid me status ∙ tree))))
+    (changes.1, changes.2) in
+    let same : node_at (trim (update t.after pid t.told)).tree f ≡ node_at t.after.tree f =
+    file-trim (update t.after pid t.told) f t.touch.0 ∙ ap (λ (u : Tree). node_at u f) (tree-update t.after pid t.told) in (
+      t.me,
+      t.call,
+      t.at,
+      t.next_is,
+      t.held,
+      back s pid t.me t.call (change_file f)
+          (files-by (at_call s pid t.me) pid (at_next_line t.me) t.call (whole-at_call s pid t.me whole t.at) (process_at-same s pid (at_next_line t.me)) t.is f changes.0 t.after t.reply t.does t.tree
+          (λ eq. t.touch.1 (ap bytes_of same ∙ eq))),
+    )

@@ -1,0 +1,166 @@
+-- What justifies that a step depends on a file's bytes.
+use Rattle.std.proofs.Common.{◌≡◌, ℕ, pos, negsuc, true, false, if◌then◌else◌, length, Option, None, Some, refl, ap, sym, subst, ◌⊎◌, inl, inr, ⊎_elim}
+use Rattle.pv_model.specs.declared.call.Call.{Call}
+use Rattle.pv_model.specs.declared.errno.Errno.{Errno}
+use Rattle.pv_model.specs.declared.errno.Errno.TheVariants.{ENOSYS}
+use Rattle.pv_model.specs.declared.outcome.Cause.TheVariants.{Promise as ByPromise}
+use Rattle.pv_model.specs.declared.outcome.Outcome.TheVariants.{Failed, Killed}
+use Rattle.pv_model.specs.declared.promise.Promise.{Promise}
+use Rattle.pv_model.specs.Answer.{Answered, answer, answer_of, answer_where, answer_by_attempt, at_next_line, with_front, update_live, update, effect}
+use Rattle.pv_model.specs.Attempt.{Attempt, done, refused}
+use Rattle.pv_model.specs.Bytes.{Bytes}
+use Rattle.pv_model.specs.Calls.Processes.{with_result, end_process}
+use Rattle.pv_model.specs.Effect.{Effect, Reply, returns, returns_bytes, ends, waits}
+use Rattle.pv_model.specs.Errno.{errno_number}
+use Rattle.pv_model.specs.Held.{trim}
+use Rattle.pv_model.specs.Needs.{needs}
+use Rattle.pv_model.specs.Numbered.{Numbered}
+use Rattle.pv_model.specs.Program.{Next, inside, calls_for, next}
+use Rattle.pv_model.specs.Promises.{missing_promise, is_lenient}
+use Rattle.pv_model.specs.State.{Program, Process, State, process_at}
+use Rattle.pv_model.specs.Step.{Stepped, step, step_of, step_by}
+use Rattle.pv_model.specs.Touch.{read_file, change_file, change_entry, tell_node, gain_descriptor, with_bytes, file_bytes, SameButFile, Touches, Justifies, IsJustified}
+use Rattle.pv_model.specs.Tree.{Node}
+use Rattle.pv_laws.specs.States.{IsWhole}
+use Rattle.pv_laws.proofs.Outcomes.{at_call}
+use Rattle.pv_rights.specs.Justice.{IsExplained}
+use Rattle.pv_rights.proofs.JustFiles.{entries-justified, files-justified}
+use Rattle.pv_rights.proofs.JustGains.{gains-justified}
+use Rattle.pv_rights.proofs.JustTelling.{telling-justified}
+use Rattle.pv_rights.proofs.Near.{AreNear, near_state, IsNear, near-trim, same-but_file, near-bytes}
+use Rattle.pv_rights.proofs.NearCalls.{AreNearBy, near-effect}
+use Rattle.pv_rights.proofs.Touched.{back}
+
+-- the same answer, and states that differ in the file alone
+record IsNearAnswer (f : ℕ) (a b : Answered) : Type 0 where
+  outcome : b.outcome ≡ a.outcome
+  after : IsNear f a.after b.after
+
+-- ---- states
+
+near-update : (f : ℕ) (a : State) (ys : Numbered Node) → AreNear f a.tree.nodes ys → (pid : ℕ) (g : Process → Process) → IsNear f (update a pid g) (update (near_state a ys) pid g)
+near-update f a ys near pid g = by (process_at a pid)
+  where
+    by : (o : Option Process) → IsNear f (update_live a pid g o) (update_live (near_state a ys) pid g o)
+    by None = record { nodes = near; rest = refl }
+    by (Some p) = record { nodes = near; rest = refl }
+
+trimmed : (f : ℕ) (a b : State) → IsNear f a b → IsNear f (trim a) (trim b)
+trimmed f a b near = subst (λ (y : State). IsNear f (trim a) (trim y)) (sym near.rest) (near-trim f a b.tree.nodes near.nodes)
+
+updated : (f : ℕ) (a b : State) → IsNear f a b → (pid : ℕ) (g : Process → Process) → IsNear f (update a pid g) (update b pid g)
+updated f a b near pid g = subst (λ (y : State). IsNear f (update a pid g) (update y pid g)) (sym near.rest) (near-update f a b.tree.nodes near.nodes pid g)
+
+ended : (f : ℕ) (a b : State) → IsNear f a b → (pid : ℕ) (me : Process) (status : ℕ) → IsNear f (end_process a pid me status) (end_process b pid me status)
+unfolding end_process
+ended f a b near pid me status = subst (λ (y : State). IsNear f (end_process a pid me status) (end_process y pid me status)) (sym near.rest) (record { nodes = near.nodes; rest = refl })
+
+-- ---- answers
+
+module _ (f : ℕ) (s u : State) (near : IsNear f s u) (x y : State) (alike : IsNear f x y) (pid : ℕ) (now : Process) where
+  near-attempt : (a b : Attempt Effect) → AreNearBy f a b → IsNearAnswer f (answer_by_attempt s x pid now a) (answer_by_attempt u y pid now b)
+  near-attempt (done w (a, r)) (done v (b, q)) is =
+      subst (λ (z : Reply). IsNearAnswer f (answer_by_attempt s x pid now (done w (a, r))) (answer_by_attempt u y pid now (done v (b, z)))) is.1 (by r)
+    where
+      by : (r : Reply) → IsNearAnswer f (answer_by_attempt s x pid now (done w (a, r))) (answer_by_attempt u y pid now (done v (b, r)))
+      by (returns n) = record { outcome = refl; after = trimmed f (update a pid (λ p. with_result p (pos n) 0)) (update b pid (λ p. with_result p (pos n) 0)) (updated f a b is.2 pid (λ p. with_result p (pos n) 0)) }
+      by (returns_bytes n bytes) = record { outcome = refl; after = trimmed f (update a pid (λ p. with_front bytes (with_result p (pos n) 0))) (update b pid (λ p. with_front bytes (with_result p (pos n) 0))) (updated f a b is.2 pid (λ p. with_front bytes (with_result p (pos n) 0))) }
+      by (ends status) = record { outcome = refl; after = trimmed f (end_process a pid now status) (end_process b pid now status) (ended f a b is.2 pid now status) }
+      by waits = record { outcome = refl; after = near }
+  near-attempt (done w (a, r)) (refused v g d) is = absurd is
+  near-attempt (refused w e c) (done v (b, q)) is = absurd is
+  near-attempt (refused w e c) (refused v g d) is =
+      subst (λ (k : Errno). IsNearAnswer f (answer_by_attempt s x pid now (refused w e c)) (answer_by_attempt u y pid now (refused v k d))) is.1
+      (record { outcome = ap (Failed e) (sym is.2); after = updated f x y alike pid (λ p. with_result p (negsuc 0) (errno_number e)) })
+
+  near-killed : (me : Process) (p : Promise) → IsNearAnswer f (record { after = trim (end_process s pid me 6); outcome = Killed p; walks = 0 }) (record { after = trim (end_process u pid me 6); outcome = Killed p; walks = 0 })
+  near-killed me p = record { outcome = refl; after = trimmed f (end_process s pid me 6) (end_process u pid me 6) (ended f s u near pid me 6) }
+
+-- the call is justified, its promises held, or the bytes do not matter
+module _ (program_of : Bytes → Option Program) (f : ℕ) (s : State) (pid : ℕ) (ys : Numbered Node) (near : AreNear f s.tree.nodes ys) where
+  abbrev u : State
+  u = near_state s ys
+
+  abbrev near_s : IsNear f s u
+  near_s = record { nodes = near; rest = refl }
+
+  module _ (me : Process) (call : Call) where
+    abbrev x : State
+    x = at_call s pid me
+
+    abbrev now : Process
+    now = at_next_line me
+
+    abbrev IsRead : Type 0
+    IsRead = (missing_promise me.promises (needs call) ≡ None) × Justifies s me call (read_file f)
+
+    lacking : (p : Promise) → IsNearAnswer f (answer_where program_of s x pid now call (Some p)) (answer_where program_of u (at_call u pid me) pid now call (Some p))
+    lacking p =
+        elim (is_lenient me.promises) as (λ b. IsNearAnswer f
+        (if b then answer_by_attempt s x pid now (refused 0 ENOSYS (ByPromise p)) else record { after = trim (end_process s pid now 6); outcome = Killed p; walks = 0 })
+        (if b then answer_by_attempt u (at_call u pid me) pid now (refused 0 ENOSYS (ByPromise p)) else record { after = trim (end_process u pid now 6); outcome = Killed p; walks = 0 })) [
+          | true ↦ near-attempt f s u near_s x (at_call u pid me) (record { nodes = near; rest = refl }) pid now (refused 0 ENOSYS (ByPromise p)) (refused 0 ENOSYS (ByPromise p)) (refl, refl, refl)
+          | false ↦ near-killed f s u near_s x (at_call u pid me) (record { nodes = near; rest = refl }) pid now now p
+        ]
+
+    by_promise : (o : Option Promise) → missing_promise me.promises (needs call) ≡ o
+        → IsRead ⊎ IsNearAnswer f (answer_where program_of s x pid now call o) (answer_where program_of u (at_call u pid me) pid now call o)
+    by_promise None held =
+        ⊎_elim (λ justified. inl (held, back s pid me call (read_file f) justified))
+        (λ by. inr (near-attempt f s u near_s x (at_call u pid me) (record { nodes = near; rest = refl }) pid now (effect program_of x pid now call) (effect program_of (at_call u pid me) pid now call) by))
+        (near-effect f x ys near pid now program_of call)
+    by_promise (Some p) lacks = inr (lacking p)
+
+    by_call : process_at s pid ≡ Some me → IsRead ⊎ IsNearAnswer f (answer program_of s pid call) (answer program_of u pid call)
+    unfolding answer
+    by_call at =
+        subst (λ (o : Option Process). IsRead ⊎ IsNearAnswer f (answer_of program_of s pid call o) (answer_of program_of u pid call o)) (sym at) (by_promise (missing_promise me.promises (needs call)) refl)
+
+  -- ---- steps
+
+  record IsNearStep (a b : Stepped) : Type 0 where
+    outcome : b.outcome ≡ a.outcome
+    after : IsNear f a.after b.after
+
+  by_next : (me : Process) → process_at s pid ≡ Some me → (n : Next) → next me ≡ n → IsExplained s pid (read_file f) ⊎ IsNearStep (step_by program_of s pid me n) (step_by program_of u pid me n)
+  by_next me at (inside q) is = inr (record { outcome = refl; after = record { nodes = near; rest = refl } })
+  by_next me at (calls_for call) is =
+      ⊎_elim (λ read. inl (me, call, at, is, read.0, read.1)) (λ alike. inr (record { outcome = alike.outcome; after = alike.after })) (by_call me call at)
+
+  by_process : (o : Option Process) → process_at s pid ≡ o → IsExplained s pid (read_file f) ⊎ IsNearStep (step_of program_of s pid o) (step_of program_of u pid o)
+  by_process None gone = inr (record { outcome = refl; after = near_s })
+  by_process (Some me) at = by_next me at (next me) refl
+
+  by_step : IsExplained s pid (read_file f) ⊎ IsNearStep (step program_of s pid) (step program_of u pid)
+  unfolding step
+  by_step = by_process (process_at s pid) refl
+
+pub reads-justified : (program_of : Bytes → Option Program) (s : State) (pid f : ℕ) → Touches program_of s pid (read_file f) → IsExplained s pid (read_file f)
+reads-justified program_of s pid f reads =
+    let near = near-bytes s f reads.0 reads.1 in
+    let u : State = with_bytes s f reads.0 in
+    let ys : Numbered Node = u.tree.nodes in
+    ⊎_elim (λ explained. explained)
+    (λ alike. absurd (⊎_elim (λ other. other alike.outcome) (λ apart. apart (same-but_file f (step program_of s pid).after (step program_of u pid).after alike.after)) reads.2))
+    (subst (λ (y : State). IsExplained s pid (read_file f) ⊎ IsNearStep program_of f s pid ys near.nodes (step program_of s pid) (step program_of y pid)) (sym near.rest) (by_step program_of f s pid ys near.nodes))
+
+-- with other bytes, as many, the step answers alike and leaves a state that differs in them alone, where the read is not justified
+pub alike-or_read : (program_of : Bytes → Option Program) (s : State) (pid f : ℕ) (bytes : Bytes) → length bytes ≡ length (file_bytes s f)
+    → IsExplained s pid (read_file f)
+    ⊎ (((step program_of (with_bytes s f bytes) pid).outcome ≡ (step program_of s pid).outcome) × SameButFile f (step program_of s pid).after (step program_of (with_bytes s f bytes) pid).after)
+alike-or_read program_of s pid f bytes long =
+    let near = near-bytes s f bytes long in
+    let u : State = with_bytes s f bytes in
+    let ys : Numbered Node = u.tree.nodes in
+    ⊎_elim (λ explained. inl explained)
+    (λ alike. inr (alike.outcome, same-but_file f (step program_of s pid).after (step program_of u pid).after alike.after))
+    (subst (λ (y : State). IsExplained s pid (read_file f) ⊎ IsNearStep program_of f s pid ys near.nodes (step program_of s pid) (step program_of y pid)) (sym near.rest) (by_step program_of f s pid ys near.nodes))
+
+-- ---- every touch
+
+pub all-justified : (program_of : Bytes → Option Program) (s : State) (pid : ℕ) → IsWhole s → IsJustified program_of s pid
+all-justified program_of s pid whole (read_file f) touches = reads-justified program_of s pid f touches
+all-justified program_of s pid whole (change_file f) touches = files-justified program_of s pid f whole touches
+all-justified program_of s pid whole (change_entry d name) touches = entries-justified program_of s pid d name whole touches
+all-justified program_of s pid whole (tell_node n) touches = telling-justified program_of s pid n whole touches
+all-justified program_of s pid whole (gain_descriptor n mode) touches = gains-justified program_of s pid n mode whole touches

@@ -1,0 +1,4 @@
+pub mod Growth
+pub mod Justice
+pub mod Secrets
+pub mod Examples
