@@ -51,6 +51,13 @@ impl Inodes {
         }
     }
 
+    /// How many inodes there are, free ones too.
+    pub fn inodes(&self) -> u16
+        ensures { length self.now.nodes ≡ suc result }
+    {
+        self.inodes
+    }
+
     /// What an inode that is in use is.
     pub fn kind(&self, inode: u16) -> Sort
         requires { IsUsed self.now inode }
@@ -154,6 +161,41 @@ impl Inodes {
             self.grow(inode, size);
         }
         Ok(())
+    }
+
+    /// Writes bytes over a part of an inode's, from `at` on. They stay as long as they are.
+    pub fn overwrite(&mut self, inode: u16, at: u32, bytes: &[u8])
+        requires used { IsUsed self.old inode }
+        requires within { at + length bytes.now ≤ length (bytes_at self.old inode) }
+        requires allowed { at + length bytes.now ≤ greatest_length V1 }
+        ensures { self.new ≡ with_bytes self.old inode (overwrite (bytes_at self.old inode) at bytes.now) }
+    {
+        let mut done = 0;
+        while done < bytes.len() {
+            let from = at + done as u32;
+            let count = (BLOCK_LENGTH - from % BLOCK_LENGTH) as usize;
+            let count = count.min(bytes.len() - done);
+            self.write_part(inode, from, &bytes[done..done + count]);
+            done += count;
+        }
+    }
+
+    /// Cuts an inode's bytes to a length that is not greater than theirs, and gives back the blocks that they
+    /// no longer need.
+    pub fn shrink(&mut self, inode: u16, size: u32)
+        requires used { IsUsed self.old inode }
+        requires shorter { size ≤ length (bytes_at self.old inode) }
+        ensures { self.new ≡ with_bytes self.old inode (resize (bytes_at self.old inode) size) }
+    {
+        let slot = self.slot(inode);
+        let mut owned = room(size_of(&self.blocks, slot));
+        let kept = room(size);
+        while kept < owned {
+            owned -= 1;
+            let block = owned_by(&self.blocks, slot, owned);
+            self.blocks.give_back(block);
+        }
+        set_size(&mut self.blocks, slot, size);
     }
 
     /// Puts the least free inode into use, as one of this sort, without bytes; None only where none is free.
@@ -315,23 +357,6 @@ impl Inodes {
         }
     }
 
-    // Cuts a content, and gives back the blocks that it no longer needs.
-    fn shrink(&mut self, inode: u16, size: u32)
-        requires used { IsUsed self.old inode }
-        requires shorter { size ≤ length (bytes_at self.old inode) }
-        ensures { self.new ≡ with_bytes self.old inode (resize (bytes_at self.old inode) size) }
-    {
-        let slot = self.slot(inode);
-        let mut owned = room(size_of(&self.blocks, slot));
-        let kept = room(size);
-        while kept < owned {
-            owned -= 1;
-            let block = owned_by(&self.blocks, slot, owned);
-            self.blocks.give_back(block);
-        }
-        set_size(&mut self.blocks, slot, size);
-    }
-
     // Writes bytes over a part of a content, within one of its blocks.
     fn write_part(&mut self, inode: u16, at: u32, part: &[u8])
         requires used { IsUsed self.old inode }
@@ -343,23 +368,6 @@ impl Inodes {
         let slot = self.slot(inode);
         let block = owned_by(&self.blocks, slot, place((at / BLOCK_LENGTH) as u16));
         put(&mut self.blocks, block, (at % BLOCK_LENGTH) as usize, part);
-    }
-
-    // Writes bytes over a part of a content.
-    fn overwrite(&mut self, inode: u16, at: u32, bytes: &[u8])
-        requires used { IsUsed self.old inode }
-        requires within { at + length bytes.now ≤ length (bytes_at self.old inode) }
-        requires allowed { at + length bytes.now ≤ greatest_length V1 }
-        ensures { self.new ≡ with_bytes self.old inode (overwrite (bytes_at self.old inode) at bytes.now) }
-    {
-        let mut done = 0;
-        while done < bytes.len() {
-            let from = at + done as u32;
-            let count = (BLOCK_LENGTH - from % BLOCK_LENGTH) as usize;
-            let count = count.min(bytes.len() - done);
-            self.write_part(inode, from, &bytes[done..done + count]);
-            done += count;
-        }
     }
 }
 
@@ -393,7 +401,7 @@ fn number_of(sort: Sort) -> u8
 #[cfg(test)]
 mod tests {
     use super::*;
-    use std::alloc::{AllocError, Global};
+    use std::alloc::{AllocError, AllocGlobal, Global};
     use std::process::Abort;
     use std::test::Fail;
 
@@ -413,8 +421,7 @@ mod tests {
         at: u32,
         byte: u8,
     ) -> Result<(), Space> {
-        assert!(rt; files.is_used(file));
-        files.write_at(file, at, &[byte])
+        write_bytes(rt, files, file, at, &[byte])
     }
 
     fn cut(rt: &impl Abort, files: &mut Inodes, file: u16, size: u32) -> Result<(), Space> {
@@ -427,11 +434,42 @@ mod tests {
         files.size(file)
     }
 
-    fn byte(rt: &impl Abort, files: &Inodes, file: u16, at: u32) -> u8 {
+    fn read(rt: &impl Abort, files: &Inodes, file: u16, at: u32, buffer: &mut [u8]) -> usize {
         assert!(rt; files.is_used(file));
+        files.read_at(file, at, buffer)
+    }
+
+    // Whether a file has so many bytes of one value, from a place on.
+    fn has_run<R: Abort + AllocGlobal>(
+        rt: &R,
+        files: &Inodes,
+        file: u16,
+        at: u32,
+        count: usize,
+        value: u8,
+    ) -> Result<bool, AllocError> {
+        let mut buffer = vec![in rt.alloc(); 255; count]?;
+        Ok(
+            read(rt, files, file, at, &mut buffer) == count
+                && buffer.iter().all(|&byte| byte == value),
+        )
+    }
+
+    fn byte(rt: &impl Abort, files: &Inodes, file: u16, at: u32) -> u8 {
         let mut buffer = [255];
-        assert_eq!(rt; files.read_at(file, at, &mut buffer), 1);
+        assert_eq!(rt; read(rt, files, file, at, &mut buffer), 1);
         buffer[0]
+    }
+
+    fn write_bytes(
+        rt: &impl Abort,
+        files: &mut Inodes,
+        file: u16,
+        at: u32,
+        bytes: &[u8],
+    ) -> Result<(), Space> {
+        assert!(rt; files.is_used(file));
+        files.write_at(file, at, bytes)
     }
 
     #[test]
@@ -497,6 +535,153 @@ mod tests {
         assert!(rt; files.is_used(first));
         assert_eq!(rt; files.kind(first), Sort::Symlink);
         assert_eq!(rt; files.size(first), 0);
+        Ok(())
+    }
+
+    #[test]
+    fn blocks_are_taken_as_the_length_needs(rt: HostRuntime) -> Result<(), Fail> {
+        let needs = [
+            (1, 1),
+            (512, 1),
+            (513, 2),
+            (5_120, 10),
+            (5_121, 12),
+            (5_632, 12),
+            (5_633, 13),
+            (136_192, 267),
+            (5_633, 13),
+            (5_632, 12),
+            (5_121, 12),
+            (5_120, 10),
+            (4_609, 10),
+            (4_608, 9),
+            (0, 0),
+        ];
+        let mut files = with_data_blocks(rt.alloc(), 267)?;
+        let file = files.fresh(Sort::File).expect(&rt, "an inode is free");
+        for (length, blocks) in needs {
+            assert_eq!(rt; cut(&rt, &mut files, file, length), Ok(()), "to {length}");
+            assert_eq!(rt; size(&rt, &files, file), length);
+            let used = 267_u16.checked_sub(files.free());
+            assert_eq!(rt; used, Some(blocks), "at {length}");
+        }
+        Ok(())
+    }
+
+    #[test]
+    fn one_write_fills_a_file(rt: HostRuntime) -> Result<(), Fail> {
+        let mut files = with_data_blocks(rt.alloc(), 300)?;
+        let file = files.fresh(Sort::File).expect(&rt, "an inode is free");
+        let long = vec![in rt.alloc(); 7; 136_193]?;
+        assert_eq!(rt;
+            write_bytes(&rt, &mut files, file, 0, &long),
+            Err(Space::TooBig)
+        );
+        assert_eq!(rt; size(&rt, &files, file), 0);
+        assert_eq!(rt; files.free(), 300);
+        let whole = vec![in rt.alloc(); 7; 136_192]?;
+        assert_eq!(rt; write_bytes(&rt, &mut files, file, 0, &whole), Ok(()));
+        assert_eq!(rt; size(&rt, &files, file), 136_192);
+        assert_eq!(rt; files.free(), 33);
+        assert_eq!(rt;
+            write_bytes(&rt, &mut files, file, 136_191, &[8, 8]),
+            Err(Space::TooBig)
+        );
+        assert!(rt; has_run(&rt, &files, file, 0, 136_192, 7)?);
+        Ok(())
+    }
+
+    #[test]
+    fn blocks_go_from_file_to_file(rt: HostRuntime) -> Result<(), Fail> {
+        let mut files = with_data_blocks(rt.alloc(), 12)?;
+        let first = files.fresh(Sort::File).expect(&rt, "an inode is free");
+        let second = files.fresh(Sort::File).expect(&rt, "an inode is free");
+        let nines = vec![in rt.alloc(); 9; 5_632]?;
+        assert_eq!(rt; write_bytes(&rt, &mut files, first, 0, &nines), Ok(()));
+        assert_eq!(rt; files.free(), 0);
+        assert_eq!(rt; write(&rt, &mut files, second, 0, 8), Err(Space::Full));
+        assert_eq!(rt; cut(&rt, &mut files, first, 513), Ok(()));
+        assert_eq!(rt; files.free(), 10);
+        assert_eq!(rt; write(&rt, &mut files, second, 5_119, 8), Ok(()));
+        assert_eq!(rt; files.free(), 0);
+        assert!(rt; has_run(&rt, &files, second, 0, 5_119, 0)?);
+        assert!(rt; has_run(&rt, &files, second, 5_119, 1, 8)?);
+        assert!(rt; has_run(&rt, &files, first, 0, 513, 9)?);
+        assert_eq!(rt; size(&rt, &files, first), 513);
+        Ok(())
+    }
+
+    #[test]
+    fn no_bytes_change_nothing(rt: HostRuntime) -> Result<(), Fail> {
+        let mut files = with_data_blocks(rt.alloc(), 1)?;
+        let file = files.fresh(Sort::File).expect(&rt, "an inode is free");
+        assert_eq!(rt; write_bytes(&rt, &mut files, file, 0, &[1, 2, 3]), Ok(()));
+        assert_eq!(rt; files.free(), 0);
+        for at in [0, 3, 4, 512, 136_192, 136_193, u32::MAX] {
+            assert_eq!(rt;
+                write_bytes(&rt, &mut files, file, at, &[]),
+                Ok(()),
+                "at {at}"
+            );
+            assert_eq!(rt; size(&rt, &files, file), 3, "at {at}");
+        }
+        let mut bytes = [0; 3];
+        assert_eq!(rt; read(&rt, &files, file, 0, &mut bytes), 3);
+        assert_eq!(rt; bytes, [1, 2, 3]);
+        Ok(())
+    }
+
+    #[test]
+    fn a_longer_cut_fills_with_zeros(rt: HostRuntime) -> Result<(), Fail> {
+        let mut files = with_data_blocks(rt.alloc(), 3)?;
+        let file = files.fresh(Sort::File).expect(&rt, "an inode is free");
+        let nines = vec![in rt.alloc(); 9; 1_500]?;
+        assert_eq!(rt; write_bytes(&rt, &mut files, file, 0, &nines), Ok(()));
+        assert_eq!(rt; cut(&rt, &mut files, file, 3), Ok(()));
+        assert_eq!(rt; cut(&rt, &mut files, file, 1_537), Err(Space::Full));
+        assert_eq!(rt; size(&rt, &files, file), 3);
+        assert_eq!(rt; files.free(), 2);
+        assert_eq!(rt; cut(&rt, &mut files, file, 1_536), Ok(()));
+        assert_eq!(rt; files.free(), 0);
+        assert!(rt; has_run(&rt, &files, file, 0, 3, 9)?);
+        assert!(rt; has_run(&rt, &files, file, 3, 1_533, 0)?);
+        Ok(())
+    }
+
+    #[test]
+    fn nothing_is_read_past_the_end(rt: HostRuntime) -> Result<(), Fail> {
+        let mut files = with_data_blocks(rt.alloc(), 2)?;
+        let file = files.fresh(Sort::File).expect(&rt, "an inode is free");
+        let mut bytes = [255; 4];
+        assert_eq!(rt; read(&rt, &files, file, 0, &mut bytes), 0);
+        assert_eq!(rt; write_bytes(&rt, &mut files, file, 510, &[1, 2, 3]), Ok(()));
+        for at in [513, 514, 1_024, 136_192, u32::MAX] {
+            assert_eq!(rt; read(&rt, &files, file, at, &mut bytes), 0, "at {at}");
+        }
+        assert_eq!(rt; bytes, [255; 4]);
+        assert_eq!(rt; read(&rt, &files, file, 511, &mut bytes), 2);
+        assert_eq!(rt; bytes, [2, 3, 255, 255]);
+        assert_eq!(rt; read(&rt, &files, file, 0, &mut []), 0);
+        Ok(())
+    }
+
+    #[test]
+    fn a_part_is_overwritten_and_cut(rt: HostRuntime) -> Result<(), Fail> {
+        let mut files = with_data_blocks(rt.alloc(), 3)?;
+        assert_eq!(rt; files.inodes(), 16);
+        let file = files.fresh(Sort::File).expect(&rt, "an inode is free");
+        assert!(rt; files.is_used(file));
+        assert_eq!(rt; files.write_at(file, 0, &[7; 1200]), Ok(()));
+        assert!(rt; files.is_used(file) && files.size(file) == 1200);
+        files.overwrite(file, 510, &[8, 9, 10, 11]);
+        assert_eq!(rt; byte(&rt, &files, file, 509), 7);
+        assert_eq!(rt; byte(&rt, &files, file, 510), 8);
+        assert_eq!(rt; byte(&rt, &files, file, 513), 11);
+        assert_eq!(rt; byte(&rt, &files, file, 514), 7);
+        assert!(rt; files.is_used(file) && files.size(file) == 1200);
+        files.shrink(file, 512);
+        assert_eq!(rt; size(&rt, &files, file), 512);
+        assert_eq!(rt; files.free(), 2);
         Ok(())
     }
 }
