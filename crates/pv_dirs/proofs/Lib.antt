@@ -1,0 +1,12 @@
+pub mod Adding
+pub mod Closing
+pub mod Contents
+pub mod Emptiness
+pub mod Entries
+pub mod Mapped
+pub mod Next
+pub mod Outcomes
+pub mod Removing
+pub mod SlotBytes
+pub mod TreeOf
+pub mod Viewed

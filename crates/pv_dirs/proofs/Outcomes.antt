@@ -1,0 +1,20 @@
+-- What follows from what a call left, by its outcome.
+use Rattle.std.proofs.Common.{◌≡◌, ℕ, Option, None, Some, Result, Ok, Err, sym, subst}
+use Rattle.std.specs.Prelude.{OnOk, OnErr, IfNone, IfSome}
+
+-- what holds of what either outcome leaves
+pub either_way : {E X : Type 0} (P : X → Type 0) (r : Result (Unit {0}) E) (old after new : X) → OnOk r (new ≡ after) → OnErr r (new ≡ old) → P after → P old → P new
+either_way P (Ok u) old after new ok err p q = subst P (sym ok) p
+either_way P (Err e) old after new ok err p q = subst P (sym err) q
+
+pub on_ok : {E P Q : Type 0} (r : Result (Unit {0}) E) → OnOk r P → (P → Q) → OnOk r Q
+on_ok (Ok u) p f = f p
+on_ok (Err e) p f = p
+
+pub either_number : {X : Type 0} (P : X → Type 0) (r : Option ℕ) (old new : X) (after : ℕ → X) → IfNone r (new ≡ old) → IfSome r (λ n. new ≡ after n) → P old → ((n : ℕ) → P (after n)) → P new
+either_number P None old new after none some p q = subst P (sym none) p
+either_number P (Some n) old new after none some p q = subst P (sym some) (q n)
+
+pub if_some_both : (r : Option ℕ) (P Q R : ℕ → Type 0) → IfSome r P → IfSome r Q → ((n : ℕ) → P n → Q n → R n) → IfSome r R
+if_some_both None P Q R p q f = p
+if_some_both (Some n) P Q R p q f = f n p q

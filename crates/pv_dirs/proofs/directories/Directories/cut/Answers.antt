@@ -1,0 +1,38 @@
+use Rattle.std.proofs.Common.{◌≡◌, sym, ap, subst, ◌∙◌}
+use Rattle.pv_model.specs.Effect.{resize}
+use Rattle.pv_model.specs.Tree.{Tree}
+use Rattle.pv_inodes.specs.Files.{Files, bytes_at, cut}
+use Rattle.pv_dirs.specs.Trees.{tree_of, IsHolding, LacksRoom, cut as tree_cut}
+use Rattle.pv_dirs.proofs.Contents.{cut-tree_of, holding-content, lacks_room, lacks_room_back}
+use Rattle.pv_dirs.proofs.Outcomes.{either_way, on_ok}
+use Rattle.pv_dirs.proofs.Viewed.{viewed_used, viewed_content}
+use Rattle.pv_dirs.proofs.directories.Directories.cut.Goals as goal
+use Rattle.pv_dirs.proofs.directories.Directories.cut.Goals.{After-cut}
+
+pub cut-requires : goal.cut-requires
+cut-requires c = viewed_used c.self.inside.inodes c.args.self.now c.args.inode c.self.view_is c.requires.used
+
+holding : (c : After-cut) → IsHolding (cut c.self.inside.inodes c.args.inode c.args.size) c.self.inside.block_count
+holding c =
+    let k = viewed_content c.self.inside.inodes c.args.self.now c.args.inode c.self.view_is c.requires.used c.requires.other in
+    holding-content c.self.inside.inodes c.args.inode k.0 k.1 c.self.inside.block_count (resize (bytes_at c.self.inside.inodes c.args.inode) c.args.size) c.self.invariant
+
+after : (c : After-cut) → tree_of (cut c.self.inside.inodes c.args.inode c.args.size) ≡ tree_cut c.args.self.now c.args.inode c.args.size
+after c =
+    let k = viewed_content c.self.inside.inodes c.args.self.now c.args.inode c.self.view_is c.requires.used c.requires.other in
+    sym (cut-tree_of c.self.inside.inodes c.args.inode k.0 k.1 c.args.size) ∙ ap (λ (t : Tree). tree_cut t c.args.inode c.args.size) c.self.view_is
+
+pub invariant_of-self : goal.invariant_of-self
+invariant_of-self c =
+    either_way (λ (f : Files). IsHolding f c.self.inside.block_count) c.cut.result c.self.inside.inodes (cut c.self.inside.inodes c.args.inode c.args.size) c.cut.new.self
+    c.cut.ensures.ok c.cut.ensures.err (holding c) c.self.invariant
+
+pub returns-clause-ok : goal.returns-clause-ok
+returns-clause-ok c = on_ok c.cut.result c.cut.ensures.ok (λ is. ap tree_of is ∙ after c)
+
+pub returns-clause-full : goal.returns-clause-full
+returns-clause-full c =
+    let room = cut c.self.inside.inodes c.args.inode c.args.size in (
+      λ is. let full = c.cut.ensures.full.0 is in (full.0, subst LacksRoom (after c) (lacks_room room c.self.inside.block_count (holding c) full.1)),
+      λ full. c.cut.ensures.full.1 (full.0, lacks_room_back room c.self.inside.block_count (holding c) (subst LacksRoom (sym (after c)) full.1)),
+    )

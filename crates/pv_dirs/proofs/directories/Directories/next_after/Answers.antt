@@ -1,0 +1,27 @@
+use Rattle.std.proofs.Common.{sym, ap, subst, ◌∙◌}
+use Rattle.std.specs.Option.{option_copied}
+use Rattle.pv_model.specs.Calls.Descriptors.{next_name}
+use Rattle.pv_model.specs.Tree.{Entries}
+use Rattle.pv_inodes.specs.Files.{bytes_at}
+use Rattle.pv_dirs.specs.Listing.{IsNextName}
+use Rattle.pv_dirs.specs.Slots.{slot_entries, in_order}
+use Rattle.pv_dirs.proofs.Next.{next_name_in_order}
+use Rattle.pv_dirs.proofs.TreeOf.{directory_slotted}
+use Rattle.pv_dirs.proofs.Viewed.{viewed_directory, viewed_directory_used, viewed_entries}
+use Rattle.pv_dirs.proofs.directories.Directories.next_after.Goals as goal
+
+pub least_behind-requires-clause-used : goal.least_behind-requires-clause-used
+least_behind-requires-clause-used c = viewed_directory_used c.self.inside.inodes c.args.self.now c.args.directory c.self.view_is c.requires
+
+pub least_behind-requires-clause-distinct : goal.least_behind-requires-clause-distinct
+least_behind-requires-clause-distinct c =
+    (directory_slotted c.self.inside.inodes c.self.inside.block_count c.args.directory c.self.invariant (viewed_directory c.self.inside.inodes c.args.self.now c.args.directory c.self.view_is c.requires)).distinct
+
+pub returns-clause-value : goal.returns-clause-value
+returns-clause-value c = c.least_behind.ensures ∙ ap (next_name (option_copied c.args.last)) (sym (viewed_entries c.self.inside.inodes c.args.self.now c.args.directory c.self.view_is c.requires))
+
+pub returns-clause-least : goal.returns-clause-least
+returns-clause-least c =
+    let entries = slot_entries (bytes_at c.self.inside.inodes c.args.directory) in
+    subst (λ (es : Entries). IsNextName (option_copied c.args.last) es c.least_behind.result) (sym (viewed_entries c.self.inside.inodes c.args.self.now c.args.directory c.self.view_is c.requires))
+    (subst (IsNextName (option_copied c.args.last) (in_order entries)) (sym c.least_behind.ensures) (next_name_in_order (option_copied c.args.last) entries))

@@ -1,0 +1,72 @@
+use Rattle.std.proofs.Common.{◌≡◌, ◌+◌, ◌-◌, ◌*◌, ◌≤◌, suc, is_some, length, sym, ap, ◌∙◌, arith}
+use Rattle.std.proofs.lemmas.Bool.{false≢true}
+use Rattle.pv_model.specs.Bytes.{Bytes}
+use Rattle.pv_model.specs.Effect.{overwrite, resize}
+use Rattle.pv_model.specs.Tree.{Tree, find_entry, without_entry}
+use Rattle.pv_inodes.specs.Files.{Files, bytes_at, with_bytes}
+use Rattle.pv_inodes.proofs.Edits.{used-with_bytes}
+use Rattle.pv_dirs.specs.Slots.{slot_at}
+use Rattle.pv_dirs.specs.Trees.{tree_of}
+use Rattle.pv_dirs.proofs.Removing.{shortened, holding-removed, tree_of-removed, length-filled}
+use Rattle.pv_dirs.proofs.SlotBytes.{length-slot_at}
+use Rattle.pv_dirs.proofs.TreeOf.{directory_slotted, find_entry-tree_of}
+use Rattle.pv_dirs.proofs.Viewed.{viewed_directory, viewed_directory_used}
+use Rattle.pv_dirs.proofs.directories.Directories.remove.Goals as goal
+use Rattle.pv_dirs.proofs.directories.Directories.remove.Goals.{After-slot-moved, After-shrink}
+
+pub place-requires : goal.place-requires
+place-requires c = viewed_directory_used c.self.inside.inodes c.args.self.now c.args.directory c.self.view_is c.requires.directory
+
+pub unreachable-requires : goal.unreachable-requires
+unreachable-requires c =
+    let is = viewed_directory c.self.inside.inodes c.args.self.now c.args.directory c.self.view_is c.requires.directory in
+    let none = ap (λ (t : Tree). find_entry t c.args.directory c.args.name.now) (sym c.self.view_is) ∙ find_entry-tree_of c.self.inside.inodes c.args.directory c.args.name.now is ∙ c.in_default.ensures.absent in
+    absurd (false≢true (sym (ap is_some none) ∙ c.requires.present))
+
+-- the slots are those up to the last
+long : (c : After-slot-moved) → length (bytes_at c.self.inside.inodes c.args.directory) ≡ 64 * suc (c.count-last.result - 1)
+long c =
+    let is = viewed_directory c.self.inside.inodes c.args.self.now c.args.directory c.self.view_is c.requires.directory in
+    let slotted = directory_slotted c.self.inside.inodes c.self.inside.block_count c.args.directory c.self.invariant is in
+    omega (arith, slotted.whole, c.count-last.ensures.value, c.in-Some.ensures.within)
+
+within : (c : After-slot-moved) → c.in-Some.hole ≤ c.count-last.result - 1
+within c = omega (arith, c.count-last.ensures.value, c.in-Some.ensures.within)
+
+fits : (c : After-slot-moved) → 64 * c.in-Some.hole + length c.slot-moved.result.bytes ≤ length (bytes_at c.self.inside.inodes c.args.directory)
+fits c =
+    let moved = ap length c.slot-moved.ensures ∙ length-slot_at (bytes_at c.self.inside.inodes c.args.directory) (c.count-last.result - 1) (omega (arith, long c)) in
+    omega (arith, moved, long c, within c)
+
+pub shrink-requires-clause-used : goal.shrink-requires-clause-used
+shrink-requires-clause-used c =
+    rw c.overwrite.ensures
+    (used-with_bytes c.self.inside.inodes c.args.directory (overwrite (bytes_at c.self.inside.inodes c.args.directory) (64 * c.in-Some.hole) c.slot-moved.result.bytes)
+    (viewed_directory_used c.self.inside.inodes c.args.self.now c.args.directory c.self.view_is c.requires.directory))
+
+pub shrink-requires-clause-shorter : goal.shrink-requires-clause-shorter
+shrink-requires-clause-shorter c =
+    let start = (goal.at.shrink-requires-clause-shorter c).After-slot-moved in
+    let is = viewed_directory c.self.inside.inodes c.args.self.now c.args.directory c.self.view_is c.requires.directory in
+    let kept = ap (λ (f : Files). length (bytes_at f c.args.directory)) c.overwrite.ensures ∙ length-filled c.self.inside.inodes c.args.directory c.in-Some.hole c.slot-moved.result.bytes is (fits start) in
+    rw kept (omega (arith, long start))
+
+shortened_is : (c : After-shrink) → c.shrink.new.self ≡ shortened c.self.inside.inodes c.args.directory c.in-Some.hole (slot_at (bytes_at c.self.inside.inodes c.args.directory) (c.count-last.result - 1)) (c.count-last.result - 1)
+shortened_is c =
+    c.shrink.ensures
+    ∙ ap (λ (f : Files). with_bytes f c.args.directory (resize (bytes_at f c.args.directory) (64 * (c.count-last.result - 1)))) c.overwrite.ensures
+    ∙ ap (λ (moved : Bytes). shortened c.self.inside.inodes c.args.directory c.in-Some.hole moved (c.count-last.result - 1)) c.slot-moved.ensures
+
+pub invariant_of-self : goal.invariant_of-self
+invariant_of-self c =
+    let start = (goal.at.invariant_of-self c).After-slot-moved in
+    let is = viewed_directory c.self.inside.inodes c.args.self.now c.args.directory c.self.view_is c.requires.directory in
+    rw (shortened_is c) (holding-removed c.self.inside.inodes c.self.inside.block_count c.args.directory c.self.invariant is c.in-Some.hole (c.count-last.result - 1) (long start) (within start))
+
+pub returns : goal.returns
+returns c =
+    let start = (goal.at.returns c).After-slot-moved in
+    let is = viewed_directory c.self.inside.inodes c.args.self.now c.args.directory c.self.view_is c.requires.directory in
+    ap tree_of (shortened_is c)
+    ∙ tree_of-removed c.self.inside.inodes c.self.inside.block_count c.args.directory c.self.invariant is c.in-Some.hole (c.count-last.result - 1) (long start) (within start) c.args.name.now c.in-Some.ensures.named
+    ∙ ap (λ (t : Tree). without_entry t c.args.directory c.args.name.now) c.self.view_is

@@ -1,0 +1,37 @@
+use Rattle.std.proofs.Common.{◌≡◌, sym, ap, subst, ◌∙◌}
+use Rattle.pv_model.specs.Tree.{Tree}
+use Rattle.pv_inodes.specs.Files.{Files, written}
+use Rattle.pv_dirs.specs.Trees.{tree_of, IsHolding, LacksRoom, written as tree_written}
+use Rattle.pv_dirs.proofs.Contents.{written-tree_of, holding-written, lacks_room, lacks_room_back}
+use Rattle.pv_dirs.proofs.Outcomes.{either_way, on_ok}
+use Rattle.pv_dirs.proofs.Viewed.{viewed_used, viewed_content}
+use Rattle.pv_dirs.proofs.directories.Directories.write_at.Goals as goal
+use Rattle.pv_dirs.proofs.directories.Directories.write_at.Goals.{After-write_at}
+
+pub write_at-requires : goal.write_at-requires
+write_at-requires c = viewed_used c.self.inside.inodes c.args.self.now c.args.inode c.self.view_is c.requires.used
+
+holding : (c : After-write_at) → IsHolding (written c.self.inside.inodes c.args.inode c.args.at c.args.bytes.now) c.self.inside.block_count
+holding c =
+    let k = viewed_content c.self.inside.inodes c.args.self.now c.args.inode c.self.view_is c.requires.used c.requires.other in
+    holding-written c.self.inside.inodes c.args.inode k.0 k.1 c.self.inside.block_count c.args.at c.args.bytes.now c.self.invariant
+
+after : (c : After-write_at) → tree_of (written c.self.inside.inodes c.args.inode c.args.at c.args.bytes.now) ≡ tree_written c.args.self.now c.args.inode c.args.at c.args.bytes.now
+after c =
+    let k = viewed_content c.self.inside.inodes c.args.self.now c.args.inode c.self.view_is c.requires.used c.requires.other in
+    sym (written-tree_of c.self.inside.inodes c.args.inode k.0 k.1 c.args.at c.args.bytes.now) ∙ ap (λ (t : Tree). tree_written t c.args.inode c.args.at c.args.bytes.now) c.self.view_is
+
+pub invariant_of-self : goal.invariant_of-self
+invariant_of-self c =
+    either_way (λ (f : Files). IsHolding f c.self.inside.block_count) c.write_at.result c.self.inside.inodes (written c.self.inside.inodes c.args.inode c.args.at c.args.bytes.now) c.write_at.new.self
+    c.write_at.ensures.ok c.write_at.ensures.err (holding c) c.self.invariant
+
+pub returns-clause-ok : goal.returns-clause-ok
+returns-clause-ok c = on_ok c.write_at.result c.write_at.ensures.ok (λ is. ap tree_of is ∙ after c)
+
+pub returns-clause-full : goal.returns-clause-full
+returns-clause-full c =
+    let room = written c.self.inside.inodes c.args.inode c.args.at c.args.bytes.now in (
+      λ is. let full = c.write_at.ensures.full.0 is in (full.0, full.1, subst LacksRoom (after c) (lacks_room room c.self.inside.block_count (holding c) full.2)),
+      λ full. c.write_at.ensures.full.1 (full.0, full.1, lacks_room_back room c.self.inside.block_count (holding c) (subst LacksRoom (sym (after c)) full.2)),
+    )

@@ -1,0 +1,28 @@
+-- The names of a directory in byte order, one after the other.
+use Rattle.std.specs.Prelude.{◌≢◌, Bool, true, IsTrue, Option, None, Some, IsSome, MatchOption}
+use Rattle.std.specs.Cmp.Lexicographic.{slice_cmp}
+use Rattle.std.specs.FinMap.Entries.{find}
+use Rattle.std.specs.Ordering.{nat_cmp, is_lt}
+use Rattle.std.specs.declared.cmp.Ordering.TheVariants.{Less}
+use Rattle.pv_model.specs.Bytes.{Bytes}
+use Rattle.pv_model.specs.Calls.Descriptors.{is_behind}
+use Rattle.pv_model.specs.Tree.{Entries}
+
+-- whether a name comes before another, if there is another
+abbrev pub is_before : Bytes → Option Bytes → Bool
+is_before name None = true
+is_before name (Some other) = is_lt (slice_cmp nat_cmp name other)
+
+-- a name of an entry of the list
+abbrev pub IsListed : Entries → Bytes → Type 0
+IsListed es name = IsSome (find (slice_cmp nat_cmp) name es)
+
+-- a name is the least of those in the list that come behind the last one
+pub record IsLeastBehind (last : Option Bytes) (es : Entries) (name : Bytes) : Type 0 where
+  pub listed : IsListed es name
+  pub behind : IsTrue (is_behind last name)
+  pub least : (other : Bytes) → IsListed es other → IsTrue (is_behind last other) → slice_cmp nat_cmp other name ≢ Less
+
+-- the next name behind the last one, or none where none comes behind it
+abbrev pub IsNextName : Option Bytes → Entries → Option Bytes → Type 0
+IsNextName last es next = MatchOption next ((other : Bytes) → IsListed es other → is_behind last other ≢ true) (IsLeastBehind last es)

@@ -1,0 +1,94 @@
+-- The tree that files hold, and how it changes.
+use Rattle.std.specs.Prelude.{◌≡◌, ℕ, ◌*◌, ◌-◌, ◌<◌, suc, true, false, map, length, sum_by, [], ◌∷◌, Option, None, Some, option_map}
+use Rattle.pv_model.specs.declared.sort.Sort.{Sort}
+use Rattle.pv_model.specs.declared.sort.Sort.TheVariants.{Directory, File, Executable, Symlink}
+use Rattle.pv_model.specs.declared.version.Version.TheVariants.{V1}
+use Rattle.pv_model.specs.Bytes.{Bytes}
+use Rattle.pv_model.specs.Effect.{overwrite, resize}
+use Rattle.pv_model.specs.Numbered.{without_number, present}
+use Rattle.pv_model.specs.Room.{entry_length, node_length, need}
+use Rattle.pv_model.specs.Tree.{Node, directory_node, file_node, link_node, Tree, node_at, entries_at, with_node}
+use Rattle.pv_inodes.specs.Files.{Contained, Files, held}
+use Rattle.pv_dirs.specs.Slots.{slot_entries, in_order, IsSlotted}
+
+-- the node that an inode of this sort holds with these bytes
+unfoldable pub node_from : Sort → Bytes → Node
+node_from Directory bytes = directory_node (in_order (slot_entries bytes))
+node_from File bytes = file_node false bytes
+node_from Executable bytes = file_node true bytes
+node_from Symlink bytes = link_node bytes
+
+-- the node that an inode holds
+abbrev pub node_of : Contained → Node
+node_of c = node_from c.sort c.bytes
+
+-- the tree of an image of version 1 with these files
+unfoldable pub tree_of : Files → Tree
+tree_of f = record { nodes = map (option_map node_of) f.nodes; blocks = f.blocks; inodes = length f.nodes - 1; version = V1 }
+
+-- each directory has the bytes of one, and there are so many data blocks
+pub record IsHolding (f : Files) (blocks : ℕ) : Type 0 where
+  pub sized : f.blocks ≡ blocks
+  pub slotted : (n : ℕ) (c : Contained) → held f n ≡ Some c → c.sort ≡ Directory → IsSlotted c.bytes
+
+-- what a node is
+abbrev pub sort_of : Node → Sort
+sort_of (directory_node entries) = Directory
+sort_of (file_node false bytes) = File
+sort_of (file_node true bytes) = Executable
+sort_of (link_node text) = Symlink
+
+-- a node of this sort with nothing in it
+abbrev pub new_node : Sort → Node
+new_node Directory = directory_node []
+new_node File = file_node false []
+new_node Executable = file_node true []
+new_node Symlink = link_node []
+
+abbrev pub bytes_of : Option Node → Bytes
+bytes_of (Some (file_node executable bytes)) = bytes
+bytes_of (Some (link_node text)) = text
+bytes_of _ = []
+
+-- the bytes of a file, or the text of a link
+abbrev pub bytes_at : Tree → ℕ → Bytes
+bytes_at t n = bytes_of (node_at t n)
+
+-- a node with other bytes; a directory stays as it is
+abbrev pub with_bytes : Node → Bytes → Node
+with_bytes (directory_node entries) bytes = directory_node entries
+with_bytes (file_node executable old) bytes = file_node executable bytes
+with_bytes (link_node old) bytes = link_node bytes
+
+abbrev pub replaced : Tree → ℕ → Option Node → Bytes → Tree
+replaced t n None bytes = t
+replaced t n (Some node) bytes = with_node t n (with_bytes node bytes)
+
+-- the tree with other bytes in a file or a link
+abbrev pub with_bytes_at : Tree → ℕ → Bytes → Tree
+with_bytes_at t n bytes = replaced t n (node_at t n) bytes
+
+-- the tree after bytes were written over those of a file or a link, from a place on; to write none changes nothing
+abbrev pub written : Tree → ℕ → ℕ → Bytes → Tree
+written t n at [] = t
+written t n at (b ∷ bytes) = with_bytes_at t n (overwrite (bytes_at t n) at (b ∷ bytes))
+
+-- the tree after the bytes of a file or a link were cut, or lengthened with zeros
+abbrev pub cut : Tree → ℕ → ℕ → Tree
+cut t n size = with_bytes_at t n (resize (bytes_at t n) size)
+
+-- the tree with nothing under a number
+abbrev pub without_node : Tree → ℕ → Tree
+without_node t n = record t { nodes = without_number t.nodes n }
+
+-- the data blocks that all nodes need
+abbrev pub total_need : Tree → ℕ
+total_need t = sum_by (λ node. need t.version (node_length t.version node)) (present t.nodes)
+
+-- data blocks are wanting
+abbrev pub LacksRoom : Tree → Type 0
+LacksRoom t = t.blocks < total_need t
+
+-- the length of a directory with one entry more
+abbrev pub grown_length : Tree → ℕ → ℕ
+grown_length t d = entry_length V1 * suc (length (entries_at t d))

@@ -1,0 +1,397 @@
+//! The directories of an image.
+ghost use Rattle.std.specs.Prelude.{◌≡◌, ◌+◌, ◌-◌, ◌*◌, ◌<◌, ◌≤◌, ◌↔◌, suc, min, false, [], ◌++◌, length, take, drop, replicate, vec_len, All, IsTrue, None, Some, IsSome, IsNone, IfNone, IfSome, OnOk, OnErr, option_map};
+ghost use Rattle.std.specs.Option.{option_copied};
+ghost use Rattle.pv_model.specs.declared.version.Version.TheVariants.{V1};
+ghost use Rattle.pv_model.specs.Calls.Descriptors.{next_name};
+ghost use Rattle.pv_model.specs.Effect.{size_of};
+ghost use Rattle.pv_model.specs.Image.{inode_blocks, greatest_blocks};
+ghost use Rattle.pv_model.specs.Room.{greatest_length};
+ghost use Rattle.pv_model.specs.Tree.{node_at, entries_at, is_directory_at, find_entry, is_name, with_node, with_entry, without_entry, new_number};
+ghost use Rattle.pv_dirs.specs.Listing.{IsNextName};
+ghost use Rattle.pv_dirs.specs.Trees.{sort_of, new_node, bytes_at, written, cut, without_node, total_need, LacksRoom, grown_length};
+
+use crate::scan::{count, least_behind, place, slot};
+use crate::slot::{SLOT, Slot};
+use pv_inodes::{Inodes, Space};
+use pv_model::{Name, Sort};
+use std::marker::Model;
+
+/// The directories of an image of version 1, over its inodes: a tree by the numbers of its nodes. Nothing
+/// here takes memory.
+#[derive(Drop)]
+pub struct Directories {
+    inodes: Inodes,
+    // The number of data blocks.
+    block_count: u16,
+}
+
+impl Model for Directories {
+    ghost use Rattle.pv_model.specs.Tree.{Tree};
+    ghost use Rattle.pv_dirs.specs.Trees.{tree_of, IsHolding};
+
+    ghost Value = { Tree };
+
+    ghost view = { λ d. tree_of d.inodes };
+
+    ghost invariant = { λ d. IsHolding d.inodes d.block_count };
+}
+
+impl Directories {
+    /// The tree of an image of so many blocks and inodes over zeros: it has no node, and no root either.
+    pub fn empty(zeros: Vec<u8>, blocks: u16, inodes: u16) -> Directories
+        requires whole { vec_len zeros ≡ 512 * blocks }
+        requires zeros { All (λ byte. byte ≡ 0) zeros.items }
+        requires some_inodes { 1 ≤ inodes }
+        requires few_inodes { inodes ≤ 4096 }
+        requires some_blocks { inode_blocks V1 inodes + 1 ≤ blocks }
+        requires few_blocks { blocks ≤ greatest_blocks V1 }
+        ensures nodes { result.nodes ≡ replicate (suc inodes) None }
+        ensures blocks { result.blocks + inode_blocks V1 inodes + 1 ≡ blocks }
+        ensures inodes { result.inodes ≡ inodes }
+        ensures version { result.version ≡ V1 }
+    {
+        let inodes = Inodes::empty(zeros, blocks, inodes);
+        let block_count = inodes.free();
+        Directories {
+            inodes,
+            block_count,
+        }
+    }
+
+    /// How many nodes the image has room for.
+    pub fn inodes(&self) -> u16
+        ensures value { result ≡ self.now.inodes }
+        ensures numbers { length self.now.nodes ≡ suc result }
+    {
+        self.inodes.inodes()
+    }
+
+    /// How many data blocks the image has.
+    pub fn blocks(&self) -> u16
+        ensures { result ≡ self.now.blocks }
+    {
+        self.block_count
+    }
+
+    /// The number of data blocks that no node needs.
+    pub fn free(&self) -> u16
+        ensures { result + total_need self.now ≡ self.now.blocks }
+    {
+        self.inodes.free()
+    }
+
+    /// Whether a number is that of a node.
+    pub fn is_used(&self, inode: u16) -> bool
+        ensures { IsTrue result ↔ IsSome (node_at self.now inode) }
+    {
+        self.inodes.is_used(inode)
+    }
+
+    /// Whether a number is that of a directory.
+    pub fn is_directory(&self, inode: u16) -> bool
+        ensures { result ≡ is_directory_at self.now inode }
+    {
+        self.inodes.is_used(inode) && matches!(self.inodes.kind(inode), Sort::Directory)
+    }
+
+    /// What a node is.
+    pub fn kind(&self, inode: u16) -> Sort
+        requires { IsSome (node_at self.now inode) }
+        ensures { option_map sort_of (node_at self.now inode) ≡ Some result }
+    {
+        self.inodes.kind(inode)
+    }
+
+    /// The size of a node, as stat(2) gives it: the number of a directory's entries, of a file's bytes, or
+    /// of those of a link's text.
+    pub fn size(&self, inode: u16) -> u32
+        requires { IsSome (node_at self.now inode) }
+        ensures value { option_map size_of (node_at self.now inode) ≡ Some result }
+        ensures allowed { result ≤ greatest_length V1 }
+    {
+        match self.inodes.kind(inode) {
+            Sort::Directory => count(&self.inodes, inode),
+            _ => self.inodes.size(inode),
+        }
+    }
+
+    /// The number of the node under a name of a directory.
+    pub fn find(&self, directory: u16, name: &[u8]) -> Option<u16>
+        requires { IsTrue (is_directory_at self.now directory) }
+        ensures { result ≡ find_entry self.now directory name.now }
+    {
+        let k = place(&self.inodes, directory, name)?;
+        Some(slot(&self.inodes, directory, k).inode())
+    }
+
+    /// The least name of a directory, in byte order, that comes behind the last one; without a last one
+    /// the least of all. None where no name comes behind it.
+    pub fn next_after(&self, directory: u16, last: Option<&[u8]>) -> Option<Name>
+        requires { IsTrue (is_directory_at self.now directory) }
+        ensures value { result ≡ next_name (option_copied last.entry) (entries_at self.now directory) }
+        ensures least { IsNextName (option_copied last.entry) (entries_at self.now directory) result }
+    {
+        least_behind(&self.inodes, directory, last)
+    }
+
+    /// Whether a directory has no entry.
+    pub fn is_empty(&self, directory: u16) -> bool
+        requires { IsTrue (is_directory_at self.now directory) }
+        ensures { IsTrue result ↔ (entries_at self.now directory ≡ []) }
+    {
+        count(&self.inodes, directory) == 0
+    }
+
+    /// Adds an entry to a directory that has none of this name. `TooBig` comes where the directory would be
+    /// longer than any may be, else `Full` where data blocks are wanting; then nothing has changed.
+    pub fn add(&mut self, directory: u16, name: &[u8], inode: u16) -> Result<(), Space>
+        requires directory { IsTrue (is_directory_at self.old directory) }
+        requires name { IsTrue (is_name V1 name.now) }
+        requires absent { find_entry self.old directory name.now ≡ None }
+        ensures ok { OnOk result (self.new ≡ with_entry self.old directory name.now inode) }
+        ensures err { OnErr result (self.new ≡ self.old) }
+        ensures too_big { (result ≡ Err Space.TooBig) ↔ (greatest_length V1 < grown_length self.old directory) }
+        ensures full { (result ≡ Err Space.Full) ↔ ((grown_length self.old directory ≤ greatest_length V1) × LacksRoom (with_entry self.old directory name.now inode)) }
+    {
+        let end = self.inodes.size(directory);
+        let slot = Slot::new(name, inode);
+        self.inodes.write_at(directory, end, &slot.bytes)
+    }
+
+    /// Takes away the entry of a directory that has this name.
+    pub fn remove(&mut self, directory: u16, name: &[u8])
+        requires directory { IsTrue (is_directory_at self.old directory) }
+        requires present { IsSome (find_entry self.old directory name.now) }
+        ensures { self.new ≡ without_entry self.old directory name.now }
+    {
+        let Some(hole) = place(&self.inodes, directory, name) else {
+            unreachable!()
+        };
+        let last = count(&self.inodes, directory) - 1;
+        let moved = slot(&self.inodes, directory, last);
+        self.inodes
+            .overwrite(directory, SLOT as u32 * hole, &moved.bytes);
+        self.inodes.shrink(directory, SLOT as u32 * last);
+    }
+
+    /// Copies the bytes of a file or a link, from `at` on, to the front of the buffer. The result is how
+    /// many: as many as the buffer takes, or fewer where the bytes end, or none past their end.
+    pub fn read_at(&self, inode: u16, at: u32, buffer: &mut [u8]) -> usize
+        requires used { IsSome (node_at self.now inode) }
+        requires other { is_directory_at self.now inode ≡ false }
+        ensures count { result ≡ min (length buffer.old) (length (bytes_at self.now inode) - at) }
+        ensures bytes { buffer.new ≡ take result (drop at (bytes_at self.now inode)) ++ drop result buffer.old }
+    {
+        self.inodes.read_at(inode, at, buffer)
+    }
+
+    /// Writes bytes over those of a file or a link, from `at` on. A gap past the end is filled with zeros,
+    /// and to write no bytes changes nothing. `TooBig` comes where a byte would lie past the greatest
+    /// length, else `Full` where data blocks are wanting; then nothing has changed.
+    pub fn write_at(&mut self, inode: u16, at: u32, bytes: &[u8]) -> Result<(), Space>
+        requires used { IsSome (node_at self.old inode) }
+        requires other { is_directory_at self.old inode ≡ false }
+        ensures ok { OnOk result (self.new ≡ written self.old inode at bytes.now) }
+        ensures err { OnErr result (self.new ≡ self.old) }
+        ensures too_big { (result ≡ Err Space.TooBig) ↔ ((0 < length bytes.now) × (greatest_length V1 < at + length bytes.now)) }
+        ensures full { (result ≡ Err Space.Full) ↔ ((0 < length bytes.now) × (at + length bytes.now ≤ greatest_length V1) × LacksRoom (written self.old inode at bytes.now)) }
+    {
+        self.inodes.write_at(inode, at, bytes)
+    }
+
+    /// Cuts the bytes of a file or a link to a length, or fills them up to it with zeros. `TooBig` comes
+    /// where the length is past the greatest, else `Full` where data blocks are wanting; then nothing has
+    /// changed.
+    pub fn cut(&mut self, inode: u16, size: u32) -> Result<(), Space>
+        requires used { IsSome (node_at self.old inode) }
+        requires other { is_directory_at self.old inode ≡ false }
+        ensures ok { OnOk result (self.new ≡ cut self.old inode size) }
+        ensures err { OnErr result (self.new ≡ self.old) }
+        ensures too_big { (result ≡ Err Space.TooBig) ↔ (greatest_length V1 < size) }
+        ensures full { (result ≡ Err Space.Full) ↔ ((size ≤ greatest_length V1) × LacksRoom (cut self.old inode size)) }
+    {
+        self.inodes.cut(inode, size)
+    }
+
+    /// Puts a node of this sort, with nothing in it, under the least number that is not in use; None only
+    /// where the image has no room for another node.
+    pub fn fresh(&mut self, sort: Sort) -> Option<u16>
+        ensures full { IsNone result ↔ (new_number self.old ≡ length self.old.nodes) }
+        ensures none { IfNone result (self.new ≡ self.old) }
+        ensures least { IfSome result (λ n. n ≡ new_number self.old) }
+        ensures free { IfSome result (λ n. node_at self.old n ≡ None) }
+        ensures within { IfSome result (λ n. n < length self.old.nodes) }
+        ensures after { IfSome result (λ n. self.new ≡ with_node self.old n (new_node sort)) }
+    {
+        self.inodes.fresh(sort)
+    }
+
+    /// Takes a node away, with all that is in it.
+    pub fn drop_inode(&mut self, inode: u16)
+        requires { IsSome (node_at self.old inode) }
+        ensures { self.new ≡ without_node self.old inode }
+    {
+        self.inodes.drop_inode(inode);
+    }
+}
+
+#[cfg(test)]
+mod tests {
+    use super::*;
+    use std::alloc::{AllocError, Global};
+    use std::process::Abort;
+    use std::test::Fail;
+
+    // An image of 16 inodes and so many data blocks, with a directory under number 1.
+    fn with_data_blocks(
+        rt: &impl Abort,
+        alloc: Global,
+        count: u16,
+    ) -> Result<Directories, AllocError>
+        requires some { 1 ≤ count }
+        requires few { count ≤ 8000 }
+    {
+        let zeros = vec![in alloc; 0; 512 * (count as usize + 2)]?;
+        let mut files = Directories::empty(zeros, count + 2, 16);
+        assert_eq!(rt; files.fresh(Sort::Directory), Some(1));
+        Ok(files)
+    }
+
+    fn find(rt: &impl Abort, files: &Directories, name: &[u8]) -> Option<u16> {
+        assert!(rt; files.is_directory(1));
+        files.find(1, name)
+    }
+
+    fn add(rt: &impl Abort, files: &mut Directories, name: &[u8], inode: u16) -> Result<(), Space>
+        requires { IsTrue (is_name V1 name.now) }
+    {
+        assert!(rt; files.is_directory(1));
+        assert!(rt; files.find(1, name).is_none());
+        files.add(1, name, inode)
+    }
+
+    fn remove(rt: &impl Abort, files: &mut Directories, name: &[u8]) {
+        assert!(rt; files.is_directory(1));
+        assert!(rt; files.find(1, name).is_some());
+        files.remove(1, name);
+    }
+
+    // The names of the directory are these, in this order, and all of them.
+    fn assert_lists(rt: &impl Abort, files: &Directories, names: &[&[u8]]) {
+        let mut last: Option<Name> = None;
+        for name in names {
+            assert!(rt; files.is_directory(1));
+            last = files.next_after(1, last.as_ref().map(|last| last.as_slice()));
+            assert!(rt; last.as_ref().is_some_and(|last| last.as_slice() == *name));
+        }
+        assert!(rt; files.is_directory(1));
+        assert!(rt;
+            files
+                .next_after(1, last.as_ref().map(|last| last.as_slice()))
+                .is_none()
+        );
+    }
+
+    #[test]
+    fn names_come_in_byte_order(rt: HostRuntime) -> Result<(), Fail> {
+        let mut files = with_data_blocks(&rt, rt.alloc(), 2)?;
+        assert_lists(&rt, &files, &[]);
+        assert_eq!(rt; add(&rt, &mut files, b"a", 2), Ok(()));
+        assert_eq!(rt; add(&rt, &mut files, b"b", 3), Ok(()));
+        assert_eq!(rt; add(&rt, &mut files, b"c", 4), Ok(()));
+        assert_lists(&rt, &files, &[b"a", b"b", b"c"]);
+        remove(&rt, &mut files, b"a");
+        assert_lists(&rt, &files, &[b"b", b"c"]);
+        assert_eq!(rt; add(&rt, &mut files, b"ab", 5), Ok(()));
+        assert_eq!(rt; add(&rt, &mut files, b"B", 6), Ok(()));
+        assert_lists(&rt, &files, &[b"B", b"ab", b"b", b"c"]);
+        assert_eq!(rt; find(&rt, &files, b"B"), Some(6));
+        assert_eq!(rt; find(&rt, &files, b"ab"), Some(5));
+        assert_eq!(rt; find(&rt, &files, b"b"), Some(3));
+        assert_eq!(rt; find(&rt, &files, b"c"), Some(4));
+        assert_eq!(rt; find(&rt, &files, b"a"), None);
+        Ok(())
+    }
+
+    #[test]
+    fn a_hole_is_closed_wherever_it_is(rt: HostRuntime) -> Result<(), Fail> {
+        let mut files = with_data_blocks(&rt, rt.alloc(), 2)?;
+        assert_eq!(rt; add(&rt, &mut files, b"a", 2), Ok(()));
+        assert_eq!(rt; add(&rt, &mut files, b"b", 3), Ok(()));
+        assert_eq!(rt; add(&rt, &mut files, b"c", 4), Ok(()));
+        assert_eq!(rt; add(&rt, &mut files, b"d", 5), Ok(()));
+        remove(&rt, &mut files, b"b");
+        assert_lists(&rt, &files, &[b"a", b"c", b"d"]);
+        remove(&rt, &mut files, b"c");
+        assert_lists(&rt, &files, &[b"a", b"d"]);
+        remove(&rt, &mut files, b"a");
+        assert_lists(&rt, &files, &[b"d"]);
+        assert_eq!(rt; find(&rt, &files, b"d"), Some(5));
+        remove(&rt, &mut files, b"d");
+        assert_lists(&rt, &files, &[]);
+        assert!(rt; files.is_directory(1));
+        assert!(rt; files.is_empty(1));
+        assert_eq!(rt; files.free(), 2);
+        Ok(())
+    }
+
+    #[test]
+    fn the_ninth_entry_takes_a_second_block(rt: HostRuntime) -> Result<(), Fail> {
+        let mut files = with_data_blocks(&rt, rt.alloc(), 2)?;
+        assert_eq!(rt; files.blocks(), 2);
+        assert_eq!(rt; files.inodes(), 16);
+        for k in 0..8u8 {
+            assert_eq!(rt; add(&rt, &mut files, &[128 + k, 128], 1), Ok(()));
+        }
+        assert_eq!(rt; files.free(), 1);
+        assert_eq!(rt; add(&rt, &mut files, b"a", 2), Ok(()));
+        assert_eq!(rt; files.free(), 0);
+        for k in 0..7u8 {
+            assert_eq!(rt; add(&rt, &mut files, &[128 + k, 129], 1), Ok(()));
+        }
+        assert_eq!(rt; add(&rt, &mut files, b"b", 2), Err(Space::Full));
+        assert_eq!(rt; find(&rt, &files, b"b"), None);
+        assert_eq!(rt; find(&rt, &files, b"a"), Some(2));
+        assert!(rt; files.is_used(1));
+        assert_eq!(rt; files.size(1), 16);
+        Ok(())
+    }
+
+    #[test]
+    fn the_last_entry_is_the_2128th(rt: HostRuntime) -> Result<(), Fail> {
+        let mut files = with_data_blocks(&rt, rt.alloc(), 300)?;
+        for k in 0..2_128u16 {
+            let name = [128 + (k / 64) as u8, 128 + (k % 64) as u8];
+            assert_eq!(rt; add(&rt, &mut files, &name, 1), Ok(()));
+        }
+        assert_eq!(rt; files.free(), 33);
+        assert_eq!(rt; add(&rt, &mut files, b"a", 2), Err(Space::TooBig));
+        assert_eq!(rt; find(&rt, &files, b"a"), None);
+        assert!(rt; files.is_used(1));
+        assert_eq!(rt; files.size(1), 2_128);
+        Ok(())
+    }
+
+    #[test]
+    fn a_file_holds_what_was_written(rt: HostRuntime) -> Result<(), Fail> {
+        let mut files = with_data_blocks(&rt, rt.alloc(), 2)?;
+        let file = files.fresh(Sort::File).expect(&rt, "an inode is free");
+        assert_eq!(rt; file, 2);
+        assert!(rt; files.is_used(file));
+        assert_eq!(rt; files.kind(file), Sort::File);
+        assert!(rt; !files.is_directory(file));
+        assert_eq!(rt; files.write_at(file, 1, b"ab"), Ok(()));
+        assert!(rt; files.is_used(file) && !files.is_directory(file));
+        let mut buffer = [255; 4];
+        assert_eq!(rt; files.read_at(file, 0, &mut buffer), 3);
+        assert_eq!(rt; buffer, [0, b'a', b'b', 255]);
+        assert_eq!(rt; files.cut(file, 2), Ok(()));
+        assert!(rt; files.is_used(file));
+        assert_eq!(rt; files.size(file), 2);
+        assert!(rt; files.is_used(file));
+        files.drop_inode(file);
+        assert!(rt; !files.is_used(file));
+        assert_eq!(rt; files.free(), 2);
+        Ok(())
+    }
+}
