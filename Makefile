@@ -4,11 +4,12 @@
 #   make demo     the main job at once, before any proof
 #   make test     the gate: every proof from nothing, the wrong bodies, the tests, the program
 #   make check    every crate, over what earlier checks kept
+#   make bench    proves and runs the benchmark, and prints times
 #   make install PREFIX=/usr/local
 
 PREFIX ?= /usr/local
 
-.PHONY: all demo test check install clean
+.PHONY: all demo test check bench install clean
 
 all: bin/pvsim
 
@@ -27,6 +28,10 @@ test:
 
 check:
 	rt all check
+
+bench:
+	cd crates/pv_bench && rt run > /dev/null
+	crates/pv_bench/out/pv_bench full
 
 install: bin/pvsim
 	install -d $(DESTDIR)$(PREFIX)/bin

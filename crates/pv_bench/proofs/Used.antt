@@ -1,0 +1,39 @@
+-- An inode that is in use stays so.
+use Rattle.std.proofs.Common.{◌≡◌, ℕ, zero, suc, [], ◌∷◌, ◌<◌, length, Option, Some, IsSome, IfSome, Result, Ok, Err, OnOk, OnErr, refl, sym, subst, arith}
+use Rattle.pv_model.specs.declared.sort.Sort.{Sort}
+use Rattle.pv_model.specs.Numbered.{Numbered, at_number, with_number}
+use Rattle.pv_model.specs.Bytes.{Bytes}
+use Rattle.pv_model.specs.Effect.{overwrite, resize}
+use Rattle.pv_inodes.specs.Files.{Files, IsUsed, bytes_at, cut, with_new, written}
+use Rattle.pv_inodes.proofs.Edits.{used-with_bytes}
+
+module _ {X : Type 0} where
+  used-with_number : (xs : Numbered X) (n : ℕ) (v : X) → n < length xs → IsSome (at_number (with_number xs n v) n)
+  used-with_number [] n v below = absurd (omega (arith, below))
+  used-with_number (x ∷ xs) zero v below = refl
+  used-with_number (x ∷ xs) (suc n) v below = used-with_number xs n v (omega (arith, below))
+
+-- a new one is in use
+used-new : (f : Files) (n : ℕ) (sort : Sort) → n < length f.nodes → IsUsed (with_new f n sort) n
+used-new f n sort below = used-with_number f.nodes n (record { sort = sort; bytes = [] }) below
+
+-- where bytes were written over its own
+pub used-written : (f : Files) (n at : ℕ) (bytes : Bytes) → IsUsed f n → IsUsed (written f n at bytes) n
+used-written f n at [] used = used
+used-written f n at (b ∷ bytes) used = used-with_bytes f n (overwrite (bytes_at f n) at (b ∷ bytes)) used
+
+-- where its bytes were cut
+pub used-cut : (f : Files) (n size : ℕ) → IsUsed f n → IsUsed (cut f n size) n
+used-cut f n size used = used-with_bytes f n (resize (bytes_at f n) size) used
+
+-- after a call that may fail, and then changes nothing
+pub used-after : {A E : Type 0} (r : Result A E) (old new changed : Files) (n : ℕ) → OnOk r (new ≡ changed) → OnErr r (new ≡ old) → IsUsed old n → IsUsed changed n → IsUsed new n
+used-after (Ok _) old new changed n ok err used still = subst (λ (f : Files). IsUsed f n) (sym ok) still
+used-after (Err _) old new changed n ok err used still = subst (λ (f : Files). IsUsed f n) (sym err) used
+
+-- after a call that gave a new one
+pub used-fresh : (r : Option ℕ) (old new : Files) (n : ℕ) (sort : Sort) → r ≡ Some n → IfSome r (λ m. m < length old.nodes) → IfSome r (λ m. new ≡ with_new old m sort) → IsUsed new n
+used-fresh r old new n sort is within after =
+    let below : n < length old.nodes = rw is at within in
+    let made : new ≡ with_new old n sort = rw is at after in
+    subst (λ (f : Files). IsUsed f n) (sym made) (used-new old n sort below)

@@ -1,0 +1,100 @@
+//! A directory of many names.
+ghost use Rattle.std.specs.Prelude.{◌≤◌};
+
+use anyhow::{Context, Result, ensure};
+use pv_dirs::Directories;
+use pv_model::limits::BLOCK;
+use pv_model::{Name, Sort, Version, is_name};
+use std::alloc::{AllocError, Global};
+
+/// The greatest number of names.
+pub const MOST: u32 = 2_000;
+
+/// Data blocks that so many names need: 250 of their own, and the index block.
+const ROOM: u16 = 251;
+
+// An image of 16 inodes and so many data blocks.
+fn empty_image(alloc: Global, room: u16) -> Result<Directories, AllocError>
+    requires some { 1 ≤ room }
+    requires few { room ≤ 8000 }
+{
+    let zeros = vec![in alloc; 0; BLOCK * (room as usize + 2)]?;
+    Ok(Directories::empty(zeros, room + 2, 16))
+}
+
+/// A directory in an image that has room for the greatest number of names, and a file for them.
+#[derive(Drop)]
+pub struct LongDirectory {
+    directories: Directories,
+    number: u16,
+    file: u16,
+}
+
+/// The name of this number, counted from 0: an `n` and five digits. The names are in the order of their
+/// numbers.
+pub fn name_of(number: u32) -> [u8; 6] {
+    let digit = |place: u32| b'0' + (number / place % 10) as u8;
+    [
+        b'n',
+        digit(10_000),
+        digit(1_000),
+        digit(100),
+        digit(10),
+        digit(1),
+    ]
+}
+
+impl LongDirectory {
+    /// A directory without names.
+    ///
+    /// # Errors
+    ///
+    /// Where memory was refused.
+    pub fn new(alloc: Global) -> Result<LongDirectory> {
+        let mut directories = empty_image(alloc, ROOM)?;
+        let number = directories
+            .fresh(Sort::Directory)
+            .context("an inode is free")?;
+        let file = directories.fresh(Sort::File).context("an inode is free")?;
+        Ok(LongDirectory {
+            directories,
+            number,
+            file,
+        })
+    }
+
+    /// Gives the file one more name.
+    ///
+    /// # Errors
+    ///
+    /// Where it is no name, is there, or has no room.
+    pub fn add(&mut self, name: &[u8]) -> Result<()> {
+        ensure!(is_name(Version::V1, name), "a name may be added");
+        ensure!(
+            self.directories.is_directory(self.number),
+            "names are in a directory"
+        );
+        ensure!(
+            self.directories.find(self.number, name).is_none(),
+            "the name is new"
+        );
+        self.directories
+            .add(self.number, name, self.file)
+            .ok()
+            .context("the image has room")
+    }
+
+    /// Whether a name is there.
+    pub fn has(&self, name: &[u8]) -> bool {
+        self.directories.is_directory(self.number)
+            && self.directories.find(self.number, name).is_some()
+    }
+
+    /// The next name behind the last one, in byte order.
+    pub fn next_after(&self, last: Option<&[u8]>) -> Option<Name> {
+        if !self.directories.is_directory(self.number) {
+            return None;
+        }
+        self.directories.next_after(self.number, last)
+    }
+}

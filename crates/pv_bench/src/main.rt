@@ -1,0 +1,133 @@
+//! `pv_bench`: how fast files and directories on blocks are.
+//!
+//! With no words it makes a small round, and writes what it did and what the bytes sum to, which is the
+//! same each time. With the word `full` it makes a million operations of each kind, and also writes how
+//! long they took.
+//!
+//! `long_file` has the file that is measured, `rounds` what is done to it, `long_directory` the directory,
+//! and `report` the lines that are written.
+#![tactic(auto)]
+
+ghost use Rattle.std.specs.Prelude.{◌<◌, ◌≤◌, length};
+
+mod long_directory;
+mod long_file;
+mod report;
+mod rounds;
+
+use anyhow::{Context, Result, bail};
+use long_directory::{LongDirectory, name_of};
+use long_file::LongFile;
+use pv_inodes::layout::GREATEST;
+use pv_model::Name;
+use report::{Measured, Scale, report, report_names};
+use rounds::{fill, read_round, sum_of, write_round};
+use std::env;
+use std::time::Instant;
+
+/// The lengths of the reads and writes.
+const SIZES: [usize; 3] = [64, 512, 4_096];
+
+// Writes and then reads pieces of one length, over the whole file.
+fn measure_pieces(
+    rt: &HostRuntime,
+    scale: Scale,
+    file: &mut LongFile,
+    buffer: &mut [u8],
+) -> Result<()>
+    requires some { 0 < length buffer.old }
+    requires fits { length buffer.old ≤ 136192 }
+{
+    fill(buffer);
+    let operations = scale.operations();
+    let size = buffer.len();
+    let start = Instant::now(rt)?;
+    let moved = write_round(file, buffer, operations)
+        .ok()
+        .context("the file has room")?;
+    let time = start.elapsed(rt)?;
+    let written = Measured {
+        work: "write",
+        size,
+        operations,
+        moved,
+        time,
+    };
+    report(rt, scale, &written)?;
+    let start = Instant::now(rt)?;
+    let moved = read_round(file, buffer, operations);
+    let time = start.elapsed(rt)?;
+    let read = Measured {
+        work: "read",
+        size,
+        operations,
+        moved,
+        time,
+    };
+    report(rt, scale, &read)?;
+    Ok(())
+}
+
+// Measures a file of the greatest length, and then writes what its bytes sum to.
+fn measure_file(rt: &HostRuntime, scale: Scale) -> Result<()> {
+    let mut file = LongFile::new(rt.alloc())?;
+    for size in SIZES {
+        let mut buffer = vec![in rt.alloc(); 0; size]?;
+        measure_pieces(rt, scale, &mut file, &mut buffer)?;
+    }
+    let mut whole = vec![in rt.alloc(); 0; GREATEST as usize]?;
+    let bytes = file.read(0, &mut whole);
+    let sum = sum_of(&whole);
+    println!(rt; "file of {bytes} bytes, which sum to {sum}")?;
+    Ok(())
+}
+
+// Gives a directory names, looks each up, and lists them.
+fn measure_directory(rt: &HostRuntime, scale: Scale) -> Result<()> {
+    let mut directory = LongDirectory::new(rt.alloc())?;
+    let start = Instant::now(rt)?;
+    for number in 0..scale.names() {
+        directory.add(&name_of(number))?;
+    }
+    report_names(rt, scale, "add", scale.names(), start.elapsed(rt)?)?;
+    let start = Instant::now(rt)?;
+    let mut found = 0_u32;
+    for number in 0..scale.names() {
+        if directory.has(&name_of(number)) {
+            found = found.wrapping_add(1);
+        }
+    }
+    report_names(rt, scale, "find", found, start.elapsed(rt)?)?;
+    let start = Instant::now(rt)?;
+    let listed = list(&directory, scale.names());
+    report_names(rt, scale, "list", listed, start.elapsed(rt)?)?;
+    Ok(())
+}
+
+// Lists the names of a directory in their order, at most so many; the result is how many are there.
+fn list(directory: &LongDirectory, most: u32) -> u32 {
+    let mut last: Option<Name> = None;
+    for listed in 0..most {
+        match directory.next_after(last.as_ref().map(|name| name.as_slice())) {
+            Some(name) => last = Some(name),
+            None => return listed,
+        }
+    }
+    most
+}
+
+// How much the words of the command line ask for, of which the first is the program's name.
+fn scale_of(words: &[String]) -> Result<Scale> {
+    match words {
+        [] | [_] => Ok(Scale::Small),
+        [_, word] if word.as_str() == "full" => Ok(Scale::Full),
+        _ => bail!("usage: pv_bench [full]"),
+    }
+}
+
+fn main(rt: HostRuntime) -> Result<()> {
+    let words: Vec<String> = env::args(&rt)?.collect(rt.alloc())?;
+    let scale = scale_of(&words)?;
+    measure_file(&rt, scale)?;
+    measure_directory(&rt, scale)
+}

@@ -1,0 +1,89 @@
+//! What is done to a file: pieces of one length, from its front to its end, and again from its front.
+ghost use Rattle.std.specs.Prelude.{◌≡◌, ◌+◌, ◌*◌, ◌/◌, ◌%◌, ◌<◌, ◌≤◌, length};
+
+use crate::long_file::LongFile;
+use pv_inodes::Space;
+use pv_inodes::layout::GREATEST;
+
+/// What a round moved between a buffer and a file.
+#[derive(Clone, Copy, Debug, PartialEq, Eq)]
+pub struct Moved {
+    /// How many bytes.
+    pub bytes: u64,
+    /// What the first bytes of the pieces sum to.
+    pub sum: u64,
+}
+
+impl Moved {
+    const NOTHING: Moved = Moved { bytes: 0, sum: 0 };
+
+    // With one piece more.
+    fn with(self, bytes: usize, first: u8) -> Moved {
+        Moved {
+            bytes: self.bytes.wrapping_add(bytes as u64),
+            sum: self.sum.wrapping_add(u64::from(first)),
+        }
+    }
+}
+
+/// Where the piece of this number, counted from 0, begins. As many as fit the file stand in it one behind
+/// the other, and the next is at its front again.
+fn place(number: u32, size: u32) -> u32
+    requires some { 0 < size }
+    requires fits { size ≤ 136192 }
+    ensures place { result ≡ number % (136192 / size) * size }
+    ensures within { result + size ≤ 136192 }
+{
+    number % (GREATEST / size) * size
+}
+
+/// Fills a buffer with numbers that count up, modulo 251.
+pub fn fill(buffer: &mut [u8])
+    ensures { length buffer.new ≡ length buffer.old }
+{
+    for (index, byte) in buffer.iter_mut().enumerate() {
+        *byte = (index % 251) as u8;
+    }
+}
+
+/// Writes the buffer over so many pieces of the file. The first byte of each is the number of the piece,
+/// modulo 256.
+pub fn write_round(file: &mut LongFile, buffer: &mut [u8], count: u32) -> Result<Moved, Space>
+    requires some { 0 < length buffer.old }
+    requires fits { length buffer.old ≤ 136192 }
+    ensures { length buffer.new ≡ length buffer.old }
+{
+    let size = buffer.len() as u32;
+    let mut moved = Moved::NOTHING;
+    for number in 0..count {
+        let first = (number % 256) as u8;
+        buffer[0] = first;
+        file.write(place(number, size), buffer)?;
+        moved = moved.with(buffer.len(), first);
+    }
+    Ok(moved)
+}
+
+/// Reads so many pieces of the file into the buffer.
+pub fn read_round(file: &LongFile, buffer: &mut [u8], count: u32) -> Moved
+    requires some { 0 < length buffer.old }
+    requires fits { length buffer.old ≤ 136192 }
+    ensures { length buffer.new ≡ length buffer.old }
+{
+    let size = buffer.len() as u32;
+    let mut moved = Moved::NOTHING;
+    for number in 0..count {
+        let bytes = file.read(place(number, size), buffer);
+        moved = moved.with(bytes, buffer[0]);
+    }
+    moved
+}
+
+/// What bytes sum to, modulo 2 to the 64th.
+pub fn sum_of(bytes: &[u8]) -> u64 {
+    let mut sum = 0_u64;
+    for &byte in bytes {
+        sum = sum.wrapping_add(u64::from(byte));
+    }
+    sum
+}
