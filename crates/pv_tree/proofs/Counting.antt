@@ -1,0 +1,218 @@
+-- What is stored of a tree, as it is trimmed and as its nodes are held.
+use Rattle.std.proofs.Common.{◌≡◌, ◌≢◌, ℕ, zero, suc, ◌+◌, ◌-◌, ◌<◌, ◌≤◌, true, false, cond, ◌||◌, ◌==◌, nat_lt, List, length, Option, None, Some, is_some, refl, ap, ap₂, sym, ◌∙◌, arith, ⊎_elim}
+use Rattle.std.specs.Prelude.{slice_index, slice_set}
+use Rattle.std.specs.FinMap.Entries.{find}
+use Rattle.std.proofs.lemmas.Bool.{cases_eq, cases_Bool, or_left, or_right, or_cases, lt-ltb}
+use Rattle.std.proofs.lemmas.List.{get_or-set_same, get_or-set_other, length-set}
+use Rattle.pv_model.specs.Held.{among}
+use Rattle.pv_model.specs.Room.{is_too_long}
+use Rattle.pv_model.specs.Tree.{Node, Tree, root, node_at, is_directory, is_directory_at, find_entry, entries_of, parent}
+use Rattle.pv_dirs.specs.Trees.{without_node}
+use Rattle.pv_laws.specs.Held.{wanted, kept}
+use Rattle.pv_laws.specs.Room.{IsNoLarger}
+use Rattle.pv_laws.specs.Tree.{IsSound}
+use Rattle.pv_laws.proofs.Changes.{some-below}
+use Rattle.pv_laws.proofs.Entries.{by_name}
+use Rattle.pv_laws.proofs.Numbered.{keep-some, keep-passes, length-keep}
+use Rattle.pv_laws.proofs.Rooms.{smaller-fits, smaller-not_too_long}
+use Rattle.pv_laws.proofs.Trees.{ordered, sound, well_formed, among-entry, parent-entry, parent-root}
+use Rattle.pv_laws.proofs.Trim.{only-sound, entries-only, find-only, wanted-covers, kept_in_turn}
+use Rattle.pv_laws.proofs.Whole.{kept-no_larger}
+use Rattle.pv_tree.specs.Changes.{settled}
+use Rattle.pv_tree.specs.Holding.{held_numbers, held_more, held_less, trimmed}
+use Rattle.pv_tree.specs.Standing.{stored, IsCounted, IsTied}
+use Rattle.pv_tree.proofs.Keeping.{is_kept, wanted-counted, trimmed-all, trimmed-one, all-kept}
+use Rattle.pv_tree.proofs.Names.{name_count, named-is, names-same, is_positive, positive-is, is-positive, none-positive}
+use Rattle.pv_tree.proofs.Parents.{parent-same}
+
+-- ---- numbers in places
+
+pub read-same : (xs : List ℕ) (i v : ℕ) → i < length xs → slice_index (slice_set xs i v) i ≡ v
+read-same xs i v below = get_or-set_same xs i v 0 below
+
+pub read-other : (xs : List ℕ) (i j v : ℕ) → j ≢ i → slice_index (slice_set xs i v) j ≡ slice_index xs j
+read-other xs i j v other = get_or-set_other xs i j v 0 other
+
+-- ---- what is kept
+
+lt-positive : (n : ℕ) → nat_lt 0 n ≡ is_positive n
+lt-positive zero = refl
+lt-positive (suc n) = lt-ltb 0 (suc n) (omega arith)
+
+-- more names and holders keep a node
+pub kept-more : (n a b x y : ℕ) → a ≤ b → x ≤ y → is_kept n a x ≡ true → is_kept n b y ≡ true
+kept-more n a b x y names holds is =
+    ⊎_elim
+    (λ top. or_left (root == n) _ top)
+    (λ rest. or_right (root == n) _
+    (⊎_elim
+    (λ named. let more = is-positive a named in or_left (is_positive b) _ (positive-is b (omega arith)))
+    (λ held. let more = is-positive x held in or_right (is_positive b) _ (positive-is y (omega arith)))
+    (or_cases (is_positive a) (is_positive x) rest)))
+    (or_cases (root == n) (is_positive a || is_positive x) is)
+
+pub kept-held : (n names holds : ℕ) → 0 < holds → is_kept n names holds ≡ true
+kept-held n names holds more = or_right (root == n) _ (or_right (is_positive names) _ (positive-is holds more))
+
+pub kept-named : (n names holds : ℕ) → 0 < names → is_kept n names holds ≡ true
+kept-named n names holds more = or_right (root == n) _ (or_left (is_positive names) _ (positive-is names more))
+
+settled-kept : (t : Tree) (n names holds : ℕ) → settled t n names holds ≡ cond (is_kept n names holds) t (without_node t n)
+settled-kept t n names holds = ap (λ b. cond ((root == n) || b) t (without_node t n)) (ap₂ (λ a b. a || b) (lt-positive names) (lt-positive holds))
+
+-- ---- a tree that is not longer
+
+pub no_longer : (t u : Tree) → IsNoLarger u t → is_too_long t ≡ false → is_too_long u ≡ false
+no_longer t u less short = ⊎_elim (λ long. let was = smaller-not_too_long t u less long in cc) (λ no_long. no_long) (cases_Bool (is_too_long u))
+
+some_at : (o : Option Node) → is_directory o ≡ true → (node : Node) × (o ≡ Some node)
+some_at None is = cc
+some_at (Some node) is = (node, refl)
+
+-- what is a directory in a trimmed tree was one
+kept-directory : (t : Tree) (held : List ℕ) (n : ℕ) → is_directory_at (kept t held) n ≡ true → is_directory_at t n ≡ true
+kept-directory t held n is =
+    let found = some_at (node_at (kept t held) n) is in
+    ap is_directory ((keep-some (among (wanted t held)) t.nodes n found.0 found.1).1 ∙ sym found.1) ∙ is
+
+module _ (t : Tree) (parents names holds : List ℕ) (c : IsCounted t parents names holds) where
+  s : IsSound t
+  s = sound t c.well_formed
+
+  -- a node has a place
+  pub below : (n : ℕ) → is_some (node_at t n) ≡ true → n < 4097
+  below n is = omega (arith, some-below t n is, c.well_formed.numbers, c.few)
+
+  -- what is no node has no name
+  pub unnamed : (n : ℕ) → is_some (node_at t n) ≡ false → name_count t n ≡ 0
+  unnamed n none =
+      none-positive (name_count t n)
+      (⊎_elim
+      (λ named. let found = among-entry t (ordered t c.well_formed.each_node) n (named-is t n ∙ named) in
+      let there = c.well_formed.entries_are_nodes found.0 found.1 n found.2 in cc)
+      (λ no_name. no_name)
+      (cases_Bool (is_positive (name_count t n))))
+
+  -- trimming leaves what is stored
+  pub trimmed-tied : IsTied (trimmed t holds) parents names holds
+  trimmed-tied =
+      let held = held_numbers holds in
+      let u : Tree = kept t held in
+      let covers = wanted-covers t held in
+      let r = only-sound t (wanted t held) s covers in
+      let same = find-only t (wanted t held) s covers in
+      let less = kept-no_larger t held in
+      record {
+        counted = record {
+          well_formed = well_formed u r;
+          version = c.version;
+          few = c.few;
+          fits = smaller-fits t u less c.fits;
+          short = no_longer t u less c.short;
+          held_are_nodes = λ n more.
+              ap is_some (keep-passes (among (wanted t held)) t.nodes n (wanted-counted t holds n ∙ kept-held n (name_count t n) (slice_index holds n) more)) ∙ c.held_are_nodes n more;
+          places_of_parents = c.places_of_parents;
+          places_of_names = c.places_of_names;
+          places_of_holds = c.places_of_holds;
+          parents_stored = λ n is.
+              c.parents_stored n (kept-directory t held n is)
+              ∙ ap stored (sym (parent-same t u s r n is (λ e q found. same e q ∙ found) (λ e q found. sym (same e q) ∙ found)));
+          names_counted = λ n. c.names_counted n ∙ sym (names-same t u (length-keep (among (wanted t held)) t.nodes) (entries-only t (wanted t held) s covers) n);
+        };
+        is_trimmed = kept_in_turn t held held s (λ n is. is);
+      }
+
+  -- where all nodes but one are kept, to look at that one is enough
+  pub settled-is : (n : ℕ) → ((m : ℕ) → m ≢ n → is_some (node_at t m) ≡ true → is_kept m (name_count t m) (slice_index holds m) ≡ true)
+      → settled t n (slice_index names n) (slice_index holds n) ≡ trimmed t holds
+  settled-is n others =
+      settled-kept t n (slice_index names n) (slice_index holds n)
+      ∙ ap (λ a. cond (is_kept n a (slice_index holds n)) t (without_node t n)) (c.names_counted n)
+      ∙ ⊎_elim
+      (λ is. ap (λ b. cond b t (without_node t n)) is
+      ∙ sym (trimmed-all t holds (λ m there. ⊎_elim (λ same. ap (λ k. is_kept k (name_count t k) (slice_index holds k)) same ∙ is) (λ other. others m other there) (cases_eq m n))))
+      (λ out. ap (λ b. cond b t (without_node t n)) out ∙ sym (trimmed-one t holds n out others))
+      (cases_Bool (is_kept n (name_count t n) (slice_index holds n)))
+
+-- ---- stored parents
+
+pub parent-none : (t u : Tree) (parents names holds : List ℕ) → IsTied t parents names holds → t ≡ u → (n : ℕ) → is_directory_at u n ≡ true
+    → slice_index parents n ≡ 0 → None ≡ parent u n
+parent-none t u parents names holds tied same n is none = sym (by (parent t n) refl) ∙ ap (λ v. parent v n) same
+  where
+    by : (o : Option ℕ) → parent t n ≡ o → parent t n ≡ None
+    by None up = up
+    by (Some d) up =
+        let zero_d : d ≡ 0 = sym (ap stored up) ∙ sym (tied.counted.parents_stored n (ap (λ v. is_directory_at v n) same ∙ is)) ∙ none in
+        ⊎_elim
+        (λ top. let one : Some d ≡ Some root = sym up ∙ ap (parent t) top ∙ parent-root t in let value : d ≡ root = cc one in absurd (omega arith))
+        (λ other.
+        let found = parent-entry t (ordered t tied.counted.well_formed.each_node) n d other up in
+        let absent : find_entry t d found.0 ≡ None = ap (λ k. find_entry t k found.0) zero_d ∙ ap (λ o. find by_name found.0 (entries_of o)) tied.counted.well_formed.no_zero in
+        cc)
+        (cases_eq n root)
+
+-- ---- nodes that a caller sees
+
+pub below-seen : (t u : Tree) (parents names holds : List ℕ) → IsTied t parents names holds → t ≡ u → (n : ℕ) → is_some (node_at u n) ≡ true → n < 4097
+below-seen t u parents names holds tied same n is = below t parents names holds tied.counted n (ap (λ v. is_some (node_at v n)) same ∙ is)
+
+pub directory-some : (o : Option Node) → is_directory o ≡ true → is_some o ≡ true
+directory-some None is = cc
+directory-some (Some node) is = refl
+
+pub directory-below-seen : (t u : Tree) (parents names holds : List ℕ) → IsTied t parents names holds → t ≡ u → (n : ℕ) → is_directory_at u n ≡ true → n < 4097
+directory-below-seen t u parents names holds tied same n is = below-seen t u parents names holds tied same n (directory-some (node_at u n) is)
+
+-- ---- holders
+
+module _ (t : Tree) (parents names holds : List ℕ) (tied : IsTied t parents names holds) (n : ℕ) where
+  c : IsCounted t parents names holds
+  c = tied.counted
+
+  pub place : is_some (node_at t n) ≡ true → n < length holds
+  place is = omega (arith, below t parents names holds c n is, c.places_of_holds)
+
+  -- other numbers of holders, no node of which is missing
+  counted-with : (other : List ℕ) → length other ≡ length holds → ((m : ℕ) → 0 < slice_index other m → is_some (node_at t m) ≡ true) → IsCounted t parents names other
+  counted-with other long there = record {
+    well_formed = c.well_formed;
+    version = c.version;
+    few = c.few;
+    fits = c.fits;
+    short = c.short;
+    held_are_nodes = there;
+    places_of_parents = c.places_of_parents;
+    places_of_names = c.places_of_names;
+    places_of_holds = long ∙ c.places_of_holds;
+    parents_stored = c.parents_stored;
+    names_counted = c.names_counted;
+  }
+
+  pub tied-more : is_some (node_at t n) ≡ true → IsTied t parents names (held_more holds n)
+  tied-more is =
+      let more = held_more holds n in
+      let here : slice_index more n ≡ slice_index holds n + 1 = read-same holds n (slice_index holds n + 1) (place is) in
+      let grows : (m : ℕ) → slice_index holds m ≤ slice_index more m = λ m.
+      ⊎_elim (λ same. omega (arith, here, ap (slice_index holds) same, ap (slice_index more) same)) (λ other. omega (arith, read-other holds n m (slice_index holds n + 1) other)) (cases_eq m n) in
+      record {
+        counted = counted-with more (length-set holds n (slice_index holds n + 1)) (λ m held.
+            ⊎_elim (λ same. ap (λ k. is_some (node_at t k)) same ∙ is)
+            (λ other. c.held_are_nodes m (omega (arith, read-other holds n m (slice_index holds n + 1) other))) (cases_eq m n));
+        is_trimmed = trimmed-all t more (λ m there.
+            kept-more m (name_count t m) (name_count t m) (slice_index holds m) (slice_index more m) (omega arith) (grows m) (all-kept t holds tied.is_trimmed m there));
+      }
+
+  pub counted-less : 0 < slice_index holds n → IsCounted t parents names (held_less holds n)
+  counted-less held =
+      let less = held_less holds n in
+      let here : slice_index less n ≡ slice_index holds n - 1 = read-same holds n (slice_index holds n - 1) (place (c.held_are_nodes n held)) in
+      counted-with less (length-set holds n (slice_index holds n - 1)) (λ m more.
+      ⊎_elim (λ same. ap (λ k. is_some (node_at t k)) same ∙ c.held_are_nodes n held)
+      (λ other. c.held_are_nodes m (omega (arith, read-other holds n m (slice_index holds n - 1) other))) (cases_eq m n))
+
+  -- a node that is let go goes, or stays
+  pub settled-less : 0 < slice_index holds n → settled t n (slice_index names n) (slice_index (held_less holds n) n) ≡ trimmed t (held_less holds n)
+  settled-less held =
+      settled-is t parents names (held_less holds n) (counted-less held) n (λ m other there.
+      ap (is_kept m (name_count t m)) (read-other holds n m (slice_index holds n - 1) other) ∙ all-kept t holds tied.is_trimmed m there)

@@ -1,0 +1,84 @@
+-- Lemmas on the entries of one directory.
+use Rattle.std.proofs.Common.{◌≡◌, ℕ, suc, ◌+◌, ◌≤◌, true, false, cond, ◌==◌, [], ◌∷◌, filter, length, None, Some, is_some, ap, sym, ◌∙◌, arith, ⊎_elim}
+use Rattle.std.specs.FinMap.Entries.{find, put, where_key, is_sorted, by_order, same_entries, is_sorted-put, is_sorted-where_key, length-put}
+use Rattle.std.specs.Ordering.{is_eq}
+use Rattle.std.specs.declared.cmp.Ordering.TheVariants.{Less, Equal, Greater}
+use Rattle.std.proofs.lemmas.Cmp.{nat_list_cmp_total}
+use Rattle.pv_model.specs.Bytes.{Bytes}
+use Rattle.pv_model.specs.Tree.{Entries}
+use Rattle.pv_laws.proofs.Changes.{cases_name}
+use Rattle.pv_laws.proofs.Entries.{by_name, is_other, tied-same, find-put_same, find-put_other, find-without_same, find-without_other, told, tell}
+
+-- entries in order that find the same are the same
+pub same_found : (es fs : Entries) → is_sorted by_name es ≡ true → is_sorted by_name fs ≡ true → ((q : Bytes) → find by_name q es ≡ find by_name q fs) → es ≡ fs
+same_found es fs a b same = same_entries by_name nat_list_cmp_total (λ x y tied. tied-same x y (ap is_eq tied)) es fs (tell _ a) (tell _ b) same
+
+sorted_put : (name : Bytes) (n : ℕ) (es : Entries) → is_sorted by_name es ≡ true → is_sorted by_name (put by_name name n es) ≡ true
+sorted_put name n es sorted = told _ (is_sorted-put by_name nat_list_cmp_total name n es (tell _ sorted))
+
+pub sorted_without : (name : Bytes) (es : Entries) → is_sorted by_name es ≡ true → is_sorted by_name (where_key by_name (is_other name) es) ≡ true
+sorted_without name es sorted = told _ (is_sorted-where_key by_name (is_other name) es (tell _ sorted))
+
+-- an entry that was taken away and is put back
+pub put_back : (name : Bytes) (n : ℕ) (es : Entries) → is_sorted by_name es ≡ true → find by_name name es ≡ Some n
+    → put by_name name n (where_key by_name (is_other name) es) ≡ es
+put_back name n es sorted found =
+    let less = where_key by_name (is_other name) es in
+    same_found (put by_name name n less) es (sorted_put name n less (sorted_without name es sorted)) sorted (λ q.
+    ⊎_elim
+    (λ same. ap (λ k. find by_name k (put by_name name n less)) same ∙ find-put_same name n less ∙ sym found ∙ ap (λ k. find by_name k es) (sym same))
+    (λ other. find-put_other q name n less other ∙ find-without_other q name es other)
+    (cases_name q name))
+
+-- an entry that takes another's place
+pub put_over : (name : Bytes) (n : ℕ) (es : Entries) → is_sorted by_name es ≡ true
+    → put by_name name n (where_key by_name (is_other name) es) ≡ put by_name name n es
+put_over name n es sorted =
+    let less = where_key by_name (is_other name) es in
+    same_found (put by_name name n less) (put by_name name n es) (sorted_put name n less (sorted_without name es sorted)) (sorted_put name n es sorted) (λ q.
+    ⊎_elim
+    (λ same. ap (λ k. find by_name k (put by_name name n less)) same ∙ find-put_same name n less ∙ sym (find-put_same name n es) ∙ ap (λ k. find by_name k (put by_name name n es)) (sym same))
+    (λ other. find-put_other q name n less other ∙ find-without_other q name es other ∙ sym (find-put_other q name n es other))
+    (cases_name q name))
+
+-- how many entries there are with one more, and with one less
+pub length_more : (name : Bytes) (n : ℕ) (es : Entries) → is_sorted by_name es ≡ true → find by_name name es ≡ None → length (put by_name name n es) ≡ suc (length es)
+length_more name n es sorted none =
+    length-put by_name nat_list_cmp_total name n es (tell _ sorted) ∙ ap (λ o. cond (is_some o) (length es) (length es + 1)) none ∙ omega arith
+
+pub length_less : (name : Bytes) (n : ℕ) (es : Entries) → is_sorted by_name es ≡ true → find by_name name es ≡ Some n → suc (length (where_key by_name (is_other name) es)) ≡ length es
+length_less name n es sorted found =
+    let less = where_key by_name (is_other name) es in
+    sym (length_more name n less (sorted_without name es sorted) (find-without_same name es)) ∙ ap length (put_back name n es sorted found)
+
+-- ---- the entries for a node
+
+abbrev pub count_in : ℕ → Entries → ℕ
+count_in n es = length (filter (λ e. e.1 == n) es)
+
+-- one, for a node itself
+abbrev pub one_if : ℕ → ℕ → ℕ
+one_if m n = cond (m == n) 1 0
+
+pub count-cons : (n : ℕ) (e : Bytes × ℕ) (es : Entries) → count_in n (e ∷ es) ≡ one_if e.1 n + count_in n es
+count-cons n e es = elim (e.1 == n) as (λ b. length (cond b (e ∷ filter (λ e. e.1 == n) es) (filter (λ e. e.1 == n) es)) ≡ cond b 1 0 + count_in n es) [ true ↦ omega arith | false ↦ omega arith ]
+
+pub count-put : (n : ℕ) (name : Bytes) (m : ℕ) (es : Entries) → find by_name name es ≡ None → count_in n (put by_name name m es) ≡ one_if m n + count_in n es
+count-put n name m [] none = count-cons n (name, m) []
+count-put n name m (e ∷ es) none =
+    elim (by_name name e.0) as (λ o. cond (is_eq o) (Some e.1) (find by_name name es) ≡ None
+    → count_in n (by_order o ((name, m) ∷ e ∷ es) ((e.0, m) ∷ es) (e ∷ put by_name name m es)) ≡ one_if m n + count_in n (e ∷ es)) [
+      | Less ↦ λ _. count-cons n (name, m) (e ∷ es)
+      | Equal ↦ λ is. cc is
+      | Greater ↦ λ is. omega (arith, count-cons n e (put by_name name m es), count-cons n e es, count-put n name m es is)
+    ] none
+
+pub count-without : (n : ℕ) (name : Bytes) (m : ℕ) (es : Entries) → is_sorted by_name es ≡ true → find by_name name es ≡ Some m
+    → one_if m n + count_in n (where_key by_name (is_other name) es) ≡ count_in n es
+count-without n name m es sorted found =
+    let less = where_key by_name (is_other name) es in
+    sym (count-put n name m less (find-without_same name es)) ∙ ap (count_in n) (put_back name m es sorted found)
+
+pub count-most : (n : ℕ) (es : Entries) → count_in n es ≤ length es
+count-most n [] = omega arith
+count-most n (e ∷ es) = elim (e.1 == n) as (λ b. length (cond b (e ∷ filter (λ e. e.1 == n) es) (filter (λ e. e.1 == n) es)) ≤ suc (length es)) [ true ↦ omega (arith, count-most n es) | false ↦ omega (arith, count-most n es) ]

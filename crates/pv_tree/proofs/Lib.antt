@@ -1,0 +1,12 @@
+pub mod Entries
+pub mod Names
+pub mod Parents
+pub mod Keeping
+pub mod Counting
+pub mod Linking
+pub mod Rooms
+pub mod Making
+pub mod Made
+pub mod Moving
+pub mod Beginning
+pub mod Contents

@@ -1,0 +1,139 @@
+-- What is stored of a tree, as it gets a new node.
+use Rattle.std.proofs.Common.{◌≡◌, ◌≢◌, ℕ, ◌+◌, ◌<◌, true, List, length, None, Some, is_some, refl, ap, ap₂, sym, ◌∙◌, arith, ⊎_elim}
+use Rattle.std.specs.Prelude.{slice_index, slice_set}
+use Rattle.std.specs.FinMap.Entries.{find, put}
+use Rattle.std.proofs.lemmas.Bool.{cases_eq}
+use Rattle.std.proofs.lemmas.List.{length-set}
+use Rattle.pv_model.specs.declared.sort.Kind.{Kind}
+use Rattle.pv_model.specs.declared.version.Version.TheVariants.{V1}
+use Rattle.pv_model.specs.Bytes.{Bytes}
+use Rattle.pv_model.specs.Tree.{Node, directory_node, Tree, node_at, entries_at, is_directory, is_directory_at, find_entry, parent, with_node, with_entry, new_number, is_name, is_node}
+use Rattle.pv_laws.specs.Tree.{IsSound, Stands}
+use Rattle.pv_laws.proofs.Above.{stands-reached}
+use Rattle.pv_laws.proofs.Changes.{directory-below, node_at-other, with_entry-cases, with_entry-stays, found-with}
+use Rattle.pv_laws.proofs.Edits.{new_number-free, sound-with_new_node}
+use Rattle.pv_laws.proofs.Entries.{by_name}
+use Rattle.pv_laws.proofs.Grown.{still-there}
+use Rattle.pv_laws.proofs.Numbered.{length-with_number}
+use Rattle.pv_laws.proofs.Trees.{sound, well_formed, entry-parent}
+use Rattle.pv_tree.specs.Changes.{new_node}
+use Rattle.pv_tree.specs.Rooms.{refusal}
+use Rattle.pv_tree.specs.Standing.{stored, IsCounted, IsTied}
+use Rattle.pv_tree.proofs.Counting.{unnamed, directory-some, read-same, read-other, kept-more, kept-named}
+use Rattle.pv_tree.proofs.Keeping.{trimmed-all, all-kept}
+use Rattle.pv_tree.proofs.Linking.{one_if-same, one_if-other}
+use Rattle.pv_tree.proofs.Making.{new-entries, entries-one, directory-one, absent-one}
+use Rattle.pv_tree.proofs.Names.{name_count, names-with_entry, names-same}
+use Rattle.pv_tree.proofs.Parents.{parent-same}
+use Rattle.pv_tree.proofs.Rooms.{refusal-none}
+
+module _ (t : Tree) (parents names holds : List ℕ) (tied : IsTied t parents names holds) (d : ℕ) (name : Bytes) (k : Kind)
+    (stands : Stands t d) (free : find_entry t d name ≡ None) (good : is_name t.version name ≡ true) (fine : is_node V1 (new_node k) ≡ true)
+    (below : new_number t < length t.nodes) where
+  c : IsCounted t parents names holds
+  c = tied.counted
+
+  s : IsSound t
+  s = sound t c.well_formed
+
+  abbrev m : ℕ
+  m = new_number t
+
+  abbrev node : Node
+  node = new_node k
+
+  abbrev t1 : Tree
+  t1 = with_node t m node
+
+  abbrev u : Tree
+  u = with_entry t1 d name m
+
+  same-entries : (e : ℕ) → entries_at t1 e ≡ entries_at t e
+  same-entries e = entries-one t c.well_formed c.version c.short d name k stands.0 free fine e
+
+  dir-one : is_directory_at t1 d ≡ true
+  dir-one = directory-one t c.well_formed c.version c.short d name k stands.0 free fine
+
+  free-one : find_entry t1 d name ≡ None
+  free-one = absent-one t c.well_formed c.version c.short d name k stands.0 free fine
+
+  same-found : (e : ℕ) (q : Bytes) → find_entry t1 e q ≡ find_entry t e q
+  same-found e q = ap (find by_name q) (same-entries e)
+
+  r : IsSound u
+  r = sound-with_new_node t s d name node stands.0 (stands-reached t s d stands.1) free good (ap (λ v. is_node v node) c.version ∙ fine) (new-entries k) below
+
+  below-one : d < length t1.nodes
+  below-one = directory-below t1 d dir-one
+
+  abbrev entered : Node
+  entered = directory_node (put by_name name m (entries_at t1 d))
+
+  names-is : (x : ℕ) → name_count u x ≡ Rattle.pv_tree.proofs.Entries.one_if m x + name_count t x
+  names-is x =
+      omega (arith, names-with_entry t1 x d name m dir-one free-one, names-same t t1 (length-with_number t.nodes m node below) same-entries x)
+
+  -- what was there still is
+  stays-there : (x : ℕ) → is_some (node_at t x) ≡ true → is_some (node_at u x) ≡ true
+  stays-there x is = still-there t1 d entered below-one x (still-there t m node below x is)
+
+  other-node : (x : ℕ) → x ≢ m → x ≢ d → node_at u x ≡ node_at t x
+  other-node x apart away = node_at-other t1 d entered x below-one away ∙ node_at-other t m node x below apart
+
+  was-there : (x : ℕ) → x ≢ m → is_some (node_at u x) ≡ true → is_some (node_at t x) ≡ true
+  was-there x apart is =
+      ⊎_elim (λ here. directory-some (node_at t x) (ap (is_directory_at t) here ∙ stands.0)) (λ away. ap is_some (sym (other-node x apart away)) ∙ is) (cases_eq x d)
+
+  was-directory : (x : ℕ) → x ≢ m → is_directory_at u x ≡ true → is_directory_at t x ≡ true
+  was-directory x apart is =
+      ⊎_elim (λ here. ap (is_directory_at t) here ∙ stands.0) (λ away. ap is_directory (sym (other-node x apart away)) ∙ is) (cases_eq x d)
+
+  no-names : name_count t m ≡ 0
+  no-names = unnamed t parents names holds c m (ap is_some (new_number-free t))
+
+  in-range : m < 4097
+  in-range = omega (arith, c.well_formed.numbers, c.few)
+
+  same-parent : (x : ℕ) → x ≢ m → is_directory_at u x ≡ true → parent u x ≡ parent t x
+  same-parent x apart is =
+      parent-same t u s r x is
+      (λ e q found. with_entry-stays t1 d name dir-one m e q x (same-found e q ∙ found) (λ here same. let none = ap₂ (find_entry t) here same ∙ free in cc))
+      (λ e q found. ⊎_elim (λ new. absurd (apart new.2)) (λ old. sym (same-found e q) ∙ old.1) (with_entry-cases t1 d name dir-one m e q x found))
+
+  new-parent : is_directory_at u m ≡ true → parent u m ≡ Some d
+  new-parent is = entry-parent u r m d name is (found-with t1 d name dir-one m)
+
+  pub made-tied : refusal u ≡ None → IsTied u (slice_set parents m d) (slice_set names m 1) holds
+  made-tied allowed =
+      let room = refusal-none u allowed in
+      record {
+        counted = record {
+          well_formed = well_formed u r;
+          version = c.version;
+          few = c.few;
+          fits = room.1;
+          short = room.0;
+          held_are_nodes = λ x more. stays-there x (c.held_are_nodes x more);
+          places_of_parents = length-set parents m d ∙ c.places_of_parents;
+          places_of_names = length-set names m 1 ∙ c.places_of_names;
+          places_of_holds = c.places_of_holds;
+          parents_stored = λ x is.
+              ⊎_elim
+              (λ same. ap (slice_index (slice_set parents m d)) same ∙ read-same parents m d (omega (arith, in-range, c.places_of_parents))
+              ∙ ap stored (sym (new-parent (ap (is_directory_at u) (sym same) ∙ is))) ∙ ap (λ y. stored (parent u y)) (sym same))
+              (λ other. read-other parents m x d other ∙ c.parents_stored x (was-directory x other is) ∙ ap stored (sym (same-parent x other is)))
+              (cases_eq x m);
+          names_counted = λ x.
+              ⊎_elim
+              (λ same. ap (slice_index (slice_set names m 1)) same ∙ read-same names m 1 (omega (arith, in-range, c.places_of_names))
+              ∙ omega (arith, names-is m, one_if-same m m refl, no-names) ∙ ap (name_count u) (sym same))
+              (λ other. read-other names m x 1 other ∙ omega (arith, c.names_counted x, names-is x, one_if-other m x other))
+              (cases_eq x m);
+        };
+        is_trimmed = trimmed-all u holds (λ x is.
+            ⊎_elim
+            (λ same. kept-named x (name_count u x) (slice_index holds x) (omega (arith, names-is x, one_if-same m x same)))
+            (λ other. kept-more x (name_count t x) (name_count u x) (slice_index holds x) (slice_index holds x)
+            (omega (arith, names-is x)) (omega arith) (all-kept t holds tied.is_trimmed x (was-there x other is)))
+            (cases_eq x m));
+      }

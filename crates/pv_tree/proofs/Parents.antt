@@ -1,0 +1,35 @@
+-- Parents in trees that change.
+use Rattle.std.proofs.Common.{◌≡◌, ◌≢◌, ℕ, suc, ◌+◌, true, ◌==◌, length, Option, None, Some, refl, ap, sym, ◌∙◌, arith, ⊎_elim}
+use Rattle.std.specs.List.{list_any}
+use Rattle.std.proofs.lemmas.Bool.{cases_eq}
+use Rattle.pv_model.specs.Calls.Paths.{contains_directory}
+use Rattle.pv_laws.proofs.Changes.{has_entry-directory}
+use Rattle.pv_model.specs.Bytes.{Bytes}
+use Rattle.pv_model.specs.Tree.{Tree, root, is_directory_at, find_entry, parent, ancestors_within, ancestors, IsWellFormed}
+use Rattle.pv_laws.specs.Tree.{IsSound}
+use Rattle.pv_laws.proofs.Trees.{ordered, parent-entry, parent-none_named, parent-unnamed, parent-root, entry-parent}
+
+-- where a directory's entry stays, so does its parent
+pub parent-same : (t u : Tree) → IsSound t → IsSound u → (n : ℕ) → is_directory_at u n ≡ true
+    → ((e : ℕ) (q : Bytes) → find_entry t e q ≡ Some n → find_entry u e q ≡ Some n)
+    → ((e : ℕ) (q : Bytes) → find_entry u e q ≡ Some n → find_entry t e q ≡ Some n)
+    → parent u n ≡ parent t n
+parent-same t u s r n is stays was =
+    ⊎_elim (λ top. ap (parent u) top ∙ parent-root u ∙ sym (parent-root t) ∙ ap (parent t) (sym top))
+    (λ other. by other (parent t n) refl)
+    (cases_eq n root)
+  where
+    by : n ≢ root → (o : Option ℕ) → parent t n ≡ o → parent u n ≡ parent t n
+    by other None none =
+        parent-unnamed u (ordered u r.each_node) n other (λ e q found. (parent-none_named t n none).1 e q (was e q found)) ∙ sym none
+    by other (Some d) up =
+        let found = parent-entry t (ordered t s.each_node) n d other up in entry-parent u r n d found.0 is (stays d found.0 found.1) ∙ sym up
+
+-- ---- the directories above one
+
+pub above-directory : (t : Tree) → IsWellFormed t → (d : ℕ) → d ≢ root → (p : ℕ) → parent t d ≡ Some p → is_directory_at t p ≡ true
+above-directory t w d below p up = let found = parent-entry t (ordered t w.each_node) d p below up in has_entry-directory t p found.0 d found.1
+
+pub contains-all : (t : Tree) (inodes : ℕ) → length t.nodes ≡ suc inodes → (n d : ℕ) → list_any (λ e. e == n) (ancestors_within t (inodes + 1) d) ≡ contains_directory t n d
+unfolding ancestors
+contains-all t inodes numbers n d = let same : inodes + 1 ≡ length t.nodes = omega arith in ap (λ k. list_any (λ e. e == n) (ancestors_within t k d)) same

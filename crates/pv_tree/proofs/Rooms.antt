@@ -1,0 +1,222 @@
+-- Whether an image has room for one entry more.
+use Rattle.std.proofs.Common.{◌≡◌, ◌≢◌, ◌↔◌, ℕ, zero, suc, ◌+◌, ◌*◌, ◌<◌, ◌≤◌, Bool, true, false, cond, ◌&&◌, ◌||◌, nat_le, nat_lt, List, [], ◌∷◌, drop, length, sum_by, Option, None, Some, Result, Ok, Err, refl, ap, ap₂, sym, subst, ◌∙◌, arith, ⊎_elim}
+use Rattle.std.specs.Prelude.{OnOk, IfErr}
+use Rattle.std.specs.FinMap.Entries.{put, is_sorted}
+use Rattle.std.specs.List.{list_any}
+use Rattle.std.proofs.lemmas.Bool.{and_parts, and_from, or_parts, cases_eq, cases_lt, cases_Bool, lt-ltb, le-ltb, lt-leb, le-leb, leb-true}
+use Rattle.pv_inodes.specs.declared.space.Space.{Space}
+use Rattle.pv_inodes.specs.declared.space.Space.TheVariants.{Full, TooBig}
+use Rattle.pv_model.specs.declared.version.Version.TheVariants.{V1}
+use Rattle.pv_model.specs.Bytes.{Bytes}
+use Rattle.pv_model.specs.Numbered.{Numbered, with_number, present}
+use Rattle.pv_model.specs.Room.{entry_length, node_length, greatest_length, is_too_long, fits}
+use Rattle.pv_model.specs.Tree.{Entries, Node, directory_node, file_node, link_node, Tree, node_at, entries_of, entries_at, is_directory, is_directory_at, find_entry, with_node, with_entry, IsWellFormed}
+use Rattle.pv_dirs.specs.Trees.{total_need, LacksRoom, grown_length}
+use Rattle.pv_laws.proofs.Changes.{directory-below, node_at-same, node_at-other}
+use Rattle.pv_laws.proofs.Entries.{by_name}
+use Rattle.pv_laws.proofs.Rooms.{too_long-at, smaller-fits, smaller-not_too_long}
+use Rattle.pv_laws.proofs.Whole.{kept-no_larger}
+use Rattle.pv_tree.specs.Holding.{held_numbers, trimmed}
+use Rattle.pv_laws.specs.Room.{IsNoLonger, IsNoLarger}
+use Rattle.pv_laws.proofs.Trees.{ordered}
+use Rattle.pv_tree.specs.Rooms.{refusal}
+use Rattle.pv_tree.specs.Standing.{IsShaped, IsCounted}
+use Rattle.pv_tree.proofs.Entries.{length_more}
+
+-- ---- what a refusal says
+
+pub refusal-none : (t : Tree) → refusal t ≡ None → (is_too_long t ≡ false) × (fits t ≡ true)
+refusal-none t none =
+    elim (is_too_long t) as (λ b. cond b (Some TooBig) (cond (fits t) None (Some Full)) ≡ None → (b ≡ false) × (fits t ≡ true)) [
+      | true ↦ λ is. cc is
+      | false ↦ elim (fits t) as (λ b. cond b None (Some Full) ≡ None → (false ≡ false) × (b ≡ true)) [ true ↦ λ is. (refl, refl) | false ↦ λ is. cc is ]
+    ] none
+
+pub refusal-fits : (t : Tree) → is_too_long t ≡ false → fits t ≡ true → refusal t ≡ None
+refusal-fits t short room = ap₂ (λ a b. cond a (Some TooBig) (cond b None (Some Full))) short room
+
+pub refusal-long : (t : Tree) → is_too_long t ≡ true → refusal t ≡ Some TooBig
+refusal-long t long = ap (λ a. cond a (Some TooBig) (cond (fits t) None (Some Full))) long
+
+pub refusal-full : (t : Tree) → is_too_long t ≡ false → fits t ≡ false → refusal t ≡ Some Full
+refusal-full t short full = ap₂ (λ a b. cond a (Some TooBig) (cond b None (Some Full))) short full
+
+-- what is allowed is so when it is trimmed
+pub trimmed-allowed : (t : Tree) (holds : List ℕ) → refusal t ≡ None → refusal (trimmed t holds) ≡ None
+trimmed-allowed t holds allowed =
+    let room = refusal-none t allowed in
+    let less = kept-no_larger t (held_numbers holds) in
+    refusal-fits (trimmed t holds)
+    (⊎_elim (λ long. let was = smaller-not_too_long t (trimmed t holds) less long in let isnt = room.0 in cc) (λ short. short) (cases_Bool (is_too_long (trimmed t holds))))
+    (smaller-fits t (trimmed t holds) less room.1)
+
+-- ---- whether a tree fits
+
+present-most : (xs : Numbered Node) → length (present xs) ≤ length xs
+present-most [] = omega arith
+present-most (None ∷ xs) = omega (arith, present-most xs)
+present-most (Some x ∷ xs) = omega (arith, present-most xs)
+
+present-few : (xs : Numbered Node) (n : ℕ) → length xs ≡ suc n → Rattle.pv_model.specs.Numbered.at_number xs 0 ≡ None → length (present xs) ≤ n
+present-few [] n long none = absurd (omega arith)
+present-few (None ∷ xs) n long none = omega (arith, present-most xs)
+present-few (Some x ∷ xs) n long none = cc none
+
+pub fits-from : (t : Tree) → length t.nodes ≡ suc t.inodes → node_at t 0 ≡ None → total_need t ≤ t.blocks → fits t ≡ true
+unfolding fits
+fits-from t numbers no_zero room =
+    and_from _ _ (le-leb (length (present t.nodes)) t.inodes (present-few t.nodes t.inodes numbers no_zero)) (le-leb (total_need t) t.blocks room)
+
+and_false : (a b : Bool) → b ≡ false → (a && b) ≡ false
+and_false true b is = is
+and_false false b is = refl
+
+pub fits-lacks : (t : Tree) → LacksRoom t → fits t ≡ false
+unfolding fits
+fits-lacks t lacks = and_false (nat_le (length (present t.nodes)) t.inodes) _ (lt-leb (total_need t) t.blocks lacks)
+
+pub fits-room : (t : Tree) → fits t ≡ true → total_need t ≤ t.blocks
+unfolding fits
+fits-room t is = leb-true (total_need t) t.blocks (and_parts (nat_le (length (present t.nodes)) t.inodes) _ is).1
+
+pub fits-few : (t : Tree) → fits t ≡ true → length (present t.nodes) ≤ t.inodes
+unfolding fits
+fits-few t is = leb-true (length (present t.nodes)) t.inodes (and_parts (nat_le (length (present t.nodes)) t.inodes) _ is).0
+
+-- ---- whether a node is too long
+
+or_false : (a b : Bool) → a ≡ false → b ≡ false → (a || b) ≡ false
+or_false a b p q = ap₂ (λ x y. x || y) p q
+
+any-with_number : (test : Node → Bool) (xs : Numbered Node) (n : ℕ) (node : Node) → list_any test (present xs) ≡ false → test node ≡ false → list_any test (present (with_number xs n node)) ≡ false
+any-with_number test [] n node none no_one = or_false (test node) false no_one refl
+any-with_number test (None ∷ xs) zero node none no_one = or_false (test node) (list_any test (present xs)) no_one none
+any-with_number test (None ∷ xs) (suc n) node none no_one = any-with_number test xs n node none no_one
+any-with_number test (Some x ∷ xs) zero node none no_one = or_false (test node) (list_any test (present xs)) no_one (or_parts (test x) (list_any test (present xs)) none).1
+any-with_number test (Some x ∷ xs) (suc n) node none no_one =
+    let parts = or_parts (test x) (list_any test (present xs)) none in
+    or_false (test x) (list_any test (present (with_number xs n node))) parts.0 (any-with_number test xs n node parts.1 no_one)
+
+pub short-with_node : (t : Tree) (n : ℕ) (node : Node) → is_too_long t ≡ false → node_length t.version node ≤ greatest_length t.version → is_too_long (with_node t n node) ≡ false
+unfolding is_too_long
+short-with_node t n node short allowed =
+    any-with_number (λ x. nat_lt (greatest_length t.version) (node_length t.version x)) t.nodes n node short (le-ltb (greatest_length t.version) (node_length t.version node) allowed)
+
+-- ---- one entry more
+
+pub shaped : (t : Tree) (parents names holds : List ℕ) → IsCounted t parents names holds → IsShaped t
+shaped t parents names holds c = record {
+  numbers = c.well_formed.numbers;
+  no_zero = c.well_formed.no_zero;
+  ordered = ordered t c.well_formed.each_node;
+  version = c.version;
+  short = c.short;
+}
+
+module _ (t : Tree) (version : t.version ≡ V1) (d : ℕ) (sorted : is_sorted by_name (entries_at t d) ≡ true) (name : Bytes) (n : ℕ)
+    (is : is_directory_at t d ≡ true) (none : find_entry t d name ≡ None) where
+  abbrev more : Entries
+  more = put by_name name n (entries_at t d)
+
+  long : node_length t.version (directory_node more) ≡ 64 * length more
+  long = ap (λ v. entry_length v * length more) version
+
+  count : length more ≡ suc (length (entries_at t d))
+  count = length_more name n (entries_at t d) sorted none
+
+  greatest : greatest_length t.version ≡ 136192
+  greatest = ap greatest_length version
+
+  pub too_long-more : 136192 < grown_length t d → is_too_long (with_entry t d name n) ≡ true
+  too_long-more past =
+      too_long-at (with_entry t d name n) d (directory_node more) (node_at-same t d (directory_node more) (directory-below t d is))
+      (lt-ltb (greatest_length t.version) (node_length t.version (directory_node more)) (omega (arith, long, count, greatest)))
+
+  pub short-more : is_too_long t ≡ false → grown_length t d ≤ 136192 → is_too_long (with_entry t d name n) ≡ false
+  short-more short within = short-with_node t d (directory_node more) short (omega (arith, long, count, greatest))
+
+  -- a directory with one more entry needs no less
+  longer : (o : Option Node) → node_at t d ≡ o → IsNoLonger t.version o (Some (directory_node more))
+  longer None at = tt
+  longer (Some (directory_node es)) at =
+      let same : entries_at t d ≡ es = ap entries_of at in
+      Rattle.std.proofs.Common.mul-le-mul_left (entry_length t.version) (omega (arith, count, ap length same))
+  longer (Some (file_node executable bytes)) at = let isnt = ap is_directory at in cc
+  longer (Some (link_node text)) at = let isnt = ap is_directory at in cc
+
+  no_longer-self : (o : Option Node) → IsNoLonger t.version o o
+  no_longer-self None = tt
+  no_longer-self (Some node) = Rattle.std.proofs.Common.le_refl _
+
+  pub no_larger-more : IsNoLarger t (with_entry t d name n)
+  no_larger-more =
+      let below = directory-below t d is in
+      record {
+        blocks = refl;
+        inodes = refl;
+        version = refl;
+        nodes = λ m. ⊎_elim
+            (λ same. subst (λ k. IsNoLonger t.version (node_at t k) (node_at (with_entry t d name n) k)) (sym same)
+            (subst (λ o. IsNoLonger t.version (node_at t d) o) (sym (node_at-same t d (directory_node more) below)) (longer (node_at t d) refl)))
+            (λ other. subst (λ o. IsNoLonger t.version (node_at t m) o) (sym (node_at-other t d (directory_node more) m below other)) (no_longer-self (node_at t m)))
+            (cases_eq m d);
+      }
+
+module _ (t : Tree) (s : IsShaped t) (d : ℕ) (name : Bytes) (n : ℕ) (is : is_directory_at t d ≡ true) (none : find_entry t d name ≡ None) where
+  abbrev u : Tree
+  u = with_entry t d name n
+
+  abbrev entered : Entries
+  entered = put by_name name n (entries_at t d)
+
+  below : d < length t.nodes
+  below = directory-below t d is
+
+  too_long : 136192 < grown_length t d → is_too_long u ≡ true
+  too_long = too_long-more t s.version d (s.ordered d) name n is none
+
+  not_too_long : grown_length t d ≤ 136192 → is_too_long u ≡ false
+  not_too_long within = short-more t s.version d (s.ordered d) name n is none s.short within
+
+  numbers : length u.nodes ≡ suc u.inodes
+  numbers = Rattle.pv_laws.proofs.Numbered.length-with_number t.nodes d (directory_node entered) below ∙ s.numbers
+
+  no_zero : node_at u 0 ≡ None
+  no_zero = ⊎_elim
+      (λ here. let gone : is_directory_at t d ≡ false = ap (is_directory_at t) (sym here) ∙ ap Rattle.pv_model.specs.Tree.is_directory s.no_zero in cc)
+      (λ away. Rattle.pv_laws.proofs.Changes.node_at-other t d (directory_node entered) 0 below away ∙ s.no_zero)
+      (Rattle.std.proofs.lemmas.Bool.cases_eq 0 d)
+
+  -- where there is no room without the entry, there is none with it
+  pub refused-before : length (entries_at t d) < 2128 → LacksRoom t → refusal u ≡ Some Full
+  refused-before few lacks =
+      refusal-full u (not_too_long (omega arith))
+      (⊎_elim
+      (λ is_room. let before = smaller-fits u t (no_larger-more t s.version d (s.ordered d) name n is none) is_room in let isnt = fits-lacks t lacks in cc)
+      (λ no_room. no_room)
+      (cases_Bool (fits u)))
+
+  module _ (r : Result (Unit {0}) Space)
+      (too_big : (r ≡ Err TooBig) ↔ (136192 < grown_length t d)) (full : (r ≡ Err Full) ↔ ((grown_length t d ≤ 136192) × LacksRoom u)) where
+    pub add-allowed : OnOk r (refusal u ≡ None)
+    add-allowed = by r refl
+      where
+        by : (a : Result (Unit {0}) Space) → r ≡ a → OnOk a (refusal u ≡ None)
+        by (Err why) at = tt
+        by (Ok x) at =
+            ⊎_elim
+            (λ past. let bad = too_big.1 past in cc)
+            (λ within.
+            ⊎_elim
+            (λ lacks. let bad = full.1 (within, lacks) in cc)
+            (λ room. refusal-fits u (not_too_long within) (fits-from u numbers no_zero room))
+            (cases_lt u.blocks (total_need u)))
+            (cases_lt 136192 (grown_length t d))
+
+    pub add-refused : IfErr r (λ why. refusal u ≡ Some why)
+    add-refused = by r refl
+      where
+        by : (a : Result (Unit {0}) Space) → r ≡ a → IfErr a (λ why. refusal u ≡ Some why)
+        by (Ok x) at = tt
+        by (Err TooBig) at = refusal-long u (too_long (too_big.0 at))
+        by (Err Full) at = let why = full.0 at in refusal-full u (not_too_long why.0) (fits-lacks u why.1)

@@ -1,0 +1,7 @@
+use Rattle.std.proofs.Common.{ap, ◌∙◌}
+use Rattle.std.specs.Prelude.{slice_index}
+use Rattle.pv_tree.proofs.Beginning.{zeros-at}
+use Rattle.pv_tree.proofs.store.Store.empty.Goals as goal
+
+pub invariant_of-result : goal.invariant_of-result
+invariant_of-result c = λ n. ap (λ holds. slice_index holds n) c.empty.ensures.holds ∙ zeros-at 4097 n

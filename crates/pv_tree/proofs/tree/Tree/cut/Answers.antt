@@ -1,0 +1,27 @@
+use Rattle.std.proofs.Common.{◌≡◌, None, Some, ap, subst, ◌∙◌}
+use Rattle.std.specs.Prelude.{OnOk, IfErr}
+use Rattle.pv_model.specs.Sealed.{is_file}
+use Rattle.pv_model.specs.Tree.{Tree, node_at}
+use Rattle.pv_tree.specs.Changes.{resized}
+use Rattle.pv_tree.specs.Rooms.{refusal}
+use Rattle.pv_tree.proofs.Contents.{IsAnswer, file-of, resize-answer}
+use Rattle.pv_tree.proofs.tree.Tree.cut.Goals as goal
+use Rattle.pv_tree.proofs.tree.Tree.cut.Goals.{After-cut}
+
+-- what the call below answers, in the words of the tree
+answer : (c : After-cut) → IsAnswer c.self.inside.directories c.cut.new.self (resized c.self.inside.directories c.args.node c.args.size) c.self.inside.parents c.self.inside.names c.self.inside.holds c.cut.result
+answer c =
+    let file = file-of (node_at c.self.inside.directories c.args.node) (ap (λ h. is_file (node_at h.tree c.args.node)) c.self.view_is ∙ c.requires) in
+    resize-answer c.self.inside.directories c.cut.new.self c.self.inside.parents c.self.inside.names c.self.inside.holds c.self.invariant c.args.node file.0 file.1 file.2 c.cut.result
+    c.args.size c.cut.ensures.ok c.cut.ensures.err c.cut.ensures.too_big c.cut.ensures.full
+
+pub invariant_of-self : goal.invariant_of-self
+invariant_of-self c = (answer c).tied
+
+pub returns-clause-allowed : goal.returns-clause-allowed
+returns-clause-allowed c =
+    subst (λ (t : Tree). OnOk c.cut.result (refusal (resized t c.args.node c.args.size) ≡ None)) (ap (λ h. h.tree) c.self.view_is) (answer c).allowed
+
+pub returns-clause-refused : goal.returns-clause-refused
+returns-clause-refused c =
+    subst (λ (t : Tree). IfErr c.cut.result (λ why. refusal (resized t c.args.node c.args.size) ≡ Some why)) (ap (λ h. h.tree) c.self.view_is) (answer c).refused

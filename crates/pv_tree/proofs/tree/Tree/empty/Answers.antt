@@ -1,0 +1,28 @@
+use Rattle.std.proofs.Common.{◌≡◌, ◌+◌, ◌-◌, is_some, ap, ◌∙◌, arith}
+use Rattle.pv_model.specs.declared.version.Version.TheVariants.{V1}
+use Rattle.pv_model.specs.Image.{inode_blocks}
+use Rattle.pv_model.specs.Manifest.{empty_tree}
+use Rattle.pv_tree.proofs.Beginning.{empty-tied, first-number, first-below, rooted-is}
+use Rattle.pv_tree.proofs.tree.Tree.empty.Goals as goal
+
+pub unreachable-requires : goal.unreachable-requires
+unreachable-requires c =
+    let first = first-number c.empty-directories.result c.args.inodes c.empty-directories.ensures.nodes c.requires.some_inodes in
+    let below = first-below c.empty-directories.result c.args.inodes c.empty-directories.ensures.nodes in
+    let full = c.fresh.ensures.full.0 (ap is_some c.in_default.is) in
+    omega arith
+
+pub returns-clause-tree : goal.returns-clause-tree
+returns-clause-tree c =
+    c.in-Some.ensures.after
+    ∙ rooted-is c.empty-directories.result c.in-Some._root (c.args.blocks - (inode_blocks V1 c.args.inodes + 1)) c.args.inodes c.empty-directories.ensures.nodes (omega (arith, c.empty-directories.ensures.blocks))
+    c.empty-directories.ensures.inodes c.empty-directories.ensures.version c.requires.some_inodes c.in-Some.ensures.least
+
+pub invariant_of-result : goal.invariant_of-result
+invariant_of-result c =
+    let rooted : c.fresh.new.self ≡ empty_tree (c.args.blocks - (inode_blocks V1 c.args.inodes + 1)) c.args.inodes =
+    c.in-Some.ensures.after
+    ∙ rooted-is c.empty-directories.result c.in-Some._root (c.args.blocks - (inode_blocks V1 c.args.inodes + 1)) c.args.inodes c.empty-directories.ensures.nodes
+    (omega (arith, c.empty-directories.ensures.blocks)) c.empty-directories.ensures.inodes c.empty-directories.ensures.version c.requires.some_inodes c.in-Some.ensures.least in
+    rw (rooted, c.root_above_itself.ensures, c.no_names.ensures, c.no_holds.ensures)
+    (empty-tied (c.args.blocks - (inode_blocks V1 c.args.inodes + 1)) c.args.inodes c.requires.some_inodes c.requires.few_inodes)

@@ -1,0 +1,37 @@
+use Rattle.std.proofs.Common.{◌≡◌, ◌+◌, is_some, ap, subst, sym, ◌∙◌, arith}
+use Rattle.std.specs.Prelude.{slice_index, slice_set}
+use Rattle.pv_laws.specs.Tree.{Stands}
+use Rattle.pv_model.specs.Tree.{Tree, node_at, find_entry, is_directory_at, is_name}
+use Rattle.pv_tree.specs.Standing.{IsTied}
+use Rattle.pv_tree.proofs.Counting.{below-seen}
+use Rattle.pv_tree.proofs.Linking.{count-fits, linked-tied}
+use Rattle.pv_tree.proofs.Rooms.{shaped}
+use Rattle.pv_tree.proofs.tree.Tree.link.Goals as goal
+
+pub bounds-self-inside-node : goal.bounds-self-inside-node
+bounds-self-inside-node c =
+    below-seen c.self.inside.directories c.args.self.now.tree _ _ _ c.self.invariant (ap (λ h. h.tree) c.self.view_is) c.args.node c.requires.node
+
+pub bounds-self-inside-node-2 : goal.bounds-self-inside-node-2
+bounds-self-inside-node-2 c =
+    below-seen c.self.inside.directories c.args.self.now.tree _ _ _ c.self.invariant (ap (λ h. h.tree) c.self.view_is) c.args.node c.requires.node
+
+pub enter-requires-clause-shaped : goal.enter-requires-clause-shaped
+enter-requires-clause-shaped c = shaped c.self.inside.directories c.self.inside.parents c.self.inside.names c.self.inside.holds c.self.invariant.counted
+
+pub invariant_of-self-2 : goal.invariant_of-self-2
+invariant_of-self-2 c =
+    let view : c.self.inside.directories ≡ c.args.self.now.tree = ap (λ h. h.tree) c.self.view_is in
+    subst (λ (t : Tree). IsTied t c.self.inside.parents (slice_set c.self.inside.names c.args.node (slice_index c.self.inside.names c.args.node + 1)) c.self.inside.holds)
+    (sym c.in_ok-enter.ensures.ok)
+    (linked-tied c.self.inside.directories c.self.inside.parents c.self.inside.names c.self.inside.holds c.self.invariant c.args.directory c.args.name.now c.args.node
+    (subst (λ (t : Tree). Stands t c.args.directory) (sym view) c.requires.directory)
+    (ap (λ (t : Tree). find_entry t c.args.directory c.args.name.now) view ∙ c.requires.absent)
+    (ap (λ v. is_name v c.args.name.now) c.self.invariant.counted.version ∙ c.requires.name)
+    (ap (λ (t : Tree). is_some (node_at t c.args.node)) view ∙ c.requires.node)
+    (ap (λ (t : Tree). is_directory_at t c.args.node) view ∙ c.requires.other)
+    c.in_ok-enter.ensures.allowed)
+
+pub overflow_add-self : goal.overflow_add-self
+overflow_add-self c =
+    let fits = count-fits c.self.inside.directories c.self.inside.parents c.self.inside.names c.self.inside.holds c.self.invariant c.args.node in omega arith

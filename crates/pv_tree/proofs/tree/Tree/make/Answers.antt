@@ -1,0 +1,21 @@
+use Rattle.std.proofs.Common.{◌≡◌, ◌<◌, length, ap, subst, sym, ◌∙◌}
+use Rattle.std.specs.Prelude.{slice_set}
+use Rattle.pv_model.specs.Tree.{Tree, find_entry, is_name, new_number}
+use Rattle.pv_laws.specs.Tree.{Stands}
+use Rattle.pv_tree.specs.Standing.{IsTied}
+use Rattle.pv_tree.proofs.Made.{made-tied}
+use Rattle.pv_tree.proofs.tree.Tree.make.Goals as goal
+
+pub invariant_of-self-2 : goal.invariant_of-self-2
+invariant_of-self-2 c =
+    let view : c.self.inside.directories ≡ c.args.self.now.tree = ap (λ h. h.tree) c.self.view_is in
+    subst (λ n. IsTied c.add_node.new.directories (slice_set c.self.inside.parents n c.args.directory) (slice_set c.self.inside.names n 1) c.self.inside.holds) (sym c.in_ok-node.ensures.number)
+    (subst (λ (t : Tree). IsTied t (slice_set c.self.inside.parents (new_number c.self.inside.directories) c.args.directory) (slice_set c.self.inside.names (new_number c.self.inside.directories) 1) c.self.inside.holds)
+    (sym c.in_ok-node.ensures.ok)
+    (made-tied c.self.inside.directories c.self.inside.parents c.self.inside.names c.self.inside.holds c.self.invariant c.args.directory c.args.name.now c.args.kind
+    (subst (λ (t : Tree). Stands t c.args.directory) (sym view) c.requires.directory)
+    (ap (λ (t : Tree). find_entry t c.args.directory c.args.name.now) view ∙ c.requires.absent)
+    (ap (λ v. is_name v c.args.name.now) c.self.invariant.counted.version ∙ c.requires.name)
+    c.requires.text
+    (subst (λ n. n < length c.self.inside.directories.nodes) c.in_ok-node.ensures.number c.in_ok-node.ensures.within)
+    c.in_ok-node.ensures.allowed))

@@ -1,0 +1,46 @@
+-- How calls change a tree.
+use Rattle.std.specs.Prelude.{ℕ, false, true, [], ◌∷◌, ◌||◌, ◌==◌, if◌then◌else◌, nat_lt, Option, None, Some}
+use Rattle.pv_model.specs.declared.sort.Kind.{Kind}
+use Rattle.pv_model.specs.declared.sort.Kind.TheVariants.{Directory, File, Executable, Symlink}
+use Rattle.pv_model.specs.declared.sort.Sort.{Sort}
+use Rattle.pv_model.specs.declared.sort.Sort.TheVariants.{Directory as SortDirectory, File as SortFile, Executable as SortExecutable, Symlink as SortSymlink}
+use Rattle.pv_model.specs.Bytes.{Bytes}
+use Rattle.pv_model.specs.Calls.Descriptors.{with_content}
+use Rattle.pv_model.specs.Effect.{bytes_of, overwrite, resize}
+use Rattle.pv_model.specs.Tree.{Node, directory_node, file_node, link_node, Tree, root, node_at, find_entry, with_entry, without_entry}
+use Rattle.pv_dirs.specs.Trees.{without_node}
+
+-- a new node
+abbrev pub new_node : Kind → Node
+new_node Directory = directory_node []
+new_node File = file_node false []
+new_node Executable = file_node true []
+new_node (Symlink text) = link_node text.now
+
+-- what a node of a kind is
+abbrev pub sort_of : Kind → Sort
+sort_of Directory = SortDirectory
+sort_of File = SortFile
+sort_of Executable = SortExecutable
+sort_of (Symlink text) = SortSymlink
+
+abbrev pub moved_node : Tree → ℕ → Bytes → ℕ → Bytes → Option ℕ → Tree
+moved_node t d name e other None = t
+moved_node t d name e other (Some n) = with_entry (without_entry t d name) e other n
+
+-- the tree with the node of one name under another
+abbrev pub moved : Tree → ℕ → Bytes → ℕ → Bytes → Tree
+moved t d name e other = moved_node t d name e other (find_entry t d name)
+
+-- the tree after bytes were written over a file's, from a place on; to write none changes nothing
+abbrev pub overwritten : Tree → ℕ → ℕ → Bytes → Tree
+overwritten t n at [] = t
+overwritten t n at (b ∷ bytes) = with_content t n (overwrite (bytes_of (node_at t n)) at (b ∷ bytes))
+
+-- the tree after a file's bytes were cut, or lengthened with zeros
+abbrev pub resized : Tree → ℕ → ℕ → Tree
+resized t n size = with_content t n (resize (bytes_of (node_at t n)) size)
+
+-- the tree without a node that has neither a name nor a holder, and is not the root
+abbrev pub settled : Tree → ℕ → ℕ → ℕ → Tree
+settled t n names holds = if (root == n) || (nat_lt 0 names || nat_lt 0 holds) then t else without_node t n

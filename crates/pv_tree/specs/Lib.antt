@@ -1,0 +1,5 @@
+pub mod Changes
+pub mod Holding
+pub mod Rooms
+pub mod Standing
+pub use Rattle.pv_dirs.specs.Trees

@@ -1,0 +1,51 @@
+-- What a kept tree is, and what is stored beside it.
+use Rattle.std.specs.Prelude.{◌≡◌, ℕ, suc, ◌<◌, ◌≤◌, IsTrue, IsFalse, List, length, slice_index, Option, None, Some, is_some}
+use Rattle.std.specs.Cmp.Lexicographic.{slice_cmp}
+use Rattle.std.specs.FinMap.Entries.{is_sorted}
+use Rattle.std.specs.Ordering.{nat_cmp}
+use Rattle.pv_model.specs.declared.version.Version.TheVariants.{V1}
+use Rattle.pv_model.specs.Room.{is_too_long, fits}
+use Rattle.pv_model.specs.Tree.{Tree, node_at, entries_at, is_directory_at, names_of, parent, IsWellFormed}
+use Rattle.pv_tree.specs.Holding.{HeldTree, holds_at, trimmed}
+
+-- what is true of every tree with its holds
+pub record IsStanding (h : HeldTree) : Type 0 where
+  pub well_formed : IsWellFormed h.tree
+  pub version : h.tree.version ≡ V1
+  pub few : h.tree.inodes ≤ 4096
+  pub fits : IsTrue (fits h.tree)
+  pub short : IsFalse (is_too_long h.tree)
+  pub held_are_nodes : (n : ℕ) → 0 < holds_at h n → IsTrue (is_some (node_at h.tree n))
+  pub is_trimmed : trimmed h.tree h.holds ≡ h.tree
+
+-- what tells whether a tree has room for one entry more
+pub record IsShaped (t : Tree) : Type 0 where
+  pub numbers : length t.nodes ≡ suc t.inodes
+  pub no_zero : node_at t 0 ≡ None
+  pub ordered : (d : ℕ) → IsTrue (is_sorted (slice_cmp nat_cmp) (entries_at t d))
+  pub version : t.version ≡ V1
+  pub short : IsFalse (is_too_long t)
+
+-- how a parent is stored: a removed directory has none
+abbrev pub stored : Option ℕ → ℕ
+stored None = 0
+stored (Some d) = d
+
+-- what is stored of a tree that is perhaps not yet trimmed: the parent of each directory, and how many names each node has
+pub record IsCounted (t : Tree) (parents names holds : List ℕ) : Type 0 where
+  pub well_formed : IsWellFormed t
+  pub version : t.version ≡ V1
+  pub few : t.inodes ≤ 4096
+  pub fits : IsTrue (fits t)
+  pub short : IsFalse (is_too_long t)
+  pub held_are_nodes : (n : ℕ) → 0 < slice_index holds n → IsTrue (is_some (node_at t n))
+  pub places_of_parents : length parents ≡ 4097
+  pub places_of_names : length names ≡ 4097
+  pub places_of_holds : length holds ≡ 4097
+  pub parents_stored : (n : ℕ) → IsTrue (is_directory_at t n) → slice_index parents n ≡ stored (parent t n)
+  pub names_counted : (n : ℕ) → slice_index names n ≡ length (names_of t n)
+
+-- and of a tree that is
+pub record IsTied (t : Tree) (parents names holds : List ℕ) : Type 0 where
+  pub counted : IsCounted t parents names holds
+  pub is_trimmed : trimmed t holds ≡ t

@@ -1,0 +1,69 @@
+//! A tree before boot.
+ghost use Rattle.std.specs.Prelude.{◌≡◌, ◌+◌, ◌-◌, ◌*◌, ◌≤◌, vec_len, All};
+ghost use Rattle.pv_model.specs.declared.version.Version.TheVariants.{V1};
+ghost use Rattle.pv_model.specs.Image.{inode_blocks, greatest_blocks};
+ghost use Rattle.pv_model.specs.Manifest.{empty_tree};
+ghost use Rattle.pv_tree.specs.Holding.{IsUnheld};
+
+use crate::Tree;
+use std::marker::Model;
+
+/// A tree before boot: nothing is held, so each node but the root has a name.
+#[derive(Drop)]
+pub struct Store {
+    tree: Tree,
+}
+
+impl Model for Store {
+    ghost use Rattle.pv_model.specs.Tree.{Tree as Nodes};
+    ghost use Rattle.pv_tree.specs.Holding.{IsUnheld};
+
+    ghost Value = { Nodes };
+
+    ghost view = { λ s. s.tree.tree };
+
+    ghost invariant = { λ s. IsUnheld s.tree.holds };
+}
+
+impl Store {
+    /// The tree of the root alone, in an image of version 1 of so many blocks and inodes, over as many
+    /// blocks of zeros. No memory is taken.
+    pub fn empty(zeros: Vec<u8>, blocks: u16, inodes: u16) -> Store
+        requires whole { vec_len zeros ≡ 512 * blocks }
+        requires zeros { All (λ byte. byte ≡ 0) zeros.items }
+        requires some_inodes { 1 ≤ inodes }
+        requires few_inodes { inodes ≤ 4096 }
+        requires some_blocks { inode_blocks V1 inodes + 1 ≤ blocks }
+        requires few_blocks { blocks ≤ greatest_blocks V1 }
+        ensures { result ≡ empty_tree (blocks - (inode_blocks V1 inodes + 1)) inodes }
+    {
+        Store {
+            tree: Tree::empty(zeros, blocks, inodes),
+        }
+    }
+
+    /// The store of a tree of which nothing is held.
+    pub fn of_tree(tree: Tree) -> Store
+        requires { IsUnheld tree.holds }
+        ensures { result ≡ tree.tree }
+    {
+        Store { tree }
+    }
+
+    /// The tree.
+    pub fn tree(&self) -> &Tree
+        ensures tree { result.now.tree ≡ self.now }
+        ensures unheld { IsUnheld result.now.holds }
+    {
+        &self.tree
+    }
+
+    /// The tree, to be changed.
+    pub fn into_tree(self) -> Tree
+        ensures tree { result.tree ≡ self }
+        ensures unheld { IsUnheld result.holds }
+    {
+        let Store { tree } = self;
+        tree
+    }
+}

@@ -1,0 +1,42 @@
+//! Who holds what.
+ghost use Rattle.std.specs.Prelude.{◌≡◌, ◌<◌, suc, ◌-◌, IsSome};
+ghost use Rattle.pv_model.specs.Tree.{node_at};
+ghost use Rattle.pv_tree.specs.Changes.{settled};
+ghost use Rattle.pv_tree.specs.Holding.{HeldTree, holds_at, held_more, held_less, trimmed};
+
+use super::Tree;
+use pv_dirs::Directories;
+use pv_model::limits::ROOT;
+
+/// Takes a node away that has neither a name nor a holder; the root stays.
+pub(crate) fn settle(directories: &mut Directories, node: u16, names: u32, holds: u16)
+    requires { IsSome (node_at directories.old node) }
+    ensures { directories.new ≡ settled directories.old node names holds }
+{
+    if node != ROOT && names == 0 && holds == 0 {
+        directories.drop_inode(node);
+    }
+}
+
+impl Tree {
+    /// Holds a node once more.
+    pub fn hold(&mut self, node: u16)
+        requires node { IsSome (node_at self.old.tree node) }
+        requires few { holds_at self.old node < 65535 }
+        ensures tree { self.new.tree ≡ self.old.tree }
+        ensures holds { self.new.holds ≡ held_more self.old.holds node }
+    {
+        self.holds[node as usize] += 1;
+    }
+
+    /// Holds a node once less. It goes where nothing holds it any more and it has no name.
+    pub fn let_go(&mut self, node: u16)
+        requires { 0 < holds_at self.old node }
+        ensures tree { self.new.tree ≡ trimmed self.old.tree (held_less self.old.holds node) }
+        ensures holds { self.new.holds ≡ held_less self.old.holds node }
+    {
+        let at = node as usize;
+        self.holds[at] -= 1;
+        settle(&mut self.directories, node, self.names[at], self.holds[at]);
+    }
+}

@@ -1,0 +1,150 @@
+//! New nodes.
+ghost use Rattle.std.specs.Prelude.{◌≡◌, ◌<◌, length, IsTrue, false, None, Some, IfOk, IfErr, OnOk, OnErr};
+ghost use Rattle.pv_model.specs.declared.version.Version.TheVariants.{V1};
+ghost use Rattle.pv_model.specs.Room.{is_too_long};
+ghost use Rattle.pv_model.specs.Tree.{node_at, entries_at, find_entry, is_directory_at, is_name, is_node, with_node, with_entry, with_new_node, new_number, IsWellFormed};
+ghost use Rattle.pv_laws.specs.Tree.{Stands};
+ghost use Rattle.pv_dirs.specs.Trees.{new_node as empty_node, LacksRoom, without_node};
+ghost use Rattle.pv_tree.specs.Changes.{new_node, sort_of};
+ghost use Rattle.pv_tree.specs.Holding.{with_tree};
+ghost use Rattle.pv_tree.specs.Rooms.{refusal};
+ghost use Rattle.pv_tree.specs.Standing.{IsShaped};
+
+use super::Tree;
+use pv_dirs::Directories;
+use pv_inodes::Space;
+use pv_model::{Kind, Sort};
+
+/// The most entries of a directory.
+const MOST_ENTRIES: u32 = 2_128;
+
+// What a node of a kind is.
+fn sort_of(kind: Kind) -> Sort
+    ensures { result ≡ sort_of kind.entry }
+{
+    match kind {
+        Kind::Directory => Sort::Directory,
+        Kind::File => Sort::File,
+        Kind::Executable => Sort::Executable,
+        Kind::Symlink(_) => Sort::Symlink,
+    }
+}
+
+// Gives a new node its content. An `Err` says that data blocks are wanting, and then nothing has changed.
+fn fill(directories: &mut Directories, node: u16, kind: Kind) -> Result<(), Space>
+    requires fresh { node_at directories.old node ≡ Some (empty_node (sort_of kind)) }
+    requires text { IsTrue (is_node V1 (new_node kind)) }
+    ensures ok { OnOk result (directories.new ≡ with_node directories.old node (new_node kind.entry)) }
+    ensures err { OnErr result (directories.new ≡ directories.old) }
+    ensures full { OnErr result (LacksRoom (with_node directories.old node (new_node kind.entry))) }
+{
+    match kind {
+        Kind::Symlink(text) => directories.write_at(node, 0, text),
+        _ => Ok(()),
+    }
+}
+
+/// Adds an entry to a directory that has none of this name, where the image has room for the tree with it.
+pub(crate) fn enter(
+    directories: &mut Directories,
+    directory: u16,
+    name: &[u8],
+    node: u16,
+) -> Result<(), Space>
+    requires shaped { IsShaped directories.old }
+    requires directory { IsTrue (is_directory_at directories.old directory) }
+    requires name { IsTrue (is_name V1 name.now) }
+    requires absent { find_entry directories.old directory name.now ≡ None }
+    ensures ok { OnOk result (directories.new ≡ with_entry directories.old directory name.now node) }
+    ensures err { OnErr result (directories.new ≡ directories.old) }
+    ensures allowed { OnOk result (refusal (with_entry directories.old directory name.now node) ≡ None) }
+    ensures refused { IfErr result (λ why. refusal (with_entry directories.old directory name.now node) ≡ Some why) }
+{
+    directories.add(directory, name, node)
+}
+
+// Puts a node that was just taken under a name of a directory, with its content. An `Err` takes the node away.
+fn furnish(
+    directories: &mut Directories,
+    directory: u16,
+    name: &[u8],
+    node: u16,
+    kind: Kind,
+) -> Result<(), Space>
+    requires fresh { node_at directories.old node ≡ Some (empty_node (sort_of kind)) }
+    requires text { IsTrue (is_node V1 (new_node kind)) }
+    requires shaped { IsShaped (with_node directories.old node (new_node kind)) }
+    requires directory { IsTrue (is_directory_at (with_node directories.old node (new_node kind)) directory) }
+    requires name { IsTrue (is_name V1 name.now) }
+    requires absent { find_entry (with_node directories.old node (new_node kind)) directory name.now ≡ None }
+    requires few { length (entries_at (with_node directories.old node (new_node kind)) directory) < 2128 }
+    ensures ok { OnOk result (directories.new ≡ with_entry (with_node directories.old node (new_node kind.entry)) directory name.now node) }
+    ensures err { OnErr result (directories.new ≡ without_node directories.old node) }
+    ensures allowed { OnOk result (refusal (with_entry (with_node directories.old node (new_node kind.entry)) directory name.now node) ≡ None) }
+    ensures refused { IfErr result (λ why. refusal (with_entry (with_node directories.old node (new_node kind.entry)) directory name.now node) ≡ Some why) }
+{
+    if fill(directories, node, kind).is_err() {
+        directories.drop_inode(node);
+        return Err(Space::Full);
+    }
+    if let Err(why) = enter(directories, directory, name, node) {
+        directories.drop_inode(node);
+        return Err(why);
+    }
+    Ok(())
+}
+
+// Puts a new node under a name of a directory. An `Err` changes nothing.
+fn add_node(
+    directories: &mut Directories,
+    directory: u16,
+    name: &[u8],
+    kind: Kind,
+) -> Result<u16, Space>
+    requires well_formed { IsWellFormed directories.old }
+    requires version { directories.old.version ≡ V1 }
+    requires short { is_too_long directories.old ≡ false }
+    requires directory { IsTrue (is_directory_at directories.old directory) }
+    requires name { IsTrue (is_name V1 name.now) }
+    requires absent { find_entry directories.old directory name.now ≡ None }
+    requires text { IsTrue (is_node V1 (new_node kind)) }
+    ensures number { IfOk result (λ n. n ≡ new_number directories.old) }
+    ensures within { IfOk result (λ n. n < length directories.old.nodes) }
+    ensures ok { OnOk result (directories.new ≡ with_new_node directories.old directory name.now (new_node kind.entry)) }
+    ensures err { OnErr result (directories.new ≡ directories.old) }
+    ensures allowed { OnOk result (refusal (with_new_node directories.old directory name.now (new_node kind.entry)) ≡ None) }
+    ensures refused { IfErr result (λ why. refusal (with_new_node directories.old directory name.now (new_node kind.entry)) ≡ Some why) }
+{
+    if directories.size(directory) >= MOST_ENTRIES {
+        return Err(Space::TooBig);
+    }
+    let Some(node) = directories.fresh(sort_of(kind)) else {
+        return Err(Space::Full);
+    };
+    if let Err(why) = furnish(directories, directory, name, node, kind) {
+        return Err(why);
+    }
+    Ok(node)
+}
+
+impl Tree {
+    /// Puts a new node under a name that a directory has not, and answers its number, the least that is
+    /// not in use. `TooBig` comes where the directory would be longer than any may be, else `Full` where
+    /// the image has not the inode or the blocks for it; then nothing has changed.
+    pub fn make(&mut self, directory: u16, name: &[u8], kind: Kind) -> Result<u16, Space>
+        requires directory { Stands self.old.tree directory }
+        requires name { IsTrue (is_name V1 name.now) }
+        requires absent { find_entry self.old.tree directory name.now ≡ None }
+        requires text { IsTrue (is_node V1 (new_node kind)) }
+        ensures number { IfOk result (λ n. n ≡ new_number self.old.tree) }
+        ensures ok { OnOk result (self.new ≡ with_tree self.old (with_new_node self.old.tree directory name.now (new_node kind.entry))) }
+        ensures err { OnErr result (self.new ≡ self.old) }
+        ensures allowed { OnOk result (refusal (with_new_node self.old.tree directory name.now (new_node kind.entry)) ≡ None) }
+        ensures refused { IfErr result (λ why. refusal (with_new_node self.old.tree directory name.now (new_node kind.entry)) ≡ Some why) }
+    {
+        let node = add_node(&mut self.directories, directory, name, kind)?;
+        self.names[node as usize] = 1;
+        self.parents[node as usize] = directory;
+        Ok(node)
+    }
+}

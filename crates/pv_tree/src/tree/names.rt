@@ -1,0 +1,143 @@
+//! Names that nodes get and lose.
+ghost use Rattle.std.specs.Prelude.{◌≡◌, ◌≢◌, [], IsTrue, IsFalse, false, None, Some, IsSome, IfSome, IfErr, OnOk, OnErr};
+ghost use Rattle.pv_model.specs.declared.version.Version.TheVariants.{V1};
+ghost use Rattle.pv_model.specs.Calls.Paths.{contains_directory, entries_there};
+ghost use Rattle.pv_model.specs.Room.{fits};
+ghost use Rattle.pv_model.specs.Tree.{node_at, find_entry, is_directory_at, is_name, with_entry, without_entry, IsWellFormed};
+ghost use Rattle.pv_laws.specs.Tree.{Stands};
+ghost use Rattle.pv_tree.specs.Changes.{moved};
+ghost use Rattle.pv_tree.specs.Holding.{with_tree, after, trimmed};
+ghost use Rattle.pv_tree.specs.Rooms.{refusal};
+ghost use Rattle.pv_tree.specs.Standing.{IsShaped};
+
+use super::Tree;
+use super::holding::settle;
+use super::making::enter;
+use pv_dirs::Directories;
+use pv_inodes::Space;
+
+// Moves an entry to a name that another node had, which loses it.
+fn move_over(
+    directories: &mut Directories,
+    from: u16,
+    name: &[u8],
+    to: u16,
+    other: &[u8],
+    node: u16,
+)
+    requires well_formed { IsWellFormed directories.old }
+    requires shaped { IsShaped directories.old }
+    requires fits { IsTrue (fits directories.old) }
+    requires present { find_entry directories.old from name.now ≡ Some node }
+    requires to { IsTrue (is_directory_at directories.old to) }
+    requires name { IsTrue (is_name V1 other.now) }
+    requires taken { IsSome (find_entry directories.old to other.now) }
+    requires apart { find_entry directories.old to other.now ≢ Some node }
+    ensures { directories.new ≡ with_entry (without_entry directories.old from name.now) to other.now node }
+{
+    directories.remove(from, name);
+    directories.remove(to, other);
+    let _ = enter(directories, to, other, node);
+}
+
+// Moves an entry to a name that no node had. An `Err` changes nothing: the entry is put back where it was.
+fn move_to(
+    directories: &mut Directories,
+    from: u16,
+    name: &[u8],
+    to: u16,
+    other: &[u8],
+    node: u16,
+) -> Result<(), Space>
+    requires well_formed { IsWellFormed directories.old }
+    requires shaped { IsShaped directories.old }
+    requires fits { IsTrue (fits directories.old) }
+    requires present { find_entry directories.old from name.now ≡ Some node }
+    requires to { IsTrue (is_directory_at directories.old to) }
+    requires name { IsTrue (is_name V1 other.now) }
+    requires free { find_entry directories.old to other.now ≡ None }
+    ensures ok { OnOk result (directories.new ≡ with_entry (without_entry directories.old from name.now) to other.now node) }
+    ensures err { OnErr result (directories.new ≡ directories.old) }
+    ensures allowed { OnOk result (refusal (with_entry (without_entry directories.old from name.now) to other.now node) ≡ None) }
+    ensures refused { IfErr result (λ why. refusal (with_entry (without_entry directories.old from name.now) to other.now node) ≡ Some why) }
+{
+    directories.remove(from, name);
+    if let Err(why) = enter(directories, to, other, node) {
+        let _ = enter(directories, from, name, node);
+        return Err(why);
+    }
+    Ok(())
+}
+
+impl Tree {
+    /// Puts a node that is no directory under one more name, which the directory has not. `TooBig` comes
+    /// where the directory would be longer than any may be, else `Full` where the image has not the block
+    /// for it; then nothing has changed.
+    pub fn link(&mut self, directory: u16, name: &[u8], node: u16) -> Result<(), Space>
+        requires directory { Stands self.old.tree directory }
+        requires name { IsTrue (is_name V1 name.now) }
+        requires absent { find_entry self.old.tree directory name.now ≡ None }
+        requires node { IsSome (node_at self.old.tree node) }
+        requires other { is_directory_at self.old.tree node ≡ false }
+        ensures ok { OnOk result (self.new ≡ with_tree self.old (with_entry self.old.tree directory name.now node)) }
+        ensures err { OnErr result (self.new ≡ self.old) }
+        ensures allowed { OnOk result (refusal (with_entry self.old.tree directory name.now node) ≡ None) }
+        ensures refused { IfErr result (λ why. refusal (with_entry self.old.tree directory name.now node) ≡ Some why) }
+    {
+        enter(&mut self.directories, directory, name, node)?;
+        self.names[node as usize] += 1;
+        Ok(())
+    }
+
+    /// Takes a name away from a node, which has no entries where it is a directory. The node goes where it
+    /// has no other name and nothing holds it.
+    pub fn unlink(&mut self, directory: u16, name: &[u8])
+        requires directory { IsTrue (is_directory_at self.old.tree directory) }
+        requires present { IsSome (find_entry self.old.tree directory name.now) }
+        requires empty { entries_there self.old.tree (find_entry self.old.tree directory name.now) ≡ [] }
+        ensures { self.new ≡ after self.old (without_entry self.old.tree directory name.now) }
+    {
+        let Some(node) = self.directories.find(directory, name) else {
+            unreachable!()
+        };
+        self.directories.remove(directory, name);
+        let at = node as usize;
+        self.names[at] -= 1;
+        self.parents[at] = 0;
+        settle(&mut self.directories, node, self.names[at], self.holds[at]);
+    }
+
+    /// Gives the node of one name another, in a directory that is neither the node itself nor below it.
+    /// Another node that had this name, and has no entries, loses it, and goes where it has no other name
+    /// and nothing holds it. `TooBig` comes where the directory would be longer than any may be, else
+    /// `Full` where the image has not the block for it; then nothing has changed.
+    pub fn rename(&mut self, from: u16, name: &[u8], to: u16, other: &[u8]) -> Result<(), Space>
+        requires from { IsTrue (is_directory_at self.old.tree from) }
+        requires present { IsSome (find_entry self.old.tree from name.now) }
+        requires to { Stands self.old.tree to }
+        requires name { IsTrue (is_name V1 other.now) }
+        requires clear { IfSome (find_entry self.old.tree from name.now) (λ n. contains_directory self.old.tree n to ≡ false) }
+        requires apart { find_entry self.old.tree to other.now ≢ find_entry self.old.tree from name.now }
+        requires empty { entries_there self.old.tree (find_entry self.old.tree to other.now) ≡ [] }
+        ensures ok { OnOk result (self.new ≡ after self.old (moved self.old.tree from name.now to other.now)) }
+        ensures err { OnErr result (self.new ≡ self.old) }
+        ensures allowed { OnOk result (refusal (trimmed (moved self.old.tree from name.now to other.now) self.old.holds) ≡ None) }
+        ensures refused { IfErr result (λ why. refusal (trimmed (moved self.old.tree from name.now to other.now) self.old.holds) ≡ Some why) }
+    {
+        let Some(node) = self.directories.find(from, name) else {
+            unreachable!()
+        };
+        let Some(gone) = self.directories.find(to, other) else {
+            move_to(&mut self.directories, from, name, to, other, node)?;
+            self.parents[node as usize] = to;
+            return Ok(());
+        };
+        move_over(&mut self.directories, from, name, to, other, node);
+        let at = gone as usize;
+        self.parents[node as usize] = to;
+        self.parents[at] = 0;
+        self.names[at] -= 1;
+        settle(&mut self.directories, gone, self.names[at], self.holds[at]);
+        Ok(())
+    }
+}
