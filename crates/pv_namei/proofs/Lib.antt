@@ -1,0 +1,5 @@
+pub mod FirstPlaces
+pub mod Pieces
+pub mod Spelling
+pub mod Steps
+pub mod Nodes

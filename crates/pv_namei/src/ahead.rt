@@ -1,0 +1,104 @@
+//! Where one piece of a path leads.
+ghost use Rattle.std.specs.Prelude.{◌≡◌, ◌<◌, ◌≤◌, ◌∷◌, length, IsTrue, List, ℕ, Bool, OnOk, OnErr, IfOk, IfErr};
+ghost use Rattle.pv_model.specs.Bytes.{Bytes};
+ghost use Rattle.pv_model.specs.Tree.{greatest_name, is_directory_at, find_entry, IsWellFormed};
+ghost use Rattle.pv_model.specs.Walk.{is_dot, is_dot_dot, along, Behind};
+ghost use Rattle.pv_namei.specs.Onward.{led, named, IsAheadIn};
+
+use crate::lookup::Lookup;
+use pv_model::limits::{NAME_V1, NAME_V2};
+use pv_model::{Errno, Name, Version};
+use pv_tree::Tree;
+
+/// Where a piece leads from a directory.
+#[derive(Drop)]
+pub(crate) enum Ahead {
+    /// To a directory: `.` to the same, and `..` to the one above it.
+    Directory(u16),
+    /// To an entry of this name, whether or not there is one.
+    Entry(Name, Option<u16>),
+}
+
+/// Whether a piece is `.`.
+pub(crate) fn is_dot(piece: &[u8]) -> bool
+    ensures { result ≡ is_dot piece.now }
+{
+    matches!(piece, b".")
+}
+
+/// Whether a piece is `..`.
+pub(crate) fn is_dot_dot(piece: &[u8]) -> bool
+    ensures { result ≡ is_dot_dot piece.now }
+{
+    matches!(piece, b"..")
+}
+
+// The greatest length of a name.
+fn greatest_name(version: Version) -> usize
+    ensures value { result ≡ greatest_name version }
+    ensures fits { result ≤ 255 }
+{
+    match version {
+        Version::V1 => NAME_V1,
+        Version::V2 => NAME_V2,
+    }
+}
+
+// A piece as a name; ENAMETOOLONG where it is longer than a name may be.
+fn read_name(version: Version, piece: &[u8]) -> Result<Name, Errno>
+    ensures ok { IfOk result (λ name. name ≡ piece.now) }
+    ensures fits { OnOk result (length piece.now ≤ greatest_name version) }
+    ensures too_long { OnErr result (greatest_name version < length piece.now) }
+    ensures err { IfErr result (λ e. e ≡ Errno.ENAMETOOLONG) }
+{
+    if piece.len() > greatest_name(version) {
+        return Err(Errno::ENAMETOOLONG);
+    }
+    match Name::new(piece) {
+        Some(name) => Ok(name),
+        None => unreachable!(),
+    }
+}
+
+// What a directory has under a piece that is a name.
+fn entry<L: Lookup>(tree: &Tree, lookup: &mut L, at: u16, piece: &[u8]) -> Result<Ahead, Errno>
+    requires directory { IsTrue (is_directory_at tree.now.tree at) }
+    requires agrees { L.agrees lookup.old (find_entry tree.now.tree) }
+    ensures leads { (last : Bool) → (behind : Behind) → (rest : List Bytes) → (mark : Bool) → named tree.now.tree last behind rest mark at piece.now ≡ led tree.now.tree last behind rest mark at result }
+    ensures agrees { L.agrees lookup.new (find_entry tree.now.tree) }
+    ensures ahead { IfOk result (IsAheadIn tree.now.tree at) }
+{
+    let name = read_name(tree.sizes().version, piece)?;
+    if tree.parent(at).is_none() {
+        return Err(Errno::ENOENT);
+    }
+    let node = lookup.look(tree, at, piece);
+    Ok(Ahead::Entry(name, node))
+}
+
+/// Where a piece leads from a directory: ENOENT for `..` in a removed directory, and for every name in it;
+/// ENAMETOOLONG for a piece that is longer than a name may be.
+pub(crate) fn look_ahead<L: Lookup>(
+    tree: &Tree,
+    lookup: &mut L,
+    at: u16,
+    piece: &[u8],
+) -> Result<Ahead, Errno>
+    requires well_formed { IsWellFormed tree.now.tree }
+    requires directory { IsTrue (is_directory_at tree.now.tree at) }
+    requires agrees { L.agrees lookup.old (find_entry tree.now.tree) }
+    ensures leads { (last : Bool) → (behind : Behind) → (rest : List Bytes) → (mark : Bool) → along tree.now.tree last behind (piece.now ∷ rest) mark at ≡ led tree.now.tree last behind rest mark at result }
+    ensures agrees { L.agrees lookup.new (find_entry tree.now.tree) }
+    ensures ahead { IfOk result (IsAheadIn tree.now.tree at) }
+{
+    if is_dot(piece) {
+        return Ok(Ahead::Directory(at));
+    }
+    if is_dot_dot(piece) {
+        return match tree.parent(at) {
+            Some(above) => Ok(Ahead::Directory(above)),
+            None => Err(Errno::ENOENT),
+        };
+    }
+    entry(tree, lookup, at, piece)
+}

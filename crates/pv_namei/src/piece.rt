@@ -1,0 +1,50 @@
+//! A path, piece by piece: a piece is what is not empty between slashes.
+ghost use Rattle.std.specs.Prelude.{◌≡◌, ◌<◌, ◌==◌, ◌∷◌, [], not, length, position, MatchOption, IfSome};
+ghost use Rattle.pv_model.specs.Walk.{pieces, is_absolute, ends_in_slash};
+
+// The index of the first slash.
+fn first_slash(path: &[u8]) -> Option<usize>
+    ensures { result ≡ position (λ b. b == 47) path.now }
+{
+    path.iter().position(|b| *b == b'/')
+}
+
+// The index of the first byte that is no slash.
+fn first_other(path: &[u8]) -> Option<usize>
+    ensures { result ≡ position (λ b. not (b == 47)) path.now }
+{
+    path.iter().position(|b| *b != b'/')
+}
+
+/// The first piece of a path, and what follows it; None where the path has no piece.
+pub(crate) fn split_first(path: &[u8]) -> Option<(&[u8], &[u8])>
+    ensures parts { MatchOption result (pieces path.now ≡ []) (λ r. pieces path.now ≡ r.0.now ∷ pieces r.1.now) }
+    ensures shorter { IfSome result (λ r. length r.1.now < length path.now) }
+{
+    let Some(start) = first_other(path) else {
+        return None;
+    };
+    let (_, path) = path.split_at(start);
+    let end = first_slash(path).unwrap_or(path.len());
+    Some(path.split_at(end))
+}
+
+/// Whether a path begins with a slash.
+pub(crate) fn is_absolute(path: &[u8]) -> bool
+    ensures { result ≡ is_absolute path.now }
+{
+    match path {
+        [] => false,
+        [first, ..] => *first == b'/',
+    }
+}
+
+/// Whether a path ends with a slash.
+pub(crate) fn ends_in_slash(path: &[u8]) -> bool
+    ensures { result ≡ ends_in_slash path.now }
+{
+    match path {
+        [] => false,
+        [.., last] => *last == b'/',
+    }
+}
