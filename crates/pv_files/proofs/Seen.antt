@@ -1,0 +1,101 @@
+-- Maps from numbers whose values are seen by a function.
+use Rattle.std.proofs.Common.{cond, nat_lt, IsSome, is_some, true, ◌≡◌, ℕ, zero, suc, ◌<◌, ◌≤◌, not, [], ◌∷◌, map, length, position, MatchOption, Option, None, Some, is_none, option_map, refl, sym, ap, ◌∙◌, arith}
+use Rattle.std.specs.Prelude.{◌↔◌}
+use Rattle.std.proofs.Math.ListN.{get_or, set, length-map}
+use Rattle.std.proofs.Math.Numerals.{one-add}
+use Rattle.std.proofs.lemmas.Bool.Decides.{nat_tests}
+use Rattle.std.proofs.lemmas.List.{map-set}
+use Rattle.std.proofs.lemmas.List.Quantifiers.{position-Some}
+use Rattle.std.proofs.lemmas.List.Sums.{prefix_len-le-length}
+use Rattle.std.specs.List.{position_or_len}
+use Rattle.pv_model.specs.Numbered.{Numbered, at_number, with_number, without_number, least_free}
+
+past : (n m : ℕ) → n ≤ m → cond (nat_lt n m) (Some n) None ≡ None → n ≡ m
+past n m within none = grind (arith, nat_tests)
+
+found_is : (n m i : ℕ) → cond (nat_lt n m) (Some n) None ≡ Some i → n ≡ i
+found_is n m i some = grind (arith, nat_tests)
+
+module _ {X : Type 0} where
+  first_free : (xs : Numbered X) → position_or_len (λ o. is_none o) xs ≡ least_free xs
+  first_free [] = refl
+  first_free (None ∷ xs) = refl
+  first_free (Some x ∷ xs) = rw one-add (ap suc (first_free xs))
+
+  -- the least free number, as a search for it tells
+  pub least_free_found : (xs : Numbered X) (found : Option ℕ) → found ≡ position (λ o. is_none o) xs
+      → MatchOption found (least_free xs ≡ length xs) (λ k. (least_free xs ≡ k) × (k < length xs))
+  least_free_found xs None is =
+      sym (first_free xs) ∙ past (position_or_len (λ o. is_none o) xs) (length xs) (prefix_len-le-length (λ o. not (is_none o)) xs) (sym is)
+  least_free_found xs (Some k) is =
+      (sym (first_free xs) ∙ found_is (position_or_len (λ o. is_none o) xs) (length xs) k (sym is), (position-Some (λ o. is_none o) xs k None (sym is)).0)
+
+  -- what is there is below the length
+  pub within_length : (xs : Numbered X) (n : ℕ) → IsSome (at_number xs n) → n < length xs
+  within_length [] n there = cc
+  within_length (x ∷ xs) zero there = omega arith
+  within_length (x ∷ xs) (suc n) there = omega (arith, within_length xs n there)
+
+  -- a change at a number
+
+  pub with_number-set : (xs : Numbered X) (n : ℕ) (v : X) → n < length xs → with_number xs n v ≡ set xs n (Some v)
+  with_number-set [] n v within = absurd (omega arith)
+  with_number-set (x ∷ xs) zero v within = refl
+  with_number-set (x ∷ xs) (suc n) v within = ap (λ ys. x ∷ ys) (with_number-set xs n v (omega arith))
+
+  pub without_number-set : (xs : Numbered X) (n : ℕ) → without_number xs n ≡ set xs n None
+  without_number-set [] n = refl
+  without_number-set (x ∷ xs) zero = refl
+  without_number-set (x ∷ xs) (suc n) = ap (λ ys. x ∷ ys) (without_number-set xs n)
+
+  -- what is there, put again
+  pub set-itself : (xs : Numbered X) (n : ℕ) → set xs n (at_number xs n) ≡ xs
+  set-itself [] n = refl
+  set-itself (x ∷ xs) zero = refl
+  set-itself (x ∷ xs) (suc n) = ap (λ ys. x ∷ ys) (set-itself xs n)
+
+module _ {X Y : Type 0} (f : X → Y) where
+  abbrev pub seen : Numbered X → Numbered Y
+  seen xs = map (option_map f) xs
+
+  pub at_number-seen : (xs : Numbered X) (n : ℕ) → at_number (seen xs) n ≡ option_map f (at_number xs n)
+  at_number-seen [] n = refl
+  at_number-seen (x ∷ xs) zero = refl
+  at_number-seen (x ∷ xs) (suc n) = at_number-seen xs n
+
+  -- as it is read, with nothing past the end
+  pub at_number-seen_read : (xs : Numbered X) (n : ℕ) → at_number (seen xs) n ≡ option_map f (get_or xs n None)
+  at_number-seen_read [] n = refl
+  at_number-seen_read (x ∷ xs) zero = refl
+  at_number-seen_read (x ∷ xs) (suc n) = at_number-seen_read xs n
+
+  pub least_free-seen : (xs : Numbered X) → least_free (seen xs) ≡ least_free xs
+  least_free-seen [] = refl
+  least_free-seen (None ∷ xs) = refl
+  least_free-seen (Some x ∷ xs) = ap suc (least_free-seen xs)
+
+  pub seen-set_some : (xs : Numbered X) (n : ℕ) (x : X) → n < length xs → seen (set xs n (Some x)) ≡ with_number (seen xs) n (f x)
+  seen-set_some xs n x below =
+      let within : n < length (seen xs) = omega (arith, length-map xs (option_map f)) in
+      map-set (option_map f) xs n (Some x) ∙ sym (with_number-set (seen xs) n (f x) within)
+
+  pub seen-set_none : (xs : Numbered X) (n : ℕ) → seen (set xs n None) ≡ without_number (seen xs) n
+  seen-set_none xs n = map-set (option_map f) xs n None ∙ sym (without_number-set (seen xs) n)
+
+  -- past the end there is nothing to take away
+  pub seen-past : (xs : Numbered X) (n : ℕ) → length xs ≤ n → seen xs ≡ without_number (seen xs) n
+  seen-past [] n past = refl
+  seen-past (o ∷ xs) zero past = absurd (omega arith)
+  seen-past (o ∷ xs) (suc n) past = ap (λ ys. option_map f o ∷ ys) (seen-past xs n (omega arith))
+
+  -- a search finds room just where the least free number is below the length
+  pub room_found : (xs : Numbered X) (size : ℕ) (found : Option ℕ) → length xs ≡ size
+      → MatchOption found (least_free xs ≡ length xs) (λ k. (least_free xs ≡ k) × (k < length xs))
+      → (is_some found ≡ true) ↔ (least_free (seen xs) < size)
+  room_found xs size None long is = (λ none. cc, λ less. absurd (omega (arith, least_free-seen xs)))
+  room_found xs size (Some k) long is = (λ _. omega (arith, least_free-seen xs, is.0, is.1), λ _. refl)
+
+-- there is a value, or none
+pub not_both : {X : Type 0} (o : Option X) → IsSome o → o ≡ None → ⊥
+not_both None some none = cc
+not_both (Some x) some none = cc

@@ -1,0 +1,31 @@
+-- Open files and their users, as clauses see them.
+use Rattle.std.specs.Prelude.{◌≡◌, ℕ, ◌<◌, ◌↔◌, List, length, replicate, slice_index, slice_set, IsSome, None}
+use Rattle.pv_model.specs.Numbered.{Numbered, at_number, with_number}
+use Rattle.pv_model.specs.State.{OpenFile}
+
+-- the open files by their numbers, and how many users each number has
+pub record Counted : Type 0 where
+  pub files : Numbered OpenFile
+  pub users : List ℕ
+
+-- what holds of them at any time: 128 places, and a file is open under a number just where that has users
+pub record IsCounted (c : Counted) : Type 0 where
+  pub places : length c.files ≡ 128
+  pub counts : length c.users ≡ 128
+  pub used : (k : ℕ) → IsSome (at_number c.files k) ↔ (0 < slice_index c.users k)
+
+-- nothing is open
+abbrev pub no_files : Counted
+no_files = record { files = replicate 128 None; users = replicate 128 0 }
+
+-- with a new open file under a number, and one user of it
+abbrev pub with_opened : Counted → ℕ → OpenFile → Counted
+with_opened c k f = record { files = with_number c.files k f; users = slice_set c.users k 1 }
+
+-- with another open file under a number
+abbrev pub with_file : Counted → ℕ → OpenFile → Counted
+with_file c k f = record c { files = with_number c.files k f }
+
+-- with so many users of a number
+abbrev pub with_users : Counted → ℕ → ℕ → Counted
+with_users c k n = record c { users = slice_set c.users k n }

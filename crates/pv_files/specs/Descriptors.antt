@@ -1,0 +1,17 @@
+-- The descriptors of a process, as clauses see them.
+use Rattle.std.specs.Prelude.{ℤ, pos, negsuc, Bool, false, replicate, Option, None, Some}
+use Rattle.pv_model.specs.Numbered.{Numbered, at_number}
+use Rattle.pv_model.specs.State.{Descriptor}
+
+abbrev pub no_descriptors : Numbered Descriptor
+no_descriptors = replicate 16 None
+
+-- the descriptor under the number that a call gives, as `descriptor_at` finds it in a process
+abbrev pub descriptor_under : Numbered Descriptor → ℤ → Option Descriptor
+descriptor_under ds (pos d) = at_number ds d
+descriptor_under ds (negsuc d) = None
+
+-- whether an execve closes it
+abbrev pub is_marked : Option Descriptor → Bool
+is_marked None = false
+is_marked (Some d) = d.close_on_exec

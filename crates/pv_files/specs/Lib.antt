@@ -1,0 +1,4 @@
+pub mod Counted
+pub mod DescriptorPlaces
+pub mod Descriptors
+pub mod Places

@@ -1,0 +1,171 @@
+//! The descriptors of a process.
+ghost use Rattle.std.specs.Prelude.{◌≡◌, ◌<◌, ◌↔◌, length, IfOk, IfErr, OnOk, OnErr, IsTrue, false, option_map, ok_or, slice_get};
+ghost use Rattle.std.specs.Option.{option_and_then};
+ghost use Rattle.pv_model.specs.Calls.Descriptors.{without_descriptor};
+ghost use Rattle.pv_model.specs.Numbered.{at_number, with_number, without_number, least_free};
+ghost use Rattle.pv_files.specs.DescriptorPlaces.{descriptor_of, descriptors_of};
+ghost use Rattle.pv_files.specs.Descriptors.{no_descriptors, descriptor_under, is_marked};
+
+use crate::places::first_free;
+use pv_model::Errno;
+use pv_model::limits::DESCRIPTORS;
+use std::marker::Model;
+
+/// A descriptor: the number of its open file, and whether execve(2) closes it.
+#[derive(Clone, Copy)]
+struct Descriptor {
+    file: usize,
+    close_on_exec: bool,
+}
+
+/// The descriptors of a process, by their numbers from 0 to 15.
+#[derive(Clone, Copy)]
+pub struct Descriptors {
+    places: [Option<Descriptor>; DESCRIPTORS],
+}
+
+impl Model for Descriptors {
+    ghost use Rattle.pv_model.specs.Numbered.{Numbered};
+    ghost use Rattle.pv_model.specs.State.{Descriptor};
+
+    ghost Value = { Numbered Descriptor };
+
+    ghost use Rattle.std.specs.Prelude.{◌≡◌, length};
+    ghost use Rattle.pv_files.specs.DescriptorPlaces.{descriptors_of, places_of, places_of-descriptors_of};
+
+    ghost view = { λ t. descriptors_of t.places };
+
+    ghost invariant = { λ t. length t.places ≡ 16 };
+
+    ghost inverse = { λ v. record { places = places_of v } };
+
+    ghost inverse_ok = { λ t _ i. record { places = places_of-descriptors_of t.places i } };
+}
+
+// The descriptor under a number.
+fn at_index(places: &[Option<Descriptor>], k: usize) -> Option<Descriptor>
+    ensures { option_map descriptor_of result ≡ at_number (descriptors_of places.now) k }
+{
+    if k < places.len() { places[k] } else { None }
+}
+
+// The descriptor under the number that a call gives.
+fn lookup(places: &[Option<Descriptor>], d: i32) -> Option<Descriptor>
+    ensures { option_map descriptor_of result ≡ descriptor_under (descriptors_of places.now) d }
+{
+    match usize::try_from(d) {
+        Ok(k) => at_index(places, k),
+        Err(_) => None,
+    }
+}
+
+// Nothing any more under a number.
+fn clear_index(places: &mut [Option<Descriptor>], k: usize)
+    ensures { descriptors_of places.new ≡ without_number (descriptors_of places.old) k }
+{
+    if k < places.len() {
+        places[k] = None;
+    }
+}
+
+// Nothing any more under the number that a call gives.
+fn clear(places: &mut [Option<Descriptor>], d: i32)
+    ensures { descriptors_of places.new ≡ without_descriptor (descriptors_of places.old) d }
+{
+    if let Ok(k) = usize::try_from(d) {
+        clear_index(places, k);
+    }
+}
+
+impl Descriptors {
+    /// No descriptors.
+    pub fn new() -> Descriptors
+        ensures { result ≡ no_descriptors }
+    {
+        Descriptors {
+            places: [None; DESCRIPTORS],
+        }
+    }
+
+    /// Whether a number is free.
+    pub fn has_room(&self) -> bool
+        ensures { IsTrue result ↔ (least_free self.now < 16) }
+    {
+        first_free(&self.places).is_some()
+    }
+
+    /// Makes a descriptor of an open file, under the least free number, which is the answer.
+    ///
+    /// # Errors
+    ///
+    /// `EMFILE` where all 16 numbers are used, and only there; nothing has then changed.
+    pub fn give(&mut self, file: usize, close_on_exec: bool) -> Result<u8, Errno>
+        ensures number { IfOk result (λ d. d ≡ least_free self.old) }
+        ensures in_range { IfOk result (λ d. d < 16) }
+        ensures given { IfOk result (λ d. self.new
+            ≡ with_number self.old d (record { file = file; close_on_exec = close_on_exec })) }
+        ensures errno { IfErr result (λ e. e ≡ Errno.EMFILE) }
+        ensures full { OnErr result (least_free self.old ≡ 16) }
+        ensures unchanged { OnErr result (self.new ≡ self.old) }
+    {
+        let Some(d) = first_free(&self.places) else {
+            return Err(Errno::EMFILE);
+        };
+        self.places[d] = Some(Descriptor {
+            file,
+            close_on_exec,
+        });
+        Ok(d as u8)
+    }
+
+    /// Makes a number from 0 to 15 a descriptor of an open file, whatever it was. An execve(2) keeps it.
+    pub fn set(&mut self, d: u8, file: usize)
+        requires { d < 16 }
+        ensures { self.new
+            ≡ with_number self.old d (record { file = file; close_on_exec = false }) }
+    {
+        self.places[d as usize] = Some(Descriptor {
+            file,
+            close_on_exec: false,
+        });
+    }
+
+    /// The number of the open file of a descriptor.
+    ///
+    /// # Errors
+    ///
+    /// `EBADF` where the number is no descriptor, and only there.
+    pub fn at(&self, d: i32) -> Result<usize, Errno>
+        ensures { result ≡ ok_or (option_map (λ e. e.file) (descriptor_under self.now d)) Errno.EBADF }
+    {
+        match lookup(&self.places, d) {
+            Some(descriptor) => Ok(descriptor.file),
+            None => Err(Errno::EBADF),
+        }
+    }
+
+    /// Closes a descriptor. The answer is the number of its open file, which has a user less.
+    ///
+    /// # Errors
+    ///
+    /// `EBADF` where the number is no descriptor, and only there; nothing has then changed.
+    pub fn close(&mut self, d: i32) -> Result<usize, Errno>
+        ensures file { result ≡ ok_or (option_map (λ e. e.file) (descriptor_under self.old d)) Errno.EBADF }
+        ensures closed { OnOk result (self.new ≡ without_descriptor self.old d) }
+        ensures unchanged { OnErr result (self.new ≡ self.old) }
+    {
+        let file = self.at(d)?;
+        clear(&mut self.places, d);
+        Ok(file)
+    }
+
+    /// Whether execve(2) closes a number: it is a descriptor that was made so.
+    pub fn marked(&self, d: u8) -> bool
+        ensures { result ≡ is_marked (at_number self.now d) }
+    {
+        match at_index(&self.places, d as usize) {
+            Some(descriptor) => descriptor.close_on_exec,
+            None => false,
+        }
+    }
+}

@@ -1,0 +1,262 @@
+//! The open files of the system.
+ghost use Rattle.std.specs.Prelude.{◌≡◌, ◌+◌, ◌-◌, ◌<◌, ◌↔◌, ◌==◌, if◌then◌else◌, is_some, length, None, Some, OnSome, IfSome, IfNone, IfOk, OnOk, OnErr, IfErr, IsOk, IsSome, IsTrue, option_map, slice_index, slice_set};
+ghost use Rattle.std.specs.Option.{option_copied};
+ghost use Rattle.pv_model.specs.Numbered.{at_number, without_number, least_free};
+ghost use Rattle.pv_files.specs.Counted.{IsCounted, no_files, with_file, with_users, with_opened};
+ghost use Rattle.pv_files.specs.Places.{file_of, users_of};
+
+use crate::opened::Opened;
+use crate::places::first_free;
+use pv_model::limits::OPEN_FILES;
+use pv_model::{Errno, Mode, Name};
+use std::alloc::{AllocError, Global};
+use std::marker::Model;
+
+/// The open files of the system, by their numbers from 0 to 127, each with the count of its users.
+///
+/// A number is free where it has no user.
+#[derive(Drop)]
+pub struct OpenFiles {
+    places: Vec<Option<Opened>>,
+}
+
+impl Model for OpenFiles {
+    ghost use Rattle.pv_files.specs.Counted.{Counted};
+
+    ghost Value = { Counted };
+
+    ghost use Rattle.std.specs.Prelude.{◌≡◌, length};
+    ghost use Rattle.pv_files.specs.Places.{counted_of};
+
+    ghost view = { λ t. counted_of t.places.items };
+
+    ghost invariant = { λ t. length t.places.items ≡ 128 };
+}
+
+// One user more of what is kept at a place.
+fn add_user(place: &mut Option<Opened>)
+    requires { users_of place.old < 65535 }
+    ensures file { option_map file_of place.new ≡ option_map file_of place.old }
+    ensures users { users_of place.new ≡ (if is_some place.old then users_of place.old + 1 else 0) }
+{
+    if let Some(opened) = place {
+        opened.users += 1;
+    }
+}
+
+// One user less of what is kept at a place, and its node, where no user is left.
+fn take_user(place: &mut Option<Opened>) -> Option<u16>
+    ensures users { users_of place.new ≡ users_of place.old - 1 }
+    ensures last { IsSome result ↔ (users_of place.old ≡ 1) }
+    ensures node { IfSome result (λ n. option_map (λ o. o.node) place.old ≡ Some n) }
+    ensures closed { OnSome result (place.new ≡ None) }
+    ensures stays { IfNone result (option_map file_of place.new ≡ option_map file_of place.old) }
+{
+    match place {
+        Some(opened) if opened.users > 1 => {
+            opened.users -= 1;
+            None
+        }
+        Some(opened) => {
+            let node = opened.node;
+            *place = None;
+            Some(node)
+        }
+        None => None,
+    }
+}
+
+// Another offset in what is kept at a place.
+fn put_offset(place: &mut Option<Opened>, offset: u32)
+    ensures file { option_map file_of place.new
+        ≡ option_map (λ o. record (file_of o) { offset = offset }) place.old }
+    ensures users { users_of place.new ≡ users_of place.old }
+{
+    if let Some(opened) = place {
+        opened.offset = offset;
+    }
+}
+
+// Another name as the last one listed of what is kept at a place.
+fn put_last_name(place: &mut Option<Opened>, name: Name)
+    ensures file { option_map file_of place.new
+        ≡ option_map (λ o. record (file_of o) { listed = Some name }) place.old }
+    ensures users { users_of place.new ≡ users_of place.old }
+{
+    if let Some(opened) = place {
+        opened.listed = Some(name);
+    }
+}
+
+impl OpenFiles {
+    /// No open files.
+    ///
+    /// # Errors
+    ///
+    /// Where there is no memory for the places. No other call of `OpenFiles` asks for any.
+    pub fn new(alloc: Global) -> Result<OpenFiles, AllocError>
+        ensures { IfOk result (λ files. files ≡ no_files) }
+    {
+        let mut places = Vec::with_capacity(alloc, OPEN_FILES)?;
+        for _number in 0..OPEN_FILES {
+            places.push(None)?;
+        }
+        Ok(OpenFiles { places })
+    }
+
+    /// Does nothing: its contract tells what holds of the open files at any time.
+    pub fn facts(&self)
+        ensures { IsCounted self.now }
+    {
+        let _ = &self.places;
+    }
+
+    /// Whether a number is free.
+    pub fn has_room(&self) -> bool
+        ensures { IsTrue result ↔ (least_free self.now.files < 128) }
+    {
+        first_free(&self.places).is_some()
+    }
+
+    /// Opens a node, with one user, at offset 0 and with no name listed. The answer is the least free number.
+    ///
+    /// # Errors
+    ///
+    /// `ENFILE` where all 128 numbers are used, and only there; nothing has then changed.
+    pub fn add(&mut self, node: u16, mode: Mode, append: bool) -> Result<usize, Errno>
+        ensures number { IfOk result (λ k. k ≡ least_free self.old.files) }
+        ensures in_range { IfOk result (λ k. k < 128) }
+        ensures opened { IfOk result (λ k. self.new ≡ with_opened self.old k
+            (record { node = node; mode = mode; append = append; offset = 0; listed = None })) }
+        ensures errno { IfErr result (λ e. e ≡ Errno.ENFILE) }
+        ensures full { OnErr result (least_free self.old.files ≡ 128) }
+        ensures unchanged { OnErr result (self.new ≡ self.old) }
+    {
+        let Some(file) = first_free(&self.places) else {
+            return Err(Errno::ENFILE);
+        };
+        self.places[file] = Some(Opened {
+            node,
+            mode,
+            append,
+            offset: 0,
+            listed: None,
+            users: 1,
+        });
+        Ok(file)
+    }
+
+    /// Whether a file is open under a number.
+    pub fn is_open(&self, file: usize) -> bool
+        ensures { result ≡ is_some (at_number self.now.files file) }
+    {
+        match self.places.get(file) {
+            Some(place) => place.is_some(),
+            None => false,
+        }
+    }
+
+    /// How many users an open file has: 0 of a free number.
+    pub fn users(&self, file: usize) -> u16
+        ensures { result ≡ slice_index self.now.users file }
+    {
+        match self.places.get(file) {
+            Some(Some(opened)) => opened.users,
+            _ => 0,
+        }
+    }
+
+    /// Adds a user of an open file that has fewer than 65,535.
+    pub fn dup(&mut self, file: usize)
+        requires opened { IsSome (at_number self.old.files file) }
+        requires room { slice_index self.old.users file < 65535 }
+        ensures { self.new ≡ with_users self.old file (slice_index self.old.users file + 1) }
+    {
+        add_user(&mut self.places[file]);
+    }
+
+    /// Takes a user of an open file away. Where none is left the number is free, and the answer is the number of
+    /// the node that was open.
+    pub fn release(&mut self, file: usize) -> Option<u16>
+        requires { IsSome (at_number self.old.files file) }
+        ensures users { self.new.users
+            ≡ slice_set self.old.users file (slice_index self.old.users file - 1) }
+        ensures last { IsSome result ↔ (slice_index self.old.users file ≡ 1) }
+        ensures node { IfSome result
+            (λ n. option_map (λ f. f.node) (at_number self.old.files file) ≡ Some n) }
+        ensures closed { OnSome result (self.new.files ≡ without_number self.old.files file) }
+        ensures stays { IfNone result (self.new.files ≡ self.old.files) }
+    {
+        take_user(&mut self.places[file])
+    }
+
+    // What is kept of an open file.
+    fn opened(&self, file: usize) -> &Opened
+        requires { IsSome (at_number self.now.files file) }
+        ensures { at_number self.now.files file ≡ Some (file_of result.now) }
+    {
+        match &self.places[file] {
+            Some(opened) => opened,
+            None => unreachable!(),
+        }
+    }
+
+    /// The number of the node of an open file.
+    pub fn node(&self, file: usize) -> u16
+        requires { IsSome (at_number self.now.files file) }
+        ensures { option_map (λ f. f.node) (at_number self.now.files file) ≡ Some result }
+    {
+        self.opened(file).node
+    }
+
+    /// What an open file is open for.
+    pub fn mode(&self, file: usize) -> Mode
+        requires { IsSome (at_number self.now.files file) }
+        ensures { option_map (λ f. f.mode) (at_number self.now.files file) ≡ Some result }
+    {
+        self.opened(file).mode
+    }
+
+    /// Whether each write through an open file is at the end.
+    pub fn appends(&self, file: usize) -> bool
+        requires { IsSome (at_number self.now.files file) }
+        ensures { option_map (λ f. f.append) (at_number self.now.files file) ≡ Some result }
+    {
+        self.opened(file).append
+    }
+
+    /// The byte of the node at which the next read or write through an open file begins.
+    pub fn offset(&self, file: usize) -> u32
+        requires { IsSome (at_number self.now.files file) }
+        ensures { option_map (λ f. f.offset) (at_number self.now.files file) ≡ Some result }
+    {
+        self.opened(file).offset
+    }
+
+    /// Moves the offset of an open file, for all its users.
+    pub fn set_offset(&mut self, file: usize, offset: u32)
+        requires { IsSome (at_number self.old.files file) }
+        ensures { option_map (λ f. with_file self.old file (record f { offset = offset }))
+            (at_number self.old.files file) ≡ Some self.new }
+    {
+        put_offset(&mut self.places[file], offset);
+    }
+
+    /// The name that getdents(2) gave last through an open file, where it gave one.
+    pub fn last_name(&self, file: usize) -> Option<&Name>
+        requires { IsSome (at_number self.now.files file) }
+        ensures { option_map (λ f. f.listed) (at_number self.now.files file)
+            ≡ Some (option_copied result) }
+    {
+        self.opened(file).listed.as_ref()
+    }
+
+    /// Keeps a name as the last one given through an open file.
+    pub fn set_last_name(&mut self, file: usize, name: Name)
+        requires { IsSome (at_number self.old.files file) }
+        ensures { option_map (λ f. with_file self.old file (record f { listed = Some name }))
+            (at_number self.old.files file) ≡ Some self.new }
+    {
+        put_last_name(&mut self.places[file], name);
+    }
+}
