@@ -1,10 +1,7 @@
-pub mod Arguments
 pub mod AttemptLaws
 pub mod Building
 pub mod CallLemmas
 pub mod Grown
-pub mod Instructions
-pub mod Lines
 pub mod Manifests
 pub mod Offers
 pub mod OpenLemmas
@@ -14,10 +11,8 @@ pub mod Pieces
 pub mod Places
 pub mod PledgeLemmas
 pub mod ProcessLemmas
-pub mod Programs
 pub mod Resolve
 pub mod RowLemmas
-pub mod Schedules
 pub mod SlotLemmas
 pub mod Starting
 pub mod Stepping

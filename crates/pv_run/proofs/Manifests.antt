@@ -1,5 +1,5 @@
 -- Manifests, read line by line.
-use Rattle.std.proofs.Common.{◌≡◌, ◌∙◌, ap, ℕ, zero, suc, ◌+◌, ◌-◌, ◌≤◌, ◌<◌, ◌^◌, Bool, true, false, cond, eqb, leb, min, List, [], ◌∷◌, ◌++◌, length, take, drop, Option, None, Some, Result, Ok, Err, refl, sym, arith, append_assoc, codes, inl, inr, ◌⊎◌}
+use Rattle.std.proofs.Common.{◌≡◌, ◌∙◌, ap, ℕ, zero, suc, ◌+◌, ◌-◌, ◌≤◌, ◌<◌, ◌^◌, Bool, true, false, cond, eqb, leb, List, [], ◌∷◌, ◌++◌, length, take, drop, Option, None, Some, Result, Ok, Err, refl, sym, arith, append_assoc, codes, inl, inr}
 use Rattle.std.specs.Prelude.{option_map, ◌&&◌, map, flat_map, bytes_eq}
 use Rattle.std.proofs.lemmas.List.{append-nil, map_push, length-drop}
 use Rattle.std.proofs.lemmas.Bool.{cases_lt, lt-leb, le-leb}
@@ -9,15 +9,14 @@ use Rattle.pv_model.specs.declared.fault.ManifestFault.{ManifestFault}
 use Rattle.pv_model.specs.declared.fault.ManifestFault.TheVariants.{Form, Size, Parent, Exists, Source, Room, Memory}
 use Rattle.pv_model.specs.Bytes.{Bytes, onto_first}
 use Rattle.pv_model.specs.Grammar.Lines.{lines_of, decimal_of}
-use Rattle.pv_model.specs.Grammar.Manifests.{Taking, Listed, Manifest, onto_listed, or_form, is_schedule_line, entries_from, with_line_end, sizes_of, are_sizes, behind_sizes, with_entries, if_sizes, manifest_by, entry_by, directory_line, file_line, program_line}
+use Rattle.pv_model.specs.Grammar.Manifests.{Listed, onto_listed, or_form, entries_from, with_line_end, sizes_of, are_sizes, behind_sizes, with_entries, if_sizes, manifest_by, entry_by, directory_line, file_line, program_line}
 use Rattle.pv_model.specs.Grammar.Arguments.{text_at, word_at, one_argument, two_arguments}
 use Rattle.pv_model.specs.Manifest.{Entry as ManifestEntry}
-use Rattle.pv_run.specs.declared.reader.bundle.Bundle.{Bundle}
 use Rattle.pv_run.specs.declared.reader.bundle.Entry.{Entry}
 use Rattle.pv_run.specs.declared.reader.bundle.Taken.{Taken}
 use Rattle.pv_run.specs.Offered.{offered_entry_by, offered_entry, offered_bundle}
 use Rattle.pv_run.specs.Bundles.{held_sizes, entry_of_line, taking_of, Takes, RefusesManifest}
-use Rattle.pv_run.specs.Reading.{up_to_greatest}
+use Rattle.pv_script.specs.Reading.{up_to_greatest}
 
 -- ---- the text of a program
 

@@ -1,5 +1,5 @@
 -- What a bundle asks for, check by check.
-use Rattle.std.proofs.Common.{◌≡◌, ◌≤◌, ◌∙◌, ap, sym, ℕ, Bool, true, false, List, [], length, refl, Option, None, Some, Result, Ok, Err}
+use Rattle.std.proofs.Common.{◌≡◌, ◌∙◌, ap, true, false, refl, Option, None, Some, Result, Ok, Err}
 use Rattle.std.specs.Prelude.{codes, option_map, option_and_then}
 use Rattle.pv_model.specs.declared.fault.ManifestFault.{ManifestFault}
 use Rattle.pv_model.specs.declared.fault.ManifestFault.TheVariants.{Form, Size, Parent, Exists, Source, Room, Memory as ManifestMemory}
@@ -19,9 +19,9 @@ use Rattle.pv_model.specs.Step.{Schedule, boot, init_program}
 use Rattle.pv_model.specs.Tree.{Node, directory_node, file_node, link_node, Tree, root, node_at, find_entry}
 use Rattle.pv_run.specs.Offered.{offered_bundle, offered_program}
 use Rattle.pv_run.specs.Bundles.{RefusesManifest}
-use Rattle.pv_run.specs.Reading.{RefusesSchedule}
-use Rattle.pv_run.specs.Run.{Started, RefusesStart, IsStartFault, and_then, program_in, first_program, started, started_with}
-use Rattle.pv_run.proofs.Offers.{program_of-offered, schedule_is_short}
+use Rattle.pv_script.specs.Reading.{RefusesSchedule}
+use Rattle.pv_run.specs.Run.{RefusesStart, IsStartFault, and_then, program_in, first_program, started, started_with}
+use Rattle.pv_run.proofs.Offers.{program_of-offered}
 
 -- ---- the checks in their order
 
@@ -124,12 +124,7 @@ pub boots : (t : Tree) (p : Program) → first_program t ≡ Ok p → boot progr
 unfolding first_program
 boots t p is = ap (option_map (first_state t)) (by_node t (option_and_then (node_at t) (find_entry t root (codes "init"))) p is)
 
--- a schedule that was read is short
-pub short_schedule : (text : Bytes) (s : Schedule) → read_schedule text ≡ Ok s → length s ≤ 65536
-unfolding read_schedule
-short_schedule text s is = schedule_is_short (lines_of text) s is
-
--- it is that of its lines
+-- a schedule is that of its lines
 pub schedule_of_text : (text : Bytes) → read_schedule text ≡ schedule_of_lines (lines_of text)
 unfolding read_schedule
 schedule_of_text text = refl

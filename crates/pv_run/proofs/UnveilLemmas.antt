@@ -1,5 +1,5 @@
 -- The row of unveil(2), for a path with letters.
-use Rattle.std.proofs.Common.{◌≡◌, ◌∙◌, sym, ℕ, true, false, if◌then◌else◌, Option, Some, None, Ok, ap, arith}
+use Rattle.std.proofs.Common.{◌≡◌, ◌∙◌, sym, ℕ, false, if◌then◌else◌, Option, Some, None, Ok, ap, arith}
 use Rattle.std.specs.Option.{IsSomeAnd}
 use Rattle.pv_model.specs.declared.errno.Errno.{Errno}
 use Rattle.pv_model.specs.declared.follow.Follow.TheVariants.{Last}

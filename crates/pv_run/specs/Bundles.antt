@@ -1,17 +1,11 @@
 -- What the readers of a bundle answer, by the manifest that its bytes spell, and the tree that this makes.
-use Rattle.std.specs.Prelude.{◌≡◌, ℕ, IsTrue, if◌then◌else◌, ◌==◌, ◌+◌, min, Bool, List, [], ◌∷◌, length, drop, ◌≤◌, map, option_map, Option, None, Some, Result, Ok, Err}
+use Rattle.std.specs.Prelude.{◌≡◌, ℕ, IsTrue, List, length, drop, ◌≤◌, map, Option, None, Some, Result, Ok, Err}
 use Rattle.std.specs.Borrow.{Bor}
 use Rattle.std.specs.Global.{Vec}
-use Rattle.pv_model.specs.declared.fault.ParseFault.{ParseFault}
-use Rattle.pv_model.specs.declared.fault.ParseFault.TheVariants.{Line as ParseLine, Memory as ParseMemory}
-use Rattle.pv_model.specs.declared.fault.ScheduleFault.{ScheduleFault}
-use Rattle.pv_model.specs.declared.fault.ScheduleFault.TheVariants.{Line as ScheduleLine, Memory as ScheduleMemory}
 use Rattle.pv_model.specs.declared.fault.ManifestFault.{ManifestFault}
 use Rattle.pv_model.specs.declared.fault.ManifestFault.TheVariants.{Memory as ManifestMemory}
-use Rattle.pv_model.specs.declared.instruction.Instruction.{Instruction}
 use Rattle.pv_model.specs.Bytes.{Bytes}
-use Rattle.pv_model.specs.Grammar.Arguments.{Parsed}
-use Rattle.pv_model.specs.Grammar.Lines.{lines_of, decimal_of}
+use Rattle.pv_model.specs.Grammar.Lines.{lines_of}
 use Rattle.pv_model.specs.Grammar.Manifests.{Taking, Listed, Manifest}
 use Rattle.pv_model.specs.Manifest.{make, Entry as ManifestEntry}
 use Rattle.pv_model.specs.PlainTree.{plain_node}
@@ -19,11 +13,8 @@ use Rattle.pv_run.specs.Made.{IsMade}
 use Rattle.pv_run.specs.declared.reader.bundle.Bundle.{Bundle}
 use Rattle.pv_run.specs.declared.reader.bundle.Entry.{Entry}
 use Rattle.pv_run.specs.declared.reader.bundle.Taken.{Taken}
-use Rattle.pv_model.specs.State.{Program}
-use Rattle.pv_model.specs.Step.{Schedule}
 use Rattle.pv_model.specs.Tree.{Tree, root, is_directory_at}
-use Rattle.pv_model.specs.Walk.{split_slashes}
-use Rattle.pv_run.specs.Reading.{up_to_greatest}
+use Rattle.pv_script.specs.Reading.{up_to_greatest}
 
 -- what a refusal says of a manifest or its tree: nothing, where memory was refused
 abbrev pub RefusesManifest : {X : Type 0} → ManifestFault → Result X ManifestFault → Type 0

@@ -65,14 +65,6 @@ is_offered_instruction (CloseLine d) = true
 is_offered_instruction (UnveilLine path letters) = is_plain_path_or_null path
 is_offered_instruction _ = false
 
--- an `open` with its arguments, if it is offered
-abbrev pub plain_open : Bytes × OpenFlags → Option Instruction
-plain_open p = if is_plain_reading p.1 && is_plain_path p.0 then Some (OpenLine p.0 p.1) else None
-
--- an `unveil` with its arguments, if it is offered
-abbrev pub plain_unveil : Option Bytes × Option Bytes → Option Instruction
-plain_unveil p = if is_plain_path_or_null p.0 then Some (UnveilLine p.0 p.1) else None
-
 -- the first words of the instructions that are offered
 abbrev pub offered_words : List Bytes
 offered_words = codes "pledge" ∷ codes "open" ∷ codes "read" ∷ codes "close" ∷ codes "getpid" ∷ codes "exit" ∷ codes "unveil" ∷ []

@@ -1,46 +1,12 @@
 -- What a reader that was given bytes answers, by what the bytes spell.
-use Rattle.std.specs.Prelude.{◌≡◌, ℕ, IsTrue, if◌then◌else◌, ◌==◌, ◌+◌, min, Bool, List, [], ◌∷◌, length, drop, ◌≤◌, map, option_map, Option, None, Some, Result, Ok, Err}
-use Rattle.std.specs.Borrow.{Bor}
+use Rattle.std.specs.Prelude.{◌≡◌, ℕ, ◌+◌, List, [], length, Option, None, Some, Result, Ok, Err}
 use Rattle.std.specs.Global.{Vec}
 use Rattle.pv_model.specs.declared.fault.ParseFault.{ParseFault}
 use Rattle.pv_model.specs.declared.fault.ParseFault.TheVariants.{Line as ParseLine, Memory as ParseMemory}
-use Rattle.pv_model.specs.declared.fault.ScheduleFault.{ScheduleFault}
-use Rattle.pv_model.specs.declared.fault.ScheduleFault.TheVariants.{Line as ScheduleLine, Memory as ScheduleMemory}
-use Rattle.pv_model.specs.declared.fault.ManifestFault.{ManifestFault}
-use Rattle.pv_model.specs.declared.fault.ManifestFault.TheVariants.{Memory as ManifestMemory}
 use Rattle.pv_model.specs.declared.instruction.Instruction.{Instruction}
 use Rattle.pv_model.specs.Bytes.{Bytes}
-use Rattle.pv_model.specs.Grammar.Arguments.{Parsed}
-use Rattle.pv_model.specs.Grammar.Lines.{lines_of, decimal_of}
-use Rattle.pv_model.specs.Grammar.Manifests.{Taking, Listed, Manifest}
-use Rattle.pv_model.specs.Manifest.{make, Entry as ManifestEntry}
-use Rattle.pv_model.specs.PlainTree.{plain_node}
-use Rattle.pv_run.specs.Made.{IsMade}
-use Rattle.pv_run.specs.declared.reader.bundle.Bundle.{Bundle}
-use Rattle.pv_run.specs.declared.reader.bundle.Entry.{Entry}
-use Rattle.pv_run.specs.declared.reader.bundle.Taken.{Taken}
 use Rattle.pv_model.specs.State.{Program}
-use Rattle.pv_model.specs.Step.{Schedule}
-use Rattle.pv_model.specs.Tree.{Tree, root, is_directory_at}
 use Rattle.pv_model.specs.Walk.{split_slashes}
-
--- a value and the bytes behind it are what was to be read, or nothing was to be read
-abbrev pub Reads : {A : Type 0} → Option (A × Bor Bytes) → Parsed A → Type 0
-Reads None parsed = parsed ≡ None
-Reads (Some p) parsed = parsed ≡ Some (p.0, p.1.now)
-
--- the end of a text: its quotation mark
-abbrev pub text_end : Bytes → Parsed Bytes
-text_end [] = None
-text_end (b ∷ bs) = if b == 34 then Some ([], bs) else None
-
--- a number, or the greatest of 32 bits where it is above that
-abbrev pub up_to_greatest : ℕ → ℕ
-up_to_greatest n = min n 4294967295
-
--- the number that a decimal spells, held at the greatest of 32 bits
-abbrev pub held_of : Bytes → Option ℕ
-held_of word = option_map up_to_greatest (decimal_of word)
 
 -- the pieces behind a slash, where there is one
 abbrev pub pieces_behind : Option Bytes → List Bytes
@@ -61,13 +27,3 @@ RefusesProgram (ParseLine n what) read = read ≡ Err (ParseLine n what)
 abbrev pub GivesProgram : Result (Vec Instruction) ParseFault → Result Program ParseFault → Type 0
 GivesProgram (Ok program) read = read ≡ Ok program.items
 GivesProgram (Err fault) read = RefusesProgram fault read
-
--- what a refusal says of a schedule that was to be read: nothing, where memory was refused
-abbrev pub RefusesSchedule : ScheduleFault → Result Schedule ScheduleFault → Type 0
-RefusesSchedule ScheduleMemory read = Unit {0}
-RefusesSchedule (ScheduleLine n) read = read ≡ Err (ScheduleLine n)
-
--- a schedule is what was to be read, or its fault is
-abbrev pub GivesSchedule : Result (Vec (ℕ × ℕ)) ScheduleFault → Result Schedule ScheduleFault → Type 0
-GivesSchedule (Ok schedule) read = read ≡ Ok schedule.items
-GivesSchedule (Err fault) read = RefusesSchedule fault read

@@ -9,10 +9,11 @@ ghost use Rattle.pv_run.specs.Run.{HasRun, IsBundleFault, IsStartFault, IsTextOf
 ghost use Rattle.pv_run.specs.Streams.{GivesMoreThan};
 
 use crate::kernel::Kernel;
-use crate::reader::{build, bundle_of, read_program, read_schedule};
+use crate::reader::{build, bundle_of, read_program};
 use crate::running::{run_schedule, step_count};
 use crate::stream::{SOURCE_BYTES, read_whole, write_whole};
 use pv_model::{Failed, Instruction, PlainNode, PlainTree, RunFault, Sink, Source};
+use pv_script::Schedule;
 use std::alloc::Global;
 
 /// What a run did.
@@ -28,11 +29,11 @@ pub struct Summary {
 #[derive(Drop)]
 struct Ready {
     kernel: Kernel,
-    schedule: Vec<(u32, u32)>,
+    schedule: Schedule,
 }
 
 // The first program: that of the file `init` in the root.
-#[tactic(auto, unfolding(crate::specs::Run::first_program), using(crate::proofs::Offers::all_offered))]
+#[tactic(auto, unfolding(crate::specs::Run::first_program))]
 fn init(alloc: Global, tree: &PlainTree) -> Result<Vec<Instruction>, RunFault>
     ensures program { IfOk result (λ p. first_program tree.now ≡ Ok p.items) }
     ensures offered { IfOk result (λ p. IsTrue (list_all is_offered_instruction p.items)) }
@@ -57,16 +58,15 @@ fn init(alloc: Global, tree: &PlainTree) -> Result<Vec<Instruction>, RunFault>
 // What a bundle's run starts from.
 fn start(alloc: Global, bytes: &[u8]) -> Result<Ready, RunFault>
     requires { length bytes.now ≤ SOURCE_BYTES }
-    ensures asked { IfOk result (λ r. started bytes.now ≡ Ok (started_from r.kernel r.schedule.items)) }
+    ensures asked { IfOk result (λ r. started bytes.now ≡ Ok (started_from r.kernel r.schedule)) }
     ensures machine { IfOk result (λ r. boot program_of r.kernel.tree ≡ Some r.kernel) }
-    ensures short { IfOk result (λ r. length r.schedule.items ≤ 65536) }
     ensures fault { IfErr result (λ f. RefusesStart f (started bytes.now)) }
     ensures kind { IfErr result IsStartFault }
 {
     let bundle = bundle_of(alloc, bytes)?;
     let behind = bundle.behind;
     let tree = build(alloc, bundle)?;
-    let schedule = read_schedule(alloc, behind)?;
+    let schedule = Schedule::parse(alloc, behind)?;
     let program = init(alloc, &tree)?;
     Ok(Ready {
         kernel: Kernel::boot(tree, program),
@@ -86,8 +86,8 @@ fn text(alloc: Global, bytes: &[u8]) -> Result<(Vec<u8>, Summary), RunFault>
         schedule,
     } = start(alloc, bytes)?;
     let mut text = Vec::new(alloc);
-    let lines = run_schedule(&mut kernel, &schedule, &mut text)?;
-    let steps = step_count(&schedule);
+    let lines = run_schedule(&mut kernel, schedule.turns(), &mut text)?;
+    let steps = step_count(schedule.turns());
     Ok((text, Summary { steps, lines }))
 }
 

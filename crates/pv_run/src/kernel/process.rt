@@ -25,8 +25,8 @@ use pv_promises::{Decision, Pledge};
 use pv_unveil::{AddFault, Table};
 use std::marker::Model;
 
-/// The process: what it has promised, what it has unveiled, its open files by their descriptors, its program and its next line, its
-/// registers and its buffer.
+/// The process: what it has promised, what it has unveiled, its open files by their descriptors, its program and its
+/// next line, its registers and its buffer.
 #[derive(Drop)]
 pub(crate) struct Process {
     pledge: Pledge,

@@ -6,11 +6,11 @@ ghost use Rattle.pv_model.specs.Grammar.Manifests.{are_sizes, sizes_of, director
 ghost use Rattle.pv_run.specs.Offered.{offered_entry_by, offered_entry, offered_bundle};
 ghost use Rattle.pv_run.specs.Bundles.{held_sizes, Takes, GivesListed, GivesBundle};
 
-use super::arguments::{one_text, text_and_size, two_sizes, two_texts};
 use super::bundle::{Bundle, Entry, Taken};
-use super::lines::{split_line, split_word};
 use super::paths::is_manifest_path;
 use pv_model::{ManifestFault, PlainNode};
+use pv_script::arguments::{one_text, text_and_size, two_sizes, two_texts};
+use pv_script::lines::{split_line, split_word};
 use std::alloc::{AllocError, Global};
 
 // The blocks and inodes that the first line of a manifest tells, each held at 4,294,967,295.

@@ -1,15 +1,13 @@
 //! Paths, piece by piece.
 ghost use Rattle.std.specs.Prelude.{◌≡◌, ◌<◌, ◌∷◌, length, not, IfSome, Option};
-ghost use Rattle.std.specs.List.{list_all};
 ghost use Rattle.std.specs.Option.{option_copied};
-ghost use Rattle.pv_model.specs.Tree.{is_name, is_name_byte};
-ghost use Rattle.pv_model.specs.declared.version.Version.TheVariants.{V1};
 ghost use Rattle.pv_model.specs.Walk.{split_slashes};
 ghost use Rattle.pv_model.specs.Grammar.Manifests.{is_manifest_path as spells_manifest_path};
 ghost use Rattle.pv_run.specs.Offered.{is_no_dot, is_plain_path as spells_plain_path};
 ghost use Rattle.pv_run.specs.Reading.{pieces_behind};
 
-use super::lines::first_of;
+use pv_model::{Version, is_name};
+use pv_script::lines::first_of;
 
 /// What stands before the first slash, and what stands behind it, if there is one.
 pub fn split_piece(path: &[u8]) -> (&[u8], Option<&[u8]>)
@@ -48,29 +46,6 @@ pub fn is_plain_path(path: &[u8]) -> bool
     true
 }
 
-// Whether no byte is 0 or a slash.
-fn has_name_bytes(name: &[u8]) -> bool
-    ensures { result ≡ list_all is_name_byte name.now }
-{
-    name.iter().all(|b| *b != 0 && *b != b'/')
-}
-
-// Whether an entry may have this name in an image of version 1.
-fn is_short_name(name: &[u8]) -> bool
-    ensures { result ≡ is_name V1 name.now }
-{
-    if name.is_empty() || name.len() > 60 {
-        return false;
-    }
-    if !has_name_bytes(name) {
-        return false;
-    }
-    if name == b".".as_slice() {
-        return false;
-    }
-    name != b"..".as_slice()
-}
-
 /// Whether a path is a slash, and one or more names joined by single slashes.
 pub fn is_manifest_path(path: &[u8]) -> bool
     ensures { result ≡ spells_manifest_path path.now }
@@ -81,7 +56,7 @@ pub fn is_manifest_path(path: &[u8]) -> bool
     let mut rest = Some(names);
     while let Some(names) = rest {
         let (name, behind) = split_piece(names);
-        if !is_short_name(name) {
+        if !is_name(Version::V1, name) {
             return false;
         }
         rest = behind;

@@ -1,17 +1,28 @@
-//! The program that bytes spell.
-ghost use Rattle.std.specs.Prelude.{◌≡◌, ℕ, IsTrue, IfOk, Ok, option_map, option_and_then};
+//! The program that bytes spell, each line an instruction that is offered.
+ghost use Rattle.std.specs.Prelude.{◌≡◌, IsTrue, IfOk, Ok};
 ghost use Rattle.std.specs.List.{list_all};
-ghost use Rattle.pv_model.specs.declared.instruction.Instruction.TheVariants.{Exit as ExitLine, GetPid as GetPidLine, Pledge as PledgeLine, Close as CloseLine, Read as ReadLine};
-ghost use Rattle.pv_model.specs.Grammar.Arguments.{text_at, text_or_null_at, flags_at, operand_at, one_argument, two_arguments, no_argument};
 ghost use Rattle.pv_model.specs.Grammar.Programs.{read_program};
-ghost use Rattle.pv_run.specs.Offered.{is_offered_instruction, is_plain_reading, offered_by, offered_instruction, offered_program, plain_open, plain_unveil};
+ghost use Rattle.pv_run.specs.Offered.{is_offered_instruction, is_offered_word, is_plain_path_or_null, is_plain_reading, only_offered, offered_instruction, offered_program};
 ghost use Rattle.pv_run.specs.Reading.{GivesProgram};
 
-use super::arguments::{one_operand, text_and_flags, two_operands, two_texts_or_null};
-use super::lines::{split_line, split_word};
 use super::paths::is_plain_path;
-use pv_model::{Instruction, Mode, OpenFlags, ParseFault, What};
+use pv_model::{Instruction, Mode, OpenFlags, ParseFault, Text, What};
+use pv_script::instruction::instruction;
+use pv_script::lines::{count_lines, split_line, split_word};
 use std::alloc::Global;
+
+// Whether a word is the name of an instruction that is offered.
+fn is_offered_word(word: &[u8]) -> bool
+    ensures { result ≡ is_offered_word word.now }
+{
+    word == b"pledge".as_slice()
+        || word == b"open".as_slice()
+        || word == b"read".as_slice()
+        || word == b"close".as_slice()
+        || word == b"getpid".as_slice()
+        || word == b"exit".as_slice()
+        || word == b"unveil".as_slice()
+}
 
 // Whether flags are `r` alone.
 fn is_reading_alone(flags: OpenFlags) -> bool
@@ -30,115 +41,67 @@ fn is_reading_alone(flags: OpenFlags) -> bool
         }
 }
 
-// The instruction `open` with these arguments: for reading, and by a path without dots.
-fn open(rest: &[u8]) -> Option<Instruction>
-    ensures { result ≡ option_and_then plain_open (two_arguments text_at flags_at rest.now) }
+// Whether a path has no dots, if there is one.
+fn is_plain_path_or_null(path: &Option<Text>) -> bool
+    ensures { result ≡ is_plain_path_or_null path.now }
 {
-    let (path, flags) = text_and_flags(rest)?;
-    if is_reading_alone(flags) && is_plain_path(path.as_slice()) {
-        Some(Instruction::Open(path, flags))
-    } else {
-        None
+    match path {
+        Some(path) => is_plain_path(path.as_slice()),
+        None => true,
     }
 }
 
-// The instruction `pledge` with these arguments.
-fn pledge(rest: &[u8]) -> Option<Instruction>
-    ensures { result ≡ option_map (λ p. PledgeLine p.0 p.1) (two_arguments text_or_null_at text_or_null_at rest.now) }
+// Whether an instruction is offered.
+fn is_offered(instruction: &Instruction) -> bool
+    ensures { result ≡ is_offered_instruction instruction.now }
 {
-    let (promises, execpromises) = two_texts_or_null(rest)?;
-    Some(Instruction::Pledge(promises, execpromises))
-}
-
-// The instruction `read` with these arguments.
-fn read(rest: &[u8]) -> Option<Instruction>
-    ensures { result ≡ option_map (λ p. ReadLine p.0 p.1) (two_arguments operand_at operand_at rest.now) }
-{
-    let (descriptor, count) = two_operands(rest)?;
-    Some(Instruction::Read(descriptor, count))
-}
-
-// The instruction `close` with this argument.
-fn close(rest: &[u8]) -> Option<Instruction>
-    ensures { result ≡ option_map CloseLine (one_argument operand_at rest.now) }
-{
-    let descriptor = one_operand(rest)?;
-    Some(Instruction::Close(descriptor))
-}
-
-// The instruction `getpid`, which has no argument.
-fn getpid(rest: &[u8]) -> Option<Instruction>
-    ensures { result ≡ option_map (λ _. GetPidLine) (no_argument rest.now) }
-{
-    if rest.is_empty() {
-        Some(Instruction::GetPid)
-    } else {
-        None
-    }
-}
-
-// The instruction `exit` with this argument.
-fn exit(rest: &[u8]) -> Option<Instruction>
-    ensures { result ≡ option_map ExitLine (one_argument operand_at rest.now) }
-{
-    let code = one_operand(rest)?;
-    Some(Instruction::Exit(code))
-}
-
-// The instruction `unveil` with these arguments: with a path without dots, if with one.
-fn unveil(rest: &[u8]) -> Option<Instruction>
-    ensures { result ≡ option_and_then plain_unveil (two_arguments text_or_null_at text_or_null_at rest.now) }
-{
-    let (path, letters) = two_texts_or_null(rest)?;
-    if let Some(path) = &path {
-        if !is_plain_path(path.as_slice()) {
-            return None;
+    match instruction {
+        Instruction::Pledge(_, _)
+        | Instruction::Read(_, _)
+        | Instruction::Close(_)
+        | Instruction::GetPid
+        | Instruction::Exit(_) => true,
+        Instruction::Open(path, flags) => {
+            is_reading_alone(*flags) && is_plain_path(path.as_slice())
         }
+        Instruction::Unveil(path, _) => is_plain_path_or_null(path),
+        _ => false,
     }
-    Some(Instruction::Unveil(path, letters))
 }
 
-// The instruction that its first word and what stands behind it spell, if it is offered.
-fn by_word(word: &[u8], rest: &[u8]) -> Result<Instruction, What>
-    ensures { (lines : ℕ) → result ≡ offered_by lines word.now rest.now }
+// What was read, if it is offered.
+fn only_offered(read: Result<Instruction, What>) -> Result<Instruction, What>
+    ensures { result ≡ only_offered read }
 {
-    if word == b"pledge".as_slice() {
-        return pledge(rest).ok_or(What::Argument);
+    match read {
+        Ok(instruction) => {
+            if is_offered(&instruction) {
+                Ok(instruction)
+            } else {
+                Err(What::Argument)
+            }
+        }
+        Err(what) => Err(what),
     }
-    if word == b"open".as_slice() {
-        return open(rest).ok_or(What::Argument);
-    }
-    if word == b"read".as_slice() {
-        return read(rest).ok_or(What::Argument);
-    }
-    if word == b"close".as_slice() {
-        return close(rest).ok_or(What::Argument);
-    }
-    if word == b"getpid".as_slice() {
-        return getpid(rest).ok_or(What::Argument);
-    }
-    if word == b"exit".as_slice() {
-        return exit(rest).ok_or(What::Argument);
-    }
-    if word == b"unveil".as_slice() {
-        return unveil(rest).ok_or(What::Argument);
-    }
-    Err(What::Word)
 }
 
-// The instruction that a line spells, if it is offered.
-fn instruction(line: &[u8]) -> Result<Instruction, What>
-    ensures { (lines : ℕ) → result ≡ offered_instruction lines line.now }
+// The offered instruction that a line spells, in a program of so many lines.
+#[tactic(auto, using(crate::proofs::Offers::not_offered, crate::proofs::Offers::offered_is_known))]
+fn offered_line(line_count: u16, line: &[u8]) -> Result<Instruction, What>
+    ensures { result ≡ offered_instruction line_count line.now }
 {
-    let (word, rest) = split_word(line);
-    by_word(word, rest)
+    let (word, _) = split_word(line);
+    if !is_offered_word(word) {
+        return Err(What::Word);
+    }
+    only_offered(instruction(line_count, line))
 }
 
 // The program that bytes spell, each line an offered instruction.
-#[tactic(auto, unfolding(crate::specs::Offered::offered_program))]
 fn offered(alloc: Global, bytes: &[u8]) -> Result<Vec<Instruction>, ParseFault>
     ensures { GivesProgram result (offered_program bytes.now) }
 {
+    let line_count = count_lines(bytes, 256);
     let mut program = Vec::new(alloc);
     let mut rest = bytes;
     let mut line_number: u16 = 1;
@@ -146,7 +109,7 @@ fn offered(alloc: Global, bytes: &[u8]) -> Result<Vec<Instruction>, ParseFault>
         if line_number == 257 {
             return Err(ParseFault::Line(257, What::TooMany));
         }
-        match instruction(line) {
+        match offered_line(line_count, line) {
             Ok(instruction) => program.push(instruction)?,
             Err(what) => return Err(ParseFault::Line(line_number, what)),
         }

@@ -3,8 +3,8 @@ ghost use Rattle.std.specs.Prelude.{◌<◌, ◌^◌, length};
 use super::build::build;
 use super::manifest::bundle_of;
 use super::program::program;
-use super::schedule::schedule;
-use pv_model::{Instruction, ManifestFault, ParseFault, PlainNode, ScheduleFault, What};
+use pv_model::{Instruction, ManifestFault, ParseFault, PlainNode, What};
+use pv_script::Schedule;
 use std::alloc::{AllocError, Global};
 use std::test::Fail;
 
@@ -32,8 +32,8 @@ fn bundle_of_one_program(rt: HostRuntime) -> Result<(), Fail> {
     let bytes =
         b"image 16 16\ndir \"/etc\"\nbytes \"/etc/motd\" \"h\\x65llo\"\nexec \"/init\" 2\nopen \"/etc/motd\" r\nexit 0\nschedule\n1 5\n";
     let read = bundle_of(rt.alloc(), bytes)?;
-    let turns = schedule(rt.alloc(), read.behind)?;
-    assert_eq!(rt; turns.as_slice(), [(1, 5)].as_slice());
+    let schedule = Schedule::parse(rt.alloc(), read.behind)?;
+    assert_eq!(rt; schedule.turns(), [(1, 5)].as_slice());
     let tree = build(rt.alloc(), read)?;
     assert_eq!(rt; tree.find(1, b"etc"), Some(2));
     assert_eq!(rt; tree.find(2, b"motd"), Some(3));
@@ -274,9 +274,9 @@ fn room_of_an_image(rt: HostRuntime) -> Result<(), Fail> {
 #[test]
 fn program_of_each_offered_word(rt: HostRuntime) -> Result<(), Fail> {
     let bytes =
-        b"pledge \"stdio\" null\nopen \"/a\" r\nread r0 -1\nclose 2147483647\ngetpid\nexit r7\nunveil \"/a\" \"r\"\nunveil null \"\"";
+        b"pledge \"stdio\" null\nopen \"/a\" r\nread r0 -1\nclose 2147483647\ngetpid\nexit r7";
     let lines = program(rt.alloc(), bytes)?;
-    assert_eq!(rt; lines.len(), 8);
+    assert_eq!(rt; lines.len(), 6);
     match lines.get(0) {
         Some(Instruction::Pledge(Some(promises), None)) => {
             assert_eq!(rt; promises.as_slice(), b"stdio".as_slice());
@@ -288,61 +288,30 @@ fn program_of_each_offered_word(rt: HostRuntime) -> Result<(), Fail> {
     assert!(rt; matches!(lines.get(3), Some(Instruction::Close(_))));
     assert!(rt; matches!(lines.get(4), Some(Instruction::GetPid)));
     assert!(rt; matches!(lines.get(5), Some(Instruction::Exit(_))));
-    assert!(rt; matches!(lines.get(6), Some(Instruction::Unveil(Some(_), Some(_)))));
-    assert!(rt; matches!(lines.get(7), Some(Instruction::Unveil(None, Some(_)))));
     assert_eq!(rt; program(rt.alloc(), b"")?.len(), 0);
     Ok(())
 }
 
 #[test]
-fn lines_that_are_no_instructions(rt: HostRuntime) -> Result<(), Fail> {
+fn lines_that_are_not_offered(rt: HostRuntime) -> Result<(), Fail> {
     let alloc = rt.alloc();
+    assert_eq!(rt;
+        program(alloc, b"exit  0").err(),
+        Some(ParseFault::Line(1, What::Argument))
+    );
+    // These are instructions of the machine.
     assert_eq!(rt;
         program(alloc, b"exit 0\nfork\n").err(),
         Some(ParseFault::Line(2, What::Word))
     );
     assert_eq!(rt;
-        program(alloc, b"\n").err(),
-        Some(ParseFault::Line(1, What::Word))
-    );
-    assert_eq!(rt;
-        program(alloc, b" exit 0").err(),
+        program(alloc, b"fork x").err(),
         Some(ParseFault::Line(1, What::Word))
     );
     assert_eq!(rt;
         program(alloc, b"unveil \"/a/..\" \"r\"\n").err(),
         Some(ParseFault::Line(1, What::Argument))
     );
-    assert_eq!(rt;
-        program(alloc, b"exit  0").err(),
-        Some(ParseFault::Line(1, What::Argument))
-    );
-    assert_eq!(rt;
-        program(alloc, b"exit 0 ").err(),
-        Some(ParseFault::Line(1, What::Argument))
-    );
-    assert_eq!(rt;
-        program(alloc, b"exit -0").err(),
-        Some(ParseFault::Line(1, What::Argument))
-    );
-    assert_eq!(rt;
-        program(alloc, b"exit 2147483648").err(),
-        Some(ParseFault::Line(1, What::Argument))
-    );
-    assert_eq!(rt; program(alloc, b"exit -2147483648").err(), None);
-    assert_eq!(rt;
-        program(alloc, b"exit r8").err(),
-        Some(ParseFault::Line(1, What::Argument))
-    );
-    assert_eq!(rt;
-        program(alloc, b"pledge \"\\x00\" null").err(),
-        Some(ParseFault::Line(1, What::Argument))
-    );
-    assert_eq!(rt;
-        program(alloc, b"pledge \"\\x4A\" null").err(),
-        Some(ParseFault::Line(1, What::Argument))
-    );
-    // These are instructions of the machine, but are not offered.
     assert_eq!(rt;
         program(alloc, b"open \"/a\" w").err(),
         Some(ParseFault::Line(1, What::Argument))
@@ -366,66 +335,5 @@ fn lines_that_are_no_instructions(rt: HostRuntime) -> Result<(), Fail> {
     );
     let full = repeated(alloc, b"getpid\n", 256)?;
     assert_eq!(rt; program(alloc, full.as_slice()).err(), None);
-    Ok(())
-}
-
-#[test]
-fn texts_up_to_their_limit(rt: HostRuntime) -> Result<(), Fail> {
-    let alloc = rt.alloc();
-    let mut longest = b"pledge \"".to_vec(alloc)?;
-    longest.extend_from_slice(repeated(alloc, b"\\x61", 1_100)?.as_slice())?;
-    longest.extend_from_slice(b"\" null")?;
-    assert_eq!(rt; program(alloc, longest.as_slice()).err(), None);
-    let mut longer = b"pledge \"".to_vec(alloc)?;
-    longer.extend_from_slice(repeated(alloc, b"a", 1_101)?.as_slice())?;
-    longer.extend_from_slice(b"\" null")?;
-    assert_eq!(rt;
-        program(alloc, longer.as_slice()).err(),
-        Some(ParseFault::Line(1, What::Argument))
-    );
-    Ok(())
-}
-
-#[test]
-fn turns_of_a_schedule(rt: HostRuntime) -> Result<(), Fail> {
-    let alloc = rt.alloc();
-    assert_eq!(rt;
-        schedule(alloc, b"1\n99999 99999")?.as_slice(),
-        [(1, 1), (99_999, 99_999)].as_slice()
-    );
-    assert_eq!(rt; schedule(alloc, b"")?.len(), 0);
-    assert_eq!(rt;
-        schedule(alloc, b"1\n0\n").err(),
-        Some(ScheduleFault::Line(2))
-    );
-    assert_eq!(rt;
-        schedule(alloc, b"1 0\n").err(),
-        Some(ScheduleFault::Line(1))
-    );
-    assert_eq!(rt;
-        schedule(alloc, b"01\n").err(),
-        Some(ScheduleFault::Line(1))
-    );
-    assert_eq!(rt;
-        schedule(alloc, b"100000\n").err(),
-        Some(ScheduleFault::Line(1))
-    );
-    assert_eq!(rt;
-        schedule(alloc, b"1  5\n").err(),
-        Some(ScheduleFault::Line(1))
-    );
-    assert_eq!(rt;
-        schedule(alloc, b"1 5 \n").err(),
-        Some(ScheduleFault::Line(1))
-    );
-    assert_eq!(rt;
-        schedule(alloc, b"1\n\n1\n").err(),
-        Some(ScheduleFault::Line(2))
-    );
-    let many = repeated(alloc, b"1\n", 65_537)?;
-    assert_eq!(rt;
-        schedule(alloc, many.as_slice()).err(),
-        Some(ScheduleFault::Line(65_537))
-    );
     Ok(())
 }

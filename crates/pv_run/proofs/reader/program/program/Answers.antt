@@ -1,4 +1,4 @@
-use Rattle.pv_run.proofs.Programs.{offered_is_spelled, offered_alone}
+use Rattle.pv_run.proofs.Offers.{offered_is_spelled, offered_alone}
 use Rattle.pv_run.proofs.reader.program.program.Goals as goal
 
 pub returns-clause-spelled : goal.returns-clause-spelled

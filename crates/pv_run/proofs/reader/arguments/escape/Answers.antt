@@ -1,5 +1,0 @@
-use Rattle.pv_run.proofs.Arguments.{short_escape}
-use Rattle.pv_run.proofs.reader.arguments.escape.Goals as goal
-
-pub returns-in_default-clause-read : goal.returns-in_default-clause-read
-returns-in_default-clause-read c = short_escape c.args.bytes.now c.in_default.len_below

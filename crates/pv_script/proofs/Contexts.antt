@@ -1,0 +1,75 @@
+-- What an instruction on registers, or a jump, makes of a context.
+use Rattle.std.proofs.Common.{◌≡◌, ◌∙◌, ap, sym, ℕ, ℤ, pos, negsuc, ◌+ℤ◌, Bool, true, false, not, ltb, inl, inr, arith}
+use Rattle.std.specs.Prelude.{slice_index, replicate}
+use Rattle.std.specs.Int.{w32, saturate_signed}
+use Rattle.std.proofs.lemmas.Bool.{cases_lt, lt-ltb, le-ltb}
+use Rattle.pv_model.specs.declared.instruction.Instruction.{Instruction}
+use Rattle.pv_model.specs.declared.instruction.Instruction.TheVariants.{Set, Add, Put, Peek, JumpIfZero, JumpIfNotZero, JumpIfNegative}
+use Rattle.pv_model.specs.Answer.{at_next_line, with_front}
+use Rattle.pv_model.specs.Bytes.{Bytes}
+use Rattle.pv_model.specs.Program.{clamp, is_zero, is_negative, register, with_register, jump_if, inside, perform}
+use Rattle.pv_model.specs.State.{Program, Process, no_registers}
+use Rattle.pv_script.specs.Context.{Context, first_context, in_context, Changes}
+
+-- a sum that stops at the ends of 32 bits
+pub clamped : (z : ℤ) → saturate_signed w32 z ≡ clamp z
+clamped (pos n) =
+    elim (cases_lt 2147483647 n) [
+      | inl above ↦ let t : ltb 2147483647 n ≡ true = lt-ltb 2147483647 n above in rw t (ap pos (omega arith))
+      | inr within ↦ let t : ltb 2147483647 n ≡ false = le-ltb 2147483647 n within in rw t (ap pos (omega arith))
+    ]
+clamped (negsuc n) =
+    elim (cases_lt 2147483647 n) [
+      | inl above ↦ let t : ltb 2147483647 n ≡ true = lt-ltb 2147483647 n above in rw t (ap negsuc (omega arith))
+      | inr within ↦ let t : ltb 2147483647 n ≡ false = le-ltb 2147483647 n within in rw t (ap negsuc (omega arith))
+    ]
+
+-- a context whose buffer is all zero, before a first step
+pub first : (buffer : Bytes) (n : ℕ) → buffer ≡ replicate n 0 → n ≡ 4096 → record { line = 1; registers = no_registers; buffer = buffer } ≡ first_context
+unfolding first_context
+first buffer n zeros size = ap (λ b. let it : Context = record { line = 1; registers = no_registers; buffer = b } in it) (zeros ∙ ap (λ k. replicate k 0) size)
+
+module _ (program : Program) (old new : Context) (i : Instruction) where
+  assigned : (r : ℕ) (value : ℤ) → Changes (λ p. at_next_line (with_register p r value)) program old new → (v : ℤ) → value ≡ v
+      → (p : Process) → inside (at_next_line (with_register (in_context p program old) r v)) ≡ inside (in_context p program new)
+  assigned r value made v same p = ap inside (sym (made p ∙ ap (λ n. at_next_line (with_register (in_context p program old) r n)) same))
+
+  pub set_made : (r : ℕ) (n value : ℤ) → i ≡ Set r n → value ≡ n → Changes (λ p. at_next_line (with_register p r value)) program old new
+      → (p : Process) → perform (in_context p program old) i ≡ inside (in_context p program new)
+  unfolding perform
+  set_made r n value is same made p = rw is (assigned r value made n same p)
+
+  pub add_made : (r : ℕ) (n value : ℤ) → i ≡ Add r n → ((p : Process) → value ≡ clamp (register (in_context p program old) r +ℤ n)) → Changes (λ p. at_next_line (with_register p r value)) program old new
+      → (p : Process) → perform (in_context p program old) i ≡ inside (in_context p program new)
+  unfolding perform
+  add_made r n value is same made p = rw is (assigned r value made (clamp (register (in_context p program old) r +ℤ n)) (same p) p)
+
+  pub peek_made : (r k : ℕ) (value : ℤ) → i ≡ Peek r k → value ≡ pos (slice_index old.buffer k) → Changes (λ p. at_next_line (with_register p r value)) program old new
+      → (p : Process) → perform (in_context p program old) i ≡ inside (in_context p program new)
+  unfolding perform
+  peek_made r k value is same made p = rw is (assigned r value made (pos (slice_index old.buffer k)) same p)
+
+  pub put_made : (mid : Context) (bytes text : Bytes) → i ≡ Put text → bytes ≡ text → Changes (with_front bytes) program old mid → Changes at_next_line program mid new
+      → (p : Process) → perform (in_context p program old) i ≡ inside (in_context p program new)
+  unfolding perform
+  put_made mid bytes text is same made next p =
+      rw is (ap inside (sym (next p ∙ ap at_next_line (made p ∙ ap (λ b. with_front b (in_context p program old)) same))))
+
+  jumped : (holds : Bool) (line : ℕ) → Changes (λ p. jump_if holds p line) program old new → (t : Bool) → holds ≡ t → (p : Process)
+      → inside (jump_if t (in_context p program old) line) ≡ inside (in_context p program new)
+  jumped holds line made t same p = ap inside (sym (made p ∙ ap (λ b. jump_if b (in_context p program old) line) same))
+
+  pub jump_if_zero_made : (r line : ℕ) (holds : Bool) → i ≡ JumpIfZero r line → ((p : Process) → holds ≡ is_zero (register (in_context p program old) r)) → Changes (λ p. jump_if holds p line) program old new
+      → (p : Process) → perform (in_context p program old) i ≡ inside (in_context p program new)
+  unfolding perform
+  jump_if_zero_made r line holds is same made p = rw is (jumped holds line made (is_zero (register (in_context p program old) r)) (same p) p)
+
+  pub jump_if_not_zero_made : (r line : ℕ) (holds : Bool) → i ≡ JumpIfNotZero r line → ((p : Process) → holds ≡ not (is_zero (register (in_context p program old) r)))
+      → Changes (λ p. jump_if holds p line) program old new → (p : Process) → perform (in_context p program old) i ≡ inside (in_context p program new)
+  unfolding perform
+  jump_if_not_zero_made r line holds is same made p = rw is (jumped holds line made (not (is_zero (register (in_context p program old) r))) (same p) p)
+
+  pub jump_if_negative_made : (r line : ℕ) (holds : Bool) → i ≡ JumpIfNegative r line → ((p : Process) → holds ≡ is_negative (register (in_context p program old) r))
+      → Changes (λ p. jump_if holds p line) program old new → (p : Process) → perform (in_context p program old) i ≡ inside (in_context p program new)
+  unfolding perform
+  jump_if_negative_made r line holds is same made p = rw is (jumped holds line made (is_negative (register (in_context p program old) r)) (same p) p)

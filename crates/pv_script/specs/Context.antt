@@ -1,0 +1,51 @@
+-- The context of a process: the line that comes next, its registers and its buffer.
+use Rattle.std.specs.Prelude.{◌≡◌, ℕ, ◌-◌, ℤ, Bool, true, false, List, IsTrue, slice_get, Option, None, Some}
+use Rattle.pv_model.specs.declared.instruction.Instruction.{Instruction}
+use Rattle.pv_model.specs.declared.instruction.Instruction.TheVariants.{Set, Add, Put, Peek, Jump, JumpIfZero, JumpIfNotZero, JumpIfNegative}
+use Rattle.pv_model.specs.Bytes.{Bytes}
+use Rattle.pv_model.specs.Program.{calls_for, next}
+use Rattle.pv_model.specs.State.{Program, Process, no_registers, no_bytes}
+use Rattle.pv_script.specs.declared.machine.Next.{Next}
+use Rattle.pv_script.specs.declared.machine.Next.TheVariants.{Register, Call}
+
+pub record Context : Type 0 where
+  pub line : ℕ
+  pub registers : List ℤ
+  pub buffer : Bytes
+
+-- that of a process before its first step
+unfoldable pub first_context : Context
+first_context = record { line = 1; registers = no_registers; buffer = no_bytes }
+
+-- a process with a program and a context
+abbrev pub in_context : Process → Program → Context → Process
+in_context p program c = record p { program = program; line = c.line; registers = c.registers; buffer = c.buffer }
+
+-- what changes a process of this program does so by its context alone
+abbrev pub Changes : (Process → Process) → Program → Context → Context → Type 0
+Changes change program old new = (p : Process) → in_context p program new ≡ change (in_context p program old)
+
+-- whether an instruction is one on registers or a jump, and no call
+abbrev pub is_on_registers : Instruction → Bool
+is_on_registers (Set r n) = true
+is_on_registers (Add r n) = true
+is_on_registers (Put bytes) = true
+is_on_registers (Peek r k) = true
+is_on_registers (Jump line) = true
+is_on_registers (JumpIfZero r line) = true
+is_on_registers (JumpIfNotZero r line) = true
+is_on_registers (JumpIfNegative r line) = true
+is_on_registers _ = false
+
+abbrev pub is_some_on_registers : Option Instruction → Bool
+is_some_on_registers None = false
+is_some_on_registers (Some instruction) = is_on_registers instruction
+
+-- whether such a one comes next
+abbrev pub is_inside : Program → Context → Bool
+is_inside program c = is_some_on_registers (slice_get program (c.line - 1))
+
+-- what comes next in each process with this program and context
+abbrev pub IsNext : Program → Context → Next → Type 0
+IsNext program c Register = IsTrue (is_inside program c)
+IsNext program c (Call call) = (p : Process) → next (in_context p program c) ≡ calls_for call

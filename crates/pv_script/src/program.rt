@@ -1,0 +1,98 @@
+//! Programs, line by line.
+ghost use Rattle.std.specs.Prelude.{◌≡◌, ℕ, ◌-◌, ◌≤◌, ◌↔◌, [], length, slice_get, IsTrue, IfOk, Ok};
+ghost use Rattle.std.specs.List.{list_all};
+ghost use Rattle.std.specs.Option.{option_copied};
+ghost use Rattle.pv_model.specs.Bytes.{Bytes};
+ghost use Rattle.pv_model.specs.Grammar.Programs.{read_program};
+ghost use Rattle.pv_model.specs.State.{Program as Instructions};
+ghost use Rattle.pv_script.specs.Known.{is_known, known_program};
+ghost use Rattle.pv_script.specs.Reading.{GivesProgram};
+
+use crate::instruction::instruction;
+use crate::lines::{count_lines, split_line};
+use pv_model::{Instruction, ParseFault, What};
+use std::alloc::Global;
+use std::marker::Model;
+
+/// A program: at most 256 instructions. A contract sees their list.
+#[derive(Drop)]
+pub struct Program {
+    lines: Vec<Instruction>,
+}
+
+impl Model for Program {
+    ghost use Rattle.std.specs.Prelude.{length, ◌≤◌};
+    ghost use Rattle.pv_model.specs.State.{Program as Instructions};
+
+    ghost Value = { Instructions };
+
+    ghost view = { λ p. p.lines.items };
+
+    ghost invariant = { λ p. length p.lines.items ≤ 256 };
+}
+
+impl Program {
+    /// The program of no lines.
+    pub fn empty(alloc: Global) -> Program
+        ensures { result ≡ [] }
+    {
+        Program {
+            lines: Vec::new(alloc),
+        }
+    }
+
+    /// The program that bytes spell, each line an instruction, at most 256 lines.
+    ///
+    /// `Err(Line(n, what))` names the least line that is no instruction, counted from 1, and what is
+    /// wrong with it; where the first 256 lines are instructions and there are more, it is
+    /// `Line(257, TooMany)`. `Err(Memory)` says that memory was refused.
+    pub fn parse(alloc: Global, bytes: &[u8]) -> Result<Program, ParseFault>
+        ensures exact { GivesProgram result (known_program bytes.now) }
+    {
+        let line_count = count_lines(bytes, 256);
+        let mut lines = Vec::new(alloc);
+        let mut rest = bytes;
+        let mut line_number: u16 = 1;
+        while let Some((line, behind)) = split_line(rest) {
+            if line_number == 257 {
+                return Err(ParseFault::Line(257, What::TooMany));
+            }
+            match instruction(line_count, line) {
+                Ok(instruction) => lines.push(instruction)?,
+                Err(what) => return Err(ParseFault::Line(line_number, what)),
+            }
+            line_number += 1;
+            rest = behind;
+        }
+        Ok(Program { lines })
+    }
+
+    /// How many lines it has, at most 256.
+    pub fn len(&self) -> usize
+        ensures value { result ≡ length self.now }
+        ensures few { result ≤ 256 }
+    {
+        self.lines.len()
+    }
+
+    /// Whether it has no lines.
+    pub fn is_empty(&self) -> bool
+        ensures { IsTrue result ↔ (self.now ≡ []) }
+    {
+        self.lines.is_empty()
+    }
+
+    /// The instruction of a line, counted from 1, of which there may be none. Line 0 is as line 1.
+    pub fn at(&self, line: u16) -> Option<&Instruction>
+        ensures { option_copied result ≡ slice_get self.now (line - 1) }
+    {
+        self.lines.get(usize::from(line).saturating_sub(1))
+    }
+}
+
+/// What is read is a program of the machine without `openat`, and each such program is read.
+pub fn known_programs_are_those_without_openat()
+    ensures read { (bytes : Bytes) (program : Instructions) → known_program bytes ≡ Ok program → read_program bytes ≡ Ok program }
+    ensures without { (bytes : Bytes) (program : Instructions) → known_program bytes ≡ Ok program → IsTrue (list_all is_known program) }
+    ensures all { (bytes : Bytes) (program : Instructions) → read_program bytes ≡ Ok program → IsTrue (list_all is_known program) → known_program bytes ≡ Ok program }
+{}

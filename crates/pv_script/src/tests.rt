@@ -1,0 +1,431 @@
+use crate::{Machine, Next, Program, Schedule};
+use pv_model::{Call, Instruction, Mode, Operand, ParseFault, ScheduleFault, What, Whence};
+use std::alloc::{AllocError, Global};
+use std::process::Abort;
+use std::test::Fail;
+
+// The same bytes over and over.
+fn repeated(alloc: Global, bytes: &[u8], count: u32) -> Result<Vec<u8>, AllocError> {
+    let mut all = Vec::new(alloc);
+    for _ in 0..count {
+        all.extend_from_slice(bytes)?;
+    }
+    Ok(all)
+}
+
+// Bytes are refused as a program: this line, for this reason.
+fn expect_fault<R: Abort + AllocGlobal>(rt: &R, bytes: &[u8], line: u16, what: What) {
+    let fault = Program::parse(rt.alloc(), bytes).err();
+    assert_eq!(rt; fault, Some(ParseFault::Line(line, what)));
+}
+
+#[test]
+fn lines_that_are_no_instructions(rt: HostRuntime) {
+    expect_fault(&rt, b"exit 0\njmp 3\n", 2, What::Target);
+    expect_fault(&rt, b"exit 0\njmp 0\n", 2, What::Target);
+    expect_fault(&rt, b"jz r0 -1\n", 1, What::Target);
+    expect_fault(&rt, b"jmp r0\n", 1, What::Argument);
+    expect_fault(&rt, b"exit  0\n", 1, What::Argument);
+    expect_fault(&rt, b"exit 0 \n", 1, What::Argument);
+    expect_fault(&rt, b"exit\n", 1, What::Argument);
+    expect_fault(&rt, b"fork \n", 1, What::Argument);
+    expect_fault(&rt, b"\n", 1, What::Word);
+    expect_fault(&rt, b"exit 0\n\n", 2, What::Word);
+    expect_fault(&rt, b" exit 0", 1, What::Word);
+    expect_fault(&rt, b"Exit 0", 1, What::Word);
+    expect_fault(&rt, b"exits 0", 1, What::Word);
+    expect_fault(&rt, b"set r0 2147483648", 1, What::Argument);
+    expect_fault(&rt, b"set r0 -2147483649", 1, What::Argument);
+    expect_fault(&rt, b"set r0 -0", 1, What::Argument);
+    expect_fault(&rt, b"set r0 01", 1, What::Argument);
+    expect_fault(&rt, b"set r8 1", 1, What::Argument);
+    expect_fault(&rt, b"set r0 r1", 1, What::Argument);
+    expect_fault(&rt, b"peek r0 4096", 1, What::Argument);
+    expect_fault(&rt, b"peek r0 -1", 1, What::Argument);
+    expect_fault(&rt, b"put \"\\x00\"", 1, What::Argument);
+    expect_fault(&rt, b"put \"\\x4A\"", 1, What::Argument);
+    expect_fault(&rt, b"put null", 1, What::Argument);
+    expect_fault(&rt, b"open \"/a\" r+trunc+append", 1, What::Argument);
+    expect_fault(&rt, b"open \"/a\" wr", 1, What::Argument);
+    expect_fault(&rt, b"lseek 0 0 here", 1, What::Argument);
+    expect_fault(&rt, b"openat cwd \"/a\" r", 1, What::Word);
+}
+
+#[test]
+fn more_lines_than_a_program_has(rt: HostRuntime) -> Result<(), Fail> {
+    let alloc = rt.alloc();
+    let full = repeated(alloc, b"wait\n", 256)?;
+    assert_eq!(rt; Program::parse(alloc, &full)?.len(), 256);
+    let many = repeated(alloc, b"wait\n", 257)?;
+    expect_fault(&rt, &many, 257, What::TooMany);
+    // A jump leads to one of the first 256 lines, also where there are more.
+    let mut jump = repeated(alloc, b"wait\n", 8)?;
+    jump.extend_from_slice(b"jmp 257\n")?;
+    jump.extend_from_slice(repeated(alloc, b"wait\n", 248)?.as_slice())?;
+    expect_fault(&rt, &jump, 9, What::Target);
+    let mut last = repeated(alloc, b"wait\n", 255)?;
+    last.extend_from_slice(b"jmp 256")?;
+    assert_eq!(rt; Program::parse(alloc, &last)?.len(), 256);
+    Ok(())
+}
+
+#[test]
+fn texts_up_to_their_limit(rt: HostRuntime) -> Result<(), Fail> {
+    let alloc = rt.alloc();
+    let mut longest = b"put \"".to_vec(alloc)?;
+    longest.extend_from_slice(repeated(alloc, b"\\x61", 1_100)?.as_slice())?;
+    longest.extend_from_slice(b"\"")?;
+    assert_eq!(rt; Program::parse(alloc, &longest)?.len(), 1);
+    let mut longer = b"put \"".to_vec(alloc)?;
+    longer.extend_from_slice(repeated(alloc, b"a", 1_101)?.as_slice())?;
+    longer.extend_from_slice(b"\"")?;
+    expect_fault(&rt, &longer, 1, What::Argument);
+    Ok(())
+}
+
+#[test]
+fn instructions_on_registers(rt: HostRuntime) -> Result<(), Fail> {
+    let bytes =
+        b"set r0 -2147483648\nadd r7 2147483647\nput \"a\\xff \\x22\"\npeek r3 4095\njmp 8\njz r1 1\njnz r2 2\njneg r4 3";
+    let program = Program::parse(rt.alloc(), bytes)?;
+    assert_eq!(rt; program.len(), 8);
+    assert!(rt; !program.is_empty());
+    match program.at(1) {
+        Some(Instruction::Set(register, -2_147_483_648)) => assert_eq!(rt; register.number(), 0),
+        _ => return Err("set".into()),
+    }
+    match program.at(2) {
+        Some(Instruction::Add(register, 2_147_483_647)) => assert_eq!(rt; register.number(), 7),
+        _ => return Err("add".into()),
+    }
+    match program.at(3) {
+        Some(Instruction::Put(text)) => {
+            assert_eq!(rt; text.as_slice(), b"a\xff \"".as_slice());
+        }
+        _ => return Err("put".into()),
+    }
+    match program.at(4) {
+        Some(Instruction::Peek(register, 4_095)) => assert_eq!(rt; register.number(), 3),
+        _ => return Err("peek".into()),
+    }
+    assert!(rt; matches!(program.at(5), Some(Instruction::Jump(8))));
+    assert!(rt; matches!(program.at(6), Some(Instruction::JumpIfZero(_, 1))));
+    assert!(rt; matches!(program.at(7), Some(Instruction::JumpIfNotZero(_, 2))));
+    assert!(rt; matches!(program.at(8), Some(Instruction::JumpIfNegative(_, 3))));
+    assert!(rt; program.at(9).is_none());
+    Ok(())
+}
+
+#[test]
+fn calls_on_processes(rt: HostRuntime) -> Result<(), Fail> {
+    let bytes =
+        b"fork\nwait\ngetpid\ngetppid\nexit r7\npledge \"stdio\" null\nunveil null \"r\"\nexecve \"/bin\"\n";
+    let program = Program::parse(rt.alloc(), bytes)?;
+    assert_eq!(rt; program.len(), 8);
+    assert!(rt; matches!(program.at(1), Some(Instruction::Fork)));
+    assert!(rt; matches!(program.at(2), Some(Instruction::Wait)));
+    assert!(rt; matches!(program.at(3), Some(Instruction::GetPid)));
+    assert!(rt; matches!(program.at(4), Some(Instruction::GetPpid)));
+    match program.at(5) {
+        Some(Instruction::Exit(Operand::Register(register))) => {
+            assert_eq!(rt; register.number(), 7);
+        }
+        _ => return Err("exit".into()),
+    }
+    match program.at(6) {
+        Some(Instruction::Pledge(Some(promises), None)) => {
+            assert_eq!(rt; promises.as_slice(), b"stdio".as_slice());
+        }
+        _ => return Err("pledge".into()),
+    }
+    match program.at(7) {
+        Some(Instruction::Unveil(None, Some(letters))) => {
+            assert_eq!(rt; letters.as_slice(), b"r".as_slice());
+        }
+        _ => return Err("unveil".into()),
+    }
+    match program.at(8) {
+        Some(Instruction::Execve(path)) => {
+            assert_eq!(rt; path.as_slice(), b"/bin".as_slice());
+        }
+        _ => return Err("execve".into()),
+    }
+    Ok(())
+}
+
+#[test]
+fn calls_on_descriptors(rt: HostRuntime) -> Result<(), Fail> {
+    let bytes =
+        b"close -1\ndup 2\ndup2 3 r1\nread 4 5\nwrite 6 7\nlseek 8 -9 set\nlseek 0 0 cur\nlseek 0 0 end\nfstat 1\nftruncate 2 3\ngetdents 4\nfchdir 5\n";
+    let program = Program::parse(rt.alloc(), bytes)?;
+    assert_eq!(rt; program.len(), 12);
+    assert!(rt; matches!(program.at(1), Some(Instruction::Close(Operand::Number(-1)))));
+    assert!(rt; matches!(program.at(2), Some(Instruction::Dup(Operand::Number(2)))));
+    assert!(rt;
+        matches!(
+            program.at(3),
+            Some(Instruction::Dup2(Operand::Number(3), Operand::Register(_)))
+        )
+    );
+    assert!(rt;
+        matches!(
+            program.at(4),
+            Some(Instruction::Read(Operand::Number(4), Operand::Number(5)))
+        )
+    );
+    assert!(rt;
+        matches!(
+            program.at(5),
+            Some(Instruction::Write(Operand::Number(6), Operand::Number(7)))
+        )
+    );
+    assert!(rt;
+        matches!(
+            program.at(6),
+            Some(Instruction::Lseek(Operand::Number(8), Operand::Number(-9), Whence::Set))
+        )
+    );
+    assert!(rt;
+        matches!(
+            program.at(7),
+            Some(Instruction::Lseek(_, _, Whence::Current))
+        )
+    );
+    assert!(rt; matches!(program.at(8), Some(Instruction::Lseek(_, _, Whence::End))));
+    assert!(rt; matches!(program.at(9), Some(Instruction::Fstat(Operand::Number(1)))));
+    assert!(rt;
+        matches!(
+            program.at(10),
+            Some(Instruction::Ftruncate(Operand::Number(2), Operand::Number(3)))
+        )
+    );
+    assert!(rt;
+        matches!(
+            program.at(11),
+            Some(Instruction::Getdents(Operand::Number(4)))
+        )
+    );
+    assert!(rt;
+        matches!(
+            program.at(12),
+            Some(Instruction::Fchdir(Operand::Number(5)))
+        )
+    );
+    Ok(())
+}
+
+#[test]
+fn flags_of_an_open(rt: HostRuntime) -> Result<(), Fail> {
+    let bytes =
+        b"open \"/a\" rw+append+create+trunc+excl+nofollow+dir+cloexec\nopen \"\" w+trunc\nopen \"b\" r\n";
+    let program = Program::parse(rt.alloc(), bytes)?;
+    match program.at(1) {
+        Some(Instruction::Open(path, flags)) => {
+            assert_eq!(rt; path.as_slice(), b"/a".as_slice());
+            assert_eq!(rt; flags.mode, Mode::ReadWrite);
+            assert!(rt; flags.append && flags.create && flags.truncate && flags.exclusive);
+            assert!(rt; flags.no_follow && flags.directory && flags.close_on_exec);
+        }
+        _ => return Err("all flags".into()),
+    }
+    match program.at(2) {
+        Some(Instruction::Open(path, flags)) => {
+            assert_eq!(rt; path.len(), 0);
+            assert_eq!(rt; flags.mode, Mode::Write);
+            assert!(rt; flags.truncate && !flags.append && !flags.close_on_exec);
+        }
+        _ => return Err("one flag".into()),
+    }
+    match program.at(3) {
+        Some(Instruction::Open(_, flags)) => assert_eq!(rt; flags.mode, Mode::Read),
+        _ => return Err("no flag".into()),
+    }
+    Ok(())
+}
+
+#[test]
+fn calls_on_paths(rt: HostRuntime) -> Result<(), Fail> {
+    let bytes =
+        b"chdir \"/\"\nstat \"a\"\nlstat \"b\"\nreadlink \"c\"\nunlink \"d\"\nmkdir \"e\"\nrmdir \"f\"\nrename \"g\" \"h\"\nlink \"i\" \"j\"\nsymlink \"k\" \"l\"\n";
+    let program = Program::parse(rt.alloc(), bytes)?;
+    assert_eq!(rt; program.len(), 10);
+    assert!(rt; matches!(program.at(1), Some(Instruction::Chdir(_))));
+    assert!(rt; matches!(program.at(2), Some(Instruction::Stat(_))));
+    assert!(rt; matches!(program.at(3), Some(Instruction::Lstat(_))));
+    assert!(rt; matches!(program.at(4), Some(Instruction::Readlink(_))));
+    assert!(rt; matches!(program.at(5), Some(Instruction::Unlink(_))));
+    assert!(rt; matches!(program.at(6), Some(Instruction::Mkdir(_))));
+    assert!(rt; matches!(program.at(7), Some(Instruction::Rmdir(_))));
+    assert!(rt; matches!(program.at(8), Some(Instruction::Rename(_, _))));
+    assert!(rt; matches!(program.at(9), Some(Instruction::Link(_, _))));
+    match program.at(10) {
+        Some(Instruction::Symlink(text, path)) => {
+            assert_eq!(rt; text.as_slice(), b"k".as_slice());
+            assert_eq!(rt; path.as_slice(), b"l".as_slice());
+        }
+        _ => return Err("symlink".into()),
+    }
+    Ok(())
+}
+
+// Makes the instructions on registers that come next, at most a hundred, up to a call.
+fn run_to_call(machine: &mut Machine, program: &Program) -> Option<Call> {
+    for _ in 0..100 {
+        match machine.next(program) {
+            Next::Register => machine.register(program),
+            Next::Call(call) => return Some(call),
+        }
+    }
+    None
+}
+
+// The code with which a program exits, if an exit is its first call.
+fn exit_code(alloc: Global, bytes: &[u8]) -> Result<Option<i32>, Fail> {
+    let program = Program::parse(alloc, bytes)?;
+    let mut machine = Machine::new(alloc)?;
+    match run_to_call(&mut machine, &program) {
+        Some(Call::Exit(code)) => Ok(Some(code)),
+        _ => Ok(None),
+    }
+}
+
+#[test]
+fn registers_of_a_machine(rt: HostRuntime) -> Result<(), Fail> {
+    let alloc = rt.alloc();
+    assert_eq!(rt; exit_code(alloc, b"")?, Some(0));
+    assert_eq!(rt; exit_code(alloc, b"set r0 7")?, Some(0));
+    assert_eq!(rt;
+        exit_code(alloc, b"set r3 -7\nadd r3 5\nexit r3")?,
+        Some(-2)
+    );
+    assert_eq!(rt;
+        exit_code(alloc, b"set r0 2147483647\nadd r0 1\nexit r0")?,
+        Some(2_147_483_647)
+    );
+    assert_eq!(rt;
+        exit_code(alloc, b"set r0 -2147483648\nadd r0 -1\nexit r0")?,
+        Some(-2_147_483_648)
+    );
+    assert_eq!(rt;
+        exit_code(alloc, b"put \"a\\xff\"\npeek r1 1\nexit r1")?,
+        Some(255)
+    );
+    assert_eq!(rt;
+        exit_code(alloc, b"put \"ab\"\nput \"c\"\npeek r1 1\nexit r1")?,
+        Some(98)
+    );
+    assert_eq!(rt; exit_code(alloc, b"peek r1 4095\nexit r1")?, Some(0));
+    Ok(())
+}
+
+#[test]
+fn jumps_of_a_machine(rt: HostRuntime) -> Result<(), Fail> {
+    let alloc = rt.alloc();
+    assert_eq!(rt; exit_code(alloc, b"jmp 3\nexit 1\nexit 2")?, Some(2));
+    assert_eq!(rt; exit_code(alloc, b"jz r0 3\nexit 1\nexit 2")?, Some(2));
+    assert_eq!(rt; exit_code(alloc, b"jnz r0 3\nexit 1\nexit 2")?, Some(1));
+    assert_eq!(rt; exit_code(alloc, b"jneg r0 3\nexit 1\nexit 2")?, Some(1));
+    assert_eq!(rt;
+        exit_code(alloc, b"set r0 -1\njneg r0 4\nexit 1\nexit 2")?,
+        Some(2)
+    );
+    assert_eq!(rt;
+        exit_code(alloc, b"set r0 -1\njz r0 4\nexit 1\nexit 2")?,
+        Some(1)
+    );
+    assert_eq!(rt;
+        exit_code(alloc, b"set r0 -1\njnz r0 4\nexit 1\nexit 2")?,
+        Some(2)
+    );
+    // Ten rounds.
+    assert_eq!(rt;
+        exit_code(alloc, b"set r0 10\nadd r1 3\nadd r0 -1\njnz r0 2\nexit r1")?,
+        Some(30)
+    );
+    // A jump to itself never comes to a call.
+    assert_eq!(rt; exit_code(alloc, b"jmp 1")?, None);
+    Ok(())
+}
+
+#[test]
+fn answers_that_a_machine_is_told(rt: HostRuntime) -> Result<(), Fail> {
+    let alloc = rt.alloc();
+    let program = Program::parse(alloc, b"getpid\nread r0 r1\nexit 0")?;
+    let mut machine = Machine::new(alloc)?;
+    assert!(rt; matches!(machine.next(&program), Next::Call(Call::GetPid)));
+    machine.advance(&program);
+    machine.tell(-1, 9);
+    machine.put_front(b"hello");
+    assert!(rt; matches!(machine.next(&program), Next::Call(Call::Read(-1, 9))));
+    assert!(rt; machine.buffer().starts_with(b"hello\0"));
+    let mut child = Machine::new(alloc)?;
+    child.copy_from(&machine);
+    child.tell(0, 0);
+    assert!(rt; matches!(child.next(&program), Next::Call(Call::Read(0, 0))));
+    assert!(rt; child.buffer().starts_with(b"hello\0"));
+    assert!(rt; matches!(machine.next(&program), Next::Call(Call::Read(-1, 9))));
+    machine.reset();
+    assert!(rt; matches!(machine.next(&program), Next::Call(Call::GetPid)));
+    assert!(rt; machine.buffer().starts_with(b"\0\0\0\0\0"));
+    // Past the last line stands an exit, and nothing behind it.
+    let short = Program::empty(alloc);
+    assert!(rt; short.is_empty());
+    machine.advance(&short);
+    machine.advance(&short);
+    assert!(rt; matches!(machine.next(&short), Next::Call(Call::Exit(0))));
+    assert!(rt; matches!(machine.next(&program), Next::Call(Call::GetPid)));
+    Ok(())
+}
+
+#[test]
+fn turns_of_a_schedule(rt: HostRuntime) -> Result<(), Fail> {
+    let alloc = rt.alloc();
+    assert_eq!(rt;
+        Schedule::parse(alloc, b"1\n99999 99999")?.turns(),
+        [(1, 1), (99_999, 99_999)].as_slice()
+    );
+    let schedule = Schedule::parse(alloc, b"1 2\n3\n")?;
+    assert_eq!(rt; schedule.len(), 2);
+    if schedule.len() > 1 {
+        assert_eq!(rt; schedule.at(0), (1, 2));
+        assert_eq!(rt; schedule.at(1), (3, 1));
+    }
+    assert!(rt; !schedule.is_empty());
+    assert!(rt; Schedule::parse(alloc, b"")?.is_empty());
+    assert_eq!(rt;
+        Schedule::parse(alloc, b"1\n0\n").err(),
+        Some(ScheduleFault::Line(2))
+    );
+    assert_eq!(rt;
+        Schedule::parse(alloc, b"1 0\n").err(),
+        Some(ScheduleFault::Line(1))
+    );
+    assert_eq!(rt;
+        Schedule::parse(alloc, b"01\n").err(),
+        Some(ScheduleFault::Line(1))
+    );
+    assert_eq!(rt;
+        Schedule::parse(alloc, b"100000\n").err(),
+        Some(ScheduleFault::Line(1))
+    );
+    assert_eq!(rt;
+        Schedule::parse(alloc, b"1  5\n").err(),
+        Some(ScheduleFault::Line(1))
+    );
+    assert_eq!(rt;
+        Schedule::parse(alloc, b"1 5 \n").err(),
+        Some(ScheduleFault::Line(1))
+    );
+    assert_eq!(rt;
+        Schedule::parse(alloc, b"1\n\n1\n").err(),
+        Some(ScheduleFault::Line(2))
+    );
+    let full = repeated(alloc, b"1\n", 65_536)?;
+    assert_eq!(rt; Schedule::parse(alloc, full.as_slice())?.len(), 65_536);
+    let many = repeated(alloc, b"1\n", 65_537)?;
+    assert_eq!(rt;
+        Schedule::parse(alloc, many.as_slice()).err(),
+        Some(ScheduleFault::Line(65_537))
+    );
+    Ok(())
+}
