@@ -3,6 +3,7 @@ ghost use Rattle.std.specs.Prelude.{◌≡◌};
 ghost use Rattle.pv_model.specs.declared.fault.ParseFault.TheVariants.{Memory as ParseMemory};
 ghost use Rattle.pv_model.specs.declared.fault.ScheduleFault.TheVariants.{Memory as ScheduleMemory};
 ghost use Rattle.pv_model.specs.declared.fault.ManifestFault.TheVariants.{Memory as ManifestMemory};
+ghost use Rattle.pv_model.specs.declared.fault.ImageFault.TheVariants.{Memory as ImageMemory};
 
 use std::alloc::{AllocError, AllocFailed};
 
@@ -123,4 +124,12 @@ pub enum ImageFault {
     Tree(u16),
     /// Memory was refused.
     Memory,
+}
+
+impl From<AllocError> for ImageFault {
+    ghost from_gives = { λ _ e. e ≡ ImageMemory };
+
+    fn from(_error: AllocError) -> ImageFault {
+        ImageFault::Memory
+    }
 }

@@ -9,7 +9,7 @@ ghost use Rattle.pv_model.specs.PlainTree.{plain_node};
 
 mod growing;
 
-use crate::limits::ROOT;
+use crate::limits::{INODES, ROOT};
 use crate::{Name, Version};
 use std::marker::Model;
 
@@ -34,6 +34,7 @@ pub struct PlainTree {
 
 impl Model for PlainTree {
     ghost use Rattle.std.specs.Prelude.{◌≡◌, suc, ◌≤◌, length};
+    ghost use Rattle.pv_model.specs.declared.limits.TheConstants.{INODES};
     ghost use Rattle.pv_model.specs.Tree.{Tree};
 
     ghost Value = { Tree };
@@ -42,7 +43,7 @@ impl Model for PlainTree {
 
     ghost view = { λ t. plain_tree t.nodes.items t.blocks t.inodes };
 
-    ghost invariant = { λ t. (length t.nodes.items ≡ suc t.inodes) × (t.inodes ≤ 4096) };
+    ghost invariant = { λ t. (length t.nodes.items ≡ suc t.inodes) × (t.inodes ≤ INODES) };
 }
 
 // The node under a name.
@@ -100,7 +101,7 @@ impl PlainTree {
     /// The tree of these nodes, by their numbers from 0, and of an image of these sizes.
     pub fn of_nodes(nodes: Vec<Option<PlainNode>>, blocks: u16, inodes: u16) -> PlainTree
         requires numbers { vec_len nodes ≡ inodes + 1 }
-        requires small { inodes ≤ 4096 }
+        requires small { inodes ≤ INODES }
         ensures { result ≡ plain_tree nodes.items blocks inodes }
     {
         PlainTree {

@@ -1,9 +1,9 @@
 //! Why runs are refused.
 ghost use Rattle.std.specs.Prelude.{◌≡◌};
 ghost use Rattle.pv_model.specs.declared.run_fault.RunFault.TheVariants.{Memory};
-ghost use Rattle.pv_model.specs.RunFault.{of_manifest, of_program, of_schedule};
+ghost use Rattle.pv_model.specs.RunFault.{of_boot, of_image, of_manifest, of_program, of_schedule};
 
-use crate::{ImageFault, ManifestFault, ParseFault, ScheduleFault};
+use crate::{BootFault, ImageFault, ManifestFault, ParseFault, ScheduleFault};
 use std::alloc::{AllocError, AllocFailed};
 
 /// Why a run is refused, or ends early.
@@ -43,6 +43,17 @@ impl<T: Drop> From<AllocFailed<T>> for RunFault {
     }
 }
 
+impl From<ImageFault> for RunFault {
+    ghost from_gives = { λ f e. e ≡ of_image f };
+
+    fn from(fault: ImageFault) -> RunFault {
+        match fault {
+            ImageFault::Memory => RunFault::Memory,
+            fault => RunFault::Image(fault),
+        }
+    }
+}
+
 impl From<ManifestFault> for RunFault {
     ghost from_gives = { λ f e. e ≡ of_manifest f };
 
@@ -72,6 +83,17 @@ impl From<ParseFault> for RunFault {
         match fault {
             ParseFault::Line(line, _) => RunFault::Init(line),
             ParseFault::Memory => RunFault::Memory,
+        }
+    }
+}
+
+impl From<BootFault> for RunFault {
+    ghost from_gives = { λ f e. e ≡ of_boot f };
+
+    fn from(fault: BootFault) -> RunFault {
+        match fault {
+            BootFault::Init(line) => RunFault::Init(line),
+            BootFault::Memory => RunFault::Memory,
         }
     }
 }

@@ -1,11 +1,12 @@
 -- The arguments of instructions and of a manifest's lines: each is read from where it begins, and what follows it is left.
-use Rattle.std.specs.Prelude.{ℕ, ◌+◌, ◌-◌, ◌*◌, ℤ, pos, negsuc, Bool, true, false, ◌&&◌, if◌then◌else◌, ◌==◌, nat_le, [], ◌∷◌, length, codes, bytes_eq, Option, None, Some, option_map, option_and_then}
+use Rattle.std.specs.Prelude.{ℕ, suc, ◌+◌, ◌-◌, ◌*◌, ℤ, pos, negsuc, Bool, true, false, ◌&&◌, if◌then◌else◌, ◌==◌, nat_le, [], ◌∷◌, length, codes, bytes_eq, Option, None, Some, option_map, option_and_then}
 use Rattle.pv_model.specs.declared.instruction.Operand.{Operand}
 use Rattle.pv_model.specs.declared.instruction.Operand.TheVariants.{Number, Register}
 use Rattle.pv_model.specs.declared.instruction.Origin.{Origin}
 use Rattle.pv_model.specs.declared.instruction.Origin.TheVariants.{WorkingDirectory, Descriptor}
 use Rattle.pv_model.specs.declared.call.Whence.{Whence}
 use Rattle.pv_model.specs.declared.call.Whence.TheVariants.{Set, Current, End}
+use Rattle.pv_model.specs.declared.limits.TheConstants.{TEXT, NUMBER}
 use Rattle.pv_model.specs.declared.open_flags.Mode.{Mode}
 use Rattle.pv_model.specs.declared.open_flags.Mode.TheVariants.{Read, Write, ReadWrite}
 use Rattle.pv_model.specs.declared.open_flags.OpenFlags.{OpenFlags}
@@ -67,9 +68,9 @@ text_rest (b ∷ bs) escape = text_step b bs (text_rest bs) escape
 
 abbrev pub if_short : Parsed Bytes → Parsed Bytes
 if_short None = None
-if_short (Some p) = if nat_le (length p.0) 1100 then Some p else None
+if_short (Some p) = if nat_le (length p.0) TEXT then Some p else None
 
--- a text in quotation marks, of at most 1,100 bytes
+-- a text in quotation marks, of at most so many bytes
 unfoldable pub text_at : Bytes → Parsed Bytes
 text_at [] = None
 text_at (b ∷ bs) = if b == 34 then if_short (text_rest bs outside) else None
@@ -109,7 +110,7 @@ negative_of (Some n) = if n == 0 then None else Some (negsuc (n - 1))
 abbrev pub number_of : Bytes → Option ℤ
 number_of [] = None
 number_of (b ∷ bs) =
-    if b == 45 then negative_of (in_range 2147483648 (decimal_of bs)) else option_map pos (in_range 2147483647 (decimal_of (b ∷ bs)))
+    if b == 45 then negative_of (in_range (suc NUMBER) (decimal_of bs)) else option_map pos (in_range NUMBER (decimal_of (b ∷ bs)))
 
 abbrev pub register_digit : Bytes → Option ℕ
 register_digit [] = None

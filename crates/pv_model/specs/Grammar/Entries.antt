@@ -2,6 +2,7 @@
 use Rattle.std.specs.Prelude.{◌≡◌, ◌≢◌, ◌⊎◌, ℕ, ◌+◌, ◌≤◌, Bool, true, false, IsTrue, List, [], ◌∷◌, ◌++◌, length, flat_map, codes}
 use Rattle.std.specs.List.{AllByRecursion}
 use Rattle.std.specs.Fmt.{decimal}
+use Rattle.pv_model.specs.declared.limits.TheConstants.{LINK_TEXT, INODES, BLOCKS_V1, PROGRAM_LINES}
 use Rattle.pv_model.specs.declared.version.Version.TheVariants.{V1}
 use Rattle.pv_model.specs.Bytes.{Bytes}
 use Rattle.pv_model.specs.Grammar.Manifests.{Listed, Manifest, inode_table_blocks}
@@ -26,9 +27,9 @@ pub data SpellsEntry : Bytes → List Bytes → Entry → Type 0 where
   of_directory : (path word : Bytes) → SpellsPath path word → SpellsEntry (codes "dir " ++ word) [] (make path (directory_node []))
   of_file : (path word contents other : Bytes) → SpellsPath path word → SpellsText contents other
       → SpellsEntry (codes "bytes " ++ word ++ codes " " ++ other) [] (make path (file_node false contents))
-  of_program : (path word : Bytes) (body : List Bytes) → SpellsPath path word → length body ≤ 9999
+  of_program : (path word : Bytes) (body : List Bytes) → SpellsPath path word → length body ≤ PROGRAM_LINES
       → SpellsEntry (codes "exec " ++ word ++ codes " " ++ decimal (length body)) body (make path (file_node true (ended body)))
-  of_link : (path word text other : Bytes) → SpellsPath path word → SpellsText text other → 1 ≤ length text → length text ≤ 1023
+  of_link : (path word text other : Bytes) → SpellsPath path word → SpellsText text other → 1 ≤ length text → length text ≤ LINK_TEXT
       → SpellsEntry (codes "link " ++ word ++ codes " " ++ other) [] (make path (link_node text))
   of_name : (path word source other : Bytes) → SpellsPath path word → SpellsPath source other
       → SpellsEntry (codes "name " ++ word ++ codes " " ++ other) [] (further_name path source)
@@ -46,7 +47,7 @@ SpellsSizes line blocks inodes = (word other : Bytes) × Decimal blocks word × 
 
 -- the sizes that an image may have
 abbrev pub AreSizes : ℕ → ℕ → Type 0
-AreSizes blocks inodes = (1 ≤ inodes) × (inodes ≤ 4096) × (inode_table_blocks inodes + 1 ≤ blocks) × (blocks ≤ 8192)
+AreSizes blocks inodes = (1 ≤ inodes) × (inodes ≤ INODES) × (inode_table_blocks inodes + 1 ≤ blocks) × (blocks ≤ BLOCKS_V1)
 
 -- the form of a manifest, alone or in a bundle, whatever its sizes are
 abbrev pub HasForm : Bool → Bytes → Manifest → Type 0

@@ -7,6 +7,7 @@ use Rattle.pv_model.specs.declared.instruction.Instruction.{Instruction}
 use Rattle.pv_model.specs.declared.instruction.Instruction.TheVariants.{Set, Add, Put, Peek, Jump, JumpIfZero, JumpIfNotZero, JumpIfNegative, Exit, GetPid, GetPpid, Fork, Wait, Pledge, Unveil, Execve, Open, OpenAt, Close, Dup, Dup2, Read, Write, Lseek, Fstat, Ftruncate, Getdents, Fchdir, Chdir, Stat, Lstat, Readlink, Mkdir, Symlink, Link, Unlink, Rmdir, Rename}
 use Rattle.pv_model.specs.declared.instruction.Operand.{Operand}
 use Rattle.pv_model.specs.declared.instruction.Origin.{Origin}
+use Rattle.pv_model.specs.declared.limits.TheConstants.{BUFFER}
 use Rattle.pv_model.specs.declared.open_flags.OpenFlags.{OpenFlags}
 use Rattle.pv_model.specs.Bytes.{Bytes}
 use Rattle.pv_model.specs.Grammar.Spelling.{SpellsNumber, SpellsRegister, SpellsOperand, SpellsText, SpellsTextOrNull, SpellsFlags, SpellsWhence, SpellsOrigin}
@@ -77,7 +78,7 @@ Spells lines (operand value) word = SpellsOperand value word
 Spells lines (register value) word = SpellsRegister value word
 Spells lines (number value) word = SpellsNumber value word
 Spells lines (line value) word = (1 ≤ value) × (value ≤ lines) × SpellsNumber (pos value) word
-Spells lines (place value) word = (value < 4096) × SpellsNumber (pos value) word
+Spells lines (place value) word = (value < BUFFER) × SpellsNumber (pos value) word
 Spells lines (text value) word = SpellsText value word
 Spells lines (text_or_null value) word = SpellsTextOrNull value word
 Spells lines (flags value) word = SpellsFlags value word

@@ -4,6 +4,7 @@ use Rattle.pv_model.specs.declared.fault.What.{What}
 use Rattle.pv_model.specs.declared.fault.What.TheVariants.{Word, Argument, Target}
 use Rattle.pv_model.specs.declared.instruction.Instruction.{Instruction}
 use Rattle.pv_model.specs.declared.instruction.Instruction.TheVariants.{Set, Add, Put, Peek, Jump, JumpIfZero, JumpIfNotZero, JumpIfNegative, Exit, GetPid, GetPpid, Fork, Wait, Pledge, Unveil, Execve, Open, OpenAt, Close, Dup, Dup2, Read, Write, Lseek, Fstat, Ftruncate, Getdents, Fchdir, Chdir, Stat, Lstat, Readlink, Mkdir, Symlink, Link, Unlink, Rmdir, Rename}
+use Rattle.pv_model.specs.declared.limits.TheConstants.{BUFFER}
 use Rattle.pv_model.specs.Bytes.{Bytes}
 use Rattle.pv_model.specs.Grammar.Lines.{word_of, behind_word}
 use Rattle.pv_model.specs.Grammar.Arguments.{text_at, text_or_null_at, operand_at, register_at, number_at, whence_at, origin_at, flags_at, no_argument, one_argument, two_arguments, three_arguments}
@@ -15,7 +16,7 @@ or_argument (Some i) = Ok i
 
 -- a place of the buffer
 abbrev pub buffer_place : ℤ → Option ℕ
-buffer_place (pos n) = if nat_lt n 4096 then Some n else None
+buffer_place (pos n) = if nat_lt n BUFFER then Some n else None
 buffer_place (negsuc n) = None
 
 -- a line of the program, which has so many

@@ -3,6 +3,7 @@ use Rattle.std.specs.Prelude.{ℕ, zero, suc, ◌+◌, ◌-◌, Bool, true, fals
 use Rattle.std.specs.List.{list_all}
 use Rattle.pv_model.specs.declared.fault.ManifestFault.{ManifestFault}
 use Rattle.pv_model.specs.declared.fault.ManifestFault.TheVariants.{Form, Size, Parent, Exists, Source, Room}
+use Rattle.pv_model.specs.declared.limits.TheConstants.{PROGRAM_LINES, INODES, BLOCKS_V1}
 use Rattle.pv_model.specs.declared.version.Version.TheVariants.{V1}
 use Rattle.pv_model.specs.Bytes.{Bytes}
 use Rattle.pv_model.specs.Grammar.Arguments.{word_at, text_at, one_argument, two_arguments}
@@ -40,7 +41,7 @@ with_line_end line = line ++ 10 ∷ []
 abbrev pub program_line : List Bytes → Option (Bytes × ℕ) → Option Taking
 program_line lines None = None
 program_line lines (Some p) =
-    if is_manifest_path p.0 && nat_le p.1 9999 && nat_le p.1 (length lines)
+    if is_manifest_path p.0 && nat_le p.1 PROGRAM_LINES && nat_le p.1 (length lines)
     then Some (make p.0 (file_node true (flat_map with_line_end (take p.1 lines))), p.1)
     else None
 
@@ -120,7 +121,7 @@ inode_table_blocks inodes = rounded_up inodes 16
 -- the sizes that an image may have
 abbrev pub are_sizes : ℕ → ℕ → Bool
 are_sizes blocks inodes =
-    nat_le 1 inodes && nat_le inodes 4096 && nat_le (inode_table_blocks inodes + 1) blocks && nat_le blocks 8192
+    nat_le 1 inodes && nat_le inodes INODES && nat_le (inode_table_blocks inodes + 1) blocks && nat_le blocks BLOCKS_V1
 
 abbrev pub if_sizes : ℕ → ℕ → Listed → Result Manifest ManifestFault
 if_sizes blocks inodes listed = if are_sizes blocks inodes then Ok (record { blocks = blocks; inodes = inodes; listed = listed }) else Err Size

@@ -6,6 +6,7 @@ use Rattle.pv_model.specs.declared.fault.ParseFault.TheVariants.{Line}
 use Rattle.pv_model.specs.declared.fault.What.{What}
 use Rattle.pv_model.specs.declared.fault.What.TheVariants.{TooMany}
 use Rattle.pv_model.specs.declared.instruction.Instruction.{Instruction}
+use Rattle.pv_model.specs.declared.limits.TheConstants.{LINES}
 use Rattle.pv_model.specs.Bytes.{Bytes}
 use Rattle.pv_model.specs.Grammar.Instructions.{instruction_of}
 use Rattle.pv_model.specs.Grammar.Lines.{lines_of}
@@ -22,11 +23,11 @@ or_line n (Err what) rest = Err (Line n what)
 -- the program of the lines from line n on, as each line is read; the least line that can't be is named
 abbrev pub program_from : (Bytes → Result Instruction What) → List Bytes → ℕ → Result Program ParseFault
 program_from read [] n = Ok []
-program_from read (line ∷ lines) n = if n == 257 then Err (Line 257 TooMany) else or_line n (read line) (program_from read lines (suc n))
+program_from read (line ∷ lines) n = if n == suc LINES then Err (Line (suc LINES) TooMany) else or_line n (read line) (program_from read lines (suc n))
 
 -- the program that lines spell
 abbrev pub program_of_lines : List Bytes → Result Program ParseFault
-program_of_lines lines = program_from (instruction_of (min (length lines) 256)) lines 1
+program_of_lines lines = program_from (instruction_of (min (length lines) LINES)) lines 1
 
 -- the program that bytes spell, or the first fault
 unfoldable pub read_program : Bytes → Result Program ParseFault

@@ -2,6 +2,7 @@
 use Rattle.std.specs.Prelude.{ℕ, suc, ◌&&◌, if◌then◌else◌, ◌==◌, nat_le, List, [], ◌∷◌, Option, None, Some, option_map, Result, Ok, Err}
 use Rattle.pv_model.specs.declared.fault.ScheduleFault.{ScheduleFault}
 use Rattle.pv_model.specs.declared.fault.ScheduleFault.TheVariants.{Line}
+use Rattle.pv_model.specs.declared.limits.TheConstants.{LAST_PROCESS, SCHEDULE_LINES}
 use Rattle.pv_model.specs.Bytes.{Bytes, is_empty}
 use Rattle.pv_model.specs.Grammar.Arguments.{Parsed, word_at, one_argument}
 use Rattle.pv_model.specs.Grammar.Lines.{decimal_of, lines_of}
@@ -9,7 +10,7 @@ use Rattle.pv_model.specs.Step.{Schedule}
 
 abbrev pub count_within : Option ℕ → Option ℕ
 count_within None = None
-count_within (Some n) = if nat_le 1 n && nat_le n 99999 then Some n else None
+count_within (Some n) = if nat_le 1 n && nat_le n LAST_PROCESS then Some n else None
 
 -- a number from 1 to 99,999
 abbrev pub count_of : Bytes → Option ℕ
@@ -34,7 +35,7 @@ or_schedule_line n (Some turn) rest = onto_schedule turn rest
 -- the schedule of the lines from line n on; the least line that is none is named
 abbrev pub schedule_from : List Bytes → ℕ → Result Schedule ScheduleFault
 schedule_from [] n = Ok []
-schedule_from (line ∷ lines) n = if n == 65537 then Err (Line 65537) else or_schedule_line n (turn_of line) (schedule_from lines (suc n))
+schedule_from (line ∷ lines) n = if n == suc SCHEDULE_LINES then Err (Line (suc SCHEDULE_LINES)) else or_schedule_line n (turn_of line) (schedule_from lines (suc n))
 
 -- the schedule that lines spell
 abbrev pub schedule_of_lines : List Bytes → Result Schedule ScheduleFault

@@ -6,6 +6,7 @@ use Rattle.pv_model.specs.declared.instruction.Operand.TheVariants.{Number, Regi
 use Rattle.pv_model.specs.declared.instruction.Origin.{Origin}
 use Rattle.pv_model.specs.declared.instruction.Origin.TheVariants.{WorkingDirectory, Descriptor}
 use Rattle.pv_model.specs.declared.call.Whence.{Whence}
+use Rattle.pv_model.specs.declared.limits.TheConstants.{TEXT, NUMBER, REGISTERS}
 use Rattle.pv_model.specs.declared.open_flags.OpenFlags.{OpenFlags}
 use Rattle.pv_model.specs.Bytes.{Bytes}
 use Rattle.pv_model.specs.Trace.{hex_byte, is_plain, flags_text, whence_text}
@@ -17,14 +18,14 @@ pub data Decimal : ℕ → Bytes → Type 0 where
 
 -- a number of 32 bits
 abbrev pub IsNumber : ℤ → Type 0
-IsNumber (pos n) = n ≤ 2147483647
-IsNumber (negsuc n) = n ≤ 2147483647
+IsNumber (pos n) = n ≤ NUMBER
+IsNumber (negsuc n) = n ≤ NUMBER
 
 abbrev pub SpellsNumber : ℤ → Bytes → Type 0
 SpellsNumber n word = IsNumber n × (word ≡ signed_decimal n)
 
 abbrev pub SpellsRegister : ℕ → Bytes → Type 0
-SpellsRegister r word = (r < 8) × (word ≡ codes "r" ++ decimal r)
+SpellsRegister r word = (r < REGISTERS) × (word ≡ codes "r" ++ decimal r)
 
 -- a number or a register
 abbrev pub SpellsOperand : Operand → Bytes → Type 0
@@ -39,7 +40,7 @@ pub data SpellsBytes : Bytes → Bytes → Type 0 where
 
 -- a text in quotation marks, of at most 1,100 bytes
 abbrev pub SpellsText : Bytes → Bytes → Type 0
-SpellsText value word = (spelled : Bytes) × SpellsBytes value spelled × (length value ≤ 1100) × (word ≡ 34 ∷ spelled ++ 34 ∷ [])
+SpellsText value word = (spelled : Bytes) × SpellsBytes value spelled × (length value ≤ TEXT) × (word ≡ 34 ∷ spelled ++ 34 ∷ [])
 
 abbrev pub SpellsTextOrNull : Option Bytes → Bytes → Type 0
 SpellsTextOrNull None word = word ≡ codes "null"

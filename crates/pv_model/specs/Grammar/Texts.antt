@@ -1,9 +1,10 @@
 -- Texts as relations: their lines, and what programs and schedules spell.
-use Rattle.std.specs.Prelude.{◌≡◌, ◌≢◌, ◌⊎◌, ℕ, ◌+◌, ◌≤◌, min, List, [], ◌∷◌, ◌++◌, length, flat_map}
+use Rattle.std.specs.Prelude.{◌≡◌, ◌≢◌, ◌⊎◌, ℕ, suc, ◌+◌, ◌≤◌, min, List, [], ◌∷◌, ◌++◌, length, flat_map}
 use Rattle.std.specs.List.{AllByRecursion}
 use Rattle.std.specs.Fmt.{decimal}
 use Rattle.pv_model.specs.declared.fault.What.{What}
 use Rattle.pv_model.specs.declared.fault.What.TheVariants.{TooMany}
+use Rattle.pv_model.specs.declared.limits.TheConstants.{LINES, LAST_PROCESS, SCHEDULE_LINES}
 use Rattle.pv_model.specs.Bytes.{Bytes}
 use Rattle.pv_model.specs.Grammar.Forms.{SpellsLine, IsWrong}
 use Rattle.pv_model.specs.Grammar.Manifests.{with_line_end}
@@ -35,7 +36,7 @@ SpellLines count (line ∷ lines) [] = ⊥
 
 -- a program: at most 256 lines, each of them one instruction
 abbrev pub SpellsProgram : Bytes → Program → Type 0
-SpellsProgram bytes program = (lines : List Bytes) × HasLines bytes lines × (length lines ≤ 256) × SpellLines (length lines) lines program
+SpellsProgram bytes program = (lines : List Bytes) × HasLines bytes lines × (length lines ≤ LINES) × SpellLines (length lines) lines program
 
 -- a line of a text, with the lines before it and behind it
 abbrev pub LineOfText : Bytes → List Bytes → Bytes → List Bytes → Type 0
@@ -43,7 +44,7 @@ LineOfText bytes front line rest = HasLines bytes (front ++ line ∷ rest)
 
 -- the number of lines that a jump may lead to
 abbrev pub reach : List Bytes → Bytes → List Bytes → ℕ
-reach front line rest = min (length (front ++ line ∷ rest)) 256
+reach front line rest = min (length (front ++ line ∷ rest)) LINES
 
 -- lines up to here are instructions
 abbrev pub AreInstructions : ℕ → List Bytes → Type 0
@@ -54,11 +55,11 @@ abbrev pub IsFirstWrong : Bytes → ℕ → What → Type 0
 IsFirstWrong bytes n what =
     (front : List Bytes) × (line : Bytes) × (rest : List Bytes) × LineOfText bytes front line rest × (n ≡ length front + 1)
     × AreInstructions (reach front line rest) front
-    × (((n ≤ 256) × IsWrong (reach front line rest) line what) ⊎ ((n ≡ 257) × (what ≡ TooMany)))
+    × (((n ≤ LINES) × IsWrong (reach front line rest) line what) ⊎ ((n ≡ suc LINES) × (what ≡ TooMany)))
 
 -- a process and a number of steps, of which one is not written
 abbrev pub IsCount : ℕ → Type 0
-IsCount n = (1 ≤ n) × (n ≤ 99999)
+IsCount n = (1 ≤ n) × (n ≤ LAST_PROCESS)
 
 abbrev pub SpellsTurn : Bytes → ℕ × ℕ → Type 0
 SpellsTurn line turn =
@@ -73,7 +74,7 @@ SpellTurns (line ∷ lines) [] = ⊥
 
 -- lines of a schedule: at most 65,536
 abbrev pub SpellSchedule : List Bytes → Schedule → Type 0
-SpellSchedule lines schedule = (length lines ≤ 65536) × SpellTurns lines schedule
+SpellSchedule lines schedule = (length lines ≤ SCHEDULE_LINES) × SpellTurns lines schedule
 
 -- a schedule
 abbrev pub SpellsSchedule : Bytes → Schedule → Type 0
@@ -84,4 +85,4 @@ abbrev pub IsFirstNoTurn : List Bytes → ℕ → Type 0
 IsFirstNoTurn lines n =
     (front : List Bytes) × (line : Bytes) × (rest : List Bytes) × (schedule : Schedule) × (lines ≡ front ++ line ∷ rest) × (n ≡ length front + 1)
     × SpellTurns front schedule
-    × (((n ≤ 65536) × ((turn : ℕ × ℕ) → SpellsTurn line turn → ⊥)) ⊎ (n ≡ 65537))
+    × (((n ≤ SCHEDULE_LINES) × ((turn : ℕ × ℕ) → SpellsTurn line turn → ⊥)) ⊎ (n ≡ suc SCHEDULE_LINES))

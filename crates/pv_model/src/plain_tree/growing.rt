@@ -11,6 +11,7 @@ ghost use Rattle.pv_model.specs.Tree.{directory_node, entries_of, is_directory};
 
 use super::{PlainNode, PlainTree};
 use crate::Name;
+use crate::limits::{BLOCK, INODES};
 use std::alloc::{AllocError, Global};
 
 // How many entries from the front have lesser names than one that is absent.
@@ -113,7 +114,7 @@ fn blocks_of(length: u32) -> u32
     ensures blocks { result ≡ need V1 length }
     ensures bound { result ≤ 267 }
 {
-    let blocks = (length + 511) / 512;
+    let blocks = (length + (BLOCK as u32 - 1)) / BLOCK as u32;
     if blocks <= 10 {
         return blocks;
     }
@@ -122,7 +123,7 @@ fn blocks_of(length: u32) -> u32
 
 // Whether an image of so many data blocks and inodes has room for the nodes.
 fn has_room_for(nodes: &[Option<PlainNode>], blocks: u16, inodes: u16) -> bool
-    requires { length nodes.now ≤ 4097 }
+    requires { length nodes.now ≤ suc INODES }
     ensures { result ≡ (not (is_too_long (plain_tree nodes.now blocks inodes)) && fits (plain_tree nodes.now blocks inodes)) }
 {
     let mut count: u32 = 0;
@@ -147,7 +148,7 @@ impl PlainTree {
     /// A tree of the root alone, in an image of so many data blocks and inodes.
     pub fn empty(alloc: Global, blocks: u16, inodes: u16) -> Result<PlainTree, AllocError>
         requires some { 1 ≤ inodes }
-        requires most { inodes ≤ 4096 }
+        requires most { inodes ≤ INODES }
         ensures { IfOk result (λ t. t ≡ empty_tree blocks inodes) }
     {
         let mut nodes = Vec::new(alloc);

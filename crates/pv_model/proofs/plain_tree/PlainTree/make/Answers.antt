@@ -1,7 +1,7 @@
-use Rattle.std.proofs.Common.{◌≡◌, sym, ◌∙◌, ap, subst, arith}
+use Rattle.std.proofs.Common.{sym, ◌∙◌, ap, subst, arith}
 use Rattle.std.specs.Prelude.{IsTrue}
-use Rattle.pv_model.specs.PlainTree.{plain_node, plain_tree}
-use Rattle.pv_model.specs.Tree.{is_directory_at, new_number, with_new_node, directory_node}
+use Rattle.pv_model.specs.PlainTree.{plain_node}
+use Rattle.pv_model.specs.Tree.{is_directory_at, new_number, with_new_node}
 use Rattle.pv_model.specs.Numbered.{with_number}
 use Rattle.pv_model.proofs.TreesGrow.{made_is, directory_in}
 use Rattle.pv_model.proofs.plain_tree.PlainTree.make.Goals as goal

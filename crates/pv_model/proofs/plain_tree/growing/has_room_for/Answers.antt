@@ -1,4 +1,4 @@
-use Rattle.std.proofs.Common.{sym, ◌∙◌, ap, leb, true, false}
+use Rattle.std.proofs.Common.{sym, ◌∙◌, ap, leb}
 use Rattle.std.specs.Prelude.{◌&&◌}
 use Rattle.std.proofs.lemmas.Bool.{le-leb, lt-leb}
 use Rattle.pv_model.proofs.TreesGrow.{read_as, IsRoomSoFar-long, IsRoomSoFar-end}

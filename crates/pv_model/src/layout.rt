@@ -1,0 +1,69 @@
+//! The sizes of an image, by the version of its format.
+ghost use Rattle.std.specs.Prelude.{◌≡◌};
+ghost use Rattle.pv_model.specs.Image.{greatest_blocks, index_pointers, inode_length};
+ghost use Rattle.pv_model.specs.Room.{entry_length, greatest_entries, greatest_length};
+ghost use Rattle.pv_model.specs.Tree.{greatest_name};
+
+use crate::Version;
+use crate::limits::{BLOCKS_V1, BLOCKS_V2, NAME_V1, NAME_V2};
+
+/// What an image of one version has room for.
+#[derive(Clone, Copy, Debug, PartialEq, Eq)]
+pub struct Layout {
+    /// Bytes of an inode.
+    pub inode_length: usize,
+    /// Bytes of a directory's slot, which holds one entry.
+    pub slot_length: usize,
+    /// The greatest length of a name, in bytes.
+    pub name_limit: usize,
+    /// Pointers of an inode to index blocks, behind the ten to blocks of content.
+    pub index_pointers: u16,
+    /// The greatest length of a content, in bytes.
+    pub greatest_length: u32,
+    /// The greatest number of entries of a directory.
+    pub greatest_entries: u32,
+    /// The greatest number of blocks of an image.
+    pub greatest_blocks: u16,
+}
+
+impl Layout {
+    /// The sizes of version 1.
+    pub const V1: Layout = Layout {
+        inode_length: 32,
+        slot_length: 64,
+        name_limit: NAME_V1,
+        index_pointers: 1,
+        greatest_length: 136_192,
+        greatest_entries: 2_128,
+        greatest_blocks: BLOCKS_V1 as u16,
+    };
+
+    /// The sizes of version 2.
+    pub const V2: Layout = Layout {
+        inode_length: 64,
+        slot_length: 260,
+        name_limit: NAME_V2,
+        index_pointers: 5,
+        greatest_length: 660_480,
+        greatest_entries: 2_540,
+        greatest_blocks: BLOCKS_V2 as u16,
+    };
+}
+
+impl Version {
+    /// The sizes of an image of this version.
+    pub fn layout(self) -> Layout
+        ensures inode_length { result.inode_length ≡ inode_length self }
+        ensures slot_length { result.slot_length ≡ entry_length self }
+        ensures name_limit { result.name_limit ≡ greatest_name self }
+        ensures index_pointers { result.index_pointers ≡ index_pointers self }
+        ensures greatest_length { result.greatest_length ≡ greatest_length self }
+        ensures greatest_entries { result.greatest_entries ≡ greatest_entries self }
+        ensures greatest_blocks { result.greatest_blocks ≡ greatest_blocks self }
+    {
+        match self {
+            Version::V1 => Layout::V1,
+            Version::V2 => Layout::V2,
+        }
+    }
+}
