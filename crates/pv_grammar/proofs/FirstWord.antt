@@ -22,11 +22,6 @@ word_split (b ∷ bs) = elim (b == 32) as (λ t. b ∷ bs ≡ cond t [] (b ∷ w
   | false ↦ ap (λ r. b ∷ r) (word_split bs)
 ]
 
-pub no_space-word_of : (bs : Bytes) → no_space (word_of bs) ≡ true
-no_space-word_of [] = refl
-no_space-word_of (b ∷ bs) = cond_both (b == 32) [] (b ∷ word_of bs) (λ w. no_space w ≡ true) (λ is. refl)
-    (λ is. and_from (not (b == 32)) (no_space (word_of bs)) (not_from_false (b == 32) is) (no_space-word_of bs))
-
 pub behind_word-ends : (bs : Bytes) → IsBehindWord (behind_word bs)
 behind_word-ends [] = tt
 behind_word-ends (b ∷ bs) = cond_both (b == 32) (b ∷ bs) (behind_word bs) IsBehindWord (λ is. eqb-true b 32 is) (λ is. behind_word-ends bs)

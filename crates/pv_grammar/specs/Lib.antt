@@ -1,2 +1,1 @@
-pub mod WorkedPrograms
 pub mod Written

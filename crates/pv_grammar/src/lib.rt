@@ -6,4 +6,3 @@ pub mod manifests;
 pub mod programs;
 pub mod schedules;
 pub mod words;
-pub mod worked;

@@ -1,12 +1,12 @@
 -- A step's text does not depend on the registers and the buffer of another process.
 use Rattle.std.proofs.Common.{◌≡◌, ℕ, zero, suc, ℤ, pos, Bool, true, false, cond, not, ◌&&◌, ◌||◌, ◌==◌, if◌then◌else◌, nat_le, nat_lt, List, [], ◌∷◌, ◌++◌, map, filter, length, Option, None, Some, is_some, refl, ap, sym, subst, ◌∙◌, ◌+ℤ◌, take, option_map, ap₂, is_none}
-use Rattle.pv_model.specs.Attempt.{Attempt, refused, ◌>>=◌, ◌>>◌, give, refuse_if, demand}
+use Rattle.pv_model.specs.Attempt.{Attempt, refused, ◌>>=◌, ◌>>◌, refuse_if, demand}
 use Rattle.pv_model.specs.Bytes.{Bytes, is_empty}
-use Rattle.pv_model.specs.Calls.Descriptors.{without_descriptor, with_descriptor, is_number, within, close, dup, dup2, fstat, fchdir, directory_of, next_name, open_file_for, read, seek_base, lseek, list_name, getdents, natural, is_past_greatest, with_content, write_end, after_write, write, ftruncate, is_link, contradicts, follow_of, with_open_file, open_node, open_from, start_of, open_at}
-use Rattle.pv_model.specs.Calls.Paths.{link_text, chdir, stat_following, readlink, same_node, contains_directory, is_directory_there, entries_there, ends_in_dot, make, symlink, link, unlink, rmdir, move_entry, rename}
+use Rattle.pv_model.specs.Calls.Descriptors.{without_descriptor, with_descriptor, is_number, within, close, dup, dup2, fstat, fchdir, directory_of, next_name, open_file_for, read, seek_base, lseek, list_name, getdents, natural, is_past_greatest, with_content, write_end, after_write, write, ftruncate, is_link, contradicts, with_open_file, open_node, open_at, check_start}
+use Rattle.pv_model.specs.Calls.Paths.{link_text, chdir, stat_at, readlink, same_node, contains_directory, is_directory_there, entries_there, ends_in_dot, make, symlink, link, unlink, rmdir, move_entry, rename}
 use Rattle.pv_model.specs.Calls.Processes.{execve, with_program, executable_bytes}
 use Rattle.pv_model.specs.Calls.Restraints.{asked_promises, unless_refused, add_target, refuse_if_locked, pledge, unveil}
-use Rattle.pv_model.specs.Effect.{Effect, answers, answers_bytes, returns, returns_bytes, ends, waits, walk_from, judge, node_of, descriptor_at, open_file, status, bytes_of, with_room, name_of, resize}
+use Rattle.pv_model.specs.Effect.{Effect, answers, answers_bytes, returns, returns_bytes, ends, waits, walk_from, judge_for, node_of, descriptor_at, open_file, status, bytes_of, with_room, name_of, resize, start_directory}
 use Rattle.pv_model.specs.Held.{trim}
 use Rattle.pv_model.specs.Needs.{letters_of_open}
 use Rattle.pv_model.specs.Numbered.{with_number, least_free}
@@ -16,7 +16,7 @@ use Rattle.pv_model.specs.State.{OpenFile, Program, Process, State, process_at, 
 use Rattle.pv_model.specs.Tree.{Node, directory_node, file_node, link_node, Tree, node_at, is_directory_at, entries_at, is_directory, new_number, with_new_node, with_entry, without_entry}
 use Rattle.pv_model.specs.Unveil.{target_of}
 use Rattle.pv_model.specs.declared.call.Start.{Start}
-use Rattle.pv_model.specs.declared.call.Start.TheVariants.{WorkingDirectory, Descriptor as AtDescriptor}
+use Rattle.pv_model.specs.declared.call.Start.TheVariants.{WorkingDirectory}
 use Rattle.pv_model.specs.declared.call.Whence.{Whence}
 use Rattle.pv_model.specs.declared.errno.Errno.TheVariants.{EPERM, ENOENT, ENOEXEC, EBADF, EACCES, ENOTDIR, EINVAL, EMFILE, EISDIR, EFBIG, EBUSY, EEXIST, ENAMETOOLONG, ENOTEMPTY, ENFILE, ELOOP}
 use Rattle.pv_model.specs.declared.follow.Follow.{Follow}
@@ -42,7 +42,7 @@ use Rattle.pv_model.specs.Program.{Next, inside, calls_for, next}
 use Rattle.pv_model.specs.Promises.{missing_promise}
 use Rattle.pv_model.specs.State.{Record, live, ended_record, live_process}
 use Rattle.pv_model.specs.Step.{step, step_of, step_by}
-use Rattle.pv_model.specs.Trace.{Line, line, quote, walked_paths, promise_texts, unveil_texts, end_lines, call_line, moved_texts, call_lines, buffer_of}
+use Rattle.pv_model.specs.Trace.{Word, call_word, nami_word, gio_word, gave, Line, line, walked_paths, promise_words, unveil_words, end_words, moved_words, call_lines, buffer_of}
 use Rattle.std.specs.Prelude.{codes}
 use Rattle.std.specs.FinMap.Entries.{put, find-put, find-where_key}
 use Rattle.std.specs.Cmp.{unsigned_ties}
@@ -55,6 +55,7 @@ use Rattle.pv_laws.proofs.Others.{alike-find, alike-length, alike-put, alike-par
 use Rattle.pv_laws.proofs.Outcomes.{at_call}
 use Rattle.pv_laws.proofs.Processes.{process_at-same}
 use Rattle.pv_laws.proofs.Rests
+use Rattle.pv_model.specs.Walks.{from_here, follow_of}
 
 -- the children of a process, in lists that are alike
 alike-children : (pid n : ℕ) (xs ys : List (ℕ × Record)) → AreAlikeBut pid xs ys
@@ -97,9 +98,9 @@ module _ (s : State) (pid : ℕ) (me : Process) (qs : List (ℕ × Record)) (ali
 
   -- a walk whose place is judged
   places : (start : ℕ) (follow : Follow) (path : Bytes) (needed : Perms) (k h : Place → Attempt Effect) → ((place : Place) → Alike pid (k place) (h place))
-      → Alike pid (walk_from other start follow path >>= (λ place. judge other me place needed >> k place)) (walk_from s start follow path >>= (λ place. judge s me place needed >> h place))
+      → Alike pid (walk_from other start follow path >>= (λ place. judge_for other me place needed >> k place)) (walk_from s start follow path >>= (λ place. judge_for s me place needed >> h place))
   places start follow path needed k h is =
-      alike-bind pid (walk_from s start follow path) (λ place. judge s me place needed >> k place) (λ place. judge s me place needed >> h place) (λ place. alike-then pid (judge s me place needed) (k place) (h place) (is place))
+      alike-bind pid (walk_from s start follow path) (λ place. judge_for s me place needed >> k place) (λ place. judge_for s me place needed >> h place) (λ place. alike-then pid (judge_for s me place needed) (k place) (h place) (is place))
 
   -- processes
 
@@ -175,7 +176,7 @@ module _ (s : State) (pid : ℕ) (me : Process) (qs : List (ℕ × Record)) (ali
       alike-then pid (refuse_if ENOTDIR (not (is_directory_at s.tree n))) (answers (with_process other pid (record me { directory = n })) 0) (answers (with_process s pid (record me { directory = n })) 0)
       (refl, refl, put-same (record me { directory = n }))))
 
-  same-stat : (follow : Follow) (path : Bytes) → Alike pid (stat_following other pid me follow path) (stat_following s pid me follow path)
+  same-stat : (follow : Follow) (path : Bytes) → Alike pid (stat_at other pid me (from_here follow path letter_r)) (stat_at s pid me (from_here follow path letter_r))
   same-stat follow path =
       places me.directory follow path letter_r (Rests.stat_1 other pid me) (Rests.stat_1 s pid me) (λ place.
       alike-bind pid (demand ENOENT (node_of place)) (λ n. answers_bytes other 0 (status s.tree n)) (λ n. answers_bytes s 0 (status s.tree n)) (λ n. (refl, refl, mine-same)))
@@ -186,7 +187,7 @@ module _ (s : State) (pid : ℕ) (me : Process) (qs : List (ℕ × Record)) (ali
       alike-bind pid (demand ENOENT (node_of place)) (Rests.readlink_2 other pid me) (Rests.readlink_2 s pid me) (λ n.
       alike-bind pid (demand EINVAL (link_text (node_at s.tree n))) (λ text. answers_bytes other (length text) text) (λ text. answers_bytes s (length text) text) (λ text. (refl, refl, mine-same))))
 
-  same-make : (follow : Follow) (node : Node) (path : Bytes) → Alike pid (make other pid me follow node path) (make s pid me follow node path)
+  same-make : (follow : Follow) (node : Node) (path : Bytes) → Alike pid (make other pid me (from_here follow path letter_c) node) (make s pid me (from_here follow path letter_c) node)
   same-make follow node path =
       places me.directory follow path letter_c (Rests.make_1 other pid me node) (Rests.make_1 s pid me node) (λ place.
       alike-then pid (refuse_if EEXIST (is_some (node_of place))) (Rests.make_2 other pid me node place) (Rests.make_2 s pid me node place) (
@@ -194,8 +195,8 @@ module _ (s : State) (pid : ℕ) (me : Process) (qs : List (ℕ × Record)) (ali
 
   same-symlink : (text path : Bytes) → Alike pid (symlink other pid me text path) (symlink s pid me text path)
   same-symlink text path =
-      alike-then pid (refuse_if ENOENT (is_empty text)) (refuse_if ENAMETOOLONG (nat_lt 1023 (length text)) >> make other pid me Keep (link_node text) path) (refuse_if ENAMETOOLONG (nat_lt 1023 (length text)) >> make s pid me Keep (link_node text) path) (
-      alike-then pid (refuse_if ENAMETOOLONG (nat_lt 1023 (length text))) (make other pid me Keep (link_node text) path) (make s pid me Keep (link_node text) path) (same-make Keep (link_node text) path))
+      alike-then pid (refuse_if ENOENT (is_empty text)) (refuse_if ENAMETOOLONG (nat_lt 1023 (length text)) >> make other pid me (from_here Keep path letter_c) (link_node text)) (refuse_if ENAMETOOLONG (nat_lt 1023 (length text)) >> make s pid me (from_here Keep path letter_c) (link_node text)) (
+      alike-then pid (refuse_if ENAMETOOLONG (nat_lt 1023 (length text))) (make other pid me (from_here Keep path letter_c) (link_node text)) (make s pid me (from_here Keep path letter_c) (link_node text)) (same-make Keep (link_node text) path))
 
   same-link : (path new : Bytes) → Alike pid (link other pid me path new) (link s pid me path new)
   same-link path new =
@@ -215,8 +216,8 @@ module _ (s : State) (pid : ℕ) (me : Process) (qs : List (ℕ × Record)) (ali
 
   same-rmdir : (path : Bytes) → Alike pid (rmdir other pid me path) (rmdir s pid me path)
   same-rmdir path =
-      alike-then pid (refuse_if EINVAL (ends_in_dot path)) (walk_from other me.directory Keep path >>= (λ place. judge other me place letter_c >> Rests.rmdir_1 other pid me place))
-      (walk_from s me.directory Keep path >>= (λ place. judge s me place letter_c >> Rests.rmdir_1 s pid me place)) (
+      alike-then pid (refuse_if EINVAL (ends_in_dot path)) (walk_from other me.directory Keep path >>= (λ place. judge_for other me place letter_c >> Rests.rmdir_1 other pid me place))
+      (walk_from s me.directory Keep path >>= (λ place. judge_for s me place letter_c >> Rests.rmdir_1 s pid me place)) (
       places me.directory Keep path letter_c (Rests.rmdir_1 other pid me) (Rests.rmdir_1 s pid me) (λ place.
       alike-bind pid (demand ENOENT (node_of place)) (Rests.rmdir_2 other pid me place) (Rests.rmdir_2 s pid me place) (λ n.
       alike-then pid (refuse_if ENOTDIR (not (is_directory_at s.tree n))) (Rests.rmdir_3 other pid me place n) (Rests.rmdir_3 s pid me place n) (
@@ -233,8 +234,8 @@ module _ (s : State) (pid : ℕ) (me : Process) (qs : List (ℕ × Record)) (ali
 
   same-rename : (path new : Bytes) → Alike pid (rename other pid me path new) (rename s pid me path new)
   same-rename path new =
-      alike-then pid (refuse_if EINVAL (ends_in_dot path || ends_in_dot new)) (walk_from other me.directory Keep path >>= (λ old_place. judge other me old_place letter_c >> Rests.rename_1 other pid me new old_place))
-      (walk_from s me.directory Keep path >>= (λ old_place. judge s me old_place letter_c >> Rests.rename_1 s pid me new old_place)) (
+      alike-then pid (refuse_if EINVAL (ends_in_dot path || ends_in_dot new)) (walk_from other me.directory Keep path >>= (λ old_place. judge_for other me old_place letter_c >> Rests.rename_1 other pid me new old_place))
+      (walk_from s me.directory Keep path >>= (λ old_place. judge_for s me old_place letter_c >> Rests.rename_1 s pid me new old_place)) (
       places me.directory Keep path letter_c (Rests.rename_1 other pid me new) (Rests.rename_1 s pid me new) (λ old_place.
       places me.directory Keep new letter_c (Rests.rename_2 other pid me old_place) (Rests.rename_2 s pid me old_place) (λ new_place.
       alike-bind pid (demand ENOENT (node_of old_place)) (Rests.rename_3 other pid me old_place new_place) (Rests.rename_3 s pid me old_place new_place) (λ n.
@@ -246,9 +247,6 @@ module _ (s : State) (pid : ℕ) (me : Process) (qs : List (ℕ × Record)) (ali
       ]))))))
 
   -- descriptors
-
-  same-directory_of : (d : ℤ) (k h : ℕ → Attempt Effect) → ((n : ℕ) → Alike pid (k n) (h n)) → Alike pid (directory_of other pid me d >>= k) (directory_of s pid me d >>= h)
-  same-directory_of d k h is = alike-bind pid (directory_of s pid me d) k h is
 
   same-fstat : (d : ℤ) → Alike pid (fstat other pid me d) (fstat s pid me d)
   same-fstat d = alike-bind pid (demand EBADF (open_file s me d)) (λ (k, file). answers_bytes other 0 (status s.tree file.node)) (λ (k, file). answers_bytes s 0 (status s.tree file.node)) (λ f. (refl, refl, mine-same))
@@ -332,10 +330,12 @@ module _ (s : State) (pid : ℕ) (me : Process) (qs : List (ℕ × Record)) (ali
       alike-after pid 0 (Rests.open_7 other pid me (with_open_file other pid me f (new_number s.tree) t)) (Rests.open_7 s pid me (with_open_file s pid me f (new_number s.tree) t)) (same-opened f (new_number s.tree) t)
   same-open_node f None None = (refl, refl, refl)
 
-  same-open_from : (start : Attempt ℕ) (path : Bytes) (f : OpenFlags) → Alike pid (open_from other pid me start path f) (open_from s pid me start path f)
-  same-open_from start path f =
-      alike-then pid (refuse_if EINVAL (contradicts f)) (start >>= Rests.open_a other pid me path f) (start >>= Rests.open_a s pid me path f) (
-      alike-bind pid start (Rests.open_a other pid me path f) (Rests.open_a s pid me path f) (λ directory.
+  same-open_at : (start : Start) (path : Bytes) (f : OpenFlags) → Alike pid (open_at other pid me start path f) (open_at s pid me start path f)
+  same-open_at start path f =
+      let check : Attempt (Unit {0}) = check_start s pid me start path in
+      let directory : ℕ = start_directory s me start path in
+      alike-then pid (refuse_if EINVAL (contradicts f)) (check >> Rests.open_a other pid me path f directory) (check >> Rests.open_a s pid me path f directory) (
+      alike-then pid check (Rests.open_a other pid me path f directory) (Rests.open_a s pid me path f directory) (
       alike-then pid (refuse_if EMFILE (nat_le 16 (least_free me.descriptors))) (Rests.open_b other pid me path f directory) (Rests.open_b s pid me path f directory) (
       alike-then pid (refuse_if ENFILE (nat_le 128 (least_free s.files))) (Rests.open_c other pid me path f directory) (Rests.open_c s pid me path f directory) (
       places directory (follow_of f) path (letters_of_open f) (Rests.open_1 other pid me f) (Rests.open_1 s pid me f) (λ place.
@@ -345,10 +345,6 @@ module _ (s : State) (pid : ℕ) (me : Process) (qs : List (ℕ × Record)) (ali
       alike-then pid (refuse_if ENOTDIR (f.directory && not (is_directory (Rests.node_there s pid me place)))) (Rests.open_5 other pid me f place) (Rests.open_5 s pid me f place) (
       alike-then pid (refuse_if EISDIR (is_directory (Rests.node_there s pid me place) && writes f.mode)) (Rests.open_6 other pid me f place) (Rests.open_6 s pid me f place)
       (same-open_node f (name_of place) (node_of place)))))))))))
-
-  same-open_at : (start : Start) (path : Bytes) (f : OpenFlags) → Alike pid (open_at other pid me start path f) (open_at s pid me start path f)
-  same-open_at WorkingDirectory path f = same-open_from (give me.directory) path f
-  same-open_at (AtDescriptor d) path f = same-open_from (start_of s pid me (AtDescriptor d) path) path f
 
   -- ---- each call
 
@@ -362,7 +358,7 @@ module _ (s : State) (pid : ℕ) (me : Process) (qs : List (ℕ × Record)) (ali
   same-effect program_of (TheCall.Pledge promises execpromises) = same-pledge promises execpromises
   same-effect program_of (TheCall.Unveil path letters) = same-unveil path letters
   same-effect program_of (TheCall.Execve path) = same-execve program_of path
-  same-effect program_of (TheCall.Open path flags) = same-open_from (give me.directory) path flags
+  same-effect program_of (TheCall.Open path flags) = same-open_at WorkingDirectory path flags
   same-effect program_of (TheCall.OpenAt start path flags) = same-open_at start path flags
   same-effect program_of (TheCall.Close d) = same-close d
   same-effect program_of (TheCall.Dup d) = same-dup d
@@ -387,10 +383,10 @@ module _ (s : State) (pid : ℕ) (me : Process) (qs : List (ℕ × Record)) (ali
 
 -- ---- the lines
 
-record IsToldAlike (pid : ℕ) (a b : Answered) : Type 0 where
-  outcome : a.outcome ≡ b.outcome
-  walks : a.walks ≡ b.walks
-  buffer : (n len : ℕ) → b.outcome ≡ TheOutcome.Text (record { value = n; len = len }) → process_at a.after pid ≡ process_at b.after pid
+pub record IsToldAlike (pid : ℕ) (a b : Answered) : Type 0 where
+  pub outcome : a.outcome ≡ b.outcome
+  pub walks : a.walks ≡ b.walks
+  pub buffer : (n len : ℕ) → b.outcome ≡ TheOutcome.Text (record { value = n; len = len }) → process_at a.after pid ≡ process_at b.after pid
 
 update-same : (x y : State) (pid : ℕ) (f : Process → Process) → process_at x pid ≡ process_at y pid → process_at (update x pid f) pid ≡ process_at (update y pid f) pid
 update-same x y pid f same = changed x ∙ ap (Rattle.std.specs.Prelude.option_map f) same ∙ sym (changed y)
@@ -419,22 +415,22 @@ told-alike b c s t pid me (refused w e d) (done v (y, q)) is = absurd is
 told-alike b c s t pid me (refused w e d) (refused v f g) is = record { outcome = ap₂ (λ x y. TheOutcome.Failed x y) is.1 is.2; walks = is.0; buffer = λ m len said. cc }
 
 moved-alike : (x y : State) (pid : ℕ) (p : Process) (call : Call) (o : Outcome) → ((n len : ℕ) → o ≡ TheOutcome.Text (record { value = n; len = len }) → process_at x pid ≡ process_at y pid)
-    → moved_texts x pid p call o ≡ moved_texts y pid p call o
-moved-alike x y pid p call (TheOutcome.Text taken) same = ap (λ (q : Option Process). Rattle.pv_model.specs.Trace.bytes_text (Rattle.std.specs.Prelude.codes "read") (Rattle.std.specs.Prelude.take taken.len (buffer_of q)) ∷ []) (same taken.value taken.len refl)
+    → moved_words x pid p call o ≡ moved_words y pid p call o
+moved-alike x y pid p call (TheOutcome.Text taken) same = ap (λ (q : Option Process). gio_word gave (Rattle.std.specs.Prelude.take taken.len (buffer_of q)) ∷ []) (same taken.value taken.len refl)
 moved-alike x y pid p (TheCall.Write d n) (TheOutcome.Value count) same = refl
 moved-alike x y pid p call o same = refl
 
 -- the lines of a call, from what a trace says of bytes
-abbrev lines_with : ℕ → Process → Call → ℕ → Outcome → List Bytes → List Line
+abbrev lines_with : ℕ → Process → Call → ℕ → Outcome → List Word → List Line
 lines_with pid p call walks o moved =
-    line pid (codes "CALL") (call_line call)
-    ∷ map (λ path. line pid (codes "NAMI") (quote path)) (take walks (walked_paths call))
-    ++ map (line pid (codes "PLDG")) (promise_texts call o)
-    ++ map (line pid (codes "UNVL")) (unveil_texts call walks o)
-    ++ map (line pid (codes "GIO")) moved
-    ++ end_lines pid call o
+    line pid (call_word call)
+    ∷ map (λ path. line pid (nami_word path)) (take walks (walked_paths call))
+    ++ map (line pid) (promise_words call o)
+    ++ map (line pid) (unveil_words call walks o)
+    ++ map (line pid) moved
+    ++ map (line pid) (end_words call o)
 
-lines-alike : (pid : ℕ) (p : Process) (call : Call) (a b : Answered) → IsToldAlike pid a b → call_lines pid p call a ≡ call_lines pid p call b
+pub lines-alike : (pid : ℕ) (p : Process) (call : Call) (a b : Answered) → IsToldAlike pid a b → call_lines pid p call a ≡ call_lines pid p call b
 unfolding call_lines
 lines-alike pid p call a b is =
     ap₂ (λ o w. call_lines pid p call (record { after = a.after; outcome = o; walks = w })) is.outcome is.walks

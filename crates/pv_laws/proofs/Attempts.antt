@@ -7,7 +7,7 @@ use Rattle.pv_model.specs.declared.place.Place.{Place}
 use Rattle.pv_model.specs.declared.follow.Follow.{Follow}
 use Rattle.pv_model.specs.Attempt.{Attempt, done, refused, after_walks, ◌>>=◌, ◌>>◌, give, refuse_if, demand}
 use Rattle.pv_model.specs.Bytes.{Bytes}
-use Rattle.pv_model.specs.Effect.{place_or_refusal, walk_from, judge, with_room}
+use Rattle.pv_model.specs.Effect.{place_or_refusal, walk_from, judge_for, with_room}
 use Rattle.pv_model.specs.Held.{trim}
 use Rattle.pv_model.specs.Room.{is_too_long, fits}
 use Rattle.pv_model.specs.State.{Process, State}
@@ -31,6 +31,11 @@ module _ {A : Type 0} (P : A → Type 0) where
   pub leads-then : {B : Type 0} (a : Attempt B) (next : Attempt A) → Leads P next → Leads P (a >> next)
   leads-then (done walks value) next is = leads-after_walks walks next is
   leads-then (refused walks errno cause) next is = tt
+
+  -- behind an attempt, what it leads to is known
+  pub leads-behind : {B : Type 0} (Q : Type 0) (a : Attempt B) (next : Attempt A) → Leads (λ _. Q) a → (Q → Leads P next) → Leads P (a >> next)
+  leads-behind Q (done walks value) next is then' = leads-after_walks walks next (then' is)
+  leads-behind Q (refused walks errno cause) next is then' = tt
 
   -- behind a test that refuses, its answer is known
   pub leads-refuse_if : (e : Errno) (b : Bool) (next : Attempt A) → (b ≡ false → Leads P next) → Leads P (refuse_if e b >> next)
@@ -66,6 +71,6 @@ leads-any (refused walks errno cause) = tt
 
 -- a walk whose place is judged
 pub leads-place : {A : Type 0} (P : A → Type 0) (s : State) (me : Process) (start : ℕ) (follow : Follow) (path : Bytes) (needed : Perms) (next : Place → Attempt A)
-    → ((place : Place) → resolve s.tree follow start path ≡ Ok place → Leads P (next place)) → Leads P (walk_from s start follow path >>= (λ place. judge s me place needed >> next place))
+    → ((place : Place) → resolve s.tree follow start path ≡ Ok place → Leads P (next place)) → Leads P (walk_from s start follow path >>= (λ place. judge_for s me place needed >> next place))
 leads-place P s me start follow path needed next is =
-    leads-walk P s start follow path (λ place. judge s me place needed >> next place) (λ place found. leads-then P (judge s me place needed) (next place) (is place found))
+    leads-walk P s start follow path (λ place. judge_for s me place needed >> next place) (λ place found. leads-then P (judge_for s me place needed) (next place) (is place found))

@@ -20,10 +20,10 @@ use Rattle.pv_model.specs.Tree.{Entries, Node, directory_node, file_node, link_n
 use Rattle.pv_laws.specs.States.{is_byte, are_bytes, IsOpenFile, is_listed, AreFiles, IsWhole}
 use Rattle.pv_laws.proofs.Attempts.{Leads, leads-refuse_if, leads-demand}
 use Rattle.pv_laws.proofs.ByProcess.{within-limit}
-use Rattle.pv_laws.proofs.Changes.{entries-good}
-use Rattle.pv_laws.proofs.Numbered.{at_number-below, length-with_number, with_number-same, with_number-other}
+use Rattle.pv_tree_laws.proofs.Changes.{entries-good}
+use Rattle.pv_tree_laws.proofs.Numbered.{at_number-below, length-with_number, with_number-same, with_number-other}
 use Rattle.pv_laws.proofs.Replies.{IsEffect}
-use Rattle.pv_laws.proofs.Rooms.{length-within}
+use Rattle.pv_tree_laws.proofs.Rooms.{length-within}
 use Rattle.pv_laws.proofs.Running.{IsReady, list_all-take, list_all-drop}
 use Rattle.pv_laws.proofs.Standing.{ready, carries-self, solid-standing}
 use Rattle.pv_laws.proofs.Whole.{has_room, solid}

@@ -2,14 +2,14 @@
 use Rattle.std.proofs.Common.{◌≡◌, ◌≢◌, ℕ, ◌<◌, Bool, true, false, not, ◌&&◌, ◌||◌, if◌then◌else◌, nat_le, [], length, Option, None, Some, is_some, is_none, option_and_then, refl, ap, sym, subst, ◌∙◌, ⊎_elim, arith}
 use Rattle.std.proofs.lemmas.Bool.{leb-false, cases_eq}
 use Rattle.pv_model.specs.declared.call.Start.{Start}
-use Rattle.pv_model.specs.declared.call.Start.TheVariants.{WorkingDirectory, Descriptor as AtDescriptor}
+use Rattle.pv_model.specs.declared.call.Start.TheVariants.{WorkingDirectory}
 use Rattle.pv_model.specs.declared.errno.Errno.TheVariants.{EEXIST, ENOENT, ENOTDIR, EISDIR, EINVAL, ENFILE, EMFILE, ELOOP}
 use Rattle.pv_model.specs.declared.open_flags.OpenFlags.{OpenFlags}
 use Rattle.pv_model.specs.declared.place.Place.{Place}
-use Rattle.pv_model.specs.Attempt.{Attempt, ◌>>=◌, ◌>>◌, give, refuse_if}
+use Rattle.pv_model.specs.Attempt.{Attempt, ◌>>=◌, ◌>>◌, refuse_if}
 use Rattle.pv_model.specs.Bytes.{Bytes}
-use Rattle.pv_model.specs.Calls.Descriptors.{is_link, contradicts, follow_of, with_content, new_open_file, open_node, open_from, open_here, directory_of, start_of, open_at}
-use Rattle.pv_model.specs.Effect.{Effect, answers, walk_from, judge, with_room, node_of, name_of}
+use Rattle.pv_model.specs.Calls.Descriptors.{is_link, contradicts, with_content, new_open_file, open_node, open_here, check_start, open_at}
+use Rattle.pv_model.specs.Effect.{Effect, answers, start_directory, walk_from, judge_for, with_room, node_of, name_of}
 use Rattle.pv_model.specs.Held.{among, held_by_process}
 use Rattle.pv_model.specs.Needs.{letters_of_open}
 use Rattle.pv_model.specs.Numbered.{Numbered, at_number, with_number, least_free}
@@ -17,20 +17,21 @@ use Rattle.pv_model.specs.Room.{fits}
 use Rattle.pv_model.specs.Sealed.{is_file}
 use Rattle.pv_model.specs.State.{OpenFile, Descriptor, Process, State, writes, process_at, with_process}
 use Rattle.pv_model.specs.Tree.{Node, directory_node, file_node, link_node, Tree, node_at, is_directory, is_directory_at, new_number, with_node, with_new_node}
-use Rattle.pv_model.specs.Walk.{is_absolute}
+use Rattle.pv_model.specs.Walks.{follow_of}
 use Rattle.pv_laws.specs.Held.{used}
 use Rattle.pv_laws.specs.States.{is_text, IsTree, IsOpenFile, AreFiles, IsSolid, IsWhole}
-use Rattle.pv_laws.proofs.Attempts.{Leads, leads-after_walks, leads-bind, leads-refuse_if, leads-then, leads-place, leads-room}
-use Rattle.pv_laws.proofs.ByProcess.{leads-directory_of, with-opens}
+use Rattle.pv_laws.proofs.Attempts.{Leads, leads-after_walks, leads-behind, leads-refuse_if, leads-then, leads-place, leads-room}
+use Rattle.pv_laws.proofs.ByProcess.{with-opens}
 use Rattle.pv_laws.proofs.ByTree.{FineName, named-place, place-there, tree-new}
-use Rattle.pv_laws.proofs.Changes.{node_at-same, node_at-other, directory-below}
-use Rattle.pv_laws.proofs.Edits.{new_number-free}
+use Rattle.pv_tree_laws.proofs.Changes.{node_at-same, node_at-other, directory-below}
+use Rattle.pv_tree_laws.proofs.Edits.{new_number-free}
 use Rattle.pv_laws.proofs.Grown.{tree-content, carries-content, new-below}
 use Rattle.pv_laws.proofs.Members.{among-used, used-among, among-held_by, among-held_file, held_cases}
-use Rattle.pv_laws.proofs.Numbered.{length-with_number, with_number-same, with_number-other, least_free-free}
+use Rattle.pv_tree_laws.proofs.Numbered.{length-with_number, with_number-same, with_number-other, least_free-free}
 use Rattle.pv_laws.proofs.Processes.{process_at-same, process_at-other}
 use Rattle.pv_laws.proofs.Replies.{IsEffect}
 use Rattle.pv_laws.proofs.Standing.{IsFinePlace, resolve-fine, Carries, carries-self, file-carried, placed-carried, solid-standing, my-running, my-placed, running-like}
+use Rattle.pv_laws.proofs.Starts.{StartsWell, leads-start}
 use Rattle.pv_laws.proofs.Trim.{held_after, tree-trim}
 use Rattle.pv_laws.proofs.Whole.{solid, solid-with_process}
 
@@ -205,7 +206,7 @@ module _ (s : State) (pid : ℕ) (me : Process) (whole : IsWhole s) (at : proces
   open_1 f place = refuse_if EEXIST (f.create && f.exclusive && is_some (node_there place)) >> open_2 f place
 
   abbrev open_c : Bytes → OpenFlags → ℕ → Attempt Effect
-  open_c path f directory = walk_from s directory (follow_of f) path >>= (λ place. judge s me place (letters_of_open f) >> open_1 f place)
+  open_c path f directory = walk_from s directory (follow_of f) path >>= (λ place. judge_for s me place (letters_of_open f) >> open_1 f place)
 
   abbrev open_b : Bytes → OpenFlags → ℕ → Attempt Effect
   open_b path f directory = refuse_if ENFILE (nat_le 128 file_number) >> open_c path f directory
@@ -213,10 +214,11 @@ module _ (s : State) (pid : ℕ) (me : Process) (whole : IsWhole s) (at : proces
   abbrev open_a : Bytes → OpenFlags → ℕ → Attempt Effect
   open_a path f directory = refuse_if EMFILE (nat_le 16 descriptor_number) >> open_b path f directory
 
-  good-open_from : (start : Attempt ℕ) (path : Bytes) (f : OpenFlags) → is_text path ≡ true → Leads (λ n. is_directory_at s.tree n ≡ true) start → Leads (IsEffect s) (open_from s pid me start path f)
-  good-open_from start path f text starts =
-      leads-then (IsEffect s) (refuse_if EINVAL (contradicts f)) (start >>= open_a path f) (
-      leads-bind (IsEffect s) (λ n. is_directory_at s.tree n ≡ true) start (open_a path f) starts (λ directory dir.
+  pub good-open_at : (start : Start) (path : Bytes) (f : OpenFlags) → is_text path ≡ true → Leads (IsEffect s) (open_at s pid me start path f)
+  good-open_at start path f text =
+      let directory : ℕ = start_directory s me start path in
+      leads-then (IsEffect s) (refuse_if EINVAL (contradicts f)) (check_start s pid me start path >> open_a path f directory) (
+      leads-behind (IsEffect s) (StartsWell s pid me directory) (check_start s pid me start path) (open_a path f directory) (leads-start s pid me start path) (λ well.
       leads-refuse_if (IsEffect s) EMFILE (nat_le 16 descriptor_number) (open_b path f directory) (λ few_descriptors.
       leads-refuse_if (IsEffect s) ENFILE (nat_le 128 file_number) (open_c path f directory) (λ few_files.
       leads-place (IsEffect s) s me directory (follow_of f) path (letters_of_open f) (open_1 f) (λ place found.
@@ -225,21 +227,10 @@ module _ (s : State) (pid : ℕ) (me : Process) (whole : IsWhole s) (at : proces
       leads-refuse_if (IsEffect s) ELOOP (is_link (node_there place)) (open_4 f place) (λ no_link.
       leads-then (IsEffect s) (refuse_if ENOTDIR (f.directory && not (is_directory (node_there place)))) (open_5 f place) (
       leads-refuse_if (IsEffect s) EISDIR (is_directory (node_there place) && writes f.mode) (open_6 f place) (λ no_write.
-      good-node f place (resolve-fine s.tree whole.tree (follow_of f) directory path place dir text found)
+      good-node f place (resolve-fine s.tree whole.tree (follow_of f) directory path place (well (my-placed s pid me whole at).directory) text found)
       (omega (arith, leb-false 128 file_number few_files, whole.files.count))
       (omega (arith, leb-false 16 descriptor_number few_descriptors, (my-placed s pid me whole at).descriptors))
       no_link no_write (name_of place) (node_of place) refl refl))))))))))
 
   pub good-open : (path : Bytes) (f : OpenFlags) → is_text path ≡ true → Leads (IsEffect s) (open_here s pid me path f)
-  good-open path f text = good-open_from (give me.directory) path f text (my-placed s pid me whole at).directory
-
-  starts_well : (start : Start) (path : Bytes) → Leads (λ n. is_directory_at s.tree n ≡ true) (start_of s pid me start path)
-  starts_well WorkingDirectory path = (my-placed s pid me whole at).directory
-  starts_well (AtDescriptor d) path =
-      elim (is_absolute path) as (λ b. Leads (λ n. is_directory_at s.tree n ≡ true) (if b then give me.directory else directory_of s pid me d)) [
-        | true ↦ (my-placed s pid me whole at).directory
-        | false ↦ leads-directory_of s pid me whole at d
-      ]
-
-  pub good-open_at : (start : Start) (path : Bytes) (f : OpenFlags) → is_text path ≡ true → Leads (IsEffect s) (open_at s pid me start path f)
-  good-open_at start path f text = good-open_from (start_of s pid me start path) path f text (starts_well start path)
+  good-open path f text = good-open_at WorkingDirectory path f text

@@ -14,7 +14,7 @@ use Rattle.pv_model.specs.Promises.{Promises, narrow_promises, is_lenient}
 use Rattle.pv_model.specs.Attempt.{Attempt, refused, ◌>>=◌, ◌>>◌, give, refuse, refuse_if, demand}
 use Rattle.pv_model.specs.Bytes.{Bytes, is_empty, little_endian}
 use Rattle.pv_model.specs.Calls.Descriptors.{with_descriptor, with_duplicate, is_number, within, close, dup, dup2, fstat, fchdir, directory_of}
-use Rattle.pv_model.specs.Calls.Paths.{link_text, chdir, stat_following, readlink}
+use Rattle.pv_model.specs.Calls.Paths.{link_text, chdir, stat_at, readlink}
 use Rattle.pv_model.specs.Calls.Processes.{exit, getpid, getppid, execve, with_program, descriptor_after_exec, executable_bytes}
 use Rattle.pv_model.specs.Calls.Restraints.{asked_promises, unless_refused, entries_of_table, add_entry, add_target, refuse_if_locked, pledge, unveil}
 use Rattle.pv_model.specs.Effect.{Effect, answers, answers_bytes, returns_bytes, walk_from, node_of, descriptor_at, open_file, status, status_of, sort_number, size_of}
@@ -27,12 +27,13 @@ use Rattle.pv_model.specs.Unveil.{Table, entry_for, letters_at, with_letters, ta
 use Rattle.pv_laws.specs.States.{is_byte, are_bytes, is_text, is_text_or_none, is_target, is_table, SpellsPrograms, IsRunning, IsPlaced, IsWhole}
 use Rattle.pv_laws.proofs.Attempts.{Leads, leads-bind, leads-then, leads-refuse_if, leads-demand, leads-walk, leads-place, leads-any}
 use Rattle.pv_laws.proofs.Members.{find_number-list_all, live-found}
-use Rattle.pv_laws.proofs.Numbered.{length-with_number, length-without_number, with_number-same, with_number-other, without_number-same, without_number-other}
-use Rattle.pv_laws.proofs.Places.{link-text}
-use Rattle.pv_laws.proofs.Trees.{sound}
+use Rattle.pv_tree_laws.proofs.Numbered.{length-with_number, length-without_number, with_number-same, with_number-other, without_number-same, without_number-other}
+use Rattle.pv_tree_laws.proofs.Places.{link-text}
+use Rattle.pv_tree_laws.proofs.Trees.{sound}
 use Rattle.pv_laws.proofs.Replies.{IsEffect}
 use Rattle.pv_laws.proofs.Running.{IsReady, list_all-set, list_all-both, list_all-replicate, length-little_endian, bytes-little_endian}
 use Rattle.pv_laws.proofs.Standing.{ready, ready-process, my-running, my-placed, running-like, resolve-fine, target-fine}
+use Rattle.pv_model.specs.Walks.{from_here}
 
 -- a number within a limit
 pub within-limit : (limit : ℕ) (n : ℤ) (k : ℕ) → within limit n ≡ Some k → k ≤ limit
@@ -238,7 +239,7 @@ module _ (s : State) (pid : ℕ) (me : Process) (whole : IsWhole s) (at : proces
   abbrev stat_1 : Place → Attempt Effect
   stat_1 place = demand ENOENT (node_of place) >>= (λ n. answers_bytes s 0 (status s.tree n))
 
-  pub good-stat : (follow : Follow) (path : Bytes) → Leads (IsEffect s) (stat_following s pid me follow path)
+  pub good-stat : (follow : Follow) (path : Bytes) → Leads (IsEffect s) (stat_at s pid me (from_here follow path letter_r))
   good-stat follow path =
       leads-place (IsEffect s) s me me.directory follow path letter_r stat_1 (λ place found.
       leads-demand (IsEffect s) ENOENT (node_of place) (λ n. answers_bytes s 0 (status s.tree n)) (λ n is. told-status n))

@@ -32,12 +32,13 @@ use Rattle.pv_laws.proofs.ByProcess.{good-exit, good-getpid, good-getppid, good-
 use Rattle.pv_laws.proofs.ByTable.{good-fork, good-wait}
 use Rattle.pv_laws.proofs.ByTree.{good-mkdir, good-symlink, good-link, good-unlink, good-rmdir, good-rename, good-write, good-ftruncate}
 use Rattle.pv_laws.proofs.Members.{find_number_cases, live-found}
-use Rattle.pv_laws.proofs.Numbered.{keep-all}
-use Rattle.pv_laws.proofs.Places.{list_all-weaker}
+use Rattle.pv_tree_laws.proofs.Numbered.{keep-all}
+use Rattle.pv_tree_laws.proofs.Places.{list_all-weaker}
 use Rattle.pv_laws.proofs.Replies.{IsEffect, whole-answer}
 use Rattle.pv_laws.proofs.Running.{running-front, running-next, list_all-set, list_all-replicate, SameHolds, whole-inside}
 use Rattle.pv_laws.proofs.Standing.{text-bytes}
-use Rattle.pv_laws.proofs.Trim.{kept_all, held_after}
+use Rattle.pv_tree_laws.proofs.Keeping.{kept_all}
+use Rattle.pv_laws.proofs.Trim.{held_after}
 
 -- ---- calls
 

@@ -13,9 +13,9 @@ use Rattle.pv_model.specs.State.{Process, Record, live, ended_record, State, pro
 use Rattle.pv_laws.specs.States.{IsRunning, IsPlaced, is_number, IsWhole}
 use Rattle.pv_laws.proofs.Attempts.{Leads, leads-then, leads-refuse_if}
 use Rattle.pv_laws.proofs.Ending.{sorted-filtered, length-filtered, found-filtered, filtered-found, running-parent}
-use Rattle.pv_laws.proofs.Entries.{tell, list_all-filter}
+use Rattle.pv_tree_laws.proofs.Entries.{tell, list_all-filter}
 use Rattle.pv_laws.proofs.Members.{find_number_behind, find_number-list_all, live-found, found-live}
-use Rattle.pv_laws.proofs.Places.{list_all-weaker}
+use Rattle.pv_tree_laws.proofs.Places.{list_all-weaker}
 use Rattle.pv_laws.proofs.Processes.{number-itself}
 use Rattle.pv_laws.proofs.Replies.{IsEffect}
 use Rattle.pv_laws.proofs.Running.{IsReady, running-result, length-little_endian, bytes-little_endian}

@@ -12,7 +12,7 @@ use Rattle.pv_model.specs.Attempt.{Attempt, ◌>>=◌, ◌>>◌, refuse_if, dema
 use Rattle.pv_model.specs.Bytes.{Bytes, is_empty}
 use Rattle.pv_model.specs.Calls.Descriptors.{within, natural, is_past_greatest, with_content, open_file_for, write_place, write_end, after_write, write, ftruncate}
 use Rattle.pv_model.specs.Calls.Paths.{same_node, contains_directory, is_directory_there, entries_there, ends_in_dot, make, mkdir, symlink, link, unlink, rmdir, move_entry, rename}
-use Rattle.pv_model.specs.Effect.{Effect, answers, judge, walk_from, with_room, node_of, name_of, open_file, with_file, bytes_of, overwrite, resize}
+use Rattle.pv_model.specs.Effect.{Effect, answers, judge_for, walk_from, with_room, node_of, name_of, open_file, with_file, bytes_of, overwrite, resize}
 use Rattle.pv_model.specs.Held.{trim}
 use Rattle.pv_model.specs.Numbered.{with_number}
 use Rattle.pv_model.specs.Perms.{letter_r, letter_c}
@@ -24,15 +24,18 @@ use Rattle.pv_laws.specs.States.{is_byte, are_bytes, has_bytes, is_text, is_text
 use Rattle.pv_laws.proofs.Attempts.{Leads, leads-then, leads-refuse_if, leads-demand, leads-place, leads-room}
 use Rattle.pv_laws.proofs.ByFile.{open_file_for-at, file-bytes, files-with, files-stay, greatest-low}
 use Rattle.pv_laws.proofs.ByProcess.{within-limit}
-use Rattle.pv_laws.proofs.Changes.{directory-below, node_at-other}
-use Rattle.pv_laws.proofs.Edits.{stays-new_node, stays-with_entry, stays-without_entry, stays-renamed, new_number-free}
-use Rattle.pv_laws.proofs.Grown.{bytes-with_node, bytes-with_entry, bytes-without_entry, still-there, carries-with_node, carries-entries, tree-content, carries-content, no_larger-without, ready-tree, ready-smaller, new-below}
-use Rattle.pv_laws.proofs.Places.{list_all-weaker, not_zero}
+use Rattle.pv_tree_laws.proofs.Changes.{directory-below, node_at-other}
+use Rattle.pv_tree_laws.proofs.Edits.{stays-new_node, stays-with_entry, stays-without_entry, stays-renamed, new_number-free}
+use Rattle.pv_laws.proofs.Grown.{bytes-with_node, bytes-with_entry, bytes-without_entry, carries-with_node, carries-entries, tree-content, carries-content, ready-tree, ready-smaller, new-below}
+use Rattle.pv_tree_laws.proofs.Changes.{still-there}
+use Rattle.pv_tree_laws.proofs.Rooms.{no_larger-without}
+use Rattle.pv_tree_laws.proofs.Places.{list_all-weaker, not_zero}
 use Rattle.pv_laws.proofs.Replies.{IsEffect}
 use Rattle.pv_laws.proofs.Running.{IsReady, list_all-take, list_all-drop, list_all-both, list_all-replicate}
 use Rattle.pv_laws.proofs.Standing.{IsFinePlace, resolve-fine, text-bytes, ready, my-running, my-placed, Carries, carries-along, file-carried, solid-standing}
 use Rattle.pv_laws.proofs.Trim.{held_after, tree-trim}
 use Rattle.pv_laws.proofs.Whole.{HasRoom, solid}
+use Rattle.pv_model.specs.Walks.{from_here}
 
 -- ---- places with names
 
@@ -112,7 +115,7 @@ module _ (s : State) (pid : ℕ) (me : Process) (whole : IsWhole s) (at : proces
   make_1 node place = refuse_if EEXIST (is_some (node_of place)) >> make_2 node place
 
   good-make : (follow : Follow) (node : Node) (path : Bytes) → is_text path ≡ true → is_node s.tree.version node ≡ true → has_bytes node ≡ true → entries_of (Some node) ≡ []
-      → Leads (IsEffect s) (make s pid me follow node path)
+      → Leads (IsEffect s) (make s pid me (from_here follow path letter_c) node)
   good-make follow node path text good bytes bare =
       leads-place (IsEffect s) s me me.directory follow path letter_c (make_1 node) (λ place found.
       leads-refuse_if (IsEffect s) EEXIST (is_some (node_of place)) (make_2 node place) (λ free.
@@ -129,8 +132,8 @@ module _ (s : State) (pid : ℕ) (me : Process) (whole : IsWhole s) (at : proces
 
   pub good-symlink : (text path : Bytes) → is_text text ≡ true → is_text path ≡ true → Leads (IsEffect s) (symlink s pid me text path)
   good-symlink text path texts paths =
-      leads-refuse_if (IsEffect s) ENOENT (is_empty text) (refuse_if ENAMETOOLONG (nat_lt 1023 (length text)) >> make s pid me Keep (link_node text) path) (λ filled.
-      leads-refuse_if (IsEffect s) ENAMETOOLONG (nat_lt 1023 (length text)) (make s pid me Keep (link_node text) path) (λ short.
+      leads-refuse_if (IsEffect s) ENOENT (is_empty text) (refuse_if ENAMETOOLONG (nat_lt 1023 (length text)) >> make s pid me (from_here Keep path letter_c) (link_node text)) (λ filled.
+      leads-refuse_if (IsEffect s) ENAMETOOLONG (nat_lt 1023 (length text)) (make s pid me (from_here Keep path letter_c) (link_node text)) (λ short.
       good-make Keep (link_node text) path paths
       (and_from _ _ (and_from _ _ (ap not filled) (Rattle.std.proofs.lemmas.Bool.le-leb (length text) 1023 (ltb-false 1023 (length text) short)))
       (list_all-weaker is_text_byte not_zero (λ b is. (and_parts (not_zero b) (is_byte b) is).0) text (text-bytes text texts)))
@@ -155,7 +158,7 @@ module _ (s : State) (pid : ℕ) (me : Process) (whole : IsWhole s) (at : proces
   link_2 old_place new_place = demand ENOENT (node_of old_place) >>= link_3 new_place
 
   abbrev link_1 : Bytes → Place → Attempt Effect
-  link_1 new old_place = walk_from s me.directory Keep new >>= (λ new_place. judge s me new_place letter_c >> link_2 old_place new_place)
+  link_1 new old_place = walk_from s me.directory Keep new >>= (λ new_place. judge_for s me new_place letter_c >> link_2 old_place new_place)
 
   pub good-link : (path new : Bytes) → is_text path ≡ true → is_text new ≡ true → Leads (IsEffect s) (link s pid me path new)
   good-link path new text news =
@@ -224,7 +227,7 @@ module _ (s : State) (pid : ℕ) (me : Process) (whole : IsWhole s) (at : proces
 
   pub good-rmdir : (path : Bytes) → is_text path ≡ true → Leads (IsEffect s) (rmdir s pid me path)
   good-rmdir path text =
-      leads-then (IsEffect s) (refuse_if EINVAL (ends_in_dot path)) (walk_from s me.directory Keep path >>= (λ place. judge s me place letter_c >> rmdir_1 place)) (
+      leads-then (IsEffect s) (refuse_if EINVAL (ends_in_dot path)) (walk_from s me.directory Keep path >>= (λ place. judge_for s me place letter_c >> rmdir_1 place)) (
       leads-place (IsEffect s) s me me.directory Keep path letter_c rmdir_1 (λ place found.
       leads-demand (IsEffect s) ENOENT (node_of place) (rmdir_2 place) (λ n is.
       leads-refuse_if (IsEffect s) ENOTDIR (not (is_directory_at s.tree n)) (rmdir_3 place n) (λ dir.
@@ -287,7 +290,7 @@ module _ (s : State) (pid : ℕ) (me : Process) (whole : IsWhole s) (at : proces
   rename_2 old_place new_place = demand ENOENT (node_of old_place) >>= rename_3 old_place new_place
 
   abbrev rename_1 : Bytes → Place → Attempt Effect
-  rename_1 new old_place = walk_from s me.directory Keep new >>= (λ new_place. judge s me new_place letter_c >> rename_2 old_place new_place)
+  rename_1 new old_place = walk_from s me.directory Keep new >>= (λ new_place. judge_for s me new_place letter_c >> rename_2 old_place new_place)
 
   good-renamed : (new_place : Place) (n : ℕ) (p q : ℕ × Bytes) → FineName s.tree p (Some n) → FineName s.tree q (node_of new_place) → Leads (IsEffect s) (rename_5 new_place n p q)
   good-renamed new_place n p q from into =
@@ -298,7 +301,7 @@ module _ (s : State) (pid : ℕ) (me : Process) (whole : IsWhole s) (at : proces
 
   pub good-rename : (path new : Bytes) → is_text path ≡ true → is_text new ≡ true → Leads (IsEffect s) (rename s pid me path new)
   good-rename path new text news =
-      leads-then (IsEffect s) (refuse_if EINVAL (ends_in_dot path || ends_in_dot new)) (walk_from s me.directory Keep path >>= (λ old_place. judge s me old_place letter_c >> rename_1 new old_place)) (
+      leads-then (IsEffect s) (refuse_if EINVAL (ends_in_dot path || ends_in_dot new)) (walk_from s me.directory Keep path >>= (λ old_place. judge_for s me old_place letter_c >> rename_1 new old_place)) (
       leads-place (IsEffect s) s me me.directory Keep path letter_c (rename_1 new) (λ old_place old_found.
       leads-place (IsEffect s) s me me.directory Keep new letter_c (rename_2 old_place) (λ new_place new_found.
       leads-demand (IsEffect s) ENOENT (node_of old_place) (rename_3 old_place new_place) (λ n is.

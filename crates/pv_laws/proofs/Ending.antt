@@ -8,7 +8,7 @@ use Rattle.std.proofs.lemmas.List.{length-map}
 use Rattle.pv_model.specs.Calls.Processes.{parent_of, with_parent, adopt, is_unclaimed, adopter, end_process}
 use Rattle.pv_model.specs.State.{Process, Record, live, ended_record, State, live_process, process_at, with_process}
 use Rattle.pv_laws.specs.States.{IsRunning, IsPlaced, is_number, IsSolid}
-use Rattle.pv_laws.proofs.Entries.{list_all-filter}
+use Rattle.pv_tree_laws.proofs.Entries.{list_all-filter}
 use Rattle.pv_laws.proofs.Members.{find_number_behind, find_number_cases, find_number-list_all, live-found, found-live}
 use Rattle.pv_laws.proofs.Processes.{find-put_same, find-put_other}
 use Rattle.pv_laws.proofs.Whole.{list_all-put_number, length-put_there, sorted-put_number}

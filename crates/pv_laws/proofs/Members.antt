@@ -11,7 +11,7 @@ use Rattle.pv_model.specs.Held.{among, live_processes, used_files, held_by_proce
 use Rattle.pv_model.specs.Numbered.{Numbered, at_number, present, keep}
 use Rattle.pv_model.specs.State.{OpenFile, Descriptor, Process, Record, live, ended_record, State, live_process, process_at}
 use Rattle.pv_laws.specs.Held.{used}
-use Rattle.pv_laws.proofs.Numbered.{keep-passes, keep-some}
+use Rattle.pv_tree_laws.proofs.Numbered.{keep-passes, keep-some}
 use Rattle.pv_laws.proofs.Trim.{held_after}
 
 -- ---- what is present

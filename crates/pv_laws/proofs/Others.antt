@@ -40,10 +40,6 @@ module _ (pid : ℕ) where
   alike-self (live p) = refl
   alike-self (ended_record above status) = (refl, refl)
 
-  alike-all : (ys : List (ℕ × Record)) → AreAlikeBut pid ys ys
-  alike-all [] = tt
-  alike-all (y ∷ ys) = (refl, alike-self y.1, λ _. refl, alike-all ys)
-
   pub alike-put : (r : Record) (xs ys : List (ℕ × Record)) → AreAlikeBut pid xs ys → AreAlikeBut pid (put nat_cmp pid r xs) (put nat_cmp pid r ys)
   alike-put r [] [] is = (refl, alike-self r, λ _. refl, tt)
   alike-put r [] (y ∷ ys) is = absurd is
@@ -112,6 +108,6 @@ module _ (pid : ℕ) where
   pub alike-tree : (x : State) (ps : List (ℕ × Record)) → AreAlikeBut pid ps x.processes → (trim (record x { processes = ps })).tree ≡ (trim x).tree
   unfolding trim
   alike-tree x ps is =
-      ap₂ (λ (hs us : List ℕ). Rattle.pv_laws.specs.Held.kept x.tree (hs ++ map (λ f. f.node) (present (keep (among us) x.files))))
+      ap₂ (λ (hs us : List ℕ). Rattle.pv_tree_laws.specs.Kept.kept x.tree (hs ++ map (λ f. f.node) (present (keep (among us) x.files))))
       (alike-held pid held_by_process (λ p q same. ap held_by_process same) ps x.processes is)
       (alike-held pid used_files (λ p q same. ap used_files same) ps x.processes is)

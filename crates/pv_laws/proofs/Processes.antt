@@ -55,23 +55,19 @@ update-with s pid f p = update-is (with_process s pid p) pid f p (process_at-sam
 
 -- what a change of a process leaves
 
+module _ {X : Type 0} (part : State → X) (s : State) (pid : ℕ) (f : Process → Process) (stays : (p : Process) → part (with_process s pid p) ≡ part s) where
+  part-update : part (update s pid f) ≡ part s
+  part-update = by' (process_at s pid)
+    where
+      by' : (o : Option Process) → part (update_live s pid f o) ≡ part s
+      by' None = refl
+      by' (Some p) = stays (f p)
+
 pub tree-update : (s : State) (pid : ℕ) (f : Process → Process) → (update s pid f).tree ≡ s.tree
-tree-update s pid f = by' (process_at s pid)
-  where
-    by' : (o : Option Process) → (update_live s pid f o).tree ≡ s.tree
-    by' None = refl
-    by' (Some p) = refl
+tree-update s pid f = part-update (λ x. x.tree) s pid f (λ p. refl)
 
 pub files-update : (s : State) (pid : ℕ) (f : Process → Process) → (update s pid f).files ≡ s.files
-files-update s pid f = by' (process_at s pid)
-  where
-    by' : (o : Option Process) → (update_live s pid f o).files ≡ s.files
-    by' None = refl
-    by' (Some p) = refl
+files-update s pid f = part-update (λ x. x.files) s pid f (λ p. refl)
 
 pub last_process-update : (s : State) (pid : ℕ) (f : Process → Process) → (update s pid f).last_process ≡ s.last_process
-last_process-update s pid f = by' (process_at s pid)
-  where
-    by' : (o : Option Process) → (update_live s pid f o).last_process ≡ s.last_process
-    by' None = refl
-    by' (Some p) = refl
+last_process-update s pid f = part-update (λ x. x.last_process) s pid f (λ p. refl)

@@ -2,11 +2,11 @@
 use Rattle.std.proofs.Common.{ℕ, ◌+◌, ℤ, pos, false, not, ◌&&◌, if◌then◌else◌, nat_le, length, Option, Some, is_some, ◌+ℤ◌, take, drop, is_none, option_and_then}
 use Rattle.pv_model.specs.Attempt.{Attempt, ◌>>=◌, ◌>>◌, give, refuse_if, demand}
 use Rattle.pv_model.specs.Bytes.{Bytes, is_empty}
-use Rattle.pv_model.specs.Calls.Descriptors.{with_descriptor, with_duplicate, within, next_name, seek_base, list_name, natural, is_past_greatest, with_content, write_end, after_write, is_link, follow_of, open_node}
+use Rattle.pv_model.specs.Calls.Descriptors.{with_descriptor, with_duplicate, within, next_name, seek_base, list_name, natural, is_past_greatest, with_content, write_end, after_write, is_link, open_node}
 use Rattle.pv_model.specs.Calls.Paths.{link_text, same_node, is_directory_there, entries_there, move_entry}
 use Rattle.pv_model.specs.Calls.Processes.{with_program, executable_bytes}
 use Rattle.pv_model.specs.Calls.Restraints.{asked_promises, unless_refused, add_target, refuse_if_locked}
-use Rattle.pv_model.specs.Effect.{Effect, answers, answers_bytes, walk_from, judge, node_of, status, with_file, bytes_of, with_room, name_of, resize}
+use Rattle.pv_model.specs.Effect.{Effect, answers, answers_bytes, walk_from, judge_for, node_of, status, with_file, bytes_of, with_room, name_of, resize}
 use Rattle.pv_model.specs.Needs.{letters_of_open}
 use Rattle.pv_model.specs.Numbered.{least_free}
 use Rattle.pv_model.specs.Perms.{letter_c}
@@ -20,6 +20,7 @@ use Rattle.pv_model.specs.declared.follow.Follow.TheVariants.{Last, Keep}
 use Rattle.pv_model.specs.declared.open_flags.OpenFlags.{OpenFlags}
 use Rattle.pv_model.specs.declared.perms.Perms.{Perms}
 use Rattle.pv_model.specs.declared.place.Place.{Place}
+use Rattle.pv_model.specs.Walks.{follow_of}
 
 module _ (s : State) (pid : ℕ) (me : Process) where
   abbrev pub pledge_3 : Option Promises → Option Promises → Attempt Effect
@@ -133,7 +134,7 @@ module _ (s : State) (pid : ℕ) (me : Process) where
   link_2 old_place new_place = demand ENOENT (node_of old_place) >>= link_3 new_place
 
   abbrev pub link_1 : Bytes → Place → Attempt Effect
-  link_1 new old_place = walk_from s me.directory Keep new >>= (λ new_place. judge s me new_place letter_c >> link_2 old_place new_place)
+  link_1 new old_place = walk_from s me.directory Keep new >>= (λ new_place. judge_for s me new_place letter_c >> link_2 old_place new_place)
 
   abbrev pub less_3 : (ℕ × Bytes) → Attempt Effect
   less_3 (d, name) = answers (with_tree s (without_entry s.tree d name)) 0
@@ -184,7 +185,7 @@ module _ (s : State) (pid : ℕ) (me : Process) where
   rename_2 old_place new_place = demand ENOENT (node_of old_place) >>= rename_3 old_place new_place
 
   abbrev pub rename_1 : Bytes → Place → Attempt Effect
-  rename_1 new old_place = walk_from s me.directory Keep new >>= (λ new_place. judge s me new_place letter_c >> rename_2 old_place new_place)
+  rename_1 new old_place = walk_from s me.directory Keep new >>= (λ new_place. judge_for s me new_place letter_c >> rename_2 old_place new_place)
 
   abbrev pub write_3 : ℕ → OpenFile → ℕ → Attempt Effect
   write_3 k file count = with_room (after_write s pid me k file count) >>= (λ roomy. answers roomy count)
@@ -241,7 +242,7 @@ module _ (s : State) (pid : ℕ) (me : Process) where
   open_1 f place = refuse_if EEXIST (f.create && f.exclusive && is_some (node_there place)) >> open_2 f place
 
   abbrev pub open_c : Bytes → OpenFlags → ℕ → Attempt Effect
-  open_c path f directory = walk_from s directory (follow_of f) path >>= (λ place. judge s me place (letters_of_open f) >> open_1 f place)
+  open_c path f directory = walk_from s directory (follow_of f) path >>= (λ place. judge_for s me place (letters_of_open f) >> open_1 f place)
 
   abbrev pub open_b : Bytes → OpenFlags → ℕ → Attempt Effect
   open_b path f directory = refuse_if ENFILE (nat_le 128 file_number) >> open_c path f directory

@@ -18,7 +18,8 @@ use Rattle.pv_model.specs.Errno.{errno_number}
 use Rattle.pv_model.specs.Held.{among, live_processes, used_files, held_by_process, trim}
 use Rattle.pv_model.specs.Numbered.{keep, present}
 use Rattle.pv_model.specs.State.{Process, Record, live, ended_record, State, process_at, with_process}
-use Rattle.pv_laws.specs.Held.{used, kept}
+use Rattle.pv_laws.specs.Held.{used}
+use Rattle.pv_tree_laws.specs.Kept.{kept}
 use Rattle.pv_laws.specs.States.{is_word, is_byte, are_bytes, IsRunning, IsPlaced, IsSolid, IsWhole}
 use Rattle.pv_laws.proofs.Members.{all_of, live-found, find_number-list_all}
 use Rattle.pv_laws.proofs.Trim.{held_after}

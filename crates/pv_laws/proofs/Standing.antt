@@ -17,8 +17,8 @@ use Rattle.pv_model.specs.declared.target.Target.TheVariants.{Directory as of_di
 use Rattle.pv_model.specs.Unveil.{Table, target_directory, target_of}
 use Rattle.pv_model.specs.Walk.{resolve}
 use Rattle.pv_laws.specs.States.{is_byte, is_text_byte, are_bytes, has_bytes, is_text, IsTree, is_listed, IsOpenFile, AreFiles, is_target, is_table, IsRunning, IsPlaced, AreProcesses, IsSolid, IsWhole}
-use Rattle.pv_laws.proofs.Places.{list_all-weaker, IsGoodPlace, is_spelled, resolve-good, piece-name, link-text, not_zero}
-use Rattle.pv_laws.proofs.Trees.{sound}
+use Rattle.pv_tree_laws.proofs.Places.{list_all-weaker, IsGoodPlace, is_spelled, resolve-good, piece-name, link-text, not_zero}
+use Rattle.pv_tree_laws.proofs.Trees.{sound}
 use Rattle.pv_laws.proofs.Running.{IsReady}
 use Rattle.pv_laws.proofs.Whole.{has_room, solid, solid-with_process, table-same}
 

@@ -1,5 +1,5 @@
 -- Lemmas on what every state is.
-use Rattle.std.proofs.Common.{◌≡◌, ◌≢◌, ℕ, zero, suc, ◌+◌, ◌<◌, ◌≤◌, ℤ, pos, negsuc, Bool, true, false, cond, not, ◌&&◌, ◌||◌, ◌==◌, nat_le, nat_lt, T, List, [], ◌∷◌, ◌++◌, map, length, Option, None, Some, is_some, refl, ap, ap₂, sym, subst, ◌∙◌, ⊎_elim, arith}
+use Rattle.std.proofs.Common.{◌≡◌, ◌≢◌, ℕ, ◌+◌, ◌≤◌, Bool, true, false, cond, ◌&&◌, ◌||◌, ◌==◌, nat_le, List, [], ◌∷◌, map, length, Option, None, Some, is_some, refl, ap, ap₂, sym, subst, ◌∙◌, ⊎_elim}
 use Rattle.std.specs.List.{list_all}
 use Rattle.std.specs.Ordering.{nat_cmp}
 use Rattle.std.specs.FinMap.Entries.{by_order, find, put, is_sorted, is_sorted-put, length-put}
@@ -8,38 +8,26 @@ use Rattle.std.proofs.lemmas.Bool.{and_parts, and_from, or_left, or_right, eq-eq
 use Rattle.std.proofs.lemmas.Cmp.{nat_cmp_total}
 use Rattle.pv_model.specs.Calls.Processes.{parent_of}
 use Rattle.pv_model.specs.Held.{among, held_by_table, trim}
-use Rattle.pv_model.specs.Numbered.{Numbered, at_number, keep, with_number}
+use Rattle.pv_model.specs.Numbered.{Numbered, keep}
 use Rattle.pv_model.specs.Room.{fits, is_too_long}
 use Rattle.pv_model.specs.Sealed.{is_file}
 use Rattle.pv_model.specs.State.{OpenFile, Process, Record, live, ended_record, State, process_at, with_process}
-use Rattle.pv_model.specs.Tree.{Node, Tree, node_at, is_directory, is_directory_at, is_name}
+use Rattle.pv_model.specs.Tree.{Tree, node_at, is_directory, is_directory_at, is_name}
 use Rattle.pv_model.specs.declared.target.Target.{Target}
 use Rattle.pv_model.specs.declared.target.Target.TheVariants.{Directory as of_directory, Name as of_name}
 use Rattle.pv_model.specs.Unveil.{Table, target_directory}
-use Rattle.pv_laws.specs.Held.{used, wanted, kept}
-use Rattle.pv_laws.specs.Room.{IsNoLonger, IsNoLarger}
+use Rattle.pv_laws.specs.Held.{used}
+use Rattle.pv_tree_laws.specs.Kept.{wanted, kept}
 use Rattle.pv_laws.specs.States.{are_bytes, is_listed, IsOpenFile, is_target, is_table, IsRunning, IsPlaced, is_number, IsSolid, IsWhole}
-use Rattle.pv_laws.proofs.Entries.{told, tell}
+use Rattle.pv_tree_laws.proofs.Entries.{told, tell}
 use Rattle.pv_laws.proofs.Members.{among-used, among-held_by, among-held_file, live-found}
-use Rattle.pv_laws.proofs.Numbered.{keep-some, keep-passes, length-keep, at_number-keep}
+use Rattle.pv_tree_laws.proofs.Numbered.{keep-some, keep-passes, length-keep}
 use Rattle.pv_laws.proofs.Processes.{find-put_same, find-put_other, process_at-same, process_at-other}
-use Rattle.pv_laws.proofs.Rooms.{smaller-fits, smaller-not_too_long}
-use Rattle.pv_laws.proofs.Trim.{held_after, wanted-held, trim-well_formed, trim_once}
+use Rattle.pv_tree_laws.proofs.Rooms.{smaller-fits, smaller-not_too_long, kept-no_larger}
+use Rattle.pv_laws.proofs.Trim.{held_after, trim-well_formed, trim_once}
+use Rattle.pv_tree_laws.proofs.Keeping.{wanted-held}
 
--- ---- a trimmed tree is no larger
-
-no_longer : (v : Rattle.pv_model.specs.declared.version.Version.Version) (b : Bool) (o : Option Node) → IsNoLonger v (Rattle.pv_model.specs.Numbered.keep_if b o) o
-no_longer v true None = tt
-no_longer v true (Some node) = Rattle.std.proofs.Common.le_refl _
-no_longer v false o = tt
-
-pub kept-no_larger : (t : Tree) (held : List ℕ) → IsNoLarger (kept t held) t
-kept-no_larger t held = record {
-  blocks = refl;
-  inodes = refl;
-  version = refl;
-  nodes = λ n. subst (λ o. IsNoLonger t.version o (node_at t n)) (sym (at_number-keep (among (wanted t held)) t.nodes n)) (no_longer t.version (among (wanted t held) n) (node_at t n));
-}
+-- ---- room
 
 -- the trimmed tree has room
 pub record HasRoom (s : State) : Type 0 where

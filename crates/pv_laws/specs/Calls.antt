@@ -1,5 +1,5 @@
 -- Laws of calls.
-use Rattle.std.specs.Prelude.{◌≡◌, ◌≢◌, ℕ, suc, pos, negsuc, Bool, true, false, IsTrue, IsFalse, List, is_none, Option, None, Some}
+use Rattle.std.specs.Prelude.{◌≡◌, ◌≢◌, ℕ, suc, negsuc, Bool, true, false, IsTrue, IsFalse, length, List, Option, None, Some}
 use Rattle.std.specs.FinMap.Entries.{find}
 use Rattle.std.specs.Ordering.{nat_cmp}
 use Rattle.pv_model.specs.declared.call.Call.{Call}
@@ -15,6 +15,12 @@ use Rattle.pv_model.specs.Errno.{errno_number}
 use Rattle.pv_model.specs.Needs.{needs}
 use Rattle.pv_model.specs.Promises.{Promises, missing_promise}
 use Rattle.pv_model.specs.State.{Program, Process, State, process_at, with_process}
+use Rattle.pv_model.specs.Calls.Descriptors.{with_content, is_past_greatest}
+use Rattle.pv_model.specs.Held.{among}
+use Rattle.pv_model.specs.Room.{is_too_long}
+use Rattle.pv_model.specs.Sealed.{is_file}
+use Rattle.pv_model.specs.Tree.{Tree, node_at}
+use Rattle.pv_tree_laws.specs.Kept.{kept}
 
 -- a process that is told an error: it stands at its next line, and r0 and r1 have the answer
 abbrev pub told_error : Process → Errno → Process
@@ -100,3 +106,10 @@ abbrev pub NextNumber : Type 0
 NextNumber =
     (program_of : Bytes → Option Program) (s : State) (pid n : ℕ)
     → (answer program_of s pid Fork).outcome ≡ Value n → IsNewNumber s n (answer program_of s pid Fork).after
+
+-- a length that no file may have is found too long in the tree, where the file is held
+abbrev pub FarIsTooLong : Type 0
+FarIsTooLong =
+    (t : Tree) (f : ℕ) (bytes : Bytes) (held : List ℕ)
+    → IsTrue (is_file (node_at t f)) → IsTrue (among held f) → IsTrue (is_past_greatest t (length bytes))
+    → IsTrue (is_too_long (kept (with_content t f bytes) held))

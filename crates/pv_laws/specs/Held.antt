@@ -1,13 +1,10 @@
 -- Laws of what is held, and of what trim keeps.
-use Rattle.std.specs.Prelude.{◌≡◌, ◌≢◌, ℕ, Bool, ◌||◌, ◌==◌, IsTrue, IsFalse, List, ◌∷◌, ◌++◌, flat_map, None, is_some}
-use Rattle.pv_model.specs.Held.{among, live_processes, used_files, held_nodes, only_nodes, trim_files, trim_nodes, trim}
+use Rattle.std.specs.Prelude.{◌≡◌, ℕ, Bool, ◌||◌, ◌==◌, IsTrue, IsFalse, List, flat_map, None}
+use Rattle.pv_model.specs.Held.{among, live_processes, used_files, held_nodes, trim_files, trim_nodes, trim}
 use Rattle.pv_model.specs.Numbered.{at_number}
 use Rattle.pv_model.specs.State.{State}
-use Rattle.pv_model.specs.Tree.{Tree, root, node_at, named_numbers, IsWellFormed}
-
--- each node but the root stands in an entry
-pub record EachIsNamed (t : Tree) : Type 0 where
-  pub named : (n : ℕ) → n ≢ root → IsTrue (is_some (node_at t n)) → IsTrue (among (named_numbers t) n)
+use Rattle.pv_model.specs.Tree.{root, node_at, named_numbers, IsWellFormed}
+use Rattle.pv_tree_laws.specs.Kept.{EachIsNamed}
 
 -- where each node has a name, no node is trimmed
 abbrev pub KeepsAllNamed : Type 0
@@ -16,14 +13,6 @@ KeepsAllNamed = (s : State) → EachIsNamed s.tree → trim_nodes s ≡ s
 -- the open files that the descriptors of live processes name
 abbrev pub used : State → List ℕ
 used s = flat_map (λ p. used_files p.1) (live_processes s.processes)
-
--- the numbers of the root, of what is named, and of what is held
-abbrev pub wanted : Tree → List ℕ → List ℕ
-wanted t held = root ∷ named_numbers t ++ held
-
--- the tree with only the root, what is named, and what is held
-abbrev pub kept : Tree → List ℕ → Tree
-kept t held = only_nodes t (wanted t held)
 
 -- whether a node is the root, named, or held
 abbrev pub is_wanted : State → ℕ → Bool
@@ -49,9 +38,3 @@ TrimsOnce = (s : State) → IsWellFormed s.tree → trim (trim s) ≡ trim s
 -- the entries stay, and a trimmed tree is well-formed
 abbrev pub StaysWellFormed : Type 0
 StaysWellFormed = (s : State) → IsWellFormed s.tree → IsWellFormed (trim s).tree
-
--- what fewer hold can be let go one by one
-abbrev pub LetsGoInTurn : Type 0
-LetsGoInTurn =
-    (t : Tree) (many few : List ℕ) → IsWellFormed t → ((n : ℕ) → IsTrue (among few n) → IsTrue (among many n))
-    → kept (kept t many) few ≡ kept t few

@@ -1,7 +1,5 @@
 pub mod Calls
+pub mod Courses
 pub mod Held
-pub mod Tree
-pub mod Room
 pub mod Steps
-pub mod Walk
 pub mod States

@@ -23,11 +23,12 @@ use Rattle.pv_model.specs.Room.{fits, is_too_long}
 use Rattle.pv_model.specs.Sealed.{is_file}
 use Rattle.pv_model.specs.State.{OpenFile, Descriptor, Program, Process, Record, ended_record, State, writes, first_state, process_at}
 use Rattle.pv_model.specs.Step.{step, run}
-use Rattle.pv_model.specs.Tree.{Node, directory_node, file_node, link_node, Tree, node_at, is_directory_at, is_name, IsWellFormed}
+use Rattle.pv_model.specs.Tree.{Tree, node_at, is_directory_at, is_name, IsWellFormed}
 use Rattle.pv_model.specs.declared.target.Target.{Target}
 use Rattle.pv_model.specs.declared.target.Target.TheVariants.{Directory as of_directory, Name as of_name}
 use Rattle.pv_model.specs.Unveil.{Table}
-use Rattle.pv_laws.specs.Held.{EachIsNamed}
+use Rattle.pv_tree_laws.specs.Kept.{EachIsNamed}
+pub use Rattle.pv_tree_laws.specs.Spelled.{is_byte, are_bytes, has_bytes, AllBytes}
 
 -- ---- numbers, bytes and texts
 
@@ -35,12 +36,6 @@ use Rattle.pv_laws.specs.Held.{EachIsNamed}
 abbrev pub is_word : ℤ → Bool
 is_word (pos n) = nat_le n 2147483647
 is_word (negsuc n) = nat_le n 2147483647
-
-abbrev pub is_byte : ℕ → Bool
-is_byte b = nat_lt b 256
-
-abbrev pub are_bytes : Bytes → Bool
-are_bytes bs = list_all is_byte bs
 
 -- a byte of a program's text, which is not 0
 abbrev pub is_text_byte : ℕ → Bool
@@ -154,15 +149,9 @@ is_call (Rename path new) = is_text path && is_text new
 
 -- ---- trees, open files, processes
 
--- the bytes of names, files and links
-abbrev pub has_bytes : Node → Bool
-has_bytes (directory_node es) = list_all (λ e. are_bytes e.0) es
-has_bytes (file_node executable bytes) = are_bytes bytes
-has_bytes (link_node text) = are_bytes text
-
 pub record IsTree (t : Tree) : Type 0 where
   pub well_formed : IsWellFormed t
-  pub bytes : (n : ℕ) (node : Node) → node_at t n ≡ Some node → IsTrue (has_bytes node)
+  pub bytes : AllBytes t
 
 abbrev pub is_listed : Version → Option Bytes → Bool
 is_listed v None = true

@@ -1,6 +1,6 @@
 //! Laws of calls.
 
-ghost use Rattle.pv_laws.specs.Calls.{RefusedOnlyTells, RefusedIsUnharmed, BlockedLeaves, GoneLeaves, AnsweredAlways, OthersKill, NextNumber};
+ghost use Rattle.pv_laws.specs.Calls.{RefusedOnlyTells, RefusedIsUnharmed, BlockedLeaves, GoneLeaves, AnsweredAlways, OthersKill, NextNumber, FarIsTooLong};
 
 /// A refused call tells its caller the error, at its next line, and leaves all else of the state as it was.
 pub fn refused_only_tells()
@@ -35,4 +35,9 @@ pub fn others_kill()
 /// fork gives the number behind the last one that was given, up to 99,999.
 pub fn next_number()
     ensures { NextNumber }
+{}
+
+/// What the early tests of write and ftruncate refuse, the tree would be refused for.
+pub fn far_is_too_long()
+    ensures { FarIsTooLong }
 {}

@@ -1,6 +1,6 @@
 //! Laws of what is held, and of what trim keeps.
 
-ghost use Rattle.pv_laws.specs.Held.{KeepsAllNamed, KeepsExactly, TrimsOnce, StaysWellFormed, LetsGoInTurn};
+ghost use Rattle.pv_laws.specs.Held.{KeepsAllNamed, KeepsExactly, TrimsOnce, StaysWellFormed};
 
 /// Where each node but the root has a name, trim leaves the tree as it is, whatever is held.
 pub fn named_stay()
@@ -20,9 +20,4 @@ pub fn trims_once()
 /// The tree of a trimmed state is well-formed where it was.
 pub fn trim_stays_well_formed()
     ensures { StaysWellFormed }
-{}
-
-/// What fewer hold is trimmed alike, whether at once or after what more hold: nodes can be let go one by one.
-pub fn lets_go_in_turn()
-    ensures { LetsGoInTurn }
 {}

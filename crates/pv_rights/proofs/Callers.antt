@@ -22,10 +22,10 @@ use Rattle.pv_laws.proofs.Ending.{filtered-found}
 use Rattle.pv_laws.proofs.Members.{live-found, found-live}
 use Rattle.pv_laws.proofs.Outcomes.{at_call, by_answer}
 use Rattle.pv_laws.proofs.Processes.{process_at-same, process_at-other}
-use Rattle.pv_rights.specs.Growth.{MayDoNoMore, HasTheSame, IsInOrder, begins_image}
+use Rattle.pv_rights.specs.Growth.{MayDoNoMore, HasTheSame, IsLeftAlone, IsInOrder, begins_image}
 use Rattle.pv_rights.proofs.Does.{Does, stays, restrains, begins, closes, copies, forks, reaps, moves, cuts, writes_bytes, makes, links, unlinks, renames, opens, creates, Did, ends-stays}
 use Rattle.pv_rights.proofs.DoesByCall.{does-effect}
-use Rattle.pv_rights.proofs.Ends.{same-itself, process_at-trim, update-live, update-other, not_next, in_order-call, ended-not_live, ended-others}
+use Rattle.pv_rights.proofs.Ends.{alone-itself, process_at-trim, update-live, update-other, not_next, in_order-call, ended-not_live, ended-others}
 use Rattle.pv_rights.proofs.Narrowing.{no_more-along, no_more-same, no_more-of_same}
 
 -- ---- the caller, in what a call leaves
@@ -164,7 +164,7 @@ module _ (program_of : Bytes → Option Program) (s : State) (pid : ℕ) (order 
 
   -- another process behind the answer
   abbrev KeepsOther : ℕ → Process → Answered → Type 0
-  KeepsOther k p a = (q : Process) × (process_at a.after k ≡ Some q) × HasTheSame p q
+  KeepsOther k p a = (q : Process) × (process_at a.after k ≡ Some q) × IsLeftAlone p q
 
   module _ (k : ℕ) (p : Process) (apart : k ≢ pid) (there : process_at s k ≡ Some p) where
     x_there : process_at x k ≡ Some p
@@ -172,7 +172,7 @@ module _ (program_of : Bytes → Option Program) (s : State) (pid : ℕ) (order 
 
     other-told : (after : State) (r : Reply) (f : Process → Process) → Does x pid now call after r → KeepsOther k p (record { after = trim (update after pid f); outcome = Gone; walks = 0 })
     other-told after r f does =
-        (p, process_at-trim (update after pid f) k ∙ update-other after pid f k apart ∙ other x pid now call x_order x_at k p apart x_there after r does, same-itself p)
+        (p, process_at-trim (update after pid f) k ∙ update-other after pid f k apart ∙ other x pid now call x_order x_at k p apart x_there after r does, alone-itself p)
 
     other-ended : (after : State) (status : ℕ) → process_at after k ≡ Some p → KeepsOther k p (record { after = trim (end_process after pid now status); outcome = Gone; walks = 0 })
     other-ended after status stays_there =
@@ -183,13 +183,13 @@ module _ (program_of : Bytes → Option Program) (s : State) (pid : ℕ) (order 
     other-attempt (done walks (after, returns n)) does = other-told after (returns n) (λ p. with_result p (pos n) 0) does
     other-attempt (done walks (after, returns_bytes n bytes)) does = other-told after (returns_bytes n bytes) (λ p. with_front bytes (with_result p (pos n) 0)) does
     other-attempt (done walks (after, ends status)) does = other-ended after status (other x pid now call x_order x_at k p apart x_there after (ends status) does)
-    other-attempt (done walks (after, waits)) does = (p, there, same-itself p)
-    other-attempt (refused walks errno cause) does = (p, update-other x pid (λ q. with_result q (negsuc 0) (errno_number errno)) k apart ∙ x_there, same-itself p)
+    other-attempt (done walks (after, waits)) does = (p, there, alone-itself p)
+    other-attempt (refused walks errno cause) does = (p, update-other x pid (λ q. with_result q (negsuc 0) (errno_number errno)) k apart ∙ x_there, alone-itself p)
 
     pub other-kept : KeepsOther k p (answer program_of s pid call)
     other-kept =
         by_answer (KeepsOther k p) program_of s pid call
-        (λ none. (p, there, same-itself p))
+        (λ none. (p, there, alone-itself p))
         (λ y is missing. let same : y ≡ me = cc in subst (λ (y : Process). KeepsOther k p (answer_by_attempt s (at_call s pid y) pid (at_next_line y) (effect program_of (at_call s pid y) pid (at_next_line y) call))) (sym same)
         (other-attempt (effect program_of x pid now call) (does-effect program_of x pid now call)))
         (λ y lacks is missing lenient. let same : y ≡ me = cc in subst (λ (y : Process). KeepsOther k p (answer_by_attempt s (at_call s pid y) pid (at_next_line y) (refused 0 ENOSYS (ByPromise lacks)))) (sym same)

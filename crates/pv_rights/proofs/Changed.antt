@@ -9,15 +9,16 @@ use Rattle.pv_model.specs.Numbered.{Numbered, with_number, keep_if}
 use Rattle.pv_model.specs.Sealed.{is_file}
 use Rattle.pv_model.specs.State.{State}
 use Rattle.pv_model.specs.Tree.{Node, directory_node, file_node, link_node, Tree, node_at, entries_of, entries_at, is_directory, is_directory_at, find_entry, with_node, with_entry, without_entry, new_number, with_new_node}
-use Rattle.pv_laws.specs.Held.{wanted}
+use Rattle.pv_tree_laws.specs.Kept.{wanted}
 use Rattle.pv_laws.specs.States.{IsTree}
-use Rattle.pv_laws.proofs.Changes.{cases_name, node_at-same, node_at-other, directory-below, entries-beside, found-with_beside, found-with_other, found-without_beside, found-without_other}
-use Rattle.pv_laws.proofs.Edits.{new_number-free}
+use Rattle.pv_tree_laws.proofs.Changes.{cases_name, node_at-same, node_at-other, directory-below, entries-beside, found-with_beside, found-with_other, found-without_beside, found-without_other}
+use Rattle.pv_tree_laws.proofs.Edits.{new_number-free}
 use Rattle.pv_laws.proofs.Grown.{directory-no_file}
-use Rattle.pv_laws.proofs.Numbered.{at_number-below, at_number-keep}
-use Rattle.pv_laws.proofs.Entries.{by_name}
-use Rattle.pv_laws.proofs.Trees.{sound}
-use Rattle.pv_laws.proofs.Trim.{held_after, tree-trim, find-only, wanted-covers}
+use Rattle.pv_tree_laws.proofs.Numbered.{at_number-below, at_number-keep}
+use Rattle.pv_tree_laws.proofs.Entries.{by_name}
+use Rattle.pv_tree_laws.proofs.Trees.{sound}
+use Rattle.pv_laws.proofs.Trim.{held_after, tree-trim}
+use Rattle.pv_tree_laws.proofs.Keeping.{find-only, wanted-covers}
 
 -- an entry is the one, or another
 pub cases_entry : (e d : ℕ) (q name : Bytes) → ((e ≡ d) × (q ≡ name)) ⊎ ((e ≡ d) → (q ≡ name) → ⊥)

@@ -25,8 +25,7 @@ use Rattle.pv_model.specs.declared.promise.Promise.TheVariants.{Rpath, Wpath, Cp
 use Rattle.pv_model.specs.declared.verdict.Why.{Why}
 use Rattle.pv_model.specs.declared.verdict.Why.TheVariants.{Reads, NotLocked, Gives, Above, Exec}
 use Rattle.pv_model.specs.Bytes.{Bytes, is_empty}
-use Rattle.pv_model.specs.Calls.Descriptors.{follow_of}
-use Rattle.pv_model.specs.Effect.{node_of, open_file_of, open_file}
+use Rattle.pv_model.specs.Effect.{node_of, open_file_of, open_file, directory_of_file, start_directory, end_of}
 use Rattle.pv_model.specs.Held.{live_processes}
 use Rattle.pv_model.specs.Needs.{needs, needs_cpath, needs_of_mode, letters_of_mode, letters_of_open}
 use Rattle.pv_model.specs.Numbered.{Numbered, at_number, numbered_from}
@@ -35,20 +34,22 @@ use Rattle.pv_model.specs.Promises.{Promises, Need, contains, missing_promise}
 use Rattle.pv_model.specs.Sealed
 use Rattle.pv_model.specs.State.{OpenFile, Descriptor, Program, Process, Record, live, ended_record, State, reads, writes, process_at}
 use Rattle.pv_model.specs.Step.{step}
-use Rattle.pv_model.specs.Touch.{with_bytes, file_bytes, SameButFile, WalkOf, walks_of, read_file, change_file, place_found, places, start_directory, directory_of_file, flags_of, Touches, Justifies, read_by_descriptor, read_by_execve, change_by_descriptor, change_by_open}
+use Rattle.pv_model.specs.Touch.{with_bytes, file_bytes, read_file, change_file, place_found, places, flags_of, Touches, Justifies, read_by_descriptor, read_by_execve, change_by_descriptor, change_by_open}
 use Rattle.pv_model.specs.Tree.{Entries, Node, directory_node, file_node, link_node, Tree, root, node_at, entries_of, is_directory, is_directory_at, find_entry, parent, names_in, names_of}
 use Rattle.pv_model.specs.Unveil.{Table, letters_at, directory_rights, judge_entry, governing_entry, judgement}
 use Rattle.pv_model.specs.Walk.{Walked, is_absolute, resolve, follows_last}
 use Rattle.pv_laws.specs.States.{IsWhole}
-use Rattle.pv_laws.specs.Tree.{IsSound}
-use Rattle.pv_laws.specs.Walk
-use Rattle.pv_laws.proofs.Entries.{by_name, tied-same}
+use Rattle.pv_tree_laws.specs.Tree.{IsSound}
+use Rattle.pv_tree_laws.specs.Walk
+use Rattle.pv_tree_laws.proofs.Entries.{by_name, tied-same}
 use Rattle.pv_laws.proofs.Members.{live-found, find_number_cases}
-use Rattle.pv_laws.proofs.Places.{parent-directory}
-use Rattle.pv_laws.proofs.Trees.{sound}
-use Rattle.pv_laws.proofs.Walks.{resolve-resolves}
+use Rattle.pv_tree_laws.proofs.Places.{parent-directory}
+use Rattle.pv_tree_laws.proofs.Trees.{sound}
+use Rattle.pv_tree_laws.proofs.Walks.{resolve-resolves}
+use Rattle.pv_rights.specs.Secrets.{StepsAlike}
 use Rattle.pv_rights.proofs.JustFiles.{files-justified}
 use Rattle.pv_rights.proofs.JustReads.{reads-justified, alike-or_read}
+use Rattle.pv_model.specs.Walks.{Walk, follow_of, open_walk, walks_of}
 
 -- ---- lists
 
@@ -360,7 +361,7 @@ module _ (s : State) (whole : IsWhole s) (p : Process) (f : ℕ) (file : is_dire
 
   -- a place of the only walk of a call from elsewhere, with the file there, is a name of it
   named : (follow : Follow) (start : ℕ) (path : Bytes) → start ≢ f → (place : Place)
-      → Contains (filter_map (λ (w : WalkOf). place_found (resolve s.tree w.1 w.0 w.2)) ((start, follow, path) ∷ [])) place → node_of place ≡ Some f
+      → Contains (cons_option (place_found (resolve s.tree follow start path)) []) place → node_of place ≡ Some f
       → (d : ℕ) × (name : Bytes) × (place ≡ At d name (Some f)) × (find_entry s.tree d name ≡ Some f)
   named follow start path apart place among node =
       let found = found-ok (resolve s.tree follow start path) place (one-walk (place_found (resolve s.tree follow start path)) place among) in
@@ -372,12 +373,12 @@ module _ (s : State) (whole : IsWhole s) (p : Process) (f : ℕ) (file : is_dire
       by (At d name (Some n)) entry is =
           let same : n ≡ f = cc is in (d, name, ap (λ m. At d name (Some m)) same, entry ∙ ap Some same)
 
-  -- what is closed: the descriptors, and the promises or the table
-  record IsClosed : Type 0 where
+  -- what is tested of a process that is closed: the descriptors, and the promises or the table
+  record IsShut : Type 0 where
     descriptors : is_empty (Sealed.descriptors_on s p f reads) ≡ true
     restraints : (Sealed.is_pledged_without (Rpath ∷ ExecPromise ∷ Cpath ∷ []) p ≡ true) ⊎ (is_empty (Sealed.leaks_of_table s p f p.table) ≡ true)
 
-  closed : is_empty (Sealed.leaks s p f) ≡ true → IsClosed
+  closed : is_empty (Sealed.leaks s p f) ≡ true → IsShut
   unfolding Sealed.leaks
   closed none = record {
     descriptors = empty-least Reads _ (empty-left _ _ none);
@@ -400,7 +401,7 @@ module _ (s : State) (whole : IsWhole s) (p : Process) (f : ℕ) (file : is_dire
       d name found allowed
 
   -- nothing justifies that it reads the file
-  unread : IsClosed → (pid : ℕ) → process_at s pid ≡ Some p → (call : Call) → missing_promise p.promises (needs call) ≡ None → Justifies s p call (read_file f) → ⊥
+  unread : IsShut → (pid : ℕ) → process_at s pid ≡ Some p → (call : Call) → missing_promise p.promises (needs call) ≡ None → Justifies s p call (read_file f) → ⊥
   unfolding needs
   unread c pid at call held (read_by_descriptor _ has) = no-descriptor reads c.descriptors has.0 has.1 has.2 has.4 has.5 has.6
   unread c pid at call held (read_by_execve path place _ is allowed node) =
@@ -437,13 +438,13 @@ module _ (s : State) (whole : IsWhole s) (p : Process) (f : ℕ) (file : is_dire
 
   -- an open walks from elsewhere, where the process has no descriptor on the file
   record IsOpening (call : Call) (flags : OpenFlags) : Type 0 where
-    start : ℕ
+    start : Start
     path : Bytes
-    apart : start ≢ f
-    walk : walks_of s p call ≡ (start, follow_of flags, path) ∷ []
+    apart : start_directory s p start path ≢ f
+    walk : walks_of call ≡ open_walk start path flags ∷ []
     need : needs call ≡ needs_of_mode flags.mode ++ (if flags.create then needs_cpath else [])
 
-  module _ (c : IsClosed) (k : IsKept) (pid : ℕ) (at : process_at s pid ≡ Some p) where
+  module _ (c : IsShut) (k : IsKept) (pid : ℕ) (at : process_at s pid ≡ Some p) where
     by_mode : (m : Mode) → (reads m ≡ true) ⊎ (writes m ≡ true)
     by_mode ReadMode = inl refl
     by_mode WriteMode = inr refl
@@ -462,7 +463,7 @@ module _ (s : State) (whole : IsWhole s) (p : Process) (f : ℕ) (file : is_dire
     start-apart (AtDescriptor d) path =
         elim (is_absolute path) as (λ b. cond b p.directory (directory_of_file p (open_file s p d)) ≢ f) [ true ↦ here | false ↦ of_file d (open_file s p d) refl ]
 
-  opening : IsClosed → IsKept → (pid : ℕ) → process_at s pid ≡ Some p → (call : Call) (flags : OpenFlags) → flags_of call ≡ Some flags → IsOpening call flags
+  opening : IsShut → IsKept → (pid : ℕ) → process_at s pid ≡ Some p → (call : Call) (flags : OpenFlags) → flags_of call ≡ Some flags → IsOpening call flags
   unfolding needs
   opening c k pid at (TheCall.Exit x) flags is = cc is
   opening c k pid at TheCall.GetPid flags is = cc is
@@ -493,18 +494,18 @@ module _ (s : State) (whole : IsWhole s) (p : Process) (f : ℕ) (file : is_dire
   opening c k pid at (TheCall.Rmdir x) flags is = cc is
   opening c k pid at (TheCall.Rename x y) flags is = cc is
   opening c k pid at (TheCall.Open path g) flags is =
-      subst (λ (h : OpenFlags). IsOpening (TheCall.Open path g) h) (ap (flags_or g) is) (record { start = p.directory; path = path; apart = here c k pid at; walk = refl; need = refl })
+      subst (λ (h : OpenFlags). IsOpening (TheCall.Open path g) h) (ap (flags_or g) is) (record { start = WorkingDirectory; path = path; apart = here c k pid at; walk = refl; need = refl })
   opening c k pid at (TheCall.OpenAt start path g) flags is =
       subst (λ (h : OpenFlags). IsOpening (TheCall.OpenAt start path g) h) (ap (flags_or g) is)
-      (record { start = start_directory s p start path; path = path; apart = start-apart c k pid at start path; walk = refl; need = refl })
+      (record { start = start; path = path; apart = start-apart c k pid at start path; walk = refl; need = refl })
 
   -- nothing justifies that it changes the file
-  unchanged : IsClosed → IsKept → (pid : ℕ) → process_at s pid ≡ Some p → (call : Call) → missing_promise p.promises (needs call) ≡ None → Justifies s p call (change_file f) → ⊥
+  unchanged : IsShut → IsKept → (pid : ℕ) → process_at s pid ≡ Some p → (call : Call) → missing_promise p.promises (needs call) ≡ None → Justifies s p call (change_file f) → ⊥
   unchanged c k pid at call held (change_by_descriptor _ has) = no-descriptor writes k.descriptors has.0 has.1 has.2 has.4 has.5 has.6
   unchanged c k pid at call held (change_by_open flags place _ flagged cut allowed node) =
       let o = opening c k pid at call flags flagged in
-      let among = subst (λ (ws : List WalkOf). Contains (filter_map (λ (w : WalkOf). place_found (resolve s.tree w.1 w.0 w.2)) ws) place) o.walk allowed.0 in
-      let n = named (follow_of flags) o.start o.path o.apart place among node in
+      let among = subst (λ (ws : List Walk). Contains (filter_map (λ (w : Walk). place_found (end_of s p w)) ws) place) o.walk allowed.0 in
+      let n = named (follow_of flags) (start_directory s p o.start o.path) o.path o.apart place among node in
       let judged : judgement s.tree p.table (At n.0 n.1 (Some f)) (letters_of_open flags) ≡ Allowed = subst (λ (x : Place). judgement s.tree p.table x (letters_of_open flags) ≡ Allowed) n.2 allowed.1 in
       let met = subst (λ (ns : List Need). missing_promise p.promises ns ≡ None) o.need held in
       let rest : List Need = if flags.create then needs_cpath else [] in
@@ -523,7 +524,7 @@ file-plain (Some (file_node executable bytes)) is = refl
 file-plain (Some (link_node text)) is = cc is
 
 sealed-closed : (s : State) (whole : IsWhole s) (f : ℕ) (file : is_directory_at s.tree f ≡ false) → Sealed.is_sealed s f ≡ true
-    → (pid : ℕ) (p : Process) → process_at s pid ≡ Some p → IsClosed s whole p f file
+    → (pid : ℕ) (p : Process) → process_at s pid ≡ Some p → IsShut s whole p f file
 sealed-closed s whole f file shut pid p at =
     closed s whole p f file (live-passes (λ (q : Process). is_empty (Sealed.leaks s q f)) pid p s.processes (live-found s pid p at) (and_parts _ _ shut).1)
 
@@ -535,8 +536,7 @@ sealed-not_read program_of s pid f whole file shut reads_it =
     unread s whole e.0 f plain (sealed-closed s whole f plain shut pid e.0 e.2) pid e.2 e.1 e.4 e.5
 
 pub sealed-answers_alike : (program_of : Bytes → Option Program) (s : State) (pid : ℕ) (f : ℕ) (bytes : Bytes) → IsWhole s → Sealed.is_file (node_at s.tree f) ≡ true → Sealed.is_sealed s f ≡ true
-    → length bytes ≡ length (file_bytes s f)
-    → ((step program_of (with_bytes s f bytes) pid).outcome ≡ (step program_of s pid).outcome) × SameButFile f (step program_of s pid).after (step program_of (with_bytes s f bytes) pid).after
+    → length bytes ≡ length (file_bytes s f) → StepsAlike f (step program_of s pid) (step program_of (with_bytes s f bytes) pid)
 sealed-answers_alike program_of s pid f bytes whole file shut long =
     let plain = file-plain (node_at s.tree f) file in
     ⊎_elim (λ e. absurd (unread s whole e.0 f plain (sealed-closed s whole f plain shut pid e.0 e.2) pid e.2 e.1 e.4 e.5)) (λ alike. alike)

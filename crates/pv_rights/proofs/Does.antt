@@ -17,12 +17,12 @@ use Rattle.pv_model.specs.Attempt.{Attempt, ◌>>=◌, ◌>>◌}
 use Rattle.pv_model.specs.Bytes.{Bytes}
 use Rattle.pv_model.specs.Calls.Descriptors.{if_mode, with_content, open_file_for, with_open_file}
 use Rattle.pv_model.specs.Calls.Processes.{child, with_program}
-use Rattle.pv_model.specs.Effect.{Effect, Reply, returns, returns_bytes, ends, waits, walk_from, judgement_or_refusal, judge, node_of, name_of, descriptor_at, open_file, with_file}
-use Rattle.pv_model.specs.Needs.{letters_of_open}
+use Rattle.pv_model.specs.Effect.{Effect, Reply, returns, returns_bytes, ends, waits, walk_from, judgement_or_refusal, judge_for, node_of, name_of, descriptor_at, open_file, with_file}
+use Rattle.pv_model.specs.Needs.{needs, needs_cpath, letters_of_open}
 use Rattle.pv_model.specs.Numbered.{at_number, with_number, without_number}
 use Rattle.pv_model.specs.Perms.{letter_c}
 use Rattle.pv_model.specs.State.{OpenFile, Descriptor, Program, Process, ended_record, State, writes, process_at, with_process, with_tree}
-use Rattle.pv_model.specs.Touch.{WalkOf, flags_of, IsAllowed, HasDescriptor}
+use Rattle.pv_model.specs.Touch.{flags_of, IsAllowed, HasDescriptor}
 use Rattle.pv_model.specs.Tree.{Node, file_node, entries_of, new_number, with_new_node, with_entry, without_entry}
 use Rattle.pv_model.specs.Unveil.{judgement}
 use Rattle.pv_model.specs.Walk.{resolve}
@@ -30,6 +30,7 @@ use Rattle.pv_laws.specs.States.{is_call, IsWhole}
 use Rattle.pv_laws.proofs.Attempts.{Leads, leads-after_walks, leads-walk}
 use Rattle.pv_laws.proofs.Standing.{IsFinePlace}
 use Rattle.pv_rights.specs.Growth.{MayDoNoMore}
+use Rattle.pv_model.specs.Walks.{Walk}
 
 -- an answer that the process goes on with
 abbrev pub goes_on : Reply → Bool
@@ -48,6 +49,7 @@ module _ (s : State) (pid : ℕ) (me : Process) (call : Call) where
     pub allowed : IsAllowed s me call letter_c place
     pub name : name_of place ≡ Some p
     pub fine : IsFine place
+    pub need : needs call ≡ needs_cpath
 
   pub data Does : State → Reply → Type 0 where
     -- nothing, or its end
@@ -107,10 +109,10 @@ module _ (s : State) (pid : ℕ) (me : Process) (call : Call) where
 
 -- ---- places of walks
 
-pub first-place : (g : WalkOf → Option Place) (w : WalkOf) (ws : List WalkOf) (place : Place) → g w ≡ Some place → Contains (filter_map g (w ∷ ws)) place
+pub first-place : (g : Walk → Option Place) (w : Walk) (ws : List Walk) (place : Place) → g w ≡ Some place → Contains (filter_map g (w ∷ ws)) place
 first-place g w ws place is = subst (λ o. Contains (cons_option o (filter_map g ws)) place) (sym is) (0, omega arith, refl)
 
-pub second-place : (g : WalkOf → Option Place) (w v : WalkOf) (ws : List WalkOf) (first place : Place) → g w ≡ Some first → g v ≡ Some place → Contains (filter_map g (w ∷ v ∷ ws)) place
+pub second-place : (g : Walk → Option Place) (w v : Walk) (ws : List Walk) (first place : Place) → g w ≡ Some first → g v ≡ Some place → Contains (filter_map g (w ∷ v ∷ ws)) place
 second-place g w v ws first place before is =
     subst (λ o. Contains (cons_option o (filter_map g (v ∷ ws))) place) (sym before)
     (subst (λ o. Contains (cons_option (Some first) (cons_option o (filter_map g ws))) place) (sym is) (1, omega arith, refl))
@@ -118,9 +120,9 @@ second-place g w v ws first place before is =
 -- the judgement that lets a call go on
 pub leads-judged : {A : Type 0} (P : A → Type 0) (s : State) (me : Process) (start : ℕ) (follow : Follow) (path : Bytes) (needed : Perms) (next : Place → Attempt A)
     → ((place : Place) → resolve s.tree follow start path ≡ Ok place → judgement s.tree me.table place needed ≡ Allowed → Leads P (next place))
-    → Leads P (walk_from s start follow path >>= (λ place. judge s me place needed >> next place))
+    → Leads P (walk_from s start follow path >>= (λ place. judge_for s me place needed >> next place))
 leads-judged P s me start follow path needed next is =
-    leads-walk P s start follow path (λ place. judge s me place needed >> next place) (λ place found. by place (judgement s.tree me.table place needed) (λ allowed. is place found allowed))
+    leads-walk P s start follow path (λ place. judge_for s me place needed >> next place) (λ place found. by place (judgement s.tree me.table place needed) (λ allowed. is place found allowed))
   where
     by : (place : Place) (j : Judgement) → (j ≡ Allowed → Leads P (next place)) → Leads P (judgement_or_refusal j >> next place)
     by place Allowed go = leads-after_walks P 0 (next place) (go refl)

@@ -1,29 +1,30 @@
 -- What open and openat do.
-use Rattle.std.proofs.Common.{◌≡◌, ℕ, Bool, true, false, not, ◌&&◌, if◌then◌else◌, nat_le, [], Option, None, Some, is_some, is_none, option_and_then, Ok, refl, ap, ◌∙◌}
+use Rattle.std.proofs.Common.{◌≡◌, ℕ, Bool, true, false, not, ◌&&◌, if◌then◌else◌, nat_le, [], Option, None, Some, is_some, is_none, option_and_then, Ok, refl, ap}
 use Rattle.std.specs.Prelude.{Contains}
 use Rattle.std.proofs.lemmas.Bool.{and_parts, not-false}
 use Rattle.pv_model.specs.declared.call.Call.{Call}
 use Rattle.pv_model.specs.declared.call.Call.TheVariants as TheCall
 use Rattle.pv_model.specs.declared.call.Start.{Start}
-use Rattle.pv_model.specs.declared.call.Start.TheVariants.{WorkingDirectory, Descriptor as AtDescriptor}
-use Rattle.pv_model.specs.declared.errno.Errno.TheVariants.{EBADF, EEXIST, ENOENT, ENOTDIR, EISDIR, EINVAL, ENFILE, EMFILE, ELOOP}
+use Rattle.pv_model.specs.declared.call.Start.TheVariants.{WorkingDirectory}
+use Rattle.pv_model.specs.declared.errno.Errno.TheVariants.{EEXIST, ENOENT, ENOTDIR, EISDIR, EINVAL, ENFILE, EMFILE, ELOOP}
 use Rattle.pv_model.specs.declared.open_flags.OpenFlags.{OpenFlags}
 use Rattle.pv_model.specs.declared.place.Place.{Place}
-use Rattle.pv_model.specs.Attempt.{Attempt, ◌>>=◌, give, refuse_if}
+use Rattle.pv_model.specs.Attempt.{◌>>=◌, refuse_if, ◌>>◌}
 use Rattle.pv_model.specs.Bytes.{Bytes}
-use Rattle.pv_model.specs.Calls.Descriptors.{is_link, contradicts, follow_of, with_content, with_open_file, open_node, open_from, open_here, directory_of, start_of, open_at}
-use Rattle.pv_model.specs.Effect.{Effect, answers, node_of, name_of, open_file}
+use Rattle.pv_model.specs.Calls.Descriptors.{is_link, contradicts, with_content, with_open_file, open_node, open_here, open_at, check_start}
+use Rattle.pv_model.specs.Effect.{Effect, answers, node_of, name_of, start_directory, end_of}
 use Rattle.pv_model.specs.Needs.{letters_of_open}
 use Rattle.pv_model.specs.Numbered.{least_free}
-use Rattle.pv_model.specs.State.{OpenFile, Process, State, writes, process_at}
-use Rattle.pv_model.specs.Touch.{WalkOf, flags_of, place_found, directory_of_file, start_directory, places, IsAllowed}
-use Rattle.pv_model.specs.Tree.{Node, file_node, Tree, node_at, is_directory, is_directory_at, new_number, with_new_node}
-use Rattle.pv_model.specs.Walk.{is_absolute, resolve}
-use Rattle.pv_laws.specs.States.{is_start, is_text, is_call, IsWhole}
-use Rattle.pv_laws.proofs.Attempts.{Leads, leads-after_walks, leads-bind, leads-then, leads-refuse_if, leads-demand, leads-room}
+use Rattle.pv_model.specs.State.{Process, State, writes}
+use Rattle.pv_model.specs.Touch.{flags_of, place_found, places, IsAllowed}
+use Rattle.pv_model.specs.Tree.{Node, file_node, Tree, node_at, is_directory, new_number, with_new_node}
+use Rattle.pv_laws.specs.States.{is_start, is_text, is_call}
+use Rattle.pv_laws.proofs.Attempts.{Leads, leads-after_walks, leads-then, leads-refuse_if, leads-room, leads-behind}
 use Rattle.pv_laws.proofs.Rests
 use Rattle.pv_laws.proofs.Standing.{resolve-fine, my-placed}
 use Rattle.pv_rights.proofs.Does.{opens, creates, IsFine, Did, first-place, leads-judged}
+use Rattle.pv_model.specs.Walks.{Walk, follow_of, open_walk}
+use Rattle.pv_laws.proofs.Starts.{StartsWell, leads-start}
 
 none_made : (o : Option Node) (create : Bool) → (is_none o && not create) ≡ false → o ≡ None → create ≡ true
 none_made None create is none = not-false create is
@@ -32,11 +33,6 @@ none_made (Some node) create is none = cc
 module _ (s : State) (pid : ℕ) (me : Process) (call : Call) (path : Bytes) (f : OpenFlags) (flagged : flags_of call ≡ Some f) where
   abbrev D : Effect → Type 0
   D = Did s pid me call
-
-  -- where the walk may begin: its place is one of the call's, and in a whole state it is a directory
-  pub record IsStart (start : ℕ) : Type 0 where
-    among : (place : Place) → resolve s.tree (follow_of f) start path ≡ Ok place → Contains (places s me call) place
-    directory : IsWhole s → process_at s pid ≡ Some me → is_directory_at s.tree start ≡ true
 
   does-node : (place : Place) → IsAllowed s me call (letters_of_open f) place → IsFine s pid me call place → (is_none (option_and_then (node_at s.tree) (node_of place)) && not f.create) ≡ false
       → (name : Option (ℕ × Bytes)) (node : Option ℕ) → name_of place ≡ name → node_of place ≡ node → Leads D (open_node s pid me f name node >>= Rests.open_7 s pid me)
@@ -55,10 +51,12 @@ module _ (s : State) (pid : ℕ) (me : Process) (call : Call) (path : Bytes) (f 
   abbrev there : Place → Option Node
   there place = Rests.node_there s pid me place
 
-  pub does-open_from : (start : Attempt ℕ) → (is_call call ≡ true → is_text path ≡ true) → Leads IsStart start → Leads D (open_from s pid me start path f)
-  does-open_from start text starts =
-      leads-then D (refuse_if EINVAL (contradicts f)) (start >>= Rests.open_a s pid me path f) (
-      leads-bind D IsStart start (Rests.open_a s pid me path f) starts (λ directory from.
+  pub does-open_by : (start : Start) → (is_call call ≡ true → is_text path ≡ true)
+      → ((place : Place) → end_of s me (open_walk start path f) ≡ Ok place → Contains (places s me call) place) → Leads D (open_at s pid me start path f)
+  does-open_by start text among =
+      let directory : ℕ = start_directory s me start path in
+      leads-then D (refuse_if EINVAL (contradicts f)) (check_start s pid me start path >> Rests.open_a s pid me path f directory) (
+      leads-behind D (StartsWell s pid me directory) (check_start s pid me start path) (Rests.open_a s pid me path f directory) (leads-start s pid me start path) (λ well.
       leads-then D (refuse_if EMFILE (nat_le 16 (least_free me.descriptors))) (Rests.open_b s pid me path f directory) (
       leads-then D (refuse_if ENFILE (nat_le 128 (least_free s.files))) (Rests.open_c s pid me path f directory) (
       leads-judged D s me directory (follow_of f) path (letters_of_open f) (Rests.open_1 s pid me f) (λ place found allowed.
@@ -67,42 +65,19 @@ module _ (s : State) (pid : ℕ) (me : Process) (call : Call) (path : Bytes) (f 
       leads-then D (refuse_if ELOOP (is_link (there place))) (Rests.open_4 s pid me f place) (
       leads-then D (refuse_if ENOTDIR (f.directory && not (is_directory (there place)))) (Rests.open_5 s pid me f place) (
       leads-then D (refuse_if EISDIR (is_directory (there place) && writes f.mode)) (Rests.open_6 s pid me f place) (
-      does-node place (from.among place found, allowed)
-      (λ whole at is. resolve-fine s.tree whole.tree (follow_of f) directory path place (from.directory whole at) (text is) found)
+      does-node place (among place found, allowed)
+      (λ whole at is. resolve-fine s.tree whole.tree (follow_of f) directory path place (well (my-placed s pid me whole at).directory) (text is) found)
       made (name_of place) (node_of place) refl refl))))))))))
 
 module _ (s : State) (pid : ℕ) (me : Process) (path : Bytes) (f : OpenFlags) where
-  abbrev end_of : WalkOf → Option Place
-  end_of w = place_found (resolve s.tree w.1 w.0 w.2)
+  abbrev ends : Walk → Option Place
+  ends w = place_found (end_of s me w)
 
   pub does-open : Leads (Did s pid me (TheCall.Open path f)) (open_here s pid me path f)
   does-open =
-      does-open_from s pid me (TheCall.Open path f) path f refl (give me.directory) (λ text. text)
-      (record { among = λ place found. first-place end_of (me.directory, follow_of f, path) [] place (ap place_found found); directory = λ whole at. (my-placed s pid me whole at).directory })
-
-  abbrev Starts : Start → ℕ → Type 0
-  Starts start = IsStart s pid me (TheCall.OpenAt start path f) path f refl
-
-  -- a start that is the call's
-  begins : (start : Start) (n : ℕ) → start_directory s me start path ≡ n → (IsWhole s → process_at s pid ≡ Some me → is_directory_at s.tree n ≡ true) → Starts start n
-  begins start n is directory = record {
-    among = λ place found.
-        first-place end_of (start_directory s me start path, follow_of f, path) [] place (ap (λ m. place_found (resolve s.tree (follow_of f) m path)) is ∙ ap place_found found);
-    directory = directory;
-  }
-
-  starts : (start : Start) → Leads (Starts start) (start_of s pid me start path)
-  starts WorkingDirectory = begins WorkingDirectory me.directory refl (λ whole at. (my-placed s pid me whole at).directory)
-  starts (AtDescriptor d) =
-      elim (is_absolute path) as (λ b. is_absolute path ≡ b → Leads (Starts (AtDescriptor d)) (if b then give me.directory else directory_of s pid me d)) [
-        | true ↦ λ absolute. begins (AtDescriptor d) me.directory (ap (λ b. if b then me.directory else directory_of_file me (open_file s me d)) absolute) (λ whole at. (my-placed s pid me whole at).directory)
-        | false ↦ λ relative.
-            leads-demand (Starts (AtDescriptor d)) EBADF (open_file s me d) (Rests.directory_of_1 s pid me) (λ (file : ℕ × OpenFile) is.
-            leads-refuse_if (Starts (AtDescriptor d)) ENOTDIR (not (is_directory_at s.tree file.1.node)) (give file.1.node) (λ dir.
-            begins (AtDescriptor d) file.1.node
-            (ap (λ b. if b then me.directory else directory_of_file me (open_file s me d)) relative ∙ ap (directory_of_file me) is)
-            (λ whole at. not-false (is_directory_at s.tree file.1.node) dir)))
-      ] refl
+      does-open_by s pid me (TheCall.Open path f) path f refl WorkingDirectory (λ text. text) (λ place found. first-place ends (open_walk WorkingDirectory path f) [] place (ap place_found found))
 
   pub does-open_at : (start : Start) → Leads (Did s pid me (TheCall.OpenAt start path f)) (open_at s pid me start path f)
-  does-open_at start = does-open_from s pid me (TheCall.OpenAt start path f) path f refl (start_of s pid me start path) (λ is. (and_parts (is_start start) (is_text path) is).1) (starts start)
+  does-open_at start =
+      does-open_by s pid me (TheCall.OpenAt start path f) path f refl start (λ is. (and_parts (is_start start) (is_text path) is).1)
+      (λ place found. first-place ends (open_walk start path f) [] place (ap place_found found))

@@ -10,7 +10,7 @@ use Rattle.pv_model.specs.declared.follow.Follow.TheVariants.{Last, Keep}
 use Rattle.pv_model.specs.Attempt.{Attempt, ◌>>=◌, ◌>>◌, refuse_if, demand}
 use Rattle.pv_model.specs.Bytes.{Bytes, is_empty, little_endian}
 use Rattle.pv_model.specs.Calls.Descriptors.{with_descriptor, is_number, within, close, dup, dup2, fstat, fchdir, directory_of, read, seek_base, lseek, next_name, list_name, getdents, open_file_for}
-use Rattle.pv_model.specs.Calls.Paths.{link_text, chdir, stat_following, readlink}
+use Rattle.pv_model.specs.Calls.Paths.{link_text, chdir, stat_at, readlink}
 use Rattle.pv_model.specs.Calls.Processes.{parent_of, statuses, child, fork, children, reap, wait, executable_bytes, execve}
 use Rattle.pv_model.specs.Calls.Restraints.{asked_promises, unless_refused, entries_of_table, add_target, refuse_if_locked, pledge, unveil}
 use Rattle.pv_model.specs.Effect.{Effect, returns, returns_bytes, waits, answers, answers_bytes, walk_from, node_of, descriptor_at, open_file, status}
@@ -27,6 +27,7 @@ use Rattle.pv_laws.proofs.Rests
 use Rattle.pv_rights.specs.Growth.{MayDoNoMore, KeepsEntries}
 use Rattle.pv_rights.proofs.Narrowing.{narrows, leads-unless_refused, leads-add_entry, table-itself, gains-self, keeps-of_table, no_more-same}
 use Rattle.pv_rights.proofs.Does.{Does, stays, restrains, begins, closes, copies, forks, reaps, moves, Did}
+use Rattle.pv_model.specs.Walks.{from_here}
 
 -- what is not locked
 leads-unlocked : {A : Type 0} (P : A → Type 0) (b : Bool) (next : Attempt A) → (b ≡ false → Leads P next) → Leads P (refuse_if_locked b >> next)
@@ -121,7 +122,7 @@ module _ (s : State) (pid : ℕ) (me : Process) where
       leads-demand (D C) ENOENT (node_of place) (Rests.chdir_2 s pid me) (λ n is.
       leads-then (D C) (refuse_if ENOTDIR (not (is_directory_at s.tree n))) (answers (with_process s pid (record me { directory = n })) 0) (goes C n)))
 
-  pub does-stat : (call : Call) (follow : Follow) (path : Bytes) → Leads (D call) (stat_following s pid me follow path)
+  pub does-stat : (call : Call) (follow : Follow) (path : Bytes) → Leads (D call) (stat_at s pid me (from_here follow path letter_r))
   does-stat call follow path =
       leads-place (D call) s me me.directory follow path letter_r (Rests.stat_1 s pid me) (λ place found.
       leads-demand (D call) ENOENT (node_of place) (λ n. answers_bytes s 0 (status s.tree n)) (λ n is. stays (returns_bytes 0 (status s.tree n))))

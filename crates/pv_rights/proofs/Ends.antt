@@ -19,19 +19,17 @@ use Rattle.pv_laws.proofs.Outcomes.{at_call}
 use Rattle.pv_laws.proofs.Processes.{find-put_same, find-put_other, process_at-same, process_at-other, update-is}
 use Rattle.pv_laws.proofs.Trim.{processes-trim}
 use Rattle.pv_laws.proofs.Whole.{sorted-put_number}
-use Rattle.pv_rights.specs.Growth.{HasTheSame, IsInOrder}
-
-pub same-along : (p q r : Process) → HasTheSame p q → HasTheSame q r → HasTheSame p r
-same-along p q r a b = record {
-  promises = b.promises ∙ a.promises;
-  execpromises = b.execpromises ∙ a.execpromises;
-  table = b.table ∙ a.table;
-  locked = b.locked ∙ a.locked;
-  descriptors = b.descriptors ∙ a.descriptors;
-}
+use Rattle.pv_rights.specs.Growth.{HasTheSame, IsInOrder, IsLeftAlone}
 
 pub same-itself : (p : Process) → HasTheSame p p
 same-itself p = record { promises = refl; execpromises = refl; table = refl; locked = refl; descriptors = refl }
+
+pub alone-itself : (p : Process) → IsLeftAlone p p
+alone-itself p = record { all = refl }
+
+-- it has the same restraints and descriptors
+pub alone-same : (p q : Process) → IsLeftAlone p q → HasTheSame p q
+alone-same p q is = subst (HasTheSame p) (sym is.all) (record { promises = refl; execpromises = refl; table = refl; locked = refl; descriptors = refl })
 
 -- ---- after a change of one process
 
@@ -97,7 +95,7 @@ module _ (s : State) (pid : ℕ) (me : Process) (status : ℕ) where
       cc same
 
   -- and each other live process has another parent at most
-  pub ended-others : (k : ℕ) (p : Process) → k ≢ pid → process_at s k ≡ Some p → (q : Process) × (process_at (end_process s pid me status) k ≡ Some q) × HasTheSame p q
+  pub ended-others : (k : ℕ) (p : Process) → k ≢ pid → process_at s k ≡ Some p → (q : Process) × (process_at (end_process s pid me status) k ≡ Some q) × IsLeftAlone p q
   unfolding end_process
   ended-others k p other at =
       let there : find nat_cmp k put_away ≡ Some (live p) = find-put_other k pid (ended_record me.parent status) s.processes other ∙ live-found s k p at in
@@ -109,7 +107,7 @@ module _ (s : State) (pid : ℕ) (me : Process) (status : ℕ) where
       let is : adoptee.0 ≡ record p { parent = adoptee.0.parent } = old.2 ∙ ap (λ (x : Process). record x { parent = adoptee.0.parent }) (sym same) in (
         adoptee.0,
         ap live_process (ap (λ es. find nat_cmp k (filter claimed es)) (map-adopt pid heir put_away) ∙ kept),
-        subst (HasTheSame p) (sym is) (record { promises = refl; execpromises = refl; table = refl; locked = refl; descriptors = refl }),
+        record { all = is },
       )
 
 -- ---- inside a program

@@ -1,6 +1,7 @@
 -- The touches of a worked run, by computing.
-use Rattle.std.proofs.Common.{◌≡◌, ℕ, zero, suc, pos, true, false, [], ◌∷◌, take, codes, slice_index, Option, None, Some, is_none, refl, ap, sym, ◌∙◌, inl, inr, arith}
-use Rattle.std.specs.List.{list_all}
+use Rattle.std.proofs.Common.{◌≡◌, ℕ, zero, suc, ◌<◌, lit<, pos, true, false, [], ◌∷◌, take, codes, slice_index, Option, None, Some, is_none, refl, ap, sym, ◌∙◌, inl, inr, arith}
+use Rattle.std.specs.List.{All, list_all}
+use Rattle.std.proofs.lemmas.List.Elements.{All-cons, All-nil}
 use Rattle.pv_model.specs.declared.call.Call.TheVariants.{Stat}
 use Rattle.pv_model.specs.declared.open_flags.Mode.TheVariants.{ReadWrite}
 use Rattle.pv_model.specs.declared.place.Place.TheVariants.{At}
@@ -10,7 +11,7 @@ use Rattle.pv_model.specs.State.{Process, State, first_process, process_at}
 use Rattle.pv_model.specs.Step.{step}
 use Rattle.pv_model.specs.Touch.{read_file, change_file, change_entry, tell_node, gain_descriptor, Touches}
 use Rattle.pv_model.specs.Tree.{root, find_entry}
-use Rattle.pv_model.specs.Worked.Machine.{machine_on_literals}
+use Rattle.pv_model.specs.OnLiterals.{machine_on_literals}
 use Rattle.pv_rights.specs.Examples.{no_programs, state_behind, EachSortHappens}
 use Rattle.pv_rights.proofs.JustGains.{has-opens}
 
@@ -62,10 +63,14 @@ first_byte s = take 1 (first s).buffer
 other_byte : codes "h" ≡ codes "j" → ⊥
 other_byte same = let number : ◌≡◌ {A = ℕ} 104 106 = ap (λ (bytes : Bytes). slice_index bytes 0) same in omega arith
 
+small : (b : ℕ) (bs : Bytes) → b < 256 → All (λ c. c < 256) bs → All (λ c. c < 256) (b ∷ bs)
+small = All-cons (λ c. c < 256)
+
 was_read : Touches no_programs (state_behind (1 ∷ 1 ∷ 1 ∷ [])) 1 (read_file 2)
 unfolding machine_on_literals
 was_read = (
   codes "jello",
+  small 106 (codes "ello") (lit< tt) (small 101 (codes "llo") (lit< tt) (small 108 (codes "lo") (lit< tt) (small 108 (codes "o") (lit< tt) (small 111 [] (lit< tt) (All-nil (λ b. b < 256)))))),
   refl,
   inr (λ same. other_byte (ap first_byte same)),
 )

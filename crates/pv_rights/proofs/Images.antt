@@ -22,9 +22,9 @@ use Rattle.pv_laws.proofs.BySteps.{step-keeps_whole}
 use Rattle.pv_laws.proofs.Outcomes.{at_call, by_answer}
 use Rattle.pv_laws.proofs.Processes.{process_at-same, process_at-other}
 use Rattle.pv_laws.proofs.Rests
-use Rattle.pv_rights.specs.Growth.{MayDoNoMore, HasTheSame, IsInOrder, begins_image, HasExecuted, StaysInImage}
+use Rattle.pv_rights.specs.Growth.{MayDoNoMore, HasTheSame, IsInOrder, IsLeftAlone, begins_image, HasExecuted, StaysInImage}
 use Rattle.pv_rights.proofs.Callers.{kept, other-kept}
-use Rattle.pv_rights.proofs.Ends.{same-itself, process_at-trim, update-live, update-other, whole-in_order, IsSameNext, same-next, step-is, step-gone}
+use Rattle.pv_rights.proofs.Ends.{alone-itself, alone-same, process_at-trim, update-live, update-other, whole-in_order, IsSameNext, same-next, step-is, step-gone}
 use Rattle.pv_rights.proofs.Narrowing.{no_more-along, no_more-same, no_more-of_same}
 
 -- ---- steps
@@ -40,16 +40,16 @@ grows-never program_of s pid p q order at there quiet =
     by (calls_for call) same left none = kept program_of s pid order p at call q left none
 
 pub others-keep : (program_of : Bytes → Option Program) (s : State) (pid other : ℕ) (p : Process) → IsInOrder s → other ≢ pid → process_at s other ≡ Some p
-    → (q : Process) × (process_at (step program_of s pid).after other ≡ Some q) × HasTheSame p q
+    → (q : Process) × (process_at (step program_of s pid).after other ≡ Some q) × IsLeftAlone p q
 others-keep program_of s pid other p order apart there = of (process_at s pid) refl
   where
-    by : (me : Process) → process_at s pid ≡ Some me → (n : Next) → (q : Process) × (process_at (step_by program_of s pid me n).after other ≡ Some q) × HasTheSame p q
-    by me at (inside r) = (p, process_at-other s pid r other apart ∙ there, same-itself p)
+    by : (me : Process) → process_at s pid ≡ Some me → (n : Next) → (q : Process) × (process_at (step_by program_of s pid me n).after other ≡ Some q) × IsLeftAlone p q
+    by me at (inside r) = (p, process_at-other s pid r other apart ∙ there, alone-itself p)
     by me at (calls_for call) = other-kept program_of s pid order me at call other p apart there
 
-    of : (o : Option Process) → process_at s pid ≡ o → (q : Process) × (process_at (step program_of s pid).after other ≡ Some q) × HasTheSame p q
-    of None none = (p, ap (λ (w : Stepped). process_at w.after other) (step-gone program_of s pid none) ∙ there, same-itself p)
-    of (Some me) at = subst (λ (w : Stepped). (q : Process) × (process_at w.after other ≡ Some q) × HasTheSame p q) (sym (step-is program_of s pid me at)) (by me at (next me))
+    of : (o : Option Process) → process_at s pid ≡ o → (q : Process) × (process_at (step program_of s pid).after other ≡ Some q) × IsLeftAlone p q
+    of None none = (p, ap (λ (w : Stepped). process_at w.after other) (step-gone program_of s pid none) ∙ there, alone-itself p)
+    of (Some me) at = subst (λ (w : Stepped). (q : Process) × (process_at w.after other ≡ Some q) × IsLeftAlone p q) (sym (step-is program_of s pid me at)) (by me at (next me))
 
 -- a step that calls
 step-calls : (program_of : Bytes → Option Program) (s : State) (pid : ℕ) (p : Process) (call : Rattle.pv_model.specs.declared.call.Call.Call) → process_at s pid ≡ Some p → next p ≡ calls_for call
@@ -209,5 +209,5 @@ runs-without program_of spells s pid (k ∷ ks) p q whole at stays there =
         (λ other.
         let kept = others-keep program_of s k pid p (whole-in_order s whole) (λ same. other (sym same)) at in
         let is : Some kept.0 ≡ Some r = sym kept.1 ∙ found in
-        let same : kept.0 ≡ r = cc is in subst (MayDoNoMore p) same (no_more-of_same p kept.0 kept.2))
+        let same : kept.0 ≡ r = cc is in subst (MayDoNoMore p) same (no_more-of_same p kept.0 (alone-same p kept.0 kept.2)))
         (cases_eq k pid)

@@ -1,8 +1,9 @@
 -- What justifies changes of entries and of files.
-use Rattle.std.proofs.Common.{◌≡◌, ◌≢◌, ℕ, suc, Bool, true, false, cond, if◌then◌else◌, [], length, Option, None, Some, refl, ap, sym, subst, ◌∙◌, ⊎_elim}
+use Rattle.std.proofs.Common.{◌≡◌, ◌≢◌, ℕ, suc, Bool, true, false, cond, if◌then◌else◌, List, [], ◌∷◌, ◌++◌, length, Option, None, Some, refl, ap, sym, subst, ◌∙◌, ⊎_elim}
 use Rattle.std.proofs.lemmas.Bool.{cases_eq}
 use Rattle.std.specs.FinMap.Entries.{find}
 use Rattle.pv_model.specs.declared.call.Call.{Call}
+use Rattle.pv_model.specs.declared.call.Call.TheVariants as TheCall
 use Rattle.pv_model.specs.declared.judgement.Judgement.TheVariants.{Allowed, Denied}
 use Rattle.pv_model.specs.declared.open_flags.OpenFlags.{OpenFlags}
 use Rattle.pv_model.specs.declared.perms.Perms.{Perms}
@@ -13,18 +14,19 @@ use Rattle.pv_model.specs.Calls.Descriptors.{with_content}
 use Rattle.pv_model.specs.Calls.Processes.{end_process}
 use Rattle.pv_model.specs.Effect.{Reply, node_of, bytes_of}
 use Rattle.pv_model.specs.Held.{trim}
-use Rattle.pv_model.specs.Needs.{letters_of_mode, letters_of_open}
+use Rattle.pv_model.specs.Needs.{needs, needs_cpath, needs_of_mode, letters_of_mode, letters_of_open}
 use Rattle.pv_model.specs.Perms.{no_letters, join_letters, covers, letter_c}
+use Rattle.pv_model.specs.Promises.{Need}
 use Rattle.pv_model.specs.Sealed.{is_file}
 use Rattle.pv_model.specs.State.{Program, Process, State, process_at}
-use Rattle.pv_model.specs.Touch.{Touch, change_file, change_entry, file_bytes, Touches, Justifies, change_by_descriptor, change_by_open, entry_by_place}
+use Rattle.pv_model.specs.Touch.{Touch, change_file, change_entry, file_bytes, flags_of, Touches, Justifies, change_by_descriptor, change_by_open, entry_by_place}
 use Rattle.pv_model.specs.Tree.{Node, file_node, Tree, node_at, entries_of, is_directory_at, find_entry, with_entry, without_entry, with_new_node}
 use Rattle.pv_model.specs.Unveil.{Table, letters_at, judge_entry, governing_entry, judgement}
 use Rattle.pv_laws.specs.States.{is_call, IsTree, IsWhole}
 use Rattle.pv_laws.proofs.ByTree.{FineName, named-place}
-use Rattle.pv_laws.proofs.Changes.{shape-without_entry}
+use Rattle.pv_tree_laws.proofs.Changes.{shape-without_entry}
 use Rattle.pv_laws.proofs.Ending.{tree-end}
-use Rattle.pv_laws.proofs.Entries.{by_name}
+use Rattle.pv_tree_laws.proofs.Entries.{by_name}
 use Rattle.pv_laws.proofs.Outcomes.{at_call}
 use Rattle.pv_laws.proofs.Processes.{process_at-same, tree-update}
 use Rattle.pv_laws.proofs.Replies.{whole-at_call}
@@ -76,6 +78,17 @@ making flags create =
         all false false false true = refl
         all false false false false = refl
 
+-- what a call that opens needs
+pub needs-open : (call : Call) (flags : OpenFlags) → flags_of call ≡ Some flags → needs call ≡ needs_of_mode flags.mode ++ (if flags.create then needs_cpath else [])
+unfolding needs
+needs-open (TheCall.Open path g) flags is = let same : g ≡ flags = cc is in ap (λ (h : OpenFlags). needs_of_mode h.mode ++ (if h.create then needs_cpath else [])) same
+needs-open (TheCall.OpenAt start path g) flags is = let same : g ≡ flags = cc is in ap (λ (h : OpenFlags). needs_of_mode h.mode ++ (if h.create then needs_cpath else [])) same
+needs-open call flags is = cc is
+
+-- a call needs cpath, perhaps behind others
+abbrev pub AsksCpath : Call → Type 0
+AsksCpath call = (others : List Need) × (needs call ≡ others ++ needs_cpath)
+
 module _ (s : State) (pid : ℕ) (me : Process) (call : Call) (whole : IsWhole s) (at : process_at s pid ≡ Some me) (is_good : is_call call ≡ true) where
   abbrev Change : Place → ℕ × Bytes → Type 0
   Change = Does.MayChange s pid me call
@@ -102,18 +115,22 @@ module _ (s : State) (pid : ℕ) (me : Process) (call : Call) (whole : IsWhole s
     named-so : (p : ℕ × Bytes) → (d ≡ p.0) → (name ≡ p.1) → ◌≡◌ {A = Option (ℕ × Bytes)} (Some p) (Some (d, name))
     named-so p here same = λ i. Some (sym here i, sym same i)
 
-    at_place : (place : Place) (p : ℕ × Bytes) → Change place p → (d ≡ p.0) → (name ≡ p.1) → J (change_entry d name)
+    -- the touch is justified, by a call that needs cpath
+    abbrev E : Type 0
+    E = J (change_entry d name) × AsksCpath call
+
+    at_place : (place : Place) (p : ℕ × Bytes) → Change place p → (d ≡ p.0) → (name ≡ p.1) → E
     at_place place p change here same =
-        entry_by_place place d name change.allowed (change.name ∙ named-so p here same)
+        (entry_by_place place d name change.allowed (change.name ∙ named-so p here same), ([], change.need))
 
     made : (p : ℕ × Bytes) (node : Node) (u : Tree) → u ≡ with_new_node s.tree p.0 p.1 node → IsTree u → is_directory_at s.tree p.0 ≡ true → entries_of (Some node) ≡ [] → Differs u
-        → ((d ≡ p.0) → (name ≡ p.1) → J (change_entry d name)) → J (change_entry d name)
+        → ((d ≡ p.0) → (name ≡ p.1) → E) → E
     made p node u is tree dir bare differs there =
         let below = new-within s.tree p node (ap (λ (t : Tree). length t.nodes) (sym is) ∙ many u tree (ap (λ (t : Tree). t.inodes) is)) in
         ⊎_elim (λ here. there here.0 here.1)
         (λ other. absurd (differs (ap (λ (t : Tree). find_entry t d name) is ∙ entry-new_other s.tree p node dir bare below d name other))) (cases_entry d p.0 name p.1)
 
-    pub entries-by : (after : State) (r : Reply) → Does.Does s pid me call after r → IsTree after.tree → Differs after.tree → J (change_entry d name)
+    pub entries-by : (after : State) (r : Reply) → Does.Does s pid me call after r → IsTree after.tree → Differs after.tree → E
     entries-by _ _ (Does.stays r) tree differs = absurd (differs refl)
     entries-by _ _ (Does.restrains q r no_more same goes) tree differs = absurd (differs refl)
     entries-by _ _ (Does.begins path program is) tree differs = absurd (differs refl)
@@ -146,9 +163,11 @@ module _ (s : State) (pid : ℕ) (me : Process) (call : Call) (whole : IsWhole s
         by false = refl
     entries-by _ _ (Does.creates flags place p m flagged allowed create named free fine) tree differs =
         let fine_name = named-place s.tree place p (fine whole at is_good) named in
-        made p (file_node false []) _ refl tree fine_name.directory refl differs (λ here same.
-        entry_by_place place d name (allowed.0, judged-fewer s.tree me.table place (letters_of_open flags) letter_c (making flags create) allowed.1)
-        (named ∙ named-so p here same))
+        made p (file_node false []) _ refl tree fine_name.directory refl differs (λ here same. (
+          entry_by_place place d name (allowed.0, judged-fewer s.tree me.table place (letters_of_open flags) letter_c (making flags create) allowed.1)
+              (named ∙ named-so p here same),
+          (needs_of_mode flags.mode, needs-open call flags flagged ∙ ap (λ b. needs_of_mode flags.mode ++ (if b then needs_cpath else [])) create),
+        ))
 
   -- ---- files
 
@@ -196,8 +215,9 @@ module _ (s : State) (pid : ℕ) (me : Process) (call : Call) (whole : IsWhole s
 
 -- ---- the laws
 
-pub entries-justified : (program_of : Bytes → Option Program) (s : State) (pid : ℕ) (d : ℕ) (name : Bytes) → IsWhole s → Touches program_of s pid (change_entry d name) → IsExplained s pid (change_entry d name)
-entries-justified program_of s pid d name whole changes =
+pub entries-explained : (program_of : Bytes → Option Program) (s : State) (pid : ℕ) (d : ℕ) (name : Bytes) → IsWhole s → Touches program_of s pid (change_entry d name)
+    → (e : IsExplained s pid (change_entry d name)) × AsksCpath e.1
+entries-explained program_of s pid d name whole changes =
     let T : State → Type 0 = λ y. find_entry y.tree d name ≢ find_entry s.tree d name in
     let t = touched program_of s pid whole T
     (λ differs. differs refl)
@@ -206,16 +226,14 @@ entries-justified program_of s pid d name whole changes =
     differs (entry-trim (end_process y pid me status) (subst IsTree (sym (tree-end y pid me status ∙ tree)) whole.tree) d name ∙ ap (λ (u : Tree). find_entry u d name) (tree-end y pid me status ∙ tree)))
     changes in
     let same : find_entry (trim (update t.after pid t.told)).tree d name ≡ find_entry t.after.tree d name =
-    entry-trim (update t.after pid t.told) (subst IsTree (sym (tree-update t.after pid t.told)) t.tree) d name ∙ ap (λ (u : Tree). find_entry u d name) (tree-update t.after pid t.told) in (
-      t.me,
-      t.call,
-      t.at,
-      t.next_is,
-      t.held,
-      back s pid t.me t.call (change_entry d name)
-          (entries-by (at_call s pid t.me) pid (at_next_line t.me) t.call (whole-at_call s pid t.me whole t.at) (process_at-same s pid (at_next_line t.me)) t.is d name t.after t.reply t.does t.tree
-          (λ eq. t.touch (same ∙ eq))),
-    )
+    entry-trim (update t.after pid t.told) (subst IsTree (sym (tree-update t.after pid t.told)) t.tree) d name ∙ ap (λ (u : Tree). find_entry u d name) (tree-update t.after pid t.told) in
+    let by =
+    entries-by (at_call s pid t.me) pid (at_next_line t.me) t.call (whole-at_call s pid t.me whole t.at) (process_at-same s pid (at_next_line t.me)) t.is d name t.after t.reply t.does t.tree
+    (λ eq. t.touch (same ∙ eq)) in
+    ((t.me, t.call, t.at, t.next_is, t.held, back s pid t.me t.call (change_entry d name) by.0), by.1)
+
+pub entries-justified : (program_of : Bytes → Option Program) (s : State) (pid : ℕ) (d : ℕ) (name : Bytes) → IsWhole s → Touches program_of s pid (change_entry d name) → IsExplained s pid (change_entry d name)
+entries-justified program_of s pid d name whole changes = (entries-explained program_of s pid d name whole changes).0
 
 pub files-justified : (program_of : Bytes → Option Program) (s : State) (pid : ℕ) (f : ℕ) → IsWhole s → Touches program_of s pid (change_file f) → IsExplained s pid (change_file f)
 files-justified program_of s pid f whole changes =

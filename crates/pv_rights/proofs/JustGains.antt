@@ -21,7 +21,7 @@ use Rattle.pv_model.specs.Tree.{new_number}
 use Rattle.pv_laws.specs.Held.{used}
 use Rattle.pv_laws.specs.States.{IsWhole}
 use Rattle.pv_laws.proofs.ByProcess.{kept_descriptor}
-use Rattle.pv_laws.proofs.Numbered.{at_number-below, with_number-same, with_number-other, without_number-same, without_number-other, least_free-free, keep-some}
+use Rattle.pv_tree_laws.proofs.Numbered.{at_number-below, with_number-same, with_number-other, without_number-same, without_number-other, least_free-free, keep-some}
 use Rattle.pv_laws.proofs.Outcomes.{at_call}
 use Rattle.pv_laws.proofs.Processes.{process_at-same, process_at-other, files-update}
 use Rattle.pv_laws.proofs.Trim.{files-trim}

@@ -19,22 +19,31 @@ use Rattle.pv_model.specs.Program.{Next, inside, calls_for, next}
 use Rattle.pv_model.specs.Promises.{missing_promise, is_lenient}
 use Rattle.pv_model.specs.State.{Program, Process, State, process_at}
 use Rattle.pv_model.specs.Step.{Stepped, step, step_of, step_by}
-use Rattle.pv_model.specs.Touch.{read_file, change_file, change_entry, tell_node, gain_descriptor, with_bytes, file_bytes, SameButFile, Touches, Justifies, IsJustified}
+use Rattle.pv_model.specs.Touch.{read_file, change_file, change_entry, tell_node, gain_descriptor, with_bytes, file_bytes, Touches, Justifies, IsJustified}
+use Rattle.pv_model.specs.Trace.{call_lines}
 use Rattle.pv_model.specs.Tree.{Node}
 use Rattle.pv_laws.specs.States.{IsWhole}
 use Rattle.pv_laws.proofs.Outcomes.{at_call}
+use Rattle.pv_laws.proofs.Apart.{lines-alike}
 use Rattle.pv_rights.specs.Justice.{IsExplained}
+use Rattle.pv_rights.specs.Secrets.{StepsAlike}
 use Rattle.pv_rights.proofs.JustFiles.{entries-justified, files-justified}
 use Rattle.pv_rights.proofs.JustGains.{gains-justified}
 use Rattle.pv_rights.proofs.JustTelling.{telling-justified}
-use Rattle.pv_rights.proofs.Near.{AreNear, near_state, IsNear, near-trim, same-but_file, near-bytes}
+use Rattle.pv_rights.proofs.Near.{near-length_of, AreNear, near_state, IsNear, near-trim, same-but_file, near-bytes}
 use Rattle.pv_rights.proofs.NearCalls.{AreNearBy, near-effect}
 use Rattle.pv_rights.proofs.Touched.{back}
 
 -- the same answer, and states that differ in the file alone
 record IsNearAnswer (f : ℕ) (a b : Answered) : Type 0 where
   outcome : b.outcome ≡ a.outcome
+  walks : b.walks ≡ a.walks
   after : IsNear f a.after b.after
+
+-- the lines of a call say nothing else
+near-lines : (f pid : ℕ) (p : Process) (call : Call) (a b : Answered) → IsNearAnswer f a b → call_lines pid p call b ≡ call_lines pid p call a
+near-lines f pid p call a b near =
+    lines-alike pid p call b a (record { outcome = near.outcome; walks = near.walks; buffer = λ n len said. ap (λ (y : State). process_at y pid) near.after.rest })
 
 -- ---- states
 
@@ -63,18 +72,18 @@ module _ (f : ℕ) (s u : State) (near : IsNear f s u) (x y : State) (alike : Is
       subst (λ (z : Reply). IsNearAnswer f (answer_by_attempt s x pid now (done w (a, r))) (answer_by_attempt u y pid now (done v (b, z)))) is.1 (by r)
     where
       by : (r : Reply) → IsNearAnswer f (answer_by_attempt s x pid now (done w (a, r))) (answer_by_attempt u y pid now (done v (b, r)))
-      by (returns n) = record { outcome = refl; after = trimmed f (update a pid (λ p. with_result p (pos n) 0)) (update b pid (λ p. with_result p (pos n) 0)) (updated f a b is.2 pid (λ p. with_result p (pos n) 0)) }
-      by (returns_bytes n bytes) = record { outcome = refl; after = trimmed f (update a pid (λ p. with_front bytes (with_result p (pos n) 0))) (update b pid (λ p. with_front bytes (with_result p (pos n) 0))) (updated f a b is.2 pid (λ p. with_front bytes (with_result p (pos n) 0))) }
-      by (ends status) = record { outcome = refl; after = trimmed f (end_process a pid now status) (end_process b pid now status) (ended f a b is.2 pid now status) }
-      by waits = record { outcome = refl; after = near }
+      by (returns n) = record { outcome = refl; walks = sym is.0; after = trimmed f (update a pid (λ p. with_result p (pos n) 0)) (update b pid (λ p. with_result p (pos n) 0)) (updated f a b is.2 pid (λ p. with_result p (pos n) 0)) }
+      by (returns_bytes n bytes) = record { outcome = refl; walks = sym is.0; after = trimmed f (update a pid (λ p. with_front bytes (with_result p (pos n) 0))) (update b pid (λ p. with_front bytes (with_result p (pos n) 0))) (updated f a b is.2 pid (λ p. with_front bytes (with_result p (pos n) 0))) }
+      by (ends status) = record { outcome = refl; walks = sym is.0; after = trimmed f (end_process a pid now status) (end_process b pid now status) (ended f a b is.2 pid now status) }
+      by waits = record { outcome = refl; walks = sym is.0; after = near }
   near-attempt (done w (a, r)) (refused v g d) is = absurd is
   near-attempt (refused w e c) (done v (b, q)) is = absurd is
   near-attempt (refused w e c) (refused v g d) is =
       subst (λ (k : Errno). IsNearAnswer f (answer_by_attempt s x pid now (refused w e c)) (answer_by_attempt u y pid now (refused v k d))) is.1
-      (record { outcome = ap (Failed e) (sym is.2); after = updated f x y alike pid (λ p. with_result p (negsuc 0) (errno_number e)) })
+      (record { outcome = ap (Failed e) (sym is.2); walks = sym is.0; after = updated f x y alike pid (λ p. with_result p (negsuc 0) (errno_number e)) })
 
   near-killed : (me : Process) (p : Promise) → IsNearAnswer f (record { after = trim (end_process s pid me 6); outcome = Killed p; walks = 0 }) (record { after = trim (end_process u pid me 6); outcome = Killed p; walks = 0 })
-  near-killed me p = record { outcome = refl; after = trimmed f (end_process s pid me 6) (end_process u pid me 6) (ended f s u near pid me 6) }
+  near-killed me p = record { outcome = refl; walks = refl; after = trimmed f (end_process s pid me 6) (end_process u pid me 6) (ended f s u near pid me 6) }
 
 -- the call is justified, its promises held, or the bytes do not matter
 module _ (program_of : Bytes → Option Program) (f : ℕ) (s : State) (pid : ℕ) (ys : Numbered Node) (near : AreNear f s.tree.nodes ys) where
@@ -120,15 +129,16 @@ module _ (program_of : Bytes → Option Program) (f : ℕ) (s : State) (pid : �
 
   record IsNearStep (a b : Stepped) : Type 0 where
     outcome : b.outcome ≡ a.outcome
+    lines : b.lines ≡ a.lines
     after : IsNear f a.after b.after
 
   by_next : (me : Process) → process_at s pid ≡ Some me → (n : Next) → next me ≡ n → IsExplained s pid (read_file f) ⊎ IsNearStep (step_by program_of s pid me n) (step_by program_of u pid me n)
-  by_next me at (inside q) is = inr (record { outcome = refl; after = record { nodes = near; rest = refl } })
+  by_next me at (inside q) is = inr (record { outcome = refl; lines = refl; after = record { nodes = near; rest = refl } })
   by_next me at (calls_for call) is =
-      ⊎_elim (λ read. inl (me, call, at, is, read.0, read.1)) (λ alike. inr (record { outcome = alike.outcome; after = alike.after })) (by_call me call at)
+      ⊎_elim (λ read. inl (me, call, at, is, read.0, read.1)) (λ alike. inr (record { outcome = alike.outcome; lines = near-lines f pid me call (answer program_of s pid call) (answer program_of u pid call) alike; after = alike.after })) (by_call me call at)
 
   by_process : (o : Option Process) → process_at s pid ≡ o → IsExplained s pid (read_file f) ⊎ IsNearStep (step_of program_of s pid o) (step_of program_of u pid o)
-  by_process None gone = inr (record { outcome = refl; after = near_s })
+  by_process None gone = inr (record { outcome = refl; lines = refl; after = near_s })
   by_process (Some me) at = by_next me at (next me) refl
 
   by_step : IsExplained s pid (read_file f) ⊎ IsNearStep (step program_of s pid) (step program_of u pid)
@@ -137,23 +147,27 @@ module _ (program_of : Bytes → Option Program) (f : ℕ) (s : State) (pid : �
 
 pub reads-justified : (program_of : Bytes → Option Program) (s : State) (pid f : ℕ) → Touches program_of s pid (read_file f) → IsExplained s pid (read_file f)
 reads-justified program_of s pid f reads =
-    let near = near-bytes s f reads.0 reads.1 in
+    let near = near-bytes s f reads.0 reads.2 in
     let u : State = with_bytes s f reads.0 in
     let ys : Numbered Node = u.tree.nodes in
     ⊎_elim (λ explained. explained)
-    (λ alike. absurd (⊎_elim (λ other. other alike.outcome) (λ apart. apart (same-but_file f (step program_of s pid).after (step program_of u pid).after alike.after)) reads.2))
+    (λ alike. absurd (⊎_elim (λ other. other alike.outcome) (λ apart. apart (same-but_file f (step program_of s pid).after (step program_of u pid).after alike.after)) reads.3))
     (subst (λ (y : State). IsExplained s pid (read_file f) ⊎ IsNearStep program_of f s pid ys near.nodes (step program_of s pid) (step program_of y pid)) (sym near.rest) (by_step program_of f s pid ys near.nodes))
 
 -- with other bytes, as many, the step answers alike and leaves a state that differs in them alone, where the read is not justified
 pub alike-or_read : (program_of : Bytes → Option Program) (s : State) (pid f : ℕ) (bytes : Bytes) → length bytes ≡ length (file_bytes s f)
-    → IsExplained s pid (read_file f)
-    ⊎ (((step program_of (with_bytes s f bytes) pid).outcome ≡ (step program_of s pid).outcome) × SameButFile f (step program_of s pid).after (step program_of (with_bytes s f bytes) pid).after)
+    → IsExplained s pid (read_file f) ⊎ StepsAlike f (step program_of s pid) (step program_of (with_bytes s f bytes) pid)
 alike-or_read program_of s pid f bytes long =
     let near = near-bytes s f bytes long in
     let u : State = with_bytes s f bytes in
     let ys : Numbered Node = u.tree.nodes in
     ⊎_elim (λ explained. inl explained)
-    (λ alike. inr (alike.outcome, same-but_file f (step program_of s pid).after (step program_of u pid).after alike.after))
+    (λ alike. inr (record {
+      outcome = alike.outcome;
+      lines = alike.lines;
+      after = same-but_file f (step program_of s pid).after (step program_of u pid).after alike.after;
+      as_many = near-length_of f (step program_of s pid).after (step program_of u pid).after alike.after;
+    }))
     (subst (λ (y : State). IsExplained s pid (read_file f) ⊎ IsNearStep program_of f s pid ys near.nodes (step program_of s pid) (step program_of y pid)) (sym near.rest) (by_step program_of f s pid ys near.nodes))
 
 -- ---- every touch

@@ -16,15 +16,15 @@ use Rattle.pv_model.specs.Answer.{answer, answer_by_attempt, at_next_line, effec
 use Rattle.pv_model.specs.Attempt.{Attempt, done, refused, ◌>>=◌, ◌>>◌}
 use Rattle.pv_model.specs.Bytes.{Bytes}
 use Rattle.pv_model.specs.Calls.Descriptors.{getdents}
-use Rattle.pv_model.specs.Calls.Paths.{chdir, stat_following, readlink}
-use Rattle.pv_model.specs.Effect.{Effect, walk_from, judge, open_file}
+use Rattle.pv_model.specs.Calls.Paths.{chdir, stat_at, readlink}
+use Rattle.pv_model.specs.Effect.{Effect, walk_from, judge_for, open_file, end_of}
 use Rattle.pv_model.specs.Needs.{needs}
 use Rattle.pv_model.specs.Perms.{letter_r}
 use Rattle.pv_model.specs.Program.{calls_for, next}
 use Rattle.pv_model.specs.Promises.{missing_promise}
 use Rattle.pv_model.specs.State.{OpenFile, Program, Process, State, reads, writes, process_at}
 use Rattle.pv_model.specs.Step.{Stepped, step, step_by}
-use Rattle.pv_model.specs.Touch.{WalkOf, place_found, places, tells_of_place, tells_of_descriptor, has_succeeded, IsNodeOfPlace, IsNodeOfDescriptor, tell_node, Touches, Justifies, tell_by_descriptor, tell_by_place}
+use Rattle.pv_model.specs.Touch.{place_found, places, tells_of_place, tells_of_descriptor, has_succeeded, IsNodeOfPlace, IsNodeOfDescriptor, tell_node, Touches, Justifies, tell_by_descriptor, tell_by_place}
 use Rattle.pv_model.specs.Tree.{is_directory_at}
 use Rattle.pv_model.specs.Unveil.{judgement}
 use Rattle.pv_model.specs.Walk.{resolve}
@@ -36,6 +36,7 @@ use Rattle.pv_laws.proofs.Rests
 use Rattle.pv_rights.specs.Justice.{IsExplained}
 use Rattle.pv_rights.proofs.Does.{leads-judged}
 use Rattle.pv_rights.proofs.Ends.{step-is}
+use Rattle.pv_model.specs.Walks.{Walk, from_here}
 
 -- ---- what is known where an attempt is done
 
@@ -74,7 +75,7 @@ module _ (program_of : Bytes → Option Program) (s : State) (pid : ℕ) (me : P
 -- ---- by a place
 
 -- the only place of one walk
-only-place : (g : WalkOf → Option Place) (w : WalkOf) (place found : Place) → Contains (filter_map g (w ∷ [])) place → g w ≡ Some found → found ≡ place
+only-place : (g : Walk → Option Place) (w : Walk) (place found : Place) → Contains (filter_map g (w ∷ [])) place → g w ≡ Some found → found ≡ place
 only-place g w place found among is = by (subst (λ o. Contains (cons_option o []) place) is among)
   where
     at : (k : ℕ) → k < 1 → slice_index_or (found ∷ []) k place ≡ place → found ≡ place
@@ -88,15 +89,15 @@ module _ (s : State) (me : Process) where
   abbrev IsFound : Follow → Bytes → Type 0
   IsFound follow path = (place : Place) × (resolve s.tree follow me.directory path ≡ Ok place) × (judgement s.tree me.table place letter_r ≡ Allowed)
 
-  looked : (follow : Follow) (path : Bytes) (next : Place → Attempt Effect) → Leads (λ e. IsFound follow path) (walk_from s me.directory follow path >>= (λ place. judge s me place letter_r >> next place))
+  looked : (follow : Follow) (path : Bytes) (next : Place → Attempt Effect) → Leads (λ e. IsFound follow path) (walk_from s me.directory follow path >>= (λ place. judge_for s me place letter_r >> next place))
   looked follow path next = leads-judged (λ e. IsFound follow path) s me me.directory follow path letter_r next (λ place found allowed. leads-known (IsFound follow path) (next place) (place, found, allowed))
 
   -- the place that the call tells of is the one that it found
   told_place : (call : Call) (follow : Follow) (path : Bytes) (n : ℕ) → IsFound follow path
-      → ((place : Place) → Contains (places s me call) place → Contains (filter_map (λ (w : WalkOf). place_found (resolve s.tree w.1 w.0 w.2)) ((me.directory, follow, path) ∷ [])) place)
+      → ((place : Place) → Contains (places s me call) place → Contains (filter_map (λ (w : Walk). place_found (end_of s me w)) (from_here follow path letter_r ∷ [])) place)
       → IsNodeOfPlace s me call n → Justifies s me call (tell_node n)
   told_place call follow path n found among is =
-      let same = only-place (λ (w : WalkOf). place_found (resolve s.tree w.1 w.0 w.2)) (me.directory, follow, path) is.0 found.0 (among is.0 is.1) (ap place_found found.1) in
+      let same = only-place (λ (w : Walk). place_found (end_of s me w)) (from_here follow path letter_r) is.0 found.0 (among is.0 is.1) (ap place_found found.1) in
       tell_by_place is.0 n (is.1, ap (λ place. judgement s.tree me.table place letter_r) (sym same) ∙ found.2) is.2
 
 module _ (program_of : Bytes → Option Program) (s : State) (pid : ℕ) (me : Process) where
@@ -108,8 +109,8 @@ module _ (program_of : Bytes → Option Program) (s : State) (pid : ℕ) (me : P
 
   pub by_place : (call : Call) (n : ℕ) → tells_of_place call ≡ true → IsNodeOfPlace s me call n → is_done (effect program_of x pid now call) ≡ true → Justifies s me call (tell_node n)
   unfolding effect
-  by_place (Stat path) n tells is did = told_place s me (Stat path) Last path n (known (IsFound x now Last path) (stat_following x pid now Last path) did (looked x now Last path (Rests.stat_1 x pid now))) (λ place among. among) is
-  by_place (Lstat path) n tells is did = told_place s me (Lstat path) Keep path n (known (IsFound x now Keep path) (stat_following x pid now Keep path) did (looked x now Keep path (Rests.stat_1 x pid now))) (λ place among. among) is
+  by_place (Stat path) n tells is did = told_place s me (Stat path) Last path n (known (IsFound x now Last path) (stat_at x pid now (from_here Last path letter_r)) did (looked x now Last path (Rests.stat_1 x pid now))) (λ place among. among) is
+  by_place (Lstat path) n tells is did = told_place s me (Lstat path) Keep path n (known (IsFound x now Keep path) (stat_at x pid now (from_here Keep path letter_r)) did (looked x now Keep path (Rests.stat_1 x pid now))) (λ place among. among) is
   by_place (Readlink path) n tells is did = told_place s me (Readlink path) Keep path n (known (IsFound x now Keep path) (readlink x pid now path) did (looked x now Keep path (Rests.readlink_1 x pid now))) (λ place among. among) is
   by_place (Chdir path) n tells is did = told_place s me (Chdir path) Last path n (known (IsFound x now Last path) (chdir x pid now path) did (looked x now Last path (Rests.chdir_1 x pid now))) (λ place among. among) is
   by_place call n tells is did = cc

@@ -20,7 +20,7 @@ use Rattle.pv_model.specs.Promises.{Promises, mask, contains, first_increase, un
 use Rattle.pv_model.specs.State.{Process}
 use Rattle.pv_model.specs.Unveil.{Table, same_target, entry_for, letters_of, letters_at, with_letters}
 use Rattle.pv_laws.proofs.Attempts.{Leads}
-use Rattle.pv_laws.proofs.Entries.{bytes_eq-same}
+use Rattle.pv_tree_laws.proofs.Entries.{bytes_eq-same}
 use Rattle.pv_rights.specs.Growth.{GainsNone, IsLesserEntry, KeepsEntries, KeepsTable, MayDoNoMore, HasTheSame}
 
 -- ---- promises

@@ -22,8 +22,8 @@ use Rattle.pv_model.specs.Touch.{file_bytes, with_bytes, SameButFile}
 use Rattle.pv_model.specs.Tree.{Node, directory_node, file_node, link_node, Tree, root, node_at, entries_of, entries_at, is_directory, is_directory_at, find_entry, parent, above_or_none, ancestors_within, ancestors, named_numbers, new_number}
 use Rattle.pv_model.specs.Unveil.{Table, entry_for, target_of, climb, directory_rights, governing_entry, judge_entry, judgement}
 use Rattle.pv_model.specs.Walk.{resolve}
-use Rattle.pv_laws.specs.Walk
-use Rattle.pv_laws.proofs.Places.{parent-alike, resolve-alike}
+use Rattle.pv_tree_laws.specs.Walk
+use Rattle.pv_tree_laws.proofs.Places.{parent-alike, resolve-alike}
 
 -- ---- nodes
 
@@ -363,3 +363,8 @@ near-bytes s f bytes long = by (node_at s.tree f) refl (ap (λ n. n) long)
           (near-file f s.tree.nodes s.tree.nodes executable old bytes (file_node executable old) many at (near-itself f s.tree.nodes));
       rest = refl;
     }
+
+-- the file has as many bytes
+pub near-length_of : (f : ℕ) (a b : State) → IsNear f a b → length (file_bytes b f) ≡ length (file_bytes a f)
+near-length_of f a b near =
+    near-view (λ o. length (bytes_of o)) (node_at a.tree f) (node_at b.tree f) (λ executable old new long. long) (near-at f a.tree.nodes b.tree.nodes near.nodes f)

@@ -22,11 +22,11 @@ use Rattle.pv_model.specs.declared.place.Place.{Place}
 use Rattle.pv_model.specs.Answer.{effect}
 use Rattle.pv_model.specs.Attempt.{Attempt, done, refused, after_walks, ◌>>=◌, ◌>>◌, give, refuse_if, demand}
 use Rattle.pv_model.specs.Bytes.{Bytes, is_empty}
-use Rattle.pv_model.specs.Calls.Descriptors.{with_descriptor, with_duplicate, is_number, within, close, dup, dup2, fstat, fchdir, directory_of, next_name, open_file_for, read, seek_base, lseek, list_name, getdents, natural, is_past_greatest, with_content_of, with_content, write_place, write_end, after_write, write, ftruncate, is_link, contradicts, follow_of, with_open_file, open_node, open_from, start_of, open_at}
-use Rattle.pv_model.specs.Calls.Paths.{link_text, chdir, stat_following, readlink, same_node, contains_directory, is_directory_there, entries_there, ends_in_dot, make, symlink, link, unlink, rmdir, move_entry, rename}
+use Rattle.pv_model.specs.Calls.Descriptors.{with_descriptor, with_duplicate, is_number, within, close, dup, dup2, fstat, fchdir, directory_of, next_name, open_file_for, read, seek_base, lseek, list_name, getdents, natural, is_past_greatest, with_content_of, with_content, write_place, write_end, after_write, write, ftruncate, is_link, contradicts, with_open_file, open_node, open_at, check_start}
+use Rattle.pv_model.specs.Calls.Paths.{link_text, chdir, stat_at, readlink, same_node, contains_directory, is_directory_there, entries_there, ends_in_dot, make, symlink, link, unlink, rmdir, move_entry, rename}
 use Rattle.pv_model.specs.Calls.Processes.{statuses, child, children, reap, execve, with_program, executable_bytes}
 use Rattle.pv_model.specs.Calls.Restraints.{asked_promises, unless_refused, add_target, refuse_if_locked, pledge, unveil}
-use Rattle.pv_model.specs.Effect.{Effect, Reply, returns, returns_bytes, ends, waits, answers, answers_bytes, place_or_refusal, walk_from, judgement_or_refusal, judge, with_room, node_of, name_of, descriptor_at, open_file, status, bytes_of, overwrite, resize}
+use Rattle.pv_model.specs.Effect.{Effect, Reply, returns, returns_bytes, ends, waits, answers, answers_bytes, place_or_refusal, walk_from, judgement_or_refusal, judge_for, with_room, node_of, name_of, descriptor_at, open_file, status, bytes_of, overwrite, resize, start_directory, end_of}
 use Rattle.pv_model.specs.Held.{trim}
 use Rattle.pv_model.specs.Needs.{letters_of_open}
 use Rattle.pv_model.specs.Numbered.{Numbered, at_number, with_number, least_free}
@@ -34,14 +34,15 @@ use Rattle.pv_model.specs.Perms.{letter_r, letter_x, letter_c, read_letters}
 use Rattle.pv_model.specs.Promises.{narrow_promises, is_lenient}
 use Rattle.pv_model.specs.Room.{is_too_long, fits}
 use Rattle.pv_model.specs.State.{OpenFile, Program, Process, State, reads, writes, with_process, with_tree}
-use Rattle.pv_model.specs.Touch.{WalkOf, place_found, read_file, Justifies, read_by_descriptor, read_by_execve}
+use Rattle.pv_model.specs.Touch.{place_found, read_file, Justifies, read_by_descriptor, read_by_execve}
 use Rattle.pv_model.specs.Tree.{Node, directory_node, file_node, link_node, Tree, node_at, entries_at, is_directory, is_directory_at, with_node, with_entry, without_entry, new_number, with_new_node}
 use Rattle.pv_model.specs.Unveil.{judgement, target_of}
 use Rattle.pv_model.specs.Walk.{Walked, begins_walk, resolve, is_absolute}
-use Rattle.pv_laws.proofs.Entries.{by_name, is_other}
+use Rattle.pv_tree_laws.proofs.Entries.{by_name, is_other}
 use Rattle.pv_laws.proofs.Rests
 use Rattle.pv_rights.proofs.Does.{first-place, open_file_for-is}
 use Rattle.pv_rights.proofs.Near.{near-view, AreNear, near-at, near-beside, near-set, near-file, with_nodes, entries-near, directory-near, resolve-near, judgement-near, target-near, ancestors-near, status-near, link-near, long-near, new-near, near_state, IsNear, near-trim, fits-near, too_long-near}
+use Rattle.pv_model.specs.Walks.{Walk, follow_of, from_here, execve_walk}
 
 -- ---- attempts that are near
 
@@ -168,11 +169,11 @@ module _ (f : ℕ) (s : State) (ys : Numbered Node) (near : AreNear f s.tree.nod
 
   -- a walk whose place is judged
   near-place : (start : ℕ) (follow : Follow) (path : Bytes) (needed : Perms) (k h : Place → Attempt Effect) → ((place : Place) → B (k place) (h place))
-      → B (walk_from s start follow path >>= (λ place. judge s me place needed >> k place)) (walk_from u start follow path >>= (λ place. judge u me place needed >> h place))
+      → B (walk_from s start follow path >>= (λ place. judge_for s me place needed >> k place)) (walk_from u start follow path >>= (λ place. judge_for u me place needed >> h place))
   near-place start follow path needed k h is =
       near-bind f (walk_from s start follow path) (walk_from u start follow path) (ap (place_or_refusal (if begins_walk path then 1 else 0)) (resolve-near f s.tree ys near follow start path))
-      (λ place. judge s me place needed >> k place) (λ place. judge u me place needed >> h place) (λ place.
-      near-then f (judge s me place needed) (judge u me place needed) (ap judgement_or_refusal (judgement-near f s.tree ys near me.table place needed)) (k place) (h place) (is place))
+      (λ place. judge_for s me place needed >> k place) (λ place. judge_for u me place needed >> h place) (λ place.
+      near-then f (judge_for s me place needed) (judge_for u me place needed) (ap judgement_or_refusal (judgement-near f s.tree ys near me.table place needed)) (k place) (h place) (is place))
 
   -- ---- processes
 
@@ -214,7 +215,7 @@ module _ (f : ℕ) (s : State) (ys : Numbered Node) (near : AreNear f s.tree.nod
   told : (n : ℕ) → B (answers_bytes s 0 (status s.tree n)) (answers_bytes u 0 (status u.tree n))
   told n = (refl, ap (returns_bytes 0) (sym (status-near f s.tree ys near n)), record { nodes = near; rest = refl })
 
-  near-stat : (follow : Follow) (path : Bytes) → B (stat_following s pid me follow path) (stat_following u pid me follow path)
+  near-stat : (follow : Follow) (path : Bytes) → B (stat_at s pid me (from_here follow path letter_r)) (stat_at u pid me (from_here follow path letter_r))
   near-stat follow path =
       near-place me.directory follow path letter_r (Rests.stat_1 s pid me) (Rests.stat_1 u pid me) (λ place.
       near-bind f (demand ENOENT (node_of place)) (demand ENOENT (node_of place)) refl (λ n. answers_bytes s 0 (status s.tree n)) (λ n. answers_bytes u 0 (status u.tree n)) told)
@@ -237,7 +238,7 @@ module _ (f : ℕ) (s : State) (ys : Numbered Node) (near : AreNear f s.tree.nod
       subst (λ k. AreNear f (with_new_node s.tree p.0 p.1 node).nodes (with_entry (with_node u.tree k node) p.0 p.1 k).nodes) (sym (new-near f s.tree ys near))
       (near-entry f (with_node s.tree m node) (with_number ys m node) (near-set f s.tree.nodes ys m node near) p.0 p.1 m)
 
-  near-make : (follow : Follow) (node : Node) (path : Bytes) → B (make s pid me follow node path) (make u pid me follow node path)
+  near-make : (follow : Follow) (node : Node) (path : Bytes) → B (make s pid me (from_here follow path letter_c) node) (make u pid me (from_here follow path letter_c) node)
   near-make follow node path =
       near-place me.directory follow path letter_c (Rests.make_1 s pid me node) (Rests.make_1 u pid me node) (λ place.
       near-then f (refuse_if EEXIST (is_some (node_of place))) (refuse_if EEXIST (is_some (node_of place))) refl (Rests.make_2 s pid me node place) (Rests.make_2 u pid me node place) (
@@ -247,8 +248,8 @@ module _ (f : ℕ) (s : State) (ys : Numbered Node) (near : AreNear f s.tree.nod
   near-symlink : (text path : Bytes) → B (symlink s pid me text path) (symlink u pid me text path)
   near-symlink text path =
       near-then f (refuse_if ENOENT (is_empty text)) (refuse_if ENOENT (is_empty text)) refl
-      (refuse_if ENAMETOOLONG (nat_lt 1023 (length text)) >> make s pid me Keep (link_node text) path) (refuse_if ENAMETOOLONG (nat_lt 1023 (length text)) >> make u pid me Keep (link_node text) path) (
-      near-then f (refuse_if ENAMETOOLONG (nat_lt 1023 (length text))) (refuse_if ENAMETOOLONG (nat_lt 1023 (length text))) refl (make s pid me Keep (link_node text) path) (make u pid me Keep (link_node text) path)
+      (refuse_if ENAMETOOLONG (nat_lt 1023 (length text)) >> make s pid me (from_here Keep path letter_c) (link_node text)) (refuse_if ENAMETOOLONG (nat_lt 1023 (length text)) >> make u pid me (from_here Keep path letter_c) (link_node text)) (
+      near-then f (refuse_if ENAMETOOLONG (nat_lt 1023 (length text))) (refuse_if ENAMETOOLONG (nat_lt 1023 (length text))) refl (make s pid me (from_here Keep path letter_c) (link_node text)) (make u pid me (from_here Keep path letter_c) (link_node text))
       (near-make Keep (link_node text) path))
 
   near-link : (path new : Bytes) → B (link s pid me path new) (link u pid me path new)
@@ -274,7 +275,7 @@ module _ (f : ℕ) (s : State) (ys : Numbered Node) (near : AreNear f s.tree.nod
   near-rmdir : (path : Bytes) → B (rmdir s pid me path) (rmdir u pid me path)
   near-rmdir path =
       near-then f (refuse_if EINVAL (ends_in_dot path)) (refuse_if EINVAL (ends_in_dot path)) refl
-      (walk_from s me.directory Keep path >>= (λ place. judge s me place letter_c >> Rests.rmdir_1 s pid me place)) (walk_from u me.directory Keep path >>= (λ place. judge u me place letter_c >> Rests.rmdir_1 u pid me place)) (
+      (walk_from s me.directory Keep path >>= (λ place. judge_for s me place letter_c >> Rests.rmdir_1 s pid me place)) (walk_from u me.directory Keep path >>= (λ place. judge_for u me place letter_c >> Rests.rmdir_1 u pid me place)) (
       near-place me.directory Keep path letter_c (Rests.rmdir_1 s pid me) (Rests.rmdir_1 u pid me) (λ place.
       near-bind f (demand ENOENT (node_of place)) (demand ENOENT (node_of place)) refl (Rests.rmdir_2 s pid me place) (Rests.rmdir_2 u pid me place) (λ n.
       near-then f (refuse_if ENOTDIR (not (is_directory_at s.tree n))) (refuse_if ENOTDIR (not (is_directory_at u.tree n))) (ap (λ b. refuse_if ENOTDIR (not b)) (dir-near n)) (Rests.rmdir_3 s pid me place n) (Rests.rmdir_3 u pid me place n) (
@@ -306,7 +307,7 @@ module _ (f : ℕ) (s : State) (ys : Numbered Node) (near : AreNear f s.tree.nod
   near-rename : (path new : Bytes) → B (rename s pid me path new) (rename u pid me path new)
   near-rename path new =
       near-then f (refuse_if EINVAL (ends_in_dot path || ends_in_dot new)) (refuse_if EINVAL (ends_in_dot path || ends_in_dot new)) refl
-      (walk_from s me.directory Keep path >>= (λ old_place. judge s me old_place letter_c >> Rests.rename_1 s pid me new old_place)) (walk_from u me.directory Keep path >>= (λ old_place. judge u me old_place letter_c >> Rests.rename_1 u pid me new old_place)) (
+      (walk_from s me.directory Keep path >>= (λ old_place. judge_for s me old_place letter_c >> Rests.rename_1 s pid me new old_place)) (walk_from u me.directory Keep path >>= (λ old_place. judge_for u me old_place letter_c >> Rests.rename_1 u pid me new old_place)) (
       near-place me.directory Keep path letter_c (Rests.rename_1 s pid me new) (Rests.rename_1 u pid me new) (λ old_place.
       near-place me.directory Keep new letter_c (Rests.rename_2 s pid me old_place) (Rests.rename_2 u pid me old_place) (λ new_place.
       near-bind f (demand ENOENT (node_of old_place)) (demand ENOENT (node_of old_place)) refl (Rests.rename_3 s pid me old_place new_place) (Rests.rename_3 u pid me old_place new_place) (λ n.
@@ -444,10 +445,16 @@ module _ (f : ℕ) (s : State) (ys : Numbered Node) (near : AreNear f s.tree.nod
   abbrev there' : Place → Option Node
   there' place = Rests.node_there u pid me place
 
-  near-open_from : (start start' : Attempt ℕ) → start' ≡ start → (path : Bytes) (g : OpenFlags) → B (open_from s pid me start path g) (open_from u pid me start' path g)
-  near-open_from start start' same path g =
-      near-then f (refuse_if EINVAL (contradicts g)) (refuse_if EINVAL (contradicts g)) refl (start >>= Rests.open_a s pid me path g) (start' >>= Rests.open_a u pid me path g) (
-      near-bind f start start' same (Rests.open_a s pid me path g) (Rests.open_a u pid me path g) (λ directory.
+  start-near : (start : Start) (path : Bytes) → check_start u pid me start path ≡ check_start s pid me start path
+  start-near WorkingDirectory path = refl
+  start-near (AtDescriptor d) path = ap (λ (a : Attempt ℕ). if is_absolute path then give (tt {0}) else a >> give (tt {0})) (directory_of-near d)
+
+  near-open_at : (start : Start) (path : Bytes) (g : OpenFlags) → B (open_at s pid me start path g) (open_at u pid me start path g)
+  near-open_at start path g =
+      let directory : ℕ = start_directory s me start path in
+      near-then f (refuse_if EINVAL (contradicts g)) (refuse_if EINVAL (contradicts g)) refl
+      (check_start s pid me start path >> Rests.open_a s pid me path g directory) (check_start u pid me start path >> Rests.open_a u pid me path g directory) (
+      near-then f (check_start s pid me start path) (check_start u pid me start path) (start-near start path) (Rests.open_a s pid me path g directory) (Rests.open_a u pid me path g directory) (
       near-then f (refuse_if EMFILE (nat_le 16 (least_free me.descriptors))) (refuse_if EMFILE (nat_le 16 (least_free me.descriptors))) refl (Rests.open_b s pid me path g directory) (Rests.open_b u pid me path g directory) (
       near-then f (refuse_if ENFILE (nat_le 128 (least_free s.files))) (refuse_if ENFILE (nat_le 128 (least_free s.files))) refl (Rests.open_c s pid me path g directory) (Rests.open_c u pid me path g directory) (
       near-place directory (follow_of g) path (letters_of_open g) (Rests.open_1 s pid me g) (Rests.open_1 u pid me g) (λ place.
@@ -461,10 +468,6 @@ module _ (f : ℕ) (s : State) (ys : Numbered Node) (near : AreNear f s.tree.nod
       near-then f (refuse_if EISDIR (is_directory (there place) && writes g.mode)) (refuse_if EISDIR (is_directory (there' place) && writes g.mode))
       (ap (λ b. refuse_if EISDIR (b && writes g.mode)) (there-view is_directory (λ executable old new long. refl) (node_of place))) (Rests.open_6 s pid me g place) (Rests.open_6 u pid me g place)
       (near-open_node g (name_of place) (node_of place)))))))))))
-
-  start-near : (start : Start) (path : Bytes) → start_of u pid me start path ≡ start_of s pid me start path
-  start-near WorkingDirectory path = refl
-  start-near (AtDescriptor d) path = ap (λ (a : Attempt ℕ). if is_absolute path then give me.directory else a) (directory_of-near d)
 
   -- ---- what reads a file's bytes: it is justified, or the bytes do not matter
 
@@ -480,11 +483,11 @@ module _ (f : ℕ) (s : State) (ys : Numbered Node) (near : AreNear f s.tree.nod
 
   or-place : (call : Call) (start : ℕ) (follow : Follow) (path : Bytes) (needed : Perms) (k h : Place → Attempt Effect)
       → ((place : Place) → resolve s.tree follow start path ≡ Ok place → judgement s.tree me.table place needed ≡ Allowed → Or call (k place) (h place))
-      → Or call (walk_from s start follow path >>= (λ place. judge s me place needed >> k place)) (walk_from u start follow path >>= (λ place. judge u me place needed >> h place))
+      → Or call (walk_from s start follow path >>= (λ place. judge_for s me place needed >> k place)) (walk_from u start follow path >>= (λ place. judge_for u me place needed >> h place))
   or-place call start follow path needed k h is =
-      subst (λ (b : Attempt Effect). Or call (walk_from s start follow path >>= (λ place. judge s me place needed >> k place)) b) (sym same) (by_walk (resolve s.tree follow start path) refl)
+      subst (λ (b : Attempt Effect). Or call (walk_from s start follow path >>= (λ place. judge_for s me place needed >> k place)) b) (sym same) (by_walk (resolve s.tree follow start path) refl)
     where
-      same : (walk_from u start follow path >>= (λ place. judge u me place needed >> h place)) ≡ (walk_from s start follow path >>= (λ place. judge s me place needed >> h place))
+      same : (walk_from u start follow path >>= (λ place. judge_for u me place needed >> h place)) ≡ (walk_from s start follow path >>= (λ place. judge_for s me place needed >> h place))
       same =
           λ i. place_or_refusal (if begins_walk path then 1 else 0) (resolve-near f s.tree ys near follow start path i) >>= (λ place. judgement_or_refusal (judgement-near f s.tree ys near me.table place needed i) >> h place)
 
@@ -495,8 +498,8 @@ module _ (f : ℕ) (s : State) (ys : Numbered Node) (near : AreNear f s.tree.nod
       by_judgement place found (Denied n) judged = inr (refl, refl, refl)
 
       by_walk : (r : Walked) → resolve s.tree follow start path ≡ r
-          → Or call (place_or_refusal (if begins_walk path then 1 else 0) r >>= (λ place. judge s me place needed >> k place)) (place_or_refusal (if begins_walk path then 1 else 0) r >>= (λ place. judge s me place needed >> h place))
-      by_walk (Ok place) found = or-after call (if begins_walk path then 1 else 0) (judge s me place needed >> k place) (judge s me place needed >> h place) (by_judgement place found (judgement s.tree me.table place needed) refl)
+          → Or call (place_or_refusal (if begins_walk path then 1 else 0) r >>= (λ place. judge_for s me place needed >> k place)) (place_or_refusal (if begins_walk path then 1 else 0) r >>= (λ place. judge_for s me place needed >> h place))
+      by_walk (Ok place) found = or-after call (if begins_walk path then 1 else 0) (judge_for s me place needed >> k place) (judge_for s me place needed >> h place) (by_judgement place found (judgement s.tree me.table place needed) refl)
       by_walk (Err e) found = inr (refl, refl, refl)
 
   or-read : (d n : ℤ) → Or (TheCall.Read d n) (read s pid me d n) (read u pid me d n)
@@ -522,7 +525,7 @@ module _ (f : ℕ) (s : State) (ys : Numbered Node) (near : AreNear f s.tree.nod
       or-place C me.directory Last path letter_x (Rests.execve_1 s pid me program_of) (Rests.execve_1 u pid me program_of) (λ place found allowed.
       or-demand C ENOENT (node_of place) (Rests.execve_2 s pid me program_of) (Rests.execve_2 u pid me program_of) (λ n is.
       ⊎_elim
-      (λ here. inl (read_by_execve path place f refl (first-place (λ (w : WalkOf). place_found (resolve s.tree w.1 w.0 w.2)) (me.directory, Last, path) [] place (ap place_found found), allowed) (is ∙ ap (λ k. Some k) here)))
+      (λ here. inl (read_by_execve path place f refl (first-place (λ (w : Walk). place_found (end_of s me w)) (execve_walk path) [] place (ap place_found found), allowed) (is ∙ ap (λ k. Some k) here)))
       (λ other. inr (
       near-bind f (demand EACCES (executable_bytes (node_at s.tree n))) (demand EACCES (executable_bytes (node_at u.tree n))) (ap (λ o. demand EACCES (executable_bytes o)) (near-beside f s.tree.nodes ys near n other))
       (Rests.execve_3 s pid me program_of) (Rests.execve_3 u pid me program_of) (λ bytes.
@@ -546,8 +549,8 @@ module _ (f : ℕ) (s : State) (ys : Numbered Node) (near : AreNear f s.tree.nod
   near-effect program_of (TheCall.Pledge promises execpromises) = inr (near-pledge promises execpromises)
   near-effect program_of (TheCall.Unveil path letters) = inr (near-unveil path letters)
   near-effect program_of (TheCall.Execve path) = or-execve program_of path
-  near-effect program_of (TheCall.Open path flags) = inr (near-open_from (give me.directory) (give me.directory) refl path flags)
-  near-effect program_of (TheCall.OpenAt start path flags) = inr (near-open_from (start_of s pid me start path) (start_of u pid me start path) (start-near start path) path flags)
+  near-effect program_of (TheCall.Open path flags) = inr (near-open_at WorkingDirectory path flags)
+  near-effect program_of (TheCall.OpenAt start path flags) = inr (near-open_at start path flags)
   near-effect program_of (TheCall.Close d) = inr (near-close d)
   near-effect program_of (TheCall.Dup d) = inr (near-dup d)
   near-effect program_of (TheCall.Dup2 d e) = inr (near-dup2 d e)

@@ -3,8 +3,7 @@ use Rattle.std.proofs.Common.{◌≡◌, ℕ, pos, negsuc, true, Option, None, S
 use Rattle.std.specs.FinMap.Entries.{is_sorted}
 use Rattle.std.specs.Ordering.{nat_cmp}
 use Rattle.pv_model.specs.declared.call.Call.{Call}
-use Rattle.pv_model.specs.declared.call.Call.TheVariants.{Unveil, Execve, OpenAt}
-use Rattle.pv_model.specs.declared.call.Start.TheVariants.{WorkingDirectory, Descriptor}
+use Rattle.pv_model.specs.declared.call.Call.TheVariants.{Execve}
 use Rattle.pv_model.specs.declared.errno.Errno.{Errno}
 use Rattle.pv_model.specs.declared.errno.Errno.TheVariants.{ENOSYS}
 use Rattle.pv_model.specs.Answer.{answer, answer_by_attempt, at_next_line, with_front, update, effect}
@@ -19,11 +18,9 @@ use Rattle.pv_model.specs.Program.{Next, inside, calls_for, next}
 use Rattle.pv_model.specs.Promises.{missing_promise}
 use Rattle.pv_model.specs.State.{Program, Process, live, State, process_at, with_process}
 use Rattle.pv_model.specs.Step.{Stepped, step, step_by}
-use Rattle.pv_model.specs.Touch.{Touch, WalkOf, walks_of, place_found, IsAllowed, Justifies, read_by_descriptor, read_by_execve, change_by_descriptor, change_by_open, entry_by_place, tell_by_descriptor, tell_by_place, gain_by_open}
+use Rattle.pv_model.specs.Touch.{Touch, IsAllowed, Justifies, read_by_descriptor, read_by_execve, change_by_descriptor, change_by_open, entry_by_place, tell_by_descriptor, tell_by_place, gain_by_open}
 use Rattle.pv_model.specs.declared.perms.Perms.{Perms}
 use Rattle.pv_model.specs.declared.place.Place.{Place}
-use Rattle.pv_model.specs.Walk.{resolve}
-use Rattle.std.specs.Prelude.{Contains, filter_map}
 use Rattle.pv_laws.specs.States.{is_call, SpellsPrograms, IsTree, IsWhole}
 use Rattle.pv_laws.proofs.Attempts.{Leads}
 use Rattle.pv_laws.proofs.BySteps.{IsGoodNext, good-effect, good-next}
@@ -173,16 +170,8 @@ module _ (s : State) (pid : ℕ) (me : Process) (call : Call) where
   abbrev now' : Process
   now' = at_next_line me
 
-  walks-back : (c : Call) → walks_of x' now' c ≡ walks_of s me c
-  walks-back (Unveil None letters) = refl
-  walks-back (Unveil (Some path) letters) = refl
-  walks-back (OpenAt WorkingDirectory path flags) = refl
-  walks-back (OpenAt (Descriptor (pos d)) path flags) = refl
-  walks-back (OpenAt (Descriptor (negsuc d)) path flags) = refl
-  walks-back c = refl
-
   pub allowed-back : (needed : Perms) (place : Place) → IsAllowed x' now' call needed place → IsAllowed s me call needed place
-  allowed-back needed place is = (subst (λ ws. Contains (filter_map (λ (w : WalkOf). place_found (resolve s.tree w.1 w.0 w.2)) ws) place) (walks-back call) is.0, is.1)
+  allowed-back needed place is = is
 
   pub back : (touch : Touch) → Justifies x' now' call touch → Justifies s me call touch
   back _ (read_by_descriptor f has) = read_by_descriptor f has

@@ -3,17 +3,21 @@ use Rattle.std.specs.Prelude.{ℕ, false, List, [], ◌∷◌, codes, pos, Optio
 use Rattle.pv_model.specs.declared.instruction.Instruction.TheVariants.{Open, Read, Write, Stat, Mkdir}
 use Rattle.pv_model.specs.declared.instruction.Operand.TheVariants.{Number}
 use Rattle.pv_model.specs.declared.open_flags.Mode.TheVariants.{ReadWrite}
+use Rattle.pv_model.specs.declared.open_flags.OpenFlags.{OpenFlags}
 use Rattle.pv_model.specs.Bytes.{Bytes}
 use Rattle.pv_model.specs.Manifest.{make, manifest_tree}
 use Rattle.pv_model.specs.State.{Program, State, first_state}
 use Rattle.pv_model.specs.Step.{run}
 use Rattle.pv_model.specs.Touch.{read_file, change_file, change_entry, tell_node, gain_descriptor, Touches}
 use Rattle.pv_model.specs.Tree.{Tree, root, file_node}
-use Rattle.pv_model.specs.Worked.Machine.{for_both}
 
 -- node 2 is the file
 abbrev pub tree : Tree
 tree = manifest_tree 14 16 (make (codes "/motd") (file_node false (codes "hello")) ∷ [])
+
+-- opened for reading and writing
+abbrev for_both : OpenFlags
+for_both = record { mode = ReadWrite; append = false; create = false; truncate = false; exclusive = false; no_follow = false; directory = false; close_on_exec = false }
 
 abbrev pub program : Program
 program =

@@ -9,10 +9,11 @@ use Rattle.pv_model.specs.declared.perms.Perms.{Perms}
 use Rattle.pv_model.specs.declared.promise.Promise.{Promise}
 use Rattle.pv_model.specs.declared.target.Target.{Target}
 use Rattle.pv_model.specs.Bytes.{Bytes}
+use Rattle.pv_model.specs.Numbered.{at_number}
 use Rattle.pv_model.specs.Perms.{covers}
 use Rattle.pv_model.specs.Program.{Next, calls_for, next}
 use Rattle.pv_model.specs.Promises.{Promises, contains}
-use Rattle.pv_model.specs.State.{Program, Process, State, process_at}
+use Rattle.pv_model.specs.State.{OpenFile, Descriptor, Program, Process, State, process_at}
 use Rattle.pv_model.specs.Step.{step, run}
 use Rattle.pv_model.specs.Unveil.{Table}
 use Rattle.pv_laws.specs.States.{SpellsPrograms, IsWhole}
@@ -59,6 +60,15 @@ pub record IsInOrder (s : State) : Type 0 where
   pub ascending : IsTrue (is_sorted nat_cmp s.processes)
   pub next_is_free : find nat_cmp (suc s.last_process) s.processes ≡ None
 
+-- all of a process is as it was, but for its parent
+pub record IsLeftAlone (p q : Process) : Type 0 where
+  pub all : q ≡ record p { parent = q.parent }
+
+-- an open file is on its node, in its mode: where it stands in it may be elsewhere, by a process that shares it
+pub record IsSameFile (before after : OpenFile) : Type 0 where
+  pub node : after.node ≡ before.node
+  pub mode : after.mode ≡ before.mode
+
 -- every whole state is in order
 abbrev pub WholeIsInOrder : Type 0
 WholeIsInOrder = (s : State) → IsWhole s → IsInOrder s
@@ -75,12 +85,19 @@ GrowsNever =
     → process_at s pid ≡ Some p → process_at (step program_of s pid).after pid ≡ Some q
     → IsFalse (begins_image (next p) (step program_of s pid).outcome) → MayDoNoMore p q
 
--- a step of another process leaves a live process live, with its restraints and its descriptors
+-- a step of another process leaves a live process live, and all of it as it was but its parent
 abbrev pub OthersKeepTheirs : Type 0
 OthersKeepTheirs =
     (program_of : Bytes → Option Program) (s : State) (pid other : ℕ) (p : Process) → IsInOrder s
     → other ≢ pid → process_at s other ≡ Some p
-    → (q : Process) × (process_at (step program_of s pid).after other ≡ Some q) × HasTheSame p q
+    → (q : Process) × (process_at (step program_of s pid).after other ≡ Some q) × IsLeftAlone p q
+
+-- and each of its descriptors on an open file on the same node, in the same mode
+abbrev pub OthersKeepTheirFiles : Type 0
+OthersKeepTheirFiles =
+    (program_of : Bytes → Option Program) (s : State) (pid other : ℕ) (p : Process) (d : ℕ) (x : Descriptor) (file : OpenFile) → IsInOrder s
+    → other ≢ pid → process_at s other ≡ Some p → at_number p.descriptors d ≡ Some x → at_number s.files x.file ≡ Some file
+    → (left : OpenFile) × (at_number (step program_of s pid).after.files x.file ≡ Some left) × IsSameFile file left
 
 -- a child begins with its parent's
 abbrev pub ChildHasTheSame : Type 0

@@ -1,4 +1,6 @@
 pub mod Growth
 pub mod Justice
 pub mod Secrets
+pub mod Reasons
 pub mod Examples
+pub mod Means

@@ -1,6 +1,6 @@
 //! Laws of restraints that do not loosen.
 
-ghost use Rattle.pv_rights.specs.Growth.{WholeIsInOrder, GrowsNever, OthersKeepTheirs, ChildHasTheSame, ExecveLeaves, RunsWithoutGrowth};
+ghost use Rattle.pv_rights.specs.Growth.{WholeIsInOrder, GrowsNever, OthersKeepTheirs, OthersKeepTheirFiles, ChildHasTheSame, ExecveLeaves, RunsWithoutGrowth};
 
 /// Every state of a run has its process table in order, with the next process's number free in it.
 pub fn whole_is_in_order()
@@ -14,9 +14,15 @@ pub fn grows_never()
     ensures { GrowsNever }
 {}
 
-/// A step of another process leaves a live process live, with the same restraints and descriptors.
+/// A step of another process leaves a live process live, and all of it as it was but its parent: its restraints and
+/// descriptors, its directory, its program, line, registers and buffer.
 pub fn others_keep_theirs()
     ensures { OthersKeepTheirs }
+{}
+
+/// A step of another process leaves each descriptor of a live process on an open file on the same node, in the same mode.
+pub fn others_keep_their_files()
+    ensures { OthersKeepTheirFiles }
 {}
 
 /// A child begins with the restraints and the descriptors that its parent has.

@@ -5,7 +5,9 @@
 //!
 //! - `growth`: in one program image restraints never loosen; what other processes, fork and execve do to them.
 //! - `justice`: what a step touches is justified by the promises held, and by a place that the table allows or a descriptor.
-//! - `secrets`: no step reads a sealed file, and none changes a frozen one.
+//! - `means`: what lacking `cpath`, `wpath` or `rpath` means for what a step changes and gains.
+//! - `secrets`: no step reads a sealed file, and none changes a frozen one; runs beside one another.
+//! - `reasons`: what closed and frozen mean, and why a process is not closed.
 //! - `examples`: a run whose steps make a touch of each sort.
 //!
 //! The lemmas stand in `proofs/`. `Does` says once what each call may leave, call by call; the laws are read off it.
@@ -14,4 +16,6 @@
 pub mod examples;
 pub mod growth;
 pub mod justice;
+pub mod means;
+pub mod reasons;
 pub mod secrets;

@@ -1,0 +1,142 @@
+-- What a step leaves of the open files of other processes.
+use Rattle.std.proofs.Common.{◌≡◌, ◌≢◌, ℕ, pos, negsuc, Option, None, Some, refl, ap, sym, subst, ◌∙◌, ⊎_elim}
+use Rattle.std.proofs.lemmas.Bool.{cases_eq}
+use Rattle.pv_model.specs.declared.call.Call.{Call}
+use Rattle.pv_model.specs.declared.errno.Errno.TheVariants.{ENOSYS}
+use Rattle.pv_model.specs.declared.outcome.Cause.TheVariants.{Promise as ByPromise}
+use Rattle.pv_model.specs.Answer.{answer, answer_by_attempt, at_next_line, with_front, update, effect}
+use Rattle.pv_model.specs.Attempt.{Attempt, done, refused}
+use Rattle.pv_model.specs.Bytes.{Bytes}
+use Rattle.pv_model.specs.Calls.Processes.{with_result, end_process}
+use Rattle.pv_model.specs.Effect.{Effect, Reply, returns, returns_bytes, ends, waits}
+use Rattle.pv_model.specs.Errno.{errno_number}
+use Rattle.pv_model.specs.Held.{among, trim}
+use Rattle.pv_model.specs.Numbered.{Numbered, at_number, with_number, least_free}
+use Rattle.pv_model.specs.Program.{Next, inside, calls_for, next}
+use Rattle.pv_model.specs.State.{OpenFile, Descriptor, Program, Process, State, process_at}
+use Rattle.pv_model.specs.Step.{Stepped, step, step_by}
+use Rattle.pv_tree_laws.proofs.Numbered.{at_number-below, with_number-same, with_number-other, with_number-other_within, least_free-free, least_free-within, keep-passes}
+use Rattle.pv_laws.specs.Held.{used}
+use Rattle.pv_laws.proofs.Attempts.{Leads}
+use Rattle.pv_laws.proofs.Members.{among-used}
+use Rattle.pv_laws.proofs.Outcomes.{at_call, by_answer}
+use Rattle.pv_laws.proofs.Processes.{process_at-same, process_at-other, files-update}
+use Rattle.pv_laws.proofs.Trim.{files-trim}
+use Rattle.pv_rights.specs.Growth.{IsInOrder, IsSameFile}
+use Rattle.pv_rights.proofs.Callers.{other}
+use Rattle.pv_rights.proofs.Does.{Does, stays, restrains, begins, closes, copies, forks, reaps, moves, cuts, writes_bytes, makes, links, unlinks, renames, opens, creates, Did}
+use Rattle.pv_rights.proofs.DoesByCall.{does-effect}
+use Rattle.pv_rights.proofs.Ends.{update-other, in_order-call, ended-others, step-is, step-gone}
+
+-- an open file is left under its number
+abbrev IsLeft : Numbered OpenFile → ℕ → OpenFile → Type 0
+IsLeft files k file = (left : OpenFile) × (at_number files k ≡ Some left) × IsSameFile file left
+
+left-as_was : (files : Numbered OpenFile) (k : ℕ) (file : OpenFile) → at_number files k ≡ Some file → IsLeft files k file
+left-as_was files k file there = (file, there, record { node = refl; mode = refl })
+
+-- another under a number, on the same node in the same mode
+left-moved : (files : Numbered OpenFile) (j : ℕ) (old new : OpenFile) (k : ℕ) (file : OpenFile) → at_number files j ≡ Some old → new.node ≡ old.node → new.mode ≡ old.mode → at_number files k ≡ Some file
+    → IsLeft (with_number files j new) k file
+left-moved files j old new k file is node mode there =
+    let below = at_number-below files j old is in
+    ⊎_elim
+    (λ here.
+    let both : Some old ≡ Some file = sym is ∙ ap (at_number files) (sym here) ∙ there in
+    let same : old ≡ file = cc both in (
+      new,
+      ap (at_number (with_number files j new)) here ∙ with_number-same files j new below,
+      record { node = node ∙ ap (λ (f : OpenFile). f.node) same; mode = mode ∙ ap (λ (f : OpenFile). f.mode) same },
+    ))
+    (λ away. left-as_was (with_number files j new) k file (with_number-other files j new k below away ∙ there))
+    (cases_eq k j)
+
+-- a new one under the least free number
+left-beside : (files : Numbered OpenFile) (new : OpenFile) (k : ℕ) (file : OpenFile) → at_number files k ≡ Some file → IsLeft (with_number files (least_free files) new) k file
+left-beside files new k file there =
+    left-as_was (with_number files (least_free files) new) k file
+    (with_number-other_within files (least_free files) new k (least_free-within files) (λ same. let none = ap (at_number files) same ∙ least_free-free files in cc) ∙ there)
+
+-- what a call leaves
+left-does : (s : State) (pid : ℕ) (me : Process) (call : Call) (k : ℕ) (file : OpenFile) → at_number s.files k ≡ Some file → (after : State) (r : Reply) → Does s pid me call after r → IsLeft after.files k file
+left-does s pid me call k file there _ _ (stays r) = left-as_was s.files k file there
+left-does s pid me call k file there _ _ (restrains q r no_more same goes) = left-as_was s.files k file there
+left-does s pid me call k file there _ _ (begins path program is) = left-as_was s.files k file there
+left-does s pid me call k file there _ _ (closes d) = left-as_was s.files k file there
+left-does s pid me call k file there _ _ (copies d x n is) = left-as_was s.files k file there
+left-does s pid me call k file there _ _ (forks is) = left-as_was s.files k file there
+left-does s pid me call k file there _ _ (reaps j r ended goes) = left-as_was s.files k file there
+left-does s pid me call k file there _ _ (moves j old new r is node mode goes) = left-moved s.files j old new k file is node mode there
+left-does s pid me call k file there _ _ (cuts f bytes has) = left-as_was s.files k file there
+left-does s pid me call k file there _ _ (writes_bytes f bytes j old new n has is node mode) = left-moved s.files j old new k file is node mode there
+left-does s pid me call k file there _ _ (makes place q node change none bare) = left-as_was s.files k file there
+left-does s pid me call k file there _ _ (links place q n change) = left-as_was s.files k file there
+left-does s pid me call k file there _ _ (unlinks place q change) = left-as_was s.files k file there
+left-does s pid me call k file there _ _ (renames place q next r n from into) = left-as_was s.files k file there
+left-does s pid me call k file there _ _ (opens flags place n m flagged allowed is) = left-beside s.files _ k file there
+left-does s pid me call k file there _ _ (creates flags place q m flagged allowed create named none fine) = left-beside s.files _ k file there
+
+-- what a live process uses is kept
+left-trim : (s : State) (pid : ℕ) (p : Process) (d : ℕ) (x : Descriptor) (file : OpenFile) → process_at s pid ≡ Some p → at_number p.descriptors d ≡ Some x → IsLeft s.files x.file file → IsLeft (trim s).files x.file file
+left-trim s pid p d x file at has is =
+    (is.0, ap (λ (fs : Numbered OpenFile). at_number fs x.file) (files-trim s) ∙ keep-passes (among (used s)) s.files x.file (among-used s pid p d x at has) ∙ is.1, is.2)
+
+files-ended : (s : State) (pid : ℕ) (me : Process) (status : ℕ) → (end_process s pid me status).files ≡ s.files
+unfolding end_process
+files-ended s pid me status = refl
+
+module _ (program_of : Bytes → Option Program) (s : State) (pid : ℕ) (order : IsInOrder s) (k : ℕ) (p : Process) (d : ℕ) (x : Descriptor) (file : OpenFile)
+    (apart : k ≢ pid) (live : process_at s k ≡ Some p) (has : at_number p.descriptors d ≡ Some x) (there : at_number s.files x.file ≡ Some file) where
+  abbrev Leaves : State → Type 0
+  Leaves after = IsLeft after.files x.file file
+
+  left-ended : (y : State) (me : Process) (status : ℕ) → y.files ≡ s.files → process_at y k ≡ Some p → Leaves (trim (end_process y pid me status))
+  left-ended y me status same at =
+      let left = ended-others y pid me status k p apart at in
+      left-trim (end_process y pid me status) k left.0 d x file left.1
+      (ap (λ (q : Process). at_number q.descriptors d) left.2.all ∙ has)
+      (subst (λ (fs : Numbered OpenFile). IsLeft fs x.file file) (sym (files-ended y pid me status ∙ same)) (left-as_was s.files x.file file there))
+
+  module _ (call : Call) (me : Process) (at : process_at s pid ≡ Some me) where
+    abbrev y : State
+    y = at_call s pid me
+
+    abbrev now : Process
+    now = at_next_line me
+
+    y_live : process_at y k ≡ Some p
+    y_live = process_at-other s pid now k apart ∙ live
+
+    left-told : (after : State) (r : Reply) (f : Process → Process) → Does y pid now call after r → Leaves (trim (update after pid f))
+    left-told after r f does =
+        left-trim (update after pid f) k p d x file
+        (update-other after pid f k apart ∙ other y pid now call (in_order-call s pid me order at) (process_at-same s pid now) k p apart y_live after r does) has
+        (subst (λ (fs : Numbered OpenFile). IsLeft fs x.file file) (sym (files-update after pid f)) (left-does y pid now call x.file file there after r does))
+
+    left-attempt : (a : Attempt Effect) → Leads (Did y pid now call) a → Leaves (answer_by_attempt s y pid now a).after
+    left-attempt (done walks (after, returns n)) does = left-told after (returns n) (λ q. with_result q (pos n) 0) does
+    left-attempt (done walks (after, returns_bytes n bytes)) does = left-told after (returns_bytes n bytes) (λ q. with_front bytes (with_result q (pos n) 0)) does
+    left-attempt (done walks (after, ends status)) does =
+        subst (λ (z : State). Leaves (trim (end_process z pid now status))) (sym (Rattle.pv_rights.proofs.Does.ends-stays y pid now call after (ends status) status does refl)) (left-ended y now status refl y_live)
+    left-attempt (done walks (after, waits)) does = left-as_was s.files x.file file there
+    left-attempt (refused walks errno cause) does =
+        subst (λ (fs : Numbered OpenFile). IsLeft fs x.file file) (sym (files-update y pid (λ q. with_result q (negsuc 0) (errno_number errno)))) (left-as_was s.files x.file file there)
+
+  left-answer : (call : Call) → Leaves (answer program_of s pid call).after
+  left-answer call =
+      by_answer (λ a. Leaves a.after) program_of s pid call
+      (λ none. left-as_was s.files x.file file there)
+      (λ me at missing. left-attempt call me at (effect program_of (at_call s pid me) pid (at_next_line me) call) (does-effect program_of (at_call s pid me) pid (at_next_line me) call))
+      (λ me lacks at missing lenient. left-attempt call me at (refused 0 ENOSYS (ByPromise lacks)) tt)
+      (λ me lacks at missing lenient. left-ended s (at_next_line me) 6 refl live)
+
+  by-next : (me : Process) → (n : Next) → Leaves (step_by program_of s pid me n).after
+  by-next me (inside q) = left-as_was s.files x.file file there
+  by-next me (calls_for call) = left-answer call
+
+  pub others-files : Leaves (step program_of s pid).after
+  others-files = of (process_at s pid) refl
+    where
+      of : (o : Option Process) → process_at s pid ≡ o → Leaves (step program_of s pid).after
+      of None gone = subst (λ (w : Stepped). Leaves w.after) (sym (step-gone program_of s pid gone)) (left-as_was s.files x.file file there)
+      of (Some me) at = subst (λ (w : Stepped). Leaves w.after) (sym (step-is program_of s pid me at)) (by-next me (next me))

@@ -1,0 +1,4 @@
+mod Ranges
+mod Entries
+mod Trees
+mod Starting

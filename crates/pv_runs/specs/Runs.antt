@@ -1,0 +1,47 @@
+-- Laws of every run that an accepted input starts.
+use Rattle.std.specs.Prelude.{◌≡◌, ◌≢◌, ℕ, List, length, Some}
+use Rattle.pv_model.specs.Bytes.{Bytes}
+use Rattle.pv_model.specs.Grammar.Programs.{program_of}
+use Rattle.pv_model.specs.State.{Process, State, process_at}
+use Rattle.pv_model.specs.Step.{boot, step, run}
+use Rattle.pv_model.specs.Touch.{file_bytes, with_bytes, IsJustified}
+use Rattle.pv_model.specs.Tree.{Tree}
+use Rattle.pv_laws.specs.States.{IsWhole}
+use Rattle.pv_rights.specs.Growth.{MayDoNoMore, IsLeftAlone, StaysInImage}
+use Rattle.pv_rights.specs.Secrets.{StaysSealed, RunAlike}
+use Rattle.pv_runs.specs.Starts.{MakesTree}
+
+-- a state that a run reaches, whoever's steps it has, from the first one of the tree that bytes make
+pub record IsReachedFrom (bytes : Bytes) (s : State) : Type 0 where
+  pub tree : Tree
+  pub made : MakesTree bytes tree
+  pub first : State
+  pub boots : boot program_of tree ≡ Some first
+  pub pids : List ℕ
+  pub reaches : (run program_of pids first).final ≡ s
+
+-- every such state is whole
+abbrev pub ReachedIsWhole : Type 0
+ReachedIsWhole = (bytes : Bytes) (s : State) → IsReachedFrom bytes s → IsWhole s
+
+-- each touch of the next step is justified, whoever makes it
+abbrev pub RunsAreJust : Type 0
+RunsAreJust = (bytes : Bytes) (s : State) (pid : ℕ) → IsReachedFrom bytes s → IsJustified program_of s pid
+
+-- on from such a state, a process that stays live in one program image loses no restraint, whoever's steps are between its own
+abbrev pub RunsNeverLoosen : Type 0
+RunsNeverLoosen =
+    (bytes : Bytes) (s : State) (pid : ℕ) (pids : List ℕ) (p q : Process) → IsReachedFrom bytes s
+    → process_at s pid ≡ Some p → StaysInImage program_of pid pids s → process_at (run program_of pids s).final pid ≡ Some q → MayDoNoMore p q
+
+-- and a step of another leaves it live, and all of it as it was but its parent
+abbrev pub RunsKeepOthers : Type 0
+RunsKeepOthers =
+    (bytes : Bytes) (s : State) (pid other : ℕ) (p : Process) → IsReachedFrom bytes s → other ≢ pid → process_at s other ≡ Some p
+    → (q : Process) × (process_at (step program_of s pid).after other ≡ Some q) × IsLeftAlone p q
+
+-- on from such a state, other bytes in a file that stays sealed, as many, change no line, and at the end nothing but these bytes
+abbrev pub SealedTellsNothing : Type 0
+SealedTellsNothing =
+    (bytes : Bytes) (s : State) (pids : List ℕ) (f : ℕ) (hidden : Bytes) → IsReachedFrom bytes s → StaysSealed program_of f pids s → length hidden ≡ length (file_bytes s f)
+    → RunAlike f (run program_of pids s) (run program_of pids (with_bytes s f hidden))

@@ -1,0 +1,11 @@
+//! The laws of the machine, of every run that an accepted input starts.
+//!
+//! Each function has an empty body: its contract is the law, which the check proves.
+//!
+//! - `starts`: what bytes spell, the tree of a manifest, and the state in which a machine starts meet the premises of the laws
+//!   of states.
+//! - `runs`: what holds along every run from there, whoever's steps it has.
+#![tactic(auto)]
+
+pub mod runs;
+pub mod starts;

@@ -1,0 +1,31 @@
+//! Laws of every run that an accepted input starts.
+
+ghost use Rattle.pv_runs.specs.Runs.{ReachedIsWhole, RunsAreJust, RunsNeverLoosen, RunsKeepOthers, SealedTellsNothing};
+
+/// Every state that a run reaches is whole.
+pub fn reached_is_whole()
+    ensures { ReachedIsWhole }
+{}
+
+/// Each touch of each step is justified by the promises held and by a place that the table allows or a descriptor of the
+/// process.
+pub fn runs_are_just()
+    ensures { RunsAreJust }
+{}
+
+/// A process that stays live in one program image loses no restraint, whoever's steps are between its own: see
+/// `pv_rights::growth`.
+pub fn runs_never_loosen()
+    ensures { RunsNeverLoosen }
+{}
+
+/// A step of another process leaves a live process live, and all of it as it was but its parent.
+pub fn runs_keep_others()
+    ensures { RunsKeepOthers }
+{}
+
+/// On from every state that a run reaches, other bytes in a file that stays sealed, as many, change no byte of the text, and
+/// at the end nothing but these bytes.
+pub fn sealed_tells_nothing()
+    ensures { SealedTellsNothing }
+{}

@@ -1,0 +1,19 @@
+//! Laws of what a machine starts from.
+
+ghost use Rattle.pv_runs.specs.Starts.{ProgramsAreInRange, ManifestsMakeFirstTrees, BootIsWhole};
+
+/// What bytes spell as a program is one: at most 256 lines, and each argument in its range.
+pub fn programs_are_in_range()
+    ensures { ProgramsAreInRange }
+{}
+
+/// The tree that a manifest makes, alone or in a bundle, is one to start from: well-formed, each node but the root with a name,
+/// and all of it with room.
+pub fn manifests_make_first_trees()
+    ensures { ManifestsMakeFirstTrees }
+{}
+
+/// The state in which a machine starts is whole.
+pub fn boot_is_whole()
+    ensures { BootIsWhole }
+{}

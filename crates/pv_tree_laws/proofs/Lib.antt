@@ -1,0 +1,13 @@
+pub mod Numbered
+pub mod Entries
+pub mod Trees
+pub mod Keeping
+pub mod Rooms
+pub mod Changes
+pub mod Spelled
+pub mod Above
+pub mod Edits
+pub mod Walks
+pub mod Places
+pub mod Empty
+pub mod NewNodes

@@ -1,0 +1,5 @@
+pub mod Kept
+pub mod Room
+pub mod Spelled
+pub mod Tree
+pub mod Walk

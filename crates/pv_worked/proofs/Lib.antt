@@ -1,0 +1,4 @@
+pub mod Concrete
+pub mod Example
+pub mod PastSlot
+pub mod Smallest
