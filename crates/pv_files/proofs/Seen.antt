@@ -1,5 +1,5 @@
 -- Maps from numbers whose values are seen by a function.
-use Rattle.std.proofs.Common.{cond, nat_lt, IsSome, is_some, true, ◌≡◌, ℕ, zero, suc, ◌<◌, ◌≤◌, not, [], ◌∷◌, map, length, position, MatchOption, Option, None, Some, is_none, option_map, refl, sym, ap, ◌∙◌, arith}
+use Rattle.std.proofs.Common.{cond, nat_lt, IsSome, is_some, true, ◌≡◌, ℕ, zero, suc, ◌<◌, ◌≤◌, not, List, [], ◌∷◌, ◌++◌, take, drop, map, length, position, MatchOption, Option, None, Some, is_none, option_map, refl, sym, ap, ◌∙◌, arith, ◌+◌, add-one}
 use Rattle.std.specs.Prelude.{◌↔◌}
 use Rattle.std.proofs.Math.ListN.{get_or, set, length-map}
 use Rattle.std.proofs.Math.Numerals.{one-add}
@@ -99,3 +99,25 @@ module _ {X Y : Type 0} (f : X → Y) where
 pub not_both : {X : Type 0} (o : Option X) → IsSome o → o ≡ None → ⊥
 not_both None some none = cc
 not_both (Some x) some none = cc
+
+-- one place further in a list of which each is changed
+mapped_further : {X : Type 0} (g : X → X) (xs : List X) (k : ℕ) (x d : X) → k < length xs → x ≡ get_or (map g (take k xs) ++ drop k xs) k d
+    → set (map g (take k xs) ++ drop k xs) k (g x) ≡ map g (take (suc k) xs) ++ drop (suc k) xs
+mapped_further g [] k x d within is = absurd (omega arith)
+mapped_further g (y ∷ ys) zero x d within is = ap (λ z. g z ∷ ys) is
+mapped_further g (y ∷ ys) (suc k) x d within is = ap (λ zs. g y ∷ zs) (mapped_further g ys k x d (omega arith) is)
+
+seen_read : {X Y : Type 0} (f : X → Y) (xs : Numbered X) (k : ℕ) → option_map f (get_or xs k None) ≡ get_or (seen f xs) k None
+seen_read f [] k = refl
+seen_read f (x ∷ xs) zero = refl
+seen_read f (x ∷ xs) (suc k) = seen_read f xs k
+
+pub seen_further : {X Y : Type 0} (f : X → Y) (g : Option Y → Option Y) (all xs : Numbered X) (k : ℕ) (x : Option X) → k < length all
+    → seen f xs ≡ map g (take k (seen f all)) ++ drop k (seen f all) → option_map f x ≡ g (option_map f (get_or xs k None))
+    → seen f (set xs k x) ≡ map g (take (k + 1) (seen f all)) ++ drop (k + 1) (seen f all)
+seen_further f g all xs k x within so_far is =
+    let below : k < length (seen f all) = omega (arith, length-map all (option_map f)) in
+    let read = seen_read f xs k ∙ ap (λ ys. get_or ys k None) so_far in
+    map-set (option_map f) xs k x ∙ ap (set (seen f xs) k) is ∙ ap (λ ys. set ys k (g (option_map f (get_or xs k None)))) so_far
+    ∙ mapped_further g (seen f all) k (option_map f (get_or xs k None)) None below read
+    ∙ ap (λ n. map g (take n (seen f all)) ++ drop n (seen f all)) (sym (add-one k))

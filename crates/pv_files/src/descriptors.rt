@@ -1,7 +1,8 @@
 //! The descriptors of a process.
-ghost use Rattle.std.specs.Prelude.{◌≡◌, ◌<◌, ◌↔◌, length, IfOk, IfErr, OnOk, OnErr, IsTrue, false, option_map, ok_or, slice_get};
+ghost use Rattle.std.specs.Prelude.{◌≡◌, ◌<◌, ◌↔◌, length, IfOk, IfErr, OnOk, OnErr, IsTrue, false, map, option_map, ok_or, slice_get};
 ghost use Rattle.std.specs.Option.{option_and_then};
 ghost use Rattle.pv_model.specs.Calls.Descriptors.{without_descriptor};
+ghost use Rattle.pv_model.specs.Calls.Processes.{descriptor_after_exec};
 ghost use Rattle.pv_model.specs.Numbered.{at_number, with_number, without_number, least_free};
 ghost use Rattle.pv_files.specs.DescriptorPlaces.{descriptor_of, descriptors_of};
 ghost use Rattle.pv_files.specs.Descriptors.{no_descriptors, descriptor_under, is_marked};
@@ -77,6 +78,25 @@ fn clear(places: &mut [Option<Descriptor>], d: i32)
     }
 }
 
+// What execve(2) leaves of a place.
+fn unless_marked(place: Option<Descriptor>) -> Option<Descriptor>
+    ensures { option_map descriptor_of result ≡ descriptor_after_exec (option_map descriptor_of place) }
+{
+    match place {
+        Some(descriptor) if descriptor.close_on_exec => None,
+        other => other,
+    }
+}
+
+// What execve(2) leaves of all.
+fn close_marked(places: &mut [Option<Descriptor>])
+    ensures { descriptors_of places.new ≡ map descriptor_after_exec (descriptors_of places.old) }
+{
+    for k in 0..places.len() {
+        places[k] = unless_marked(places[k]);
+    }
+}
+
 impl Descriptors {
     /// No descriptors.
     pub fn new() -> Descriptors
@@ -85,6 +105,13 @@ impl Descriptors {
         Descriptors {
             places: [None; DESCRIPTORS],
         }
+    }
+
+    /// Does nothing: its contract tells what holds of the descriptors at any time.
+    pub fn facts(&self)
+        ensures { length self.now ≡ 16 }
+    {
+        let _ = &self.places;
     }
 
     /// Whether a number is free.
@@ -157,6 +184,13 @@ impl Descriptors {
         let file = self.at(d)?;
         clear(&mut self.places, d);
         Ok(file)
+    }
+
+    /// Closes what execve(2) closes.
+    pub fn after_exec(&mut self)
+        ensures { self.new ≡ map descriptor_after_exec self.old }
+    {
+        close_marked(&mut self.places);
     }
 
     /// Whether execve(2) closes a number: it is a descriptor that was made so.

@@ -104,4 +104,8 @@ fn marks_what_execve_closes(rt: HostRuntime) {
     assert_eq!(rt; copy.at(2), Err(Errno::EBADF));
     assert!(rt; descriptors.marked(0) && descriptors.at(0) == Ok(6));
     assert_eq!(rt; descriptors.at(15), Err(Errno::EBADF));
+    descriptors.after_exec();
+    assert_eq!(rt; descriptors.at(0), Err(Errno::EBADF));
+    assert_eq!(rt; descriptors.at(1), Ok(7));
+    descriptors.facts();
 }

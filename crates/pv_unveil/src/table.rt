@@ -1,5 +1,5 @@
 //! What a process has unveiled.
-ghost use Rattle.std.specs.Prelude.{◌≡◌, ◌<◌, length, OnOk, OnErr, IfOk, IfErr, None, Some, true, false, ◌↔◌, IsTrue, if◌then◌else◌, ◌&&◌, option_map, slice_get, slice_set};
+ghost use Rattle.std.specs.Prelude.{◌≡◌, ◌<◌, ◌≤◌, length, OnOk, OnErr, IfOk, IfErr, None, Some, true, false, ◌↔◌, IsTrue, if◌then◌else◌, ◌&&◌, option_map, slice_get, slice_set};
 ghost use Rattle.pv_model.specs.Attempt.{give};
 ghost use Rattle.pv_model.specs.Unveil.{entry_for, letters_at};
 ghost use Rattle.pv_unveil.specs.Added.{refusal, put_in};
@@ -110,9 +110,10 @@ impl Table {
         self.locked = true;
     }
 
-    /// The number of entries.
+    /// The number of entries, at most 64.
     pub fn len(&self) -> usize
-        ensures { result ≡ length (entries_of_table self.now.table) }
+        ensures value { result ≡ length (entries_of_table self.now.table) }
+        ensures few { result ≤ 64 }
     {
         self.entries.len()
     }
