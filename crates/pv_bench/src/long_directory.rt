@@ -19,7 +19,7 @@ fn empty_image(alloc: Global, room: u16) -> Result<Directories, AllocError>
     requires few { room ≤ 8000 }
 {
     let zeros = vec![in alloc; 0; BLOCK * (room as usize + 2)]?;
-    Ok(Directories::empty(zeros, room + 2, 16))
+    Ok(Directories::empty(zeros, room + 2, 16, Version::V1))
 }
 
 /// A directory in an image that has room for the greatest number of names, and a file for them.

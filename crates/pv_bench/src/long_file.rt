@@ -2,11 +2,11 @@
 ghost use Rattle.std.specs.Prelude.{◌≡◌, ◌-◌, ◌≤◌, ◌++◌, min, length, take, drop, OnOk, OnErr};
 ghost use Rattle.pv_inodes.specs.Files.{IsUsed, bytes_at, written};
 
+use crate::rounds::GREATEST;
 use anyhow::{Context, Result};
-use pv_inodes::layout::GREATEST;
 use pv_inodes::{Inodes, Space};
-use pv_model::Sort;
 use pv_model::limits::BLOCK;
+use pv_model::{Sort, Version};
 use std::alloc::{AllocError, Global};
 
 /// Data blocks that a content of the greatest length needs: 266 of its own, and the index block.
@@ -18,7 +18,7 @@ fn empty_image(alloc: Global, room: u16) -> Result<Inodes, AllocError>
     requires few { room ≤ 8000 }
 {
     let zeros = vec![in alloc; 0; BLOCK * (room as usize + 2)]?;
-    Ok(Inodes::empty(zeros, room + 2, 16))
+    Ok(Inodes::empty(zeros, room + 2, 16, Version::V1))
 }
 
 /// A file in an image that has room for a content of the greatest length, and for nothing more.

@@ -18,10 +18,9 @@ mod rounds;
 use anyhow::{Context, Result, bail};
 use long_directory::{LongDirectory, name_of};
 use long_file::LongFile;
-use pv_inodes::layout::GREATEST;
 use pv_model::Name;
 use report::{Measured, Scale, report, report_names};
-use rounds::{fill, read_round, sum_of, write_round};
+use rounds::{GREATEST, fill, read_round, sum_of, write_round};
 use std::env;
 use std::time::Instant;
 

@@ -3,7 +3,10 @@ ghost use Rattle.std.specs.Prelude.{◌≡◌, ◌+◌, ◌*◌, ◌/◌, ◌%�
 
 use crate::long_file::LongFile;
 use pv_inodes::Space;
-use pv_inodes::layout::GREATEST;
+use pv_model::Layout;
+
+/// The length of the file.
+pub const GREATEST: u32 = Layout::V1.greatest_length;
 
 /// What a round moved between a buffer and a file.
 #[derive(Clone, Copy, Debug, PartialEq, Eq)]

@@ -90,12 +90,6 @@ count-raised flags k within is_clear =
     let none : weight (get_or flags k true) ≡ 0 = ap weight is_clear in
     omega (arith, change, none)
 
-pub count-at_least_one : (flags : List Bool) (k : ℕ) → k < length flags → get_or flags k false ≡ true → 1 ≤ count_by (λ f. f) flags
-count-at_least_one flags k within is_set =
-    let least = get_or-le-sum_by weight flags k false within in
-    let one : weight (get_or flags k false) ≡ 1 = ap weight is_set in
-    omega (arith, least, one)
-
 -- no flag is set where the test fails at each number
 pub count-none : (test : ℕ → Bool) (a n : ℕ) → ((k : ℕ) → a ≤ k → k < a + n → test k ≡ false) → count_by (λ f. f) (map test (range_with_len a n)) ≡ 0
 count-none test a zero fails = refl

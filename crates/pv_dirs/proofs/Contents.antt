@@ -1,15 +1,19 @@
 -- The bytes of files and links in the tree of files.
-use Rattle.std.proofs.Common.{◌≡◌, ◌≢◌, ℕ, ◌<◌, true, false, [], ◌∷◌, length, Option, None, Some, is_some, refl, sym, ap, ◌∙◌, arith}
+use Rattle.std.proofs.Common.{◌≡◌, ◌≢◌, ℕ, ◌%◌, ◌<◌, true, false, [], ◌∷◌, length, Option, None, Some, is_some, refl, sym, ap, ◌∙◌, arith}
 use Rattle.std.specs.Prelude.{option_map, IsSome}
 use Rattle.pv_model.specs.declared.sort.Sort.{Sort}
 use Rattle.pv_model.specs.declared.sort.Sort.TheVariants.{Directory, File, Executable, Symlink}
+use Rattle.pv_model.specs.declared.version.Version.{Version}
+use Rattle.pv_model.specs.declared.version.Version.TheVariants.{V1, V2}
 use Rattle.pv_model.specs.Bytes.{Bytes}
 use Rattle.pv_model.specs.Effect.{overwrite, resize, size_of}
+use Rattle.pv_model.specs.Room.{entry_length}
 use Rattle.pv_model.specs.Tree.{Node, node_at, is_directory, is_directory_at, with_node}
 use Rattle.pv_inodes.specs.Files.{Contained, Files, held, IsUsed, bytes_at, bytes_of, sort_at, LacksRoom, with_bytes, written, cut, with_new}
 use Rattle.pv_dirs.specs.Slots.{slot_count, slot_entries, in_order, IsDistinct, IsSlotted}
 use Rattle.pv_dirs.specs.Trees.{node_from, node_of, tree_of, IsHolding, sort_of, new_node, bytes_at as bytes_in, bytes_of as bytes_of_node, with_bytes as node_with_bytes, with_bytes_at, written as tree_written, cut as tree_cut, LacksRoom as TreeLacksRoom, replaced}
 use Rattle.pv_dirs.proofs.Entries.{length-in_order}
+use Rattle.pv_dirs.proofs.Strides.{no_entries, none_counted, none_left}
 use Rattle.pv_dirs.proofs.SlotBytes.{length-slot_entries}
 use Rattle.pv_dirs.proofs.TreeOf.{node_at-tree_of, used_in, blocks-tree_of, total_need-tree_of, tree_of-with_bytes, tree_of-with_number, holding-with_bytes, holding-with_number}
 
@@ -20,100 +24,94 @@ held_by (Some x) used = (x, refl)
 
 -- ---- sorts and sizes
 
-sort_of-node_from : (sort : Sort) (bytes : Bytes) → sort_of (node_from sort bytes) ≡ sort
+sort_of-node_from : (v : Version) (sort : Sort) (bytes : Bytes) → sort_of (node_from v sort bytes) ≡ sort
 unfolding node_from
-sort_of-node_from Directory bytes = refl
-sort_of-node_from File bytes = refl
-sort_of-node_from Executable bytes = refl
-sort_of-node_from Symlink bytes = refl
+sort_of-node_from v Directory bytes = refl
+sort_of-node_from v File bytes = refl
+sort_of-node_from v Executable bytes = refl
+sort_of-node_from v Symlink bytes = refl
 
-sort_held : (o : Option Contained) → option_map sort_of (option_map node_of o) ≡ option_map (λ c. c.sort) o
-sort_held None = refl
-sort_held (Some c) = ap Some (sort_of-node_from c.sort c.bytes)
+sort_held : (v : Version) (o : Option Contained) → option_map sort_of (option_map (node_of v) o) ≡ option_map (λ c. c.sort) o
+sort_held v None = refl
+sort_held v (Some c) = ap Some (sort_of-node_from v c.sort c.bytes)
 
 pub sort_at-tree_of : (f : Files) (n : ℕ) → option_map sort_of (node_at (tree_of f) n) ≡ sort_at f n
-sort_at-tree_of f n = ap (option_map sort_of) (node_at-tree_of f n) ∙ sort_held (held f n)
+sort_at-tree_of f n = ap (option_map sort_of) (node_at-tree_of f n) ∙ sort_held f.version (held f n)
 
-size_of-directory : (bytes : Bytes) → IsSlotted bytes → size_of (node_from Directory bytes) ≡ slot_count bytes
+size_of-directory : (v : Version) (bytes : Bytes) → IsSlotted v bytes → size_of (node_from v Directory bytes) ≡ slot_count v bytes
 unfolding node_from
-size_of-directory bytes s = length-in_order (slot_entries bytes) s.distinct ∙ length-slot_entries bytes
+size_of-directory v bytes s = length-in_order (slot_entries v bytes) s.distinct ∙ length-slot_entries v bytes
 
-size_of-other : (sort : Sort) (bytes : Bytes) → sort ≢ Directory → size_of (node_from sort bytes) ≡ length bytes
+size_of-other : (v : Version) (sort : Sort) (bytes : Bytes) → sort ≢ Directory → size_of (node_from v sort bytes) ≡ length bytes
 unfolding node_from
-size_of-other Directory bytes other = absurd (other refl)
-size_of-other File bytes other = refl
-size_of-other Executable bytes other = refl
-size_of-other Symlink bytes other = refl
+size_of-other v Directory bytes other = absurd (other refl)
+size_of-other v File bytes other = refl
+size_of-other v Executable bytes other = refl
+size_of-other v Symlink bytes other = refl
 
-size_held : (o : Option Contained) (sort : Sort) → option_map (λ c. c.sort) o ≡ Some sort → (sort ≡ Directory → IsSlotted (bytes_of o)) → option_map size_of (option_map node_of o) ≡ Some (size_of (node_from sort (bytes_of o)))
-size_held None sort is slotted = cc
-size_held (Some c) sort is slotted = let same : c.sort ≡ sort = cc in ap (λ (s : Sort). Some (size_of (node_from s c.bytes))) same
+size_held : (v : Version) (o : Option Contained) (sort : Sort) → option_map (λ c. c.sort) o ≡ Some sort → (sort ≡ Directory → IsSlotted v (bytes_of o)) → option_map size_of (option_map (node_of v) o) ≡ Some (size_of (node_from v sort (bytes_of o)))
+size_held v None sort is slotted = cc
+size_held v (Some c) sort is slotted = let same : c.sort ≡ sort = cc in ap (λ (s : Sort). Some (size_of (node_from v s c.bytes))) same
 
-slotted_held : (f : Files) (b n : ℕ) → IsHolding f b → (o : Option Contained) → held f n ≡ o → option_map (λ c. c.sort) o ≡ Some Directory → IsSlotted (bytes_of o)
+slotted_held : (f : Files) (b n : ℕ) → IsHolding f b → (o : Option Contained) → held f n ≡ o → option_map (λ c. c.sort) o ≡ Some Directory → IsSlotted f.version (bytes_of o)
 slotted_held f b n h None there is = cc
 slotted_held f b n h (Some c) there is = let same : c.sort ≡ Directory = cc in h.slotted n c there same
 
-pub size_directory : (f : Files) (b n : ℕ) → IsHolding f b → sort_at f n ≡ Some Directory → option_map size_of (node_at (tree_of f) n) ≡ Some (slot_count (bytes_at f n))
+pub size_directory : (f : Files) (b n : ℕ) → IsHolding f b → sort_at f n ≡ Some Directory → option_map size_of (node_at (tree_of f) n) ≡ Some (slot_count f.version (bytes_at f n))
 size_directory f b n h is =
     let slotted = slotted_held f b n h (held f n) refl is in
-    ap (option_map size_of) (node_at-tree_of f n) ∙ size_held (held f n) Directory is (λ _. slotted) ∙ ap Some (size_of-directory (bytes_at f n) slotted)
+    ap (option_map size_of) (node_at-tree_of f n) ∙ size_held f.version (held f n) Directory is (λ _. slotted) ∙ ap Some (size_of-directory f.version (bytes_at f n) slotted)
 
 pub size_other : (f : Files) (n : ℕ) (sort : Sort) → sort_at f n ≡ Some sort → sort ≢ Directory → option_map size_of (node_at (tree_of f) n) ≡ Some (length (bytes_at f n))
 size_other f n sort is other =
-    ap (option_map size_of) (node_at-tree_of f n) ∙ size_held (held f n) sort is (λ e. absurd (other e)) ∙ ap Some (size_of-other sort (bytes_at f n) other)
+    ap (option_map size_of) (node_at-tree_of f n) ∙ size_held f.version (held f n) sort is (λ e. absurd (other e)) ∙ ap Some (size_of-other f.version sort (bytes_at f n) other)
 
-is_directory-held : (o : Option Contained) → is_directory (option_map node_of o) ≡ true → option_map (λ c. c.sort) o ≡ Some Directory
+is_directory-sort : (v : Version) (sort : Sort) (o : Option Contained) → option_map (λ c. c.sort) o ≡ Some sort → is_directory (option_map (node_of v) o) ≡ is_directory (Some (node_from v sort (bytes_of o)))
+is_directory-sort v sort None is = cc
+is_directory-sort v sort (Some c) is = let same : c.sort ≡ sort = cc in ap (λ (s : Sort). is_directory (Some (node_from v s c.bytes))) same
+
+is_directory-directory : (v : Version) (bytes : Bytes) → is_directory (Some (node_from v Directory bytes)) ≡ true
 unfolding node_from
-is_directory-held None is = cc
-is_directory-held (Some c) is =
-    elim c.sort as (λ s. is_directory (Some (node_from s c.bytes)) ≡ true → Some s ≡ Some Directory) [ Directory ↦ λ e. refl | File ↦ λ e. cc | Executable ↦ λ e. cc | Symlink ↦ λ e. cc ] is
+is_directory-directory v bytes = refl
 
-is_directory-sort : (sort : Sort) (o : Option Contained) → option_map (λ c. c.sort) o ≡ Some sort → is_directory (option_map node_of o) ≡ is_directory (Some (node_from sort (bytes_of o)))
-is_directory-sort sort None is = cc
-is_directory-sort sort (Some c) is = let same : c.sort ≡ sort = cc in ap (λ (s : Sort). is_directory (Some (node_from s c.bytes))) same
-
-is_directory-directory : (bytes : Bytes) → is_directory (Some (node_from Directory bytes)) ≡ true
+is_directory-other : (v : Version) (sort : Sort) (bytes : Bytes) → sort ≢ Directory → is_directory (Some (node_from v sort bytes)) ≡ false
 unfolding node_from
-is_directory-directory bytes = refl
-
-is_directory-other : (sort : Sort) (bytes : Bytes) → sort ≢ Directory → is_directory (Some (node_from sort bytes)) ≡ false
-unfolding node_from
-is_directory-other Directory bytes other = absurd (other refl)
-is_directory-other File bytes other = refl
-is_directory-other Executable bytes other = refl
-is_directory-other Symlink bytes other = refl
+is_directory-other v Directory bytes other = absurd (other refl)
+is_directory-other v File bytes other = refl
+is_directory-other v Executable bytes other = refl
+is_directory-other v Symlink bytes other = refl
 
 pub is_directory_by_sort : (f : Files) (n : ℕ) → sort_at f n ≡ Some Directory → is_directory_at (tree_of f) n ≡ true
-is_directory_by_sort f n is = ap is_directory (node_at-tree_of f n) ∙ is_directory-sort Directory (held f n) is ∙ is_directory-directory (bytes_at f n)
+is_directory_by_sort f n is = ap is_directory (node_at-tree_of f n) ∙ is_directory-sort f.version Directory (held f n) is ∙ is_directory-directory f.version (bytes_at f n)
 
 pub no_directory_by_sort : (f : Files) (n : ℕ) (sort : Sort) → sort_at f n ≡ Some sort → sort ≢ Directory → is_directory_at (tree_of f) n ≡ false
-no_directory_by_sort f n sort is other = ap is_directory (node_at-tree_of f n) ∙ is_directory-sort sort (held f n) is ∙ is_directory-other sort (bytes_at f n) other
+no_directory_by_sort f n sort is other = ap is_directory (node_at-tree_of f n) ∙ is_directory-sort f.version sort (held f n) is ∙ is_directory-other f.version sort (bytes_at f n) other
 
-no_directory_none : (o : Option Contained) → (is_some o ≡ true → ⊥) → is_directory (option_map node_of o) ≡ false
-no_directory_none None none = refl
-no_directory_none (Some c) none = absurd (none refl)
+no_directory_none : (v : Version) (o : Option Contained) → (is_some o ≡ true → ⊥) → is_directory (option_map (node_of v) o) ≡ false
+no_directory_none v None none = refl
+no_directory_none v (Some c) none = absurd (none refl)
 
 pub no_directory_unused : (f : Files) (n : ℕ) → (IsUsed f n → ⊥) → is_directory_at (tree_of f) n ≡ false
-no_directory_unused f n unused = ap is_directory (node_at-tree_of f n) ∙ no_directory_none (held f n) unused
+no_directory_unused f n unused = ap is_directory (node_at-tree_of f n) ∙ no_directory_none f.version (held f n) unused
 
 -- ---- bytes
 
-sort_other : (sort : Sort) (bytes : Bytes) → is_directory (Some (node_from sort bytes)) ≡ false → sort ≢ Directory
-sort_other sort bytes is same = let no = sym is ∙ ap (λ (s : Sort). is_directory (Some (node_from s bytes))) same ∙ is_directory-directory bytes in cc
+sort_other : (v : Version) (sort : Sort) (bytes : Bytes) → is_directory (Some (node_from v sort bytes)) ≡ false → sort ≢ Directory
+sort_other v sort bytes is same = let no = sym is ∙ ap (λ (s : Sort). is_directory (Some (node_from v s bytes))) same ∙ is_directory-directory v bytes in cc
 
-bytes_other : (sort : Sort) (bytes : Bytes) → sort ≢ Directory → bytes_of_node (Some (node_from sort bytes)) ≡ bytes
+bytes_other : (v : Version) (sort : Sort) (bytes : Bytes) → sort ≢ Directory → bytes_of_node (Some (node_from v sort bytes)) ≡ bytes
 unfolding node_from
-bytes_other Directory bytes other = absurd (other refl)
-bytes_other File bytes other = refl
-bytes_other Executable bytes other = refl
-bytes_other Symlink bytes other = refl
+bytes_other v Directory bytes other = absurd (other refl)
+bytes_other v File bytes other = refl
+bytes_other v Executable bytes other = refl
+bytes_other v Symlink bytes other = refl
 
-with_bytes_other : (sort : Sort) (xs ys : Bytes) → sort ≢ Directory → node_with_bytes (node_from sort xs) ys ≡ node_from sort ys
+with_bytes_other : (v : Version) (sort : Sort) (xs ys : Bytes) → sort ≢ Directory → node_with_bytes (node_from v sort xs) ys ≡ node_from v sort ys
 unfolding node_from
-with_bytes_other Directory xs ys other = absurd (other refl)
-with_bytes_other File xs ys other = refl
-with_bytes_other Executable xs ys other = refl
-with_bytes_other Symlink xs ys other = refl
+with_bytes_other v Directory xs ys other = absurd (other refl)
+with_bytes_other v File xs ys other = refl
+with_bytes_other v Executable xs ys other = refl
+with_bytes_other v Symlink xs ys other = refl
 
 -- a file or a link
 pub record IsContent (f : Files) (n : ℕ) (c : Contained) : Type 0 where
@@ -123,20 +121,20 @@ pub record IsContent (f : Files) (n : ℕ) (c : Contained) : Type 0 where
 pub content : (f : Files) (n : ℕ) → IsSome (node_at (tree_of f) n) → is_directory_at (tree_of f) n ≡ false → (c : Contained) × IsContent f n c
 content f n used other =
     let some = held_by (held f n) (used_in f n used) in
-    let no : is_directory (Some (node_of some.0)) ≡ false = ap is_directory (sym (node_at-tree_of f n ∙ ap (option_map node_of) some.1)) ∙ other in
-    (some.0, record { there = some.1; other = sort_other some.0.sort some.0.bytes no })
+    let no : is_directory (Some (node_of f.version some.0)) ≡ false = ap is_directory (sym (node_at-tree_of f n ∙ ap (option_map (node_of f.version)) some.1)) ∙ other in
+    (some.0, record { there = some.1; other = sort_other f.version some.0.sort some.0.bytes no })
 
 module _ (f : Files) (n : ℕ) (c : Contained) (is : IsContent f n c) where
-  node_there : node_at (tree_of f) n ≡ Some (node_of c)
-  node_there = node_at-tree_of f n ∙ ap (option_map node_of) is.there
+  node_there : node_at (tree_of f) n ≡ Some (node_of f.version c)
+  node_there = node_at-tree_of f n ∙ ap (option_map (node_of f.version)) is.there
 
   pub bytes_at-tree_of : bytes_in (tree_of f) n ≡ bytes_at f n
-  bytes_at-tree_of = ap bytes_of_node node_there ∙ bytes_other c.sort c.bytes is.other ∙ ap bytes_of (sym is.there)
+  bytes_at-tree_of = ap bytes_of_node node_there ∙ bytes_other f.version c.sort c.bytes is.other ∙ ap bytes_of (sym is.there)
 
   pub with_bytes_at-tree_of : (xs : Bytes) → with_bytes_at (tree_of f) n xs ≡ tree_of (with_bytes f n xs)
   with_bytes_at-tree_of xs =
       ap (λ (o : Option Node). replaced (tree_of f) n o xs) node_there
-      ∙ ap (with_node (tree_of f) n) (with_bytes_other c.sort c.bytes xs is.other)
+      ∙ ap (with_node (tree_of f) n) (with_bytes_other f.version c.sort c.bytes xs is.other)
       ∙ sym (tree_of-with_bytes f n c xs is.there)
 
   pub holding-content : (b : ℕ) (xs : Bytes) → IsHolding f b → IsHolding (with_bytes f n xs) b
@@ -164,19 +162,25 @@ module _ (f : Files) (b : ℕ) (h : IsHolding f b) where
 
 -- ---- new nodes
 
-is_new : (sort : Sort) → node_from sort [] ≡ new_node sort
+is_new : (v : Version) (sort : Sort) → node_from v sort [] ≡ new_node sort
 unfolding node_from slot_entries in_order
-is_new Directory = refl
-is_new File = refl
-is_new Executable = refl
-is_new Symlink = refl
+is_new V1 Directory = refl
+is_new V2 Directory = refl
+is_new v File = refl
+is_new v Executable = refl
+is_new v Symlink = refl
 
-no_slots : IsSlotted []
-unfolding slot_entries IsDistinct
-no_slots = record { whole = refl; named = λ k within. absurd (omega arith); measured = λ k within. absurd (omega arith); distinct = tt }
+no_slots : (v : Version) → IsSlotted v []
+unfolding IsDistinct
+no_slots v = record {
+  whole = none_left v;
+  named = λ k within. absurd (omega (arith, none_counted v));
+  measured = λ k within. absurd (omega (arith, none_counted v));
+  distinct = rw (no_entries v) tt;
+}
 
 pub tree_of-with_new : (f : Files) (n : ℕ) (sort : Sort) → n < length f.nodes → tree_of (with_new f n sort) ≡ with_node (tree_of f) n (new_node sort)
-tree_of-with_new f n sort within = tree_of-with_number f n (record { sort = sort; bytes = [] }) within ∙ ap (with_node (tree_of f) n) (is_new sort)
+tree_of-with_new f n sort within = tree_of-with_number f n (record { sort = sort; bytes = [] }) within ∙ ap (with_node (tree_of f) n) (is_new f.version sort)
 
 pub holding-with_new : (f : Files) (b n : ℕ) (sort : Sort) → IsHolding f b → IsHolding (with_new f n sort) b
-holding-with_new f b n sort h = holding-with_number f b n (record { sort = sort; bytes = [] }) h (λ e. no_slots)
+holding-with_new f b n sort h = holding-with_number f b n (record { sort = sort; bytes = [] }) h (λ e. no_slots f.version)

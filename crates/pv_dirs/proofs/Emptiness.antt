@@ -12,14 +12,14 @@ use Rattle.pv_dirs.proofs.TreeOf.{nodes-tree_of, inodes-tree_of}
 module _ (f : Files) (k : ℕ) (none : f.nodes ≡ None ∷ replicate k None) where
   pub holding-empty : (b : ℕ) → b + total_room f ≡ f.blocks → IsHolding f b
   holding-empty b left =
-      let no_room : total_room f ≡ 0 = ap (λ (xs : Numbered Contained). sum_by room_of (present xs)) none ∙ ap (sum_by room_of) (present-none (suc k)) in
+      let no_room : total_room f ≡ 0 = ap (λ (xs : Numbered Contained). sum_by (room_of f.version) (present xs)) none ∙ ap (sum_by (room_of f.version)) (present-none (suc k)) in
       record {
         sized = omega arith;
         slotted = λ n c there. let nothing = ap (λ (xs : Numbered Contained). at_number xs n) none ∙ at_number-none (suc k) n in absurd (cc);
       }
 
   pub nodes-empty : (tree_of f).nodes ≡ None ∷ replicate k None
-  nodes-empty = nodes-tree_of f ∙ ap (map (option_map node_of)) none ∙ map-none node_of (suc k)
+  nodes-empty = nodes-tree_of f ∙ ap (map (option_map (node_of f.version))) none ∙ map-none (node_of f.version) (suc k)
 
   pub inodes-empty : (tree_of f).inodes ≡ k
   inodes-empty = inodes-tree_of f k (ap length none ∙ ap suc (length-replicate k None))

@@ -8,5 +8,7 @@ pub mod Next
 pub mod Outcomes
 pub mod Removing
 pub mod SlotBytes
+pub mod Stored
+pub mod Strides
 pub mod TreeOf
 pub mod Viewed

@@ -7,6 +7,7 @@ use Rattle.std.specs.Cmp.Lexicographic.{slice_cmp, slice_partial_cmp, lists_agre
 use Rattle.std.specs.FinMap.Entries.{find, put, is_sorted, below_all, by_order}
 use Rattle.std.specs.declared.cmp.Ordering.{Ordering}
 use Rattle.std.specs.declared.cmp.Ordering.TheVariants.{Less, Equal, Greater}
+use Rattle.pv_model.specs.declared.version.Version.{Version}
 use Rattle.pv_model.specs.Bytes.{Bytes}
 use Rattle.pv_model.specs.Calls.Descriptors.{is_behind, next_name}
 use Rattle.pv_model.specs.Tree.{Entries}
@@ -23,9 +24,6 @@ less_from Greater is = cc
 
 greater_from : (a b : Bytes) → by_name a b ≡ Less → by_name b a ≡ Greater
 greater_from a b is = total.antisymm b a ∙ ap ordering_reverse is
-
-less_back : (a b : Bytes) → by_name a b ≡ Greater → by_name b a ≡ Less
-less_back a b is = total.antisymm b a ∙ ap ordering_reverse is
 
 -- what is behind a name behind the last one is behind the last one
 behind_more : (last : Option Bytes) (a b : Bytes) → is_behind last a ≡ true → by_name a b ≡ Less → is_behind last b ≡ true
@@ -161,22 +159,22 @@ next_name_in_order last es = next_name_is last (in_order es) (from_T (is_sorted 
 pub bytes_less : (xs ys : Bytes) → is_some_and is_lt (slice_partial_cmp (λ x y. Some (nat_cmp x y)) xs ys) ≡ is_lt (slice_cmp nat_cmp xs ys)
 bytes_less xs ys = ap (λ (o : Option Ordering). is_some_and is_lt o) (lists_agrees (λ x y. refl) xs ys)
 
-module _ (last : Option Bytes) (bytes : Bytes) (k : ℕ) (best : Option Bytes) (d : IsDistinct (slot_entries bytes)) (within : k < slot_count bytes) (best_is : best ≡ next_name last (in_order (take k (slot_entries bytes)))) where
-  after_slot : next_name last (in_order (take (k + 1) (slot_entries bytes))) ≡ cond (is_behind last (slot_name (slot_at bytes k)) && is_before (slot_name (slot_at bytes k)) best) (Some (slot_name (slot_at bytes k))) best
+module _ (v : Version) (last : Option Bytes) (bytes : Bytes) (k : ℕ) (best : Option Bytes) (d : IsDistinct (slot_entries v bytes)) (within : k < slot_count v bytes) (best_is : best ≡ next_name last (in_order (take k (slot_entries v bytes)))) where
+  after_slot : next_name last (in_order (take (k + 1) (slot_entries v bytes))) ≡ cond (is_behind last (slot_name (slot_at v bytes k)) && is_before (slot_name (slot_at v bytes k)) best) (Some (slot_name (slot_at v bytes k))) best
   after_slot =
-      next_name-more last (slot_entries bytes) k (slot_entry bytes k) d (omega (arith, length-slot_entries bytes)) (get_or-slot_entries bytes k (slot_entry bytes k) within)
-      ∙ ap (better (is_behind last (slot_name (slot_at bytes k))) (slot_name (slot_at bytes k))) (sym best_is)
-      ∙ better-is (is_behind last (slot_name (slot_at bytes k))) (slot_name (slot_at bytes k)) best
+      next_name-more last (slot_entries v bytes) k (slot_entry v bytes k) d (omega (arith, length-slot_entries v bytes)) (get_or-slot_entries v bytes k (slot_entry v bytes k) within)
+      ∙ ap (better (is_behind last (slot_name (slot_at v bytes k))) (slot_name (slot_at v bytes k))) (sym best_is)
+      ∙ better-is (is_behind last (slot_name (slot_at v bytes k))) (slot_name (slot_at v bytes k)) best
 
-  pub name_taken : (name : Bytes) → name ≡ slot_name (slot_at bytes k) → is_behind last name ≡ true → is_before name best ≡ true → Some name ≡ next_name last (in_order (take (k + 1) (slot_entries bytes)))
+  pub name_taken : (name : Bytes) → name ≡ slot_name (slot_at v bytes k) → is_behind last name ≡ true → is_before name best ≡ true → Some name ≡ next_name last (in_order (take (k + 1) (slot_entries v bytes)))
   name_taken name is behind before =
       sym (after_slot ∙ ap (λ (q : Bytes). cond (is_behind last q && is_before q best) (Some q) best) (sym is) ∙ ap (λ b. cond (b && is_before name best) (Some name) best) behind ∙ ap (λ b. cond b (Some name) best) before)
 
-  pub name_not_behind : (name : Bytes) → name ≡ slot_name (slot_at bytes k) → is_behind last name ≡ false → best ≡ next_name last (in_order (take (k + 1) (slot_entries bytes)))
+  pub name_not_behind : (name : Bytes) → name ≡ slot_name (slot_at v bytes k) → is_behind last name ≡ false → best ≡ next_name last (in_order (take (k + 1) (slot_entries v bytes)))
   name_not_behind name is behind =
       sym (after_slot ∙ ap (λ (q : Bytes). cond (is_behind last q && is_before q best) (Some q) best) (sym is) ∙ ap (λ b. cond (b && is_before name best) (Some name) best) behind)
 
-  pub name_not_before : (name : Bytes) → name ≡ slot_name (slot_at bytes k) → is_behind last name ≡ true → is_before name best ≡ false → best ≡ next_name last (in_order (take (k + 1) (slot_entries bytes)))
+  pub name_not_before : (name : Bytes) → name ≡ slot_name (slot_at v bytes k) → is_behind last name ≡ true → is_before name best ≡ false → best ≡ next_name last (in_order (take (k + 1) (slot_entries v bytes)))
   name_not_before name is behind before =
       sym (after_slot ∙ ap (λ (q : Bytes). cond (is_behind last q && is_before q best) (Some q) best) (sym is) ∙ ap (λ b. cond (b && is_before name best) (Some name) best) behind ∙ ap (λ b. cond b (Some name) best) before)
 

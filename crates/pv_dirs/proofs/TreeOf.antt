@@ -1,14 +1,14 @@
 -- The tree of files.
-use Rattle.std.proofs.Common.{◌≡◌, ℕ, suc, ◌-◌, ◌<◌, true, length, drop, map, Option, None, Some, is_some, refl, sym, ap, subst, ◌∙◌, arith}
+use Rattle.std.proofs.Common.{◌≡◌, ℕ, suc, ◌-◌, ◌*◌, ◌<◌, true, length, drop, map, Option, None, Some, is_some, refl, sym, ap, subst, ◌∙◌, arith}
 use Rattle.std.specs.Prelude.{option_map, IsSome}
 use Rattle.std.specs.FinMap.Entries.{find}
 use Rattle.std.proofs.lemmas.List.{length-map, drop-map}
 use Rattle.pv_model.specs.declared.sort.Sort.{Sort}
 use Rattle.pv_model.specs.declared.sort.Sort.TheVariants.{Directory, File, Executable, Symlink}
-use Rattle.pv_model.specs.declared.version.Version.TheVariants.{V1}
+use Rattle.pv_model.specs.declared.version.Version.{Version}
 use Rattle.pv_model.specs.Bytes.{Bytes}
 use Rattle.pv_model.specs.Numbered.{Numbered, with_number, least_free}
-use Rattle.pv_model.specs.Room.{node_length, need}
+use Rattle.pv_model.specs.Room.{entry_length, node_length, need}
 use Rattle.pv_model.specs.Tree.{Node, entries_of, node_at, is_directory, is_directory_at, entries_at, find_entry, with_node, new_number as new_number_in}
 use Rattle.pv_inodes.specs.Files.{bytes_of, Contained, Files, held, IsUsed, bytes_at, room_of, total_room, with_bytes, without, new_number}
 use Rattle.pv_inodes.proofs.Edits.{with_bytes-is}
@@ -17,9 +17,10 @@ use Rattle.pv_dirs.specs.Slots.{slot_count, slot_entries, in_order, IsSlotted}
 use Rattle.pv_dirs.specs.Trees.{node_from, node_of, tree_of, IsHolding, without_node, total_need}
 use Rattle.pv_dirs.proofs.Entries.{by_name, length-in_order, find-in_order}
 use Rattle.pv_dirs.proofs.Mapped.{at_number-map, map-with_number, map-without_number, least_free-map, sum_by-present-map, length-with_number, length-without_number, each-with_number, each-without_number}
+use Rattle.pv_dirs.proofs.Strides.{slot_some, whole_is}
 use Rattle.pv_dirs.proofs.SlotBytes.{length-slot_entries}
 
-pub nodes-tree_of : (f : Files) → (tree_of f).nodes ≡ map (option_map node_of) f.nodes
+pub nodes-tree_of : (f : Files) → (tree_of f).nodes ≡ map (option_map (node_of f.version)) f.nodes
 unfolding tree_of
 nodes-tree_of f = refl
 
@@ -31,96 +32,96 @@ pub inodes-tree_of : (f : Files) (n : ℕ) → length f.nodes ≡ suc n → (tre
 unfolding tree_of
 inodes-tree_of f n long = omega arith
 
-pub version-tree_of : (f : Files) → (tree_of f).version ≡ V1
+pub version-tree_of : (f : Files) → (tree_of f).version ≡ f.version
 unfolding tree_of
 version-tree_of f = refl
 
 pub length-tree_of : (f : Files) → length (tree_of f).nodes ≡ length f.nodes
-length-tree_of f = ap length (nodes-tree_of f) ∙ length-map f.nodes (option_map node_of)
+length-tree_of f = ap length (nodes-tree_of f) ∙ length-map f.nodes (option_map (node_of f.version))
 
-pub node_at-tree_of : (f : Files) (n : ℕ) → node_at (tree_of f) n ≡ option_map node_of (held f n)
+pub node_at-tree_of : (f : Files) (n : ℕ) → node_at (tree_of f) n ≡ option_map (node_of f.version) (held f n)
 unfolding tree_of
-node_at-tree_of f n = at_number-map node_of f.nodes n
+node_at-tree_of f n = at_number-map (node_of f.version) f.nodes n
 
 pub is_some-option_map : {X Y : Type 0} (g : X → Y) (o : Option X) → is_some (option_map g o) ≡ is_some o
 is_some-option_map g None = refl
 is_some-option_map g (Some x) = refl
 
 pub is_some-tree_of : (f : Files) (n : ℕ) → is_some (node_at (tree_of f) n) ≡ is_some (held f n)
-is_some-tree_of f n = ap is_some (node_at-tree_of f n) ∙ is_some-option_map node_of (held f n)
+is_some-tree_of f n = ap is_some (node_at-tree_of f n) ∙ is_some-option_map (node_of f.version) (held f n)
 
 pub used_in : (f : Files) (n : ℕ) → IsSome (node_at (tree_of f) n) → IsUsed f n
 used_in f n used = sym (is_some-tree_of f n) ∙ used
 
 pub new_number-tree_of : (f : Files) → new_number_in (tree_of f) ≡ new_number f
 unfolding tree_of
-new_number-tree_of f = ap (λ (xs : Numbered Node). suc (least_free xs)) (drop-map (option_map node_of) 1 f.nodes) ∙ ap suc (least_free-map node_of (drop 1 f.nodes))
+new_number-tree_of f = ap (λ (xs : Numbered Node). suc (least_free xs)) (drop-map (option_map (node_of f.version)) 1 f.nodes) ∙ ap suc (least_free-map (node_of f.version) (drop 1 f.nodes))
 
 -- ---- changes
 
-pub tree_of-with_number : (f : Files) (n : ℕ) (c : Contained) → n < length f.nodes → tree_of (record f { nodes = with_number f.nodes n c }) ≡ with_node (tree_of f) n (node_of c)
+pub tree_of-with_number : (f : Files) (n : ℕ) (c : Contained) → n < length f.nodes → tree_of (record f { nodes = with_number f.nodes n c }) ≡ with_node (tree_of f) n (node_of f.version c)
 unfolding tree_of
 tree_of-with_number f n c within =
-    let nodes = map-with_number node_of f.nodes n c in
+    let nodes = map-with_number (node_of f.version) f.nodes n c in
     let long = length-with_number f.nodes n c within in
-    λ i. record { nodes = nodes i; blocks = f.blocks; inodes = long i - 1; version = V1 }
+    λ i. record { nodes = nodes i; blocks = f.blocks; inodes = long i - 1; version = f.version }
 
 pub tree_of-without : (f : Files) (n : ℕ) → tree_of (without f n) ≡ without_node (tree_of f) n
 unfolding tree_of
 tree_of-without f n =
-    let nodes = map-without_number node_of f.nodes n in
+    let nodes = map-without_number (node_of f.version) f.nodes n in
     let long = length-without_number f.nodes n in
-    λ i. record { nodes = nodes i; blocks = f.blocks; inodes = long i - 1; version = V1 }
+    λ i. record { nodes = nodes i; blocks = f.blocks; inodes = long i - 1; version = f.version }
 
-pub tree_of-with_bytes : (f : Files) (n : ℕ) (c : Contained) (xs : Bytes) → held f n ≡ Some c → tree_of (with_bytes f n xs) ≡ with_node (tree_of f) n (node_from c.sort xs)
+pub tree_of-with_bytes : (f : Files) (n : ℕ) (c : Contained) (xs : Bytes) → held f n ≡ Some c → tree_of (with_bytes f n xs) ≡ with_node (tree_of f) n (node_from f.version c.sort xs)
 tree_of-with_bytes f n c xs there = ap tree_of (with_bytes-is f n c xs there) ∙ tree_of-with_number f n (record c { bytes = xs }) (at_number-within f.nodes n c there)
 
 -- what is held keeps what directories keep
-HoldsWell : Contained → Type 0
-HoldsWell c = c.sort ≡ Directory → IsSlotted c.bytes
+HoldsWell : Version → Contained → Type 0
+HoldsWell v c = c.sort ≡ Directory → IsSlotted v c.bytes
 
-pub holding-with_number : (f : Files) (b n : ℕ) (c : Contained) → IsHolding f b → (c.sort ≡ Directory → IsSlotted c.bytes) → IsHolding (record f { nodes = with_number f.nodes n c }) b
+pub holding-with_number : (f : Files) (b n : ℕ) (c : Contained) → IsHolding f b → (c.sort ≡ Directory → IsSlotted f.version c.bytes) → IsHolding (record f { nodes = with_number f.nodes n c }) b
 unfolding HoldsWell
 holding-with_number f b n c h new = record {
   sized = h.sized;
-  slotted = each-with_number HoldsWell f.nodes n c h.slotted (λ y is. let same : c ≡ y = cc in subst HoldsWell same new);
+  slotted = each-with_number (HoldsWell f.version) f.nodes n c h.slotted (λ y is. let same : c ≡ y = cc in subst (HoldsWell f.version) same new);
 }
 
 pub holding-without : (f : Files) (b n : ℕ) → IsHolding f b → IsHolding (without f n) b
 unfolding HoldsWell
-holding-without f b n h = record { sized = h.sized; slotted = each-without_number HoldsWell f.nodes n h.slotted }
+holding-without f b n h = record { sized = h.sized; slotted = each-without_number (HoldsWell f.version) f.nodes n h.slotted }
 
-pub holding-with_bytes : (f : Files) (b n : ℕ) (c : Contained) (xs : Bytes) → IsHolding f b → held f n ≡ Some c → (c.sort ≡ Directory → IsSlotted xs) → IsHolding (with_bytes f n xs) b
+pub holding-with_bytes : (f : Files) (b n : ℕ) (c : Contained) (xs : Bytes) → IsHolding f b → held f n ≡ Some c → (c.sort ≡ Directory → IsSlotted f.version xs) → IsHolding (with_bytes f n xs) b
 holding-with_bytes f b n c xs h there new = rw (with_bytes-is f n c xs there) (holding-with_number f b n (record c { bytes = xs }) h new)
 
 -- ---- room
 
-pub node_length-node_from : (sort : Sort) (bytes : Bytes) → (sort ≡ Directory → IsSlotted bytes) → node_length V1 (node_from sort bytes) ≡ length bytes
+pub node_length-node_from : (v : Version) (sort : Sort) (bytes : Bytes) → (sort ≡ Directory → IsSlotted v bytes) → node_length v (node_from v sort bytes) ≡ length bytes
 unfolding node_from
-node_length-node_from Directory bytes slotted =
-    let s : IsSlotted bytes = slotted refl in
-    omega (arith, length-in_order (slot_entries bytes) s.distinct, length-slot_entries bytes, s.whole)
-node_length-node_from File bytes slotted = refl
-node_length-node_from Executable bytes slotted = refl
-node_length-node_from Symlink bytes slotted = refl
+node_length-node_from v Directory bytes slotted =
+    let s : IsSlotted v bytes = slotted refl in
+    ap (λ n. entry_length v * n) (length-in_order (slot_entries v bytes) s.distinct ∙ length-slot_entries v bytes) ∙ sym (whole_is (entry_length v) (slot_some v) (length bytes) s.whole)
+node_length-node_from v File bytes slotted = refl
+node_length-node_from v Executable bytes slotted = refl
+node_length-node_from v Symlink bytes slotted = refl
 
 pub total_need-tree_of : (f : Files) (b : ℕ) → IsHolding f b → total_need (tree_of f) ≡ total_room f
 unfolding tree_of
-total_need-tree_of f b h = sum_by-present-map node_of (λ node. need V1 (node_length V1 node)) room_of f.nodes (λ n c there. ap (need V1) (node_length-node_from c.sort c.bytes (h.slotted n c there)))
+total_need-tree_of f b h = sum_by-present-map (node_of f.version) (λ node. need f.version (node_length f.version node)) (room_of f.version) f.nodes (λ n c there. ap (need f.version) (node_length-node_from f.version c.sort c.bytes (h.slotted n c there)))
 
 -- ---- directories
 
-is_directory-node_from : (sort : Sort) (bytes : Bytes) → is_directory (Some (node_from sort bytes)) ≡ true → sort ≡ Directory
+is_directory-node_from : (v : Version) (sort : Sort) (bytes : Bytes) → is_directory (Some (node_from v sort bytes)) ≡ true → sort ≡ Directory
 unfolding node_from
-is_directory-node_from Directory bytes is = refl
-is_directory-node_from File bytes is = cc
-is_directory-node_from Executable bytes is = cc
-is_directory-node_from Symlink bytes is = cc
+is_directory-node_from v Directory bytes is = refl
+is_directory-node_from v File bytes is = cc
+is_directory-node_from v Executable bytes is = cc
+is_directory-node_from v Symlink bytes is = cc
 
-from_held : (f : Files) (d : ℕ) (o : Option Contained) → held f d ≡ o → is_directory (option_map node_of o) ≡ true → held f d ≡ Some (record { sort = Directory; bytes = bytes_at f d })
+from_held : (f : Files) (d : ℕ) (o : Option Contained) → held f d ≡ o → is_directory (option_map (node_of f.version) o) ≡ true → held f d ≡ Some (record { sort = Directory; bytes = bytes_at f d })
 from_held f d None there is = cc
 from_held f d (Some c) there is =
-    let sort = is_directory-node_from c.sort c.bytes is in
+    let sort = is_directory-node_from f.version c.sort c.bytes is in
     let bytes : c.bytes ≡ bytes_at f d = ap bytes_of (sym there) in
     there ∙ (λ i. Some (record { sort = sort i; bytes = bytes i }))
 
@@ -131,16 +132,16 @@ directory_held f d is = from_held f d (held f d) refl (ap is_directory (sym (nod
 pub directory_used : (f : Files) (d : ℕ) → is_directory_at (tree_of f) d ≡ true → IsUsed f d
 directory_used f d is = ap is_some (directory_held f d is)
 
-pub directory_slotted : (f : Files) (b d : ℕ) → IsHolding f b → is_directory_at (tree_of f) d ≡ true → IsSlotted (bytes_at f d)
+pub directory_slotted : (f : Files) (b d : ℕ) → IsHolding f b → is_directory_at (tree_of f) d ≡ true → IsSlotted f.version (bytes_at f d)
 directory_slotted f b d h is = h.slotted d (record { sort = Directory; bytes = bytes_at f d }) (directory_held f d is) refl
 
-pub entries_at-tree_of : (f : Files) (d : ℕ) → is_directory_at (tree_of f) d ≡ true → entries_at (tree_of f) d ≡ in_order (slot_entries (bytes_at f d))
+pub entries_at-tree_of : (f : Files) (d : ℕ) → is_directory_at (tree_of f) d ≡ true → entries_at (tree_of f) d ≡ in_order (slot_entries f.version (bytes_at f d))
 unfolding node_from
-entries_at-tree_of f d is = ap entries_of (node_at-tree_of f d ∙ ap (option_map node_of) (directory_held f d is))
+entries_at-tree_of f d is = ap entries_of (node_at-tree_of f d ∙ ap (option_map (node_of f.version)) (directory_held f d is))
 
-pub find_entry-tree_of : (f : Files) (d : ℕ) (name : Bytes) → is_directory_at (tree_of f) d ≡ true → find_entry (tree_of f) d name ≡ find by_name name (slot_entries (bytes_at f d))
-find_entry-tree_of f d name is = ap (find by_name name) (entries_at-tree_of f d is) ∙ find-in_order name (slot_entries (bytes_at f d))
+pub find_entry-tree_of : (f : Files) (d : ℕ) (name : Bytes) → is_directory_at (tree_of f) d ≡ true → find_entry (tree_of f) d name ≡ find by_name name (slot_entries f.version (bytes_at f d))
+find_entry-tree_of f d name is = ap (find by_name name) (entries_at-tree_of f d is) ∙ find-in_order name (slot_entries f.version (bytes_at f d))
 
-pub length-entries_at : (f : Files) (b d : ℕ) → IsHolding f b → is_directory_at (tree_of f) d ≡ true → length (entries_at (tree_of f) d) ≡ slot_count (bytes_at f d)
+pub length-entries_at : (f : Files) (b d : ℕ) → IsHolding f b → is_directory_at (tree_of f) d ≡ true → length (entries_at (tree_of f) d) ≡ slot_count f.version (bytes_at f d)
 length-entries_at f b d h is =
-    ap length (entries_at-tree_of f d is) ∙ length-in_order (slot_entries (bytes_at f d)) (directory_slotted f b d h is).distinct ∙ length-slot_entries (bytes_at f d)
+    ap length (entries_at-tree_of f d is) ∙ length-in_order (slot_entries f.version (bytes_at f d)) (directory_slotted f b d h is).distinct ∙ length-slot_entries f.version (bytes_at f d)

@@ -6,11 +6,15 @@ use Rattle.pv_inodes.specs.Files.{Contained, Files, IsUsed, bytes_at}
 use Rattle.pv_dirs.specs.Slots.{slot_count, slot_entries, in_order}
 use Rattle.pv_dirs.specs.Trees.{tree_of, IsHolding, bytes_at as bytes_in}
 use Rattle.pv_dirs.proofs.Contents.{IsContent, content, bytes_at-tree_of}
-use Rattle.pv_dirs.proofs.TreeOf.{used_in, directory_used, entries_at-tree_of, length-entries_at}
+use Rattle.pv_dirs.proofs.TreeOf.{used_in, directory_used, entries_at-tree_of, length-entries_at, version-tree_of}
 
 nothing_in : (es : Entries) → length es ≡ 0 → es ≡ []
 nothing_in [] none = refl
 nothing_in (e ∷ es) none = absurd (omega arith)
+
+-- the tree's version is the files' own
+pub viewed_version : (f : Files) (t : Tree) → tree_of f ≡ t → t.version ≡ f.version
+viewed_version f t view = ap (λ (u : Tree). u.version) (sym view) ∙ version-tree_of f
 
 module _ (f : Files) (t : Tree) (n : ℕ) (view : tree_of f ≡ t) where
   pub viewed_used : IsSome (node_at t n) → IsUsed f n
@@ -28,14 +32,14 @@ module _ (f : Files) (t : Tree) (n : ℕ) (view : tree_of f ≡ t) where
   pub viewed_bytes : IsSome (node_at t n) → is_directory_at t n ≡ false → bytes_in t n ≡ bytes_at f n
   viewed_bytes used other = let c = viewed_content used other in ap (λ (u : Tree). bytes_in u n) (sym view) ∙ bytes_at-tree_of f n c.0 c.1
 
-  pub viewed_entries : is_directory_at t n ≡ true → entries_at t n ≡ in_order (slot_entries (bytes_at f n))
+  pub viewed_entries : is_directory_at t n ≡ true → entries_at t n ≡ in_order (slot_entries f.version (bytes_at f n))
   viewed_entries is = ap (λ (u : Tree). entries_at u n) (sym view) ∙ entries_at-tree_of f n (viewed_directory is)
 
-  pub viewed_length : (b : ℕ) → IsHolding f b → is_directory_at t n ≡ true → length (entries_at t n) ≡ slot_count (bytes_at f n)
+  pub viewed_length : (b : ℕ) → IsHolding f b → is_directory_at t n ≡ true → length (entries_at t n) ≡ slot_count f.version (bytes_at f n)
   viewed_length b h is = ap (λ (u : Tree). length (entries_at u n)) (sym view) ∙ length-entries_at f b n h (viewed_directory is)
 
-  pub viewed_empty : (b : ℕ) → IsHolding f b → is_directory_at t n ≡ true → slot_count (bytes_at f n) ≡ 0 → entries_at t n ≡ []
+  pub viewed_empty : (b : ℕ) → IsHolding f b → is_directory_at t n ≡ true → slot_count f.version (bytes_at f n) ≡ 0 → entries_at t n ≡ []
   viewed_empty b h is none = nothing_in (entries_at t n) (viewed_length b h is ∙ none)
 
-  pub viewed_none : (b : ℕ) → IsHolding f b → is_directory_at t n ≡ true → entries_at t n ≡ [] → slot_count (bytes_at f n) ≡ 0
+  pub viewed_none : (b : ℕ) → IsHolding f b → is_directory_at t n ≡ true → entries_at t n ≡ [] → slot_count f.version (bytes_at f n) ≡ 0
   viewed_none b h is none = sym (viewed_length b h is) ∙ ap (λ (es : Entries). length es) none

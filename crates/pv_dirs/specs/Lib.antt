@@ -1,3 +1,4 @@
 pub mod Listing
 pub mod Slots
+pub mod Stored
 pub mod Trees

@@ -5,17 +5,18 @@ use Rattle.std.specs.FinMap.Entries.{find, put}
 use Rattle.std.specs.List.{range_with_len}
 use Rattle.std.specs.Ordering.{nat_cmp}
 use Rattle.byteorder.specs.Endian.{little_number}
-use Rattle.pv_model.specs.declared.version.Version.TheVariants.{V1}
+use Rattle.pv_model.specs.declared.version.Version.{Version}
 use Rattle.pv_model.specs.Bytes.{Bytes}
+use Rattle.pv_model.specs.Room.{entry_length}
 use Rattle.pv_model.specs.Tree.{Entries, is_name}
 
 -- slot k
-unfoldable pub slot_at : Bytes → ℕ → Bytes
-slot_at bytes k = take 64 (drop (64 * k) bytes)
+unfoldable pub slot_at : Version → Bytes → ℕ → Bytes
+slot_at v bytes k = take (entry_length v) (drop (entry_length v * k) bytes)
 
 -- how many slots there are
-abbrev pub slot_count : Bytes → ℕ
-slot_count bytes = length bytes / 64
+abbrev pub slot_count : Version → Bytes → ℕ
+slot_count v bytes = length bytes / entry_length v
 
 -- the number in a slot
 unfoldable pub slot_number : Bytes → ℕ
@@ -26,12 +27,12 @@ unfoldable pub slot_name : Bytes → Bytes
 slot_name slot = take (slice_index slot 2) (drop 4 slot)
 
 -- the entry in slot k
-abbrev pub slot_entry : Bytes → ℕ → Bytes × ℕ
-slot_entry bytes k = (slot_name (slot_at bytes k), slot_number (slot_at bytes k))
+abbrev pub slot_entry : Version → Bytes → ℕ → Bytes × ℕ
+slot_entry v bytes k = (slot_name (slot_at v bytes k), slot_number (slot_at v bytes k))
 
 -- the entries in the order of their slots
-unfoldable pub slot_entries : Bytes → Entries
-slot_entries bytes = map (slot_entry bytes) (range_with_len 0 (slot_count bytes))
+unfoldable pub slot_entries : Version → Bytes → Entries
+slot_entries v bytes = map (slot_entry v bytes) (range_with_len 0 (slot_count v bytes))
 
 -- entries, put one by one into the order of their names
 unfoldable pub in_order : Entries → Entries
@@ -44,8 +45,8 @@ IsDistinct [] = Unit {0}
 IsDistinct (e ∷ es) = (find (slice_cmp nat_cmp) e.0 es ≡ None) × IsDistinct es
 
 -- the bytes are those of a directory: whole slots, each with a name, no name twice
-pub record IsSlotted (bytes : Bytes) : Type 0 where
-  pub whole : length bytes % 64 ≡ 0
-  pub named : (k : ℕ) → k < slot_count bytes → IsTrue (is_name V1 (slot_name (slot_at bytes k)))
-  pub measured : (k : ℕ) → k < slot_count bytes → slice_index (slot_at bytes k) 2 ≡ length (slot_name (slot_at bytes k))
-  pub distinct : IsDistinct (slot_entries bytes)
+pub record IsSlotted (v : Version) (bytes : Bytes) : Type 0 where
+  pub whole : length bytes % entry_length v ≡ 0
+  pub named : (k : ℕ) → k < slot_count v bytes → IsTrue (is_name v (slot_name (slot_at v bytes k)))
+  pub measured : (k : ℕ) → k < slot_count v bytes → slice_index (slot_at v bytes k) 2 ≡ length (slot_name (slot_at v bytes k))
+  pub distinct : IsDistinct (slot_entries v bytes)

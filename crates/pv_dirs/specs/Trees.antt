@@ -2,7 +2,7 @@
 use Rattle.std.specs.Prelude.{◌≡◌, ℕ, ◌*◌, ◌-◌, ◌<◌, suc, true, false, map, length, sum_by, [], ◌∷◌, Option, None, Some, option_map}
 use Rattle.pv_model.specs.declared.sort.Sort.{Sort}
 use Rattle.pv_model.specs.declared.sort.Sort.TheVariants.{Directory, File, Executable, Symlink}
-use Rattle.pv_model.specs.declared.version.Version.TheVariants.{V1}
+use Rattle.pv_model.specs.declared.version.Version.{Version}
 use Rattle.pv_model.specs.Bytes.{Bytes}
 use Rattle.pv_model.specs.Effect.{overwrite, resize}
 use Rattle.pv_model.specs.Numbered.{without_number, present}
@@ -12,24 +12,24 @@ use Rattle.pv_inodes.specs.Files.{Contained, Files, held}
 use Rattle.pv_dirs.specs.Slots.{slot_entries, in_order, IsSlotted}
 
 -- the node that an inode of this sort holds with these bytes
-unfoldable pub node_from : Sort → Bytes → Node
-node_from Directory bytes = directory_node (in_order (slot_entries bytes))
-node_from File bytes = file_node false bytes
-node_from Executable bytes = file_node true bytes
-node_from Symlink bytes = link_node bytes
+unfoldable pub node_from : Version → Sort → Bytes → Node
+node_from v Directory bytes = directory_node (in_order (slot_entries v bytes))
+node_from v File bytes = file_node false bytes
+node_from v Executable bytes = file_node true bytes
+node_from v Symlink bytes = link_node bytes
 
 -- the node that an inode holds
-abbrev pub node_of : Contained → Node
-node_of c = node_from c.sort c.bytes
+abbrev pub node_of : Version → Contained → Node
+node_of v c = node_from v c.sort c.bytes
 
--- the tree of an image of version 1 with these files
+-- the tree of an image with these files
 unfoldable pub tree_of : Files → Tree
-tree_of f = record { nodes = map (option_map node_of) f.nodes; blocks = f.blocks; inodes = length f.nodes - 1; version = V1 }
+tree_of f = record { nodes = map (option_map (node_of f.version)) f.nodes; blocks = f.blocks; inodes = length f.nodes - 1; version = f.version }
 
 -- each directory has the bytes of one, and there are so many data blocks
 pub record IsHolding (f : Files) (blocks : ℕ) : Type 0 where
   pub sized : f.blocks ≡ blocks
-  pub slotted : (n : ℕ) (c : Contained) → held f n ≡ Some c → c.sort ≡ Directory → IsSlotted c.bytes
+  pub slotted : (n : ℕ) (c : Contained) → held f n ≡ Some c → c.sort ≡ Directory → IsSlotted f.version c.bytes
 
 -- what a node is
 abbrev pub sort_of : Node → Sort
@@ -91,4 +91,4 @@ LacksRoom t = t.blocks < total_need t
 
 -- the length of a directory with one entry more
 abbrev pub grown_length : Tree → ℕ → ℕ
-grown_length t d = entry_length V1 * suc (length (entries_at t d))
+grown_length t d = entry_length t.version * suc (length (entries_at t d))

@@ -1,7 +1,6 @@
 //! The directories of an image.
 ghost use Rattle.std.specs.Prelude.{◌≡◌, ◌+◌, ◌-◌, ◌*◌, ◌<◌, ◌≤◌, ◌↔◌, suc, min, false, [], ◌++◌, length, take, drop, replicate, vec_len, All, IsTrue, None, Some, IsSome, IsNone, IfNone, IfSome, OnOk, OnErr, option_map};
 ghost use Rattle.std.specs.Option.{option_copied};
-ghost use Rattle.pv_model.specs.declared.version.Version.TheVariants.{V1};
 ghost use Rattle.pv_model.specs.Calls.Descriptors.{next_name};
 ghost use Rattle.pv_model.specs.Effect.{size_of};
 ghost use Rattle.pv_model.specs.Image.{inode_blocks, greatest_blocks};
@@ -10,13 +9,13 @@ ghost use Rattle.pv_model.specs.Tree.{node_at, entries_at, is_directory_at, find
 ghost use Rattle.pv_dirs.specs.Listing.{IsNextName};
 ghost use Rattle.pv_dirs.specs.Trees.{sort_of, new_node, bytes_at, written, cut, without_node, total_need, LacksRoom, grown_length};
 
-use crate::scan::{count, least_behind, place, slot};
-use crate::slot::{SLOT, Slot};
+use crate::scan::{count, least_behind, place, slot, start};
+use crate::slot::Slot;
 use pv_inodes::{Inodes, Space};
-use pv_model::{Name, Sort};
+use pv_model::{Name, Sort, Version};
 use std::marker::Model;
 
-/// The directories of an image of version 1, over its inodes: a tree by the numbers of its nodes. Nothing
+/// The directories of an image, over its inodes: a tree by the numbers of its nodes. Nothing
 /// here takes memory.
 #[derive(Drop)]
 pub struct Directories {
@@ -38,19 +37,19 @@ impl Model for Directories {
 
 impl Directories {
     /// The tree of an image of so many blocks and inodes over zeros: it has no node, and no root either.
-    pub fn empty(zeros: Vec<u8>, blocks: u16, inodes: u16) -> Directories
+    pub fn empty(zeros: Vec<u8>, blocks: u16, inodes: u16, version: Version) -> Directories
         requires whole { vec_len zeros ≡ 512 * blocks }
         requires zeros { All (λ byte. byte ≡ 0) zeros.items }
         requires some_inodes { 1 ≤ inodes }
         requires few_inodes { inodes ≤ 4096 }
-        requires some_blocks { inode_blocks V1 inodes + 1 ≤ blocks }
-        requires few_blocks { blocks ≤ greatest_blocks V1 }
+        requires some_blocks { inode_blocks version inodes + 1 ≤ blocks }
+        requires few_blocks { blocks ≤ greatest_blocks version }
         ensures nodes { result.nodes ≡ replicate (suc inodes) None }
-        ensures blocks { result.blocks + inode_blocks V1 inodes + 1 ≡ blocks }
+        ensures blocks { result.blocks + inode_blocks version inodes + 1 ≡ blocks }
         ensures inodes { result.inodes ≡ inodes }
-        ensures version { result.version ≡ V1 }
+        ensures version { result.version ≡ version }
     {
-        let inodes = Inodes::empty(zeros, blocks, inodes);
+        let inodes = Inodes::empty(zeros, blocks, inodes, version);
         let block_count = inodes.free();
         Directories {
             inodes,
@@ -71,6 +70,13 @@ impl Directories {
         ensures { result ≡ self.now.blocks }
     {
         self.block_count
+    }
+
+    /// The version of the image's format.
+    pub fn version(&self) -> Version
+        ensures { result ≡ self.now.version }
+    {
+        self.inodes.version()
     }
 
     /// The number of data blocks that no node needs.
@@ -107,7 +113,7 @@ impl Directories {
     pub fn size(&self, inode: u16) -> u32
         requires { IsSome (node_at self.now inode) }
         ensures value { option_map size_of (node_at self.now inode) ≡ Some result }
-        ensures allowed { result ≤ greatest_length V1 }
+        ensures allowed { result ≤ greatest_length self.now.version }
     {
         match self.inodes.kind(inode) {
             Sort::Directory => count(&self.inodes, inode),
@@ -146,16 +152,16 @@ impl Directories {
     /// longer than any may be, else `Full` where data blocks are wanting; then nothing has changed.
     pub fn add(&mut self, directory: u16, name: &[u8], inode: u16) -> Result<(), Space>
         requires directory { IsTrue (is_directory_at self.old directory) }
-        requires name { IsTrue (is_name V1 name.now) }
+        requires name { IsTrue (is_name self.old.version name.now) }
         requires absent { find_entry self.old directory name.now ≡ None }
         ensures ok { OnOk result (self.new ≡ with_entry self.old directory name.now inode) }
         ensures err { OnErr result (self.new ≡ self.old) }
-        ensures too_big { (result ≡ Err Space.TooBig) ↔ (greatest_length V1 < grown_length self.old directory) }
-        ensures full { (result ≡ Err Space.Full) ↔ ((grown_length self.old directory ≤ greatest_length V1) × LacksRoom (with_entry self.old directory name.now inode)) }
+        ensures too_big { (result ≡ Err Space.TooBig) ↔ (greatest_length self.old.version < grown_length self.old directory) }
+        ensures full { (result ≡ Err Space.Full) ↔ ((grown_length self.old directory ≤ greatest_length self.old.version) × LacksRoom (with_entry self.old directory name.now inode)) }
     {
         let end = self.inodes.size(directory);
-        let slot = Slot::new(name, inode);
-        self.inodes.write_at(directory, end, &slot.bytes)
+        let slot = Slot::new(self.inodes.version(), name, inode);
+        self.inodes.write_at(directory, end, slot.as_bytes())
     }
 
     /// Takes away the entry of a directory that has this name.
@@ -169,9 +175,10 @@ impl Directories {
         };
         let last = count(&self.inodes, directory) - 1;
         let moved = slot(&self.inodes, directory, last);
-        self.inodes
-            .overwrite(directory, SLOT as u32 * hole, &moved.bytes);
-        self.inodes.shrink(directory, SLOT as u32 * last);
+        let at = start(&self.inodes, hole);
+        let end = start(&self.inodes, last);
+        self.inodes.overwrite(directory, at, moved.as_bytes());
+        self.inodes.shrink(directory, end);
     }
 
     /// Copies the bytes of a file or a link, from `at` on, to the front of the buffer. The result is how
@@ -193,8 +200,8 @@ impl Directories {
         requires other { is_directory_at self.old inode ≡ false }
         ensures ok { OnOk result (self.new ≡ written self.old inode at bytes.now) }
         ensures err { OnErr result (self.new ≡ self.old) }
-        ensures too_big { (result ≡ Err Space.TooBig) ↔ ((0 < length bytes.now) × (greatest_length V1 < at + length bytes.now)) }
-        ensures full { (result ≡ Err Space.Full) ↔ ((0 < length bytes.now) × (at + length bytes.now ≤ greatest_length V1) × LacksRoom (written self.old inode at bytes.now)) }
+        ensures too_big { (result ≡ Err Space.TooBig) ↔ ((0 < length bytes.now) × (greatest_length self.old.version < at + length bytes.now)) }
+        ensures full { (result ≡ Err Space.Full) ↔ ((0 < length bytes.now) × (at + length bytes.now ≤ greatest_length self.old.version) × LacksRoom (written self.old inode at bytes.now)) }
     {
         self.inodes.write_at(inode, at, bytes)
     }
@@ -207,8 +214,8 @@ impl Directories {
         requires other { is_directory_at self.old inode ≡ false }
         ensures ok { OnOk result (self.new ≡ cut self.old inode size) }
         ensures err { OnErr result (self.new ≡ self.old) }
-        ensures too_big { (result ≡ Err Space.TooBig) ↔ (greatest_length V1 < size) }
-        ensures full { (result ≡ Err Space.Full) ↔ ((size ≤ greatest_length V1) × LacksRoom (cut self.old inode size)) }
+        ensures too_big { (result ≡ Err Space.TooBig) ↔ (greatest_length self.old.version < size) }
+        ensures full { (result ≡ Err Space.Full) ↔ ((size ≤ greatest_length self.old.version) × LacksRoom (cut self.old inode size)) }
     {
         self.inodes.cut(inode, size)
     }
@@ -238,6 +245,7 @@ impl Directories {
 #[cfg(test)]
 mod tests {
     use super::*;
+    use pv_model::is_name;
     use std::alloc::{AllocError, Global};
     use std::process::Abort;
     use std::test::Fail;
@@ -252,7 +260,7 @@ mod tests {
         requires few { count ≤ 8000 }
     {
         let zeros = vec![in alloc; 0; 512 * (count as usize + 2)]?;
-        let mut files = Directories::empty(zeros, count + 2, 16);
+        let mut files = Directories::empty(zeros, count + 2, 16, Version::V1);
         assert_eq!(rt; files.fresh(Sort::Directory), Some(1));
         Ok(files)
     }
@@ -262,11 +270,10 @@ mod tests {
         files.find(1, name)
     }
 
-    fn add(rt: &impl Abort, files: &mut Directories, name: &[u8], inode: u16) -> Result<(), Space>
-        requires { IsTrue (is_name V1 name.now) }
-    {
+    fn add(rt: &impl Abort, files: &mut Directories, name: &[u8], inode: u16) -> Result<(), Space> {
         assert!(rt; files.is_directory(1));
         assert!(rt; files.find(1, name).is_none());
+        assert!(rt; is_name(files.version(), name));
         files.add(1, name, inode)
     }
 
@@ -392,6 +399,72 @@ mod tests {
         files.drop_inode(file);
         assert!(rt; !files.is_used(file));
         assert_eq!(rt; files.free(), 2);
+        Ok(())
+    }
+
+    // The same in an image of version 2, whose inodes stand in two blocks.
+    fn of_version_2(rt: &impl Abort, alloc: Global, count: u16) -> Result<Directories, AllocError>
+        requires some { 1 ≤ count }
+        requires few { count ≤ 8000 }
+    {
+        let zeros = vec![in alloc; 0; 512 * (count as usize + 3)]?;
+        let mut files = Directories::empty(zeros, count + 3, 16, Version::V2);
+        assert_eq!(rt; files.fresh(Sort::Directory), Some(1));
+        Ok(files)
+    }
+
+    // A name of 255 bytes.
+    fn long_name(first: u8) -> [u8; 255] {
+        let mut name = [b'x'; 255];
+        name[0] = first;
+        name
+    }
+
+    #[test]
+    fn slots_stand_across_two_blocks(rt: HostRuntime) -> Result<(), Fail> {
+        let mut files = of_version_2(&rt, rt.alloc(), 6)?;
+        for k in 0..8u8 {
+            assert_eq!(rt;
+                add(&rt, &mut files, &long_name(128 + k), 2 + u16::from(k)),
+                Ok(())
+            );
+        }
+        // Eight names need 2,080 bytes, which are five blocks; the second slot ends in the second.
+        assert_eq!(rt; files.free(), 1);
+        assert_eq!(rt; find(&rt, &files, &long_name(129)), Some(3));
+        remove(&rt, &mut files, &long_name(129));
+        assert_eq!(rt; find(&rt, &files, &long_name(129)), None);
+        // The last one stands in its place now, and is found and listed.
+        assert_eq!(rt; find(&rt, &files, &long_name(135)), Some(9));
+        assert_eq!(rt; files.free(), 2);
+        assert_lists(
+            &rt,
+            &files,
+            &[
+                &long_name(128),
+                &long_name(130),
+                &long_name(131),
+                &long_name(132),
+                &long_name(133),
+                &long_name(134),
+                &long_name(135),
+            ],
+        );
+        Ok(())
+    }
+
+    #[test]
+    fn each_version_has_its_greatest_name(rt: HostRuntime) -> Result<(), Fail> {
+        let mut files = with_data_blocks(&rt, rt.alloc(), 2)?;
+        assert_eq!(rt; add(&rt, &mut files, &[b'a'; 60], 2), Ok(()));
+        assert_eq!(rt; find(&rt, &files, &[b'a'; 60]), Some(2));
+        assert!(rt; !is_name(files.version(), &[b'a'; 61]));
+        let mut files = of_version_2(&rt, rt.alloc(), 2)?;
+        assert_eq!(rt; add(&rt, &mut files, &[b'a'; 60], 2), Ok(()));
+        assert_eq!(rt; add(&rt, &mut files, &[b'a'; 61], 3), Ok(()));
+        assert_eq!(rt; add(&rt, &mut files, &[b'a'; 255], 4), Ok(()));
+        assert_lists(&rt, &files, &[&[b'a'; 60], &[b'a'; 61], &[b'a'; 255]]);
+        assert!(rt; !is_name(files.version(), &[b'a'; 256]));
         Ok(())
     }
 }

@@ -1,11 +1,15 @@
 //! The bytes of a slot.
 ghost use Rattle.std.specs.Prelude.{◌≡◌, ◌≤◌, length, slice_index};
+ghost use Rattle.pv_model.specs.Room.{entry_length};
+ghost use Rattle.pv_model.specs.Tree.{greatest_name};
 ghost use Rattle.pv_dirs.specs.Slots.{slot_name, slot_number};
 
 use byteorder::{ByteOrder, LittleEndian};
+use pv_model::Version;
+use std::marker::Model;
 
-/// Bytes of a slot.
-pub(crate) const SLOT: usize = 64;
+/// Bytes of the longest slot, that of version 2.
+pub(crate) const LONGEST: usize = 260;
 
 // Where a slot has the length of its name.
 const LENGTH: usize = 2;
@@ -14,44 +18,81 @@ const LENGTH: usize = 2;
 const NAME: usize = 4;
 
 /// An entry of a directory as it is stored: the number of an inode in 2 bytes, the length of the name in
-/// one, a byte that is not read, and the name.
+/// one, a byte that is not read, and the name. A contract sees the slot's bytes.
 #[derive(Drop)]
 pub(crate) struct Slot {
-    pub(crate) bytes: [u8; 64],
+    // The bytes, in front of others that are not read.
+    pub(crate) bytes: [u8; LONGEST],
+    // How many they are.
+    pub(crate) length: usize,
+}
+
+impl Model for Slot {
+    ghost use Rattle.std.specs.Prelude.{◌≤◌, take};
+    ghost use Rattle.pv_model.specs.Bytes.{Bytes};
+
+    ghost Value = { Bytes };
+
+    ghost view = { λ s. take s.length s.bytes };
+
+    ghost invariant = { λ s. (4 ≤ s.length) × (s.length ≤ 260) };
+}
+
+// The bytes of an entry, and zeros behind them.
+#[tactic(auto, unfolding(crate::specs::Slots::slot_name, crate::specs::Slots::slot_number))]
+fn spelled(name: &[u8], inode: u16) -> [u8; LONGEST]
+    requires { length name.now ≤ 255 }
+    ensures name { slot_name result ≡ name.now }
+    ensures number { slot_number result ≡ inode }
+    ensures measured { slice_index result 2 ≡ length name.now }
+    ensures whole { length result ≡ 260 }
+{
+    let mut bytes = [0; LONGEST];
+    LittleEndian::write_u16(&mut bytes, inode);
+    bytes[LENGTH] = name.len() as u8;
+    bytes[NAME..NAME + name.len()].copy_from_slice(name);
+    bytes
 }
 
 impl Slot {
     /// The slot of an entry. What the name leaves of it is zeros.
-    #[tactic(auto, unfolding(crate::specs::Slots::slot_name, crate::specs::Slots::slot_number))]
-    pub(crate) fn new(name: &[u8], inode: u16) -> Slot
-        requires { length name.now ≤ 60 }
-        ensures name { slot_name result.bytes ≡ name.now }
-        ensures number { slot_number result.bytes ≡ inode }
-        ensures measured { slice_index result.bytes 2 ≡ length name.now }
-        ensures whole { length result.bytes ≡ 64 }
+    pub(crate) fn new(version: Version, name: &[u8], inode: u16) -> Slot
+        requires { length name.now ≤ greatest_name version }
+        ensures name { slot_name result ≡ name.now }
+        ensures number { slot_number result ≡ inode }
+        ensures measured { slice_index result 2 ≡ length name.now }
+        ensures whole { length result ≡ entry_length version }
     {
-        let mut bytes = [0; SLOT];
-        LittleEndian::write_u16(&mut bytes, inode);
-        bytes[LENGTH] = name.len() as u8;
-        bytes[NAME..NAME + name.len()].copy_from_slice(name);
-        Slot { bytes }
+        Slot {
+            bytes: spelled(name, inode),
+            length: version.layout().slot_length,
+        }
+    }
+
+    /// The bytes of the slot.
+    pub(crate) fn as_bytes(&self) -> &[u8]
+        ensures value { result.now ≡ self.now }
+        ensures long { 4 ≤ length result.now }
+    {
+        &self.bytes[..self.length]
     }
 
     /// The number of the entry's inode.
     #[tactic(auto, unfolding(crate::specs::Slots::slot_number))]
     pub(crate) fn inode(&self) -> u16
-        ensures { result ≡ slot_number self.now.bytes }
+        ensures { result ≡ slot_number self.now }
     {
-        LittleEndian::read_u16(&self.bytes)
+        LittleEndian::read_u16(self.as_bytes())
     }
 
     /// The entry's name.
     #[tactic(auto, unfolding(crate::specs::Slots::slot_name))]
     pub(crate) fn name(&self) -> &[u8]
-        ensures value { result.now ≡ slot_name self.now.bytes }
-        ensures short { length result.now ≤ 60 }
+        ensures value { result.now ≡ slot_name self.now }
+        ensures short { length result.now ≤ 255 }
     {
-        let end = (NAME + self.bytes[LENGTH] as usize).min(SLOT);
-        &self.bytes[NAME..end]
+        let bytes = self.as_bytes();
+        let end = (NAME + bytes[LENGTH] as usize).min(bytes.len());
+        &bytes[NAME..end]
     }
 }

@@ -6,7 +6,7 @@ use Rattle.std.proofs.lemmas.List.{length-take-le, take-append-drop}
 use Rattle.pv_model.specs.Effect.{overwrite, resize}
 use Rattle.pv_model.specs.Numbered.{Numbered, with_number}
 use Rattle.pv_model.specs.Room.{need}
-use Rattle.pv_model.specs.declared.version.Version.TheVariants.{V1}
+use Rattle.pv_model.specs.declared.version.Version.{Version}
 use Rattle.pv_inodes.specs.Files.{Contained, Files, held, IsUsed, bytes_of, bytes_at, room_of, total_room, HasRoom, LacksRoom, replaced, with_bytes, written, cut, without}
 use Rattle.pv_inodes.proofs.Bytes.{length-resize, resize-resize, length-overwrite, overwrite-over, overwrite-overwrite, overwrite-resized, length-overwrite_any}
 use Rattle.pv_inodes.proofs.Contents.{need-mono}
@@ -55,13 +55,20 @@ with_bytes-itself f n used =
     ∙ ap (λ (nodes : Numbered Contained). record f { nodes = nodes }) (with_number-itself f.nodes n found.0 found.1)
 
 -- other bytes need other room
-pub total_room-with_bytes : (f : Files) (n : ℕ) (xs : Bytes) → IsUsed f n → total_room (with_bytes f n xs) + need V1 (length (bytes_at f n)) ≡ total_room f + need V1 (length xs)
+pub total_room-with_bytes : (f : Files) (n : ℕ) (xs : Bytes) → IsUsed f n → total_room (with_bytes f n xs) + need f.version (length (bytes_at f n)) ≡ total_room f + need f.version (length xs)
 total_room-with_bytes f n xs used =
     let found = some_is (held f n) used in
     let after = ap total_room (with_bytes-is f n found.0 xs found.1) in
-    let old : need V1 (length (bytes_at f n)) ≡ room_of found.0 = ap (λ (o : Option Contained). need V1 (length (bytes_of o))) found.1 in
-    let change = sum_by-with_number room_of f.nodes n found.0 (record found.0 { bytes = xs }) found.1 in
+    let old : need f.version (length (bytes_at f n)) ≡ room_of f.version found.0 = ap (λ (o : Option Contained). need f.version (length (bytes_of o))) found.1 in
+    let change = sum_by-with_number (room_of f.version) f.nodes n found.0 (record found.0 { bytes = xs }) found.1 in
     omega (arith, after, old, change)
+
+-- so it is by the needs of the version that is known
+pub total_room-in_version : (f : Files) (n : ℕ) (xs : Bytes) (version : Version) → IsUsed f n → f.version ≡ version → total_room (with_bytes f n xs) + need version (length (bytes_at f n)) ≡ total_room f + need version (length xs)
+total_room-in_version f n xs version used is =
+    let old : need f.version (length (bytes_at f n)) ≡ need version (length (bytes_at f n)) = ap (λ v. need v (length (bytes_at f n))) is in
+    let new : need f.version (length xs) ≡ need version (length xs) = ap (λ v. need v (length xs)) is in
+    omega (arith, total_room-with_bytes f n xs used, old, new)
 
 -- the files so far, in a loop that lengthens a content
 module _ (first now : Files) (n m : ℕ) (used : IsUsed first n) (longer : length (bytes_at first n) ≤ m) (grown : now ≡ with_bytes first n (resize (bytes_at first n) m)) where
@@ -84,9 +91,9 @@ module _ (first now : Files) (n m : ℕ) (used : IsUsed first n) (longer : lengt
 -- a shorter content needs no more room
 pub room-shorter : (f : Files) (n v w : ℕ) → IsUsed f n → v ≤ w → HasRoom (with_bytes f n (resize (bytes_at f n) w)) → HasRoom (with_bytes f n (resize (bytes_at f n) v))
 room-shorter f n v w used shorter room =
-    let long_v : need V1 (length (resize (bytes_at f n) v)) ≡ need V1 v = ap (need V1) (length-resize (bytes_at f n) v) in
-    let long_w : need V1 (length (resize (bytes_at f n) w)) ≡ need V1 w = ap (need V1) (length-resize (bytes_at f n) w) in
-    omega (arith, total_room-with_bytes f n (resize (bytes_at f n) v) used, total_room-with_bytes f n (resize (bytes_at f n) w) used, blocks-with_bytes f n (resize (bytes_at f n) v) used, blocks-with_bytes f n (resize (bytes_at f n) w) used, need-mono v w shorter, long_v, long_w, room)
+    let long_v : need f.version (length (resize (bytes_at f n) v)) ≡ need f.version v = ap (need f.version) (length-resize (bytes_at f n) v) in
+    let long_w : need f.version (length (resize (bytes_at f n) w)) ≡ need f.version w = ap (need f.version) (length-resize (bytes_at f n) w) in
+    omega (arith, total_room-with_bytes f n (resize (bytes_at f n) v) used, total_room-with_bytes f n (resize (bytes_at f n) w) used, blocks-with_bytes f n (resize (bytes_at f n) v) used, blocks-with_bytes f n (resize (bytes_at f n) w) used, need-mono f.version v w shorter, long_v, long_w, room)
 
 -- the files so far, in a loop that writes over a part of a content
 module _ (first now : Files) (n at m : ℕ) (bytes : Bytes) (used : IsUsed first n) (within : m ≤ length bytes) (fits : at + length bytes ≤ length (bytes_at first n)) (written : now ≡ with_bytes first n (overwrite (bytes_at first n) at (take m bytes))) where
@@ -119,7 +126,7 @@ written-some f n at (b ∷ bytes) some = refl
 -- contents of one length need one room
 pub total_room-same : (f : Files) (n : ℕ) (xs ys : Bytes) → IsUsed f n → length xs ≡ length ys → total_room (with_bytes f n xs) ≡ total_room (with_bytes f n ys)
 total_room-same f n xs ys used same =
-    omega (arith, total_room-with_bytes f n xs used, total_room-with_bytes f n ys used, ap (need V1) same)
+    omega (arith, total_room-with_bytes f n xs used, total_room-with_bytes f n ys used, ap (need f.version) same)
 
 -- a write asks for the room of the content that is lengthened first
 pub lacks_room-written : (f : Files) (n at size : ℕ) (bytes : Bytes) → IsUsed f n → 0 < length bytes → size ≡ max (length (bytes_at f n)) (at + length bytes) → LacksRoom (cut f n size) → LacksRoom (written f n at bytes)
@@ -150,3 +157,14 @@ without-with_bytes f n xs used =
     let found = some_is (held f n) used in
     ap (λ (g : Files). without g n) (with_bytes-is f n found.0 xs found.1)
     ∙ ap (λ (nodes : Numbered Contained). record f { nodes = nodes }) (without_number-with_number f.nodes n found.0 (record found.0 { bytes = xs }) found.1)
+
+-- the files that have other bytes in an inode
+module _ (f g : Files) (n : ℕ) (xs : Bytes) (used : IsUsed f n) (left : g ≡ with_bytes f n xs) where
+  pub used-left : IsUsed g n
+  used-left = rw left (used-with_bytes f n xs used)
+
+  pub bytes_at-left : bytes_at g n ≡ xs
+  bytes_at-left = ap (λ (h : Files). bytes_at h n) left ∙ bytes_at-with_bytes f n xs used
+
+  pub without-left : without g n ≡ without f n
+  without-left = ap (λ (h : Files). without h n) left ∙ without-with_bytes f n xs used

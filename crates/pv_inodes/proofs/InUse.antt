@@ -1,51 +1,47 @@
 -- What is known of an inode that is in use, and of the room that is left.
-use Rattle.std.proofs.Common.{◌≡◌, ℕ, suc, ◌+◌, ◌-◌, ◌/◌, ◌%◌, ◌<◌, ◌≤◌, length, Option, Some, option_map, sym, ap, subst, ◌∙◌, inl, inr, arith}
+use Rattle.std.proofs.Common.{◌≡◌, ℕ, suc, ◌+◌, ◌-◌, ◌/◌, ◌%◌, ◌^◌, ◌<◌, ◌≤◌, ◌≢◌, length, Option, Some, option_map, sym, ap, subst, ◌∙◌, inl, inr, arith}
 use Rattle.std.proofs.lemmas.Bool.{cases_lt}
-use Rattle.pv_model.specs.Room.{need}
-use Rattle.pv_model.specs.declared.version.Version.TheVariants.{V1}
+use Rattle.pv_model.specs.Room.{greatest_length}
+use Rattle.pv_model.specs.declared.version.Version.{Version}
 use Rattle.pv_blocks.specs.BlockStore.{BlockStore, free_count}
 use Rattle.pv_inodes.specs.Files.{Contained, Files, sort_of, IsUsed, bytes_at, sort_at, total_room}
-use Rattle.pv_inodes.specs.Layout.{home, kind_at, size_at, direct_at, owned_at, owned_count, content_at, place_of}
+use Rattle.pv_inodes.specs.Layout.{home, kind_at, size_at, pointer_at, owned_at, owned_count, content_at, most_owned, behind_index, pointer_of, wanted, place_of}
 use Rattle.pv_inodes.specs.Owning.{sum_over, count_set}
 use Rattle.pv_inodes.specs.Sound.{IsSound, files_of}
-use Rattle.pv_inodes.proofs.Becoming.{used_slot, held-used, bytes_at-files_of, total_room-files_of, blocks-files_of}
-use Rattle.pv_inodes.proofs.Contents.{length-content_at, owned_count-used, need-direct, need-indexed, place_of-needed}
-use Rattle.pv_inodes.proofs.Heads.{home-below, owned_at-direct}
+use Rattle.pv_inodes.proofs.Becoming.{used_slot, held-used, bytes_at-files_of, total_room-files_of, blocks-files_of, version-files_of}
+use Rattle.pv_inodes.proofs.Contents.{length-content_at, owned_count-used, place_of-needed}
+use Rattle.pv_inodes.proofs.Heads.{index-is}
+use Rattle.pv_inodes.proofs.Layouts.{home-below, index_of}
 
 -- inode n is in use, and has slot s
-pub record InUse (st : BlockStore) (inodes : ℕ) (f : Files) (n s : ℕ) : Type 0 where
+pub record InUse (version : Version) (st : BlockStore) (inodes : ℕ) (f : Files) (n s : ℕ) : Type 0 where
   pub number : n ≡ suc s
   pub below : s < inodes
-  pub used : 0 < kind_at st.blocks s
-  pub home_first : home s < st.first
-  pub home_within : home s < length st.blocks
-  pub content : content_at st.blocks s ≡ bytes_at f n
-  pub size : size_at st.blocks s ≡ length (bytes_at f n)
-  pub allowed : size_at st.blocks s ≤ 136192
-  pub count : owned_count st.blocks s ≡ need V1 (size_at st.blocks s)
-  pub few : owned_count st.blocks s ≤ 267
-  pub owned_within : (i : ℕ) → i < owned_count st.blocks s → owned_at st.blocks s i < length st.blocks
-  pub index_within : 10 < owned_count st.blocks s → direct_at st.blocks s 10 < length st.blocks
-  pub files : f ≡ files_of st inodes
+  pub used : 0 < kind_at version st.blocks s
+  pub home_first : home version s < st.first
+  pub home_within : home version s < length st.blocks
+  pub content : content_at version st.blocks s ≡ bytes_at f n
+  pub size : size_at version st.blocks s ≡ length (bytes_at f n)
+  pub allowed : size_at version st.blocks s ≤ greatest_length version
+  pub count : owned_count version st.blocks s ≡ wanted (size_at version st.blocks s)
+  pub few : owned_count version st.blocks s ≤ most_owned version
+  pub owned_within : (i : ℕ) → i < owned_count version st.blocks s → owned_at version st.blocks s i < length st.blocks
+  pub index_within : (i : ℕ) → i < owned_count version st.blocks s → pointer_at version st.blocks s (pointer_of i) < length st.blocks
+  pub next_within : (i : ℕ) → i ≡ owned_count version st.blocks s → behind_index i ≢ 0 → pointer_at version st.blocks s (pointer_of i) < length st.blocks
+  pub files : f ≡ files_of version st inodes
+  pub same_version : f.version ≡ version
 
--- no content needs more than 267 blocks
-pub need-most : (n : ℕ) → n ≤ 136192 → need V1 n ≤ 267
-need-most n le = elim (cases_lt 10 ((n + 511) / 512)) [
-  | inl many ↦ omega (arith, need-indexed n many)
-  | inr few ↦ omega (arith, need-direct n few)
-]
-
-pub in_use : (st : BlockStore) (inodes : ℕ) (f : Files) (n s : ℕ) → IsSound st inodes → files_of st inodes ≡ f → IsUsed f n → s + 1 ≡ n → InUse st inodes f n s
-in_use st inodes f n s sound view is_used slot =
-    let found = used_slot st inodes n (subst (λ (g : Files). IsUsed g n) (sym view) is_used) in
+pub in_use : (version : Version) (st : BlockStore) (inodes : ℕ) (f : Files) (n s : ℕ) → IsSound version st inodes → files_of version st inodes ≡ f → IsUsed f n → s + 1 ≡ n → InUse version st inodes f n s
+in_use version st inodes f n s sound view is_used slot =
+    let found = used_slot version st inodes n (subst (λ (g : Files). IsUsed g n) (sym view) is_used) in
     let same : n - 1 ≡ s = omega arith in
     let number : n ≡ suc s = omega arith in
     let below : s < inodes = omega (arith, found.below) in
-    let used : 0 < kind_at st.blocks s = rw same at found.used in
-    let content : content_at st.blocks s ≡ bytes_at f n = sym (bytes_at-files_of st inodes s below used) ∙ ap (λ m. bytes_at (files_of st inodes) m) (sym number) ∙ ap (λ (g : Files). bytes_at g n) view in
-    let first : home s < st.first = omega (arith, home-below inodes s below, sound.shape.first) in
+    let used : 0 < kind_at version st.blocks s = rw same at found.used in
+    let content : content_at version st.blocks s ≡ bytes_at f n = sym (bytes_at-files_of version st inodes s below used) ∙ ap (λ m. bytes_at (files_of version st inodes) m) (sym number) ∙ ap (λ (g : Files). bytes_at g n) view in
+    let first : home version s < st.first = omega (arith, home-below version inodes s below, sound.shape.first) in
     let allowed = sound.sizes s below used in
-    let count = owned_count-used st.blocks s used in
+    let count = owned_count-used version st.blocks s used in
     record {
       number = number;
       below = below;
@@ -53,38 +49,40 @@ in_use st inodes f n s sound view is_used slot =
       home_first = first;
       home_within = omega (arith, sound.shape.first_within);
       content = content;
-      size = sym (length-content_at st.blocks s) ∙ ap length content;
+      size = sym (length-content_at version st.blocks s) ∙ ap length content;
       allowed = allowed;
       count = count;
-      few = omega (arith, need-most (size_at st.blocks s) allowed);
+      few = sound.owning.few s below;
       owned_within = λ i in_range. sound.owning.within s i below in_range;
-      index_within = λ behind. rw (owned_at-direct st.blocks s 10 (omega arith)) at (sound.owning.within s 10 below behind);
+      index_within = λ i in_range. rw (index-is version st.blocks s i) (sound.owning.within s (index_of i) below (omega arith));
+      next_within = λ i is behind. rw (index-is version st.blocks s i) (sound.owning.within s (index_of i) below (omega arith));
       files = sym view;
+      same_version = ap (λ (g : Files). g.version) (sym view) ∙ version-files_of version st inodes;
     }
 
 -- the free blocks are the data blocks that no content needs
-pub free_left : (st : BlockStore) (inodes : ℕ) (f : Files) → IsSound st inodes → files_of st inodes ≡ f → free_count st + total_room f ≡ f.blocks
+pub free_left : (version : Version) (st : BlockStore) (inodes : ℕ) (f : Files) → IsSound version st inodes → files_of version st inodes ≡ f → free_count st + total_room f ≡ f.blocks
 unfolding count_set
-free_left st inodes f sound view =
+free_left version st inodes f sound view =
     let counted = sound.owning.counted in
-    let room : total_room f ≡ sum_over inodes (owned_count st.blocks) = ap total_room (sym view) ∙ total_room-files_of st inodes in
-    let blocks : f.blocks ≡ length st.blocks - st.first = ap (λ (g : Files). g.blocks) (sym view) ∙ blocks-files_of st inodes in
+    let room : total_room f ≡ sum_over inodes (owned_count version st.blocks) = ap total_room (sym view) ∙ total_room-files_of version st inodes sound in
+    let blocks : f.blocks ≡ length st.blocks - st.first = ap (λ (g : Files). g.blocks) (sym view) ∙ blocks-files_of version st inodes in
     omega (arith, counted, room, blocks, sound.shape.first_within)
 
-pub sort_in_use : (st : BlockStore) (inodes : ℕ) (f : Files) (n s : ℕ) → InUse st inodes f n s → sort_at f n ≡ Some (sort_of (kind_at st.blocks s))
-sort_in_use st inodes f n s known =
+pub sort_in_use : (version : Version) (st : BlockStore) (inodes : ℕ) (f : Files) (n s : ℕ) → InUse version st inodes f n s → sort_at f n ≡ Some (sort_of (kind_at version st.blocks s))
+sort_in_use version st inodes f n s known =
     ap (λ (g : Files). sort_at g n) known.files
-    ∙ ap (λ m. sort_at (files_of st inodes) m) known.number
-    ∙ ap (λ (o : Option Contained). option_map (λ c. c.sort) o) (held-used st inodes s known.below known.used)
+    ∙ ap (λ m. sort_at (files_of version st inodes) m) known.number
+    ∙ ap (λ (o : Option Contained). option_map (λ c. c.sort) o) (held-used version st inodes s known.below known.used)
 
 -- a byte of the content lies in a block that the inode owns
-pub place_in_use : (st : BlockStore) (inodes : ℕ) (f : Files) (n s : ℕ) → InUse st inodes f n s → (x : ℕ) → x < length (bytes_at f n) → place_of (x / 512) < owned_count st.blocks s
-place_in_use st inodes f n s known x within =
-    let in_size : x < size_at st.blocks s = omega (arith, known.size) in
-    rw known.count (place_of-needed (size_at st.blocks s) x in_size)
+pub place_in_use : (version : Version) (st : BlockStore) (inodes : ℕ) (f : Files) (n s : ℕ) → InUse version st inodes f n s → (x : ℕ) → x < length (bytes_at f n) → place_of (x / 512) < owned_count version st.blocks s
+place_in_use version st inodes f n s known x within =
+    let in_size : x < size_at version st.blocks s = omega (arith, known.size) in
+    rw known.count (place_of-needed (size_at version st.blocks s) x in_size)
 
 -- so does the end of a content that does not fill its last block
-pub end_in_use : (st : BlockStore) (inodes : ℕ) (f : Files) (n s : ℕ) → InUse st inodes f n s → 0 < size_at st.blocks s % 512 → place_of (size_at st.blocks s / 512) < owned_count st.blocks s
-end_in_use st inodes f n s known partly =
-    let last : (size_at st.blocks s - 1) / 512 ≡ size_at st.blocks s / 512 = omega arith in
-    rw last at (place_in_use st inodes f n s known (size_at st.blocks s - 1) (omega (arith, known.size)))
+pub end_in_use : (version : Version) (st : BlockStore) (inodes : ℕ) (f : Files) (n s : ℕ) → InUse version st inodes f n s → 0 < size_at version st.blocks s % 512 → place_of (size_at version st.blocks s / 512) < owned_count version st.blocks s
+end_in_use version st inodes f n s known partly =
+    let last : (size_at version st.blocks s - 1) / 512 ≡ size_at version st.blocks s / 512 = omega arith in
+    rw last at (place_in_use version st inodes f n s known (size_at version st.blocks s - 1) (omega (arith, known.size)))

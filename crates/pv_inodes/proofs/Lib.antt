@@ -6,6 +6,7 @@ pub mod Emptiness
 pub mod Growth
 pub mod Heads
 pub mod InUse
+pub mod Layouts
 pub mod Leaving
 pub mod Making
 pub mod Numbers

@@ -42,15 +42,6 @@ module _ {X : Type 0} where
     sum_by-with_number (Some x ∷ xs) (suc n) old new there =
         omega (arith, sum_by-cons f x (present xs), sum_by-cons f x (present (with_number xs n new)), sum_by-with_number xs n old new there)
 
-    -- with one more
-    pub sum_by-with_new_number : (xs : Numbered X) (n : ℕ) (new : X) → n < length xs → at_number xs n ≡ None → sum_by f (present (with_number xs n new)) ≡ sum_by f (present xs) + f new
-    sum_by-with_new_number [] n new within free = absurd (omega arith)
-    sum_by-with_new_number (None ∷ xs) zero new within free = omega (arith, sum_by-cons f new (present xs))
-    sum_by-with_new_number (Some x ∷ xs) zero new within free = cc
-    sum_by-with_new_number (None ∷ xs) (suc n) new within free = sum_by-with_new_number xs n new (omega arith) free
-    sum_by-with_new_number (Some x ∷ xs) (suc n) new within free =
-        omega (arith, sum_by-cons f x (present xs), sum_by-cons f x (present (with_number xs n new)), sum_by-with_new_number xs n new (omega arith) free)
-
   -- the least free number
   pub least_free_is : (xs : Numbered X) (n : ℕ) → n < length xs → at_number xs n ≡ None → ((k : ℕ) → k < n → at_number xs k ≢ None) → least_free xs ≡ n
   least_free_is [] n within free below = absurd (omega arith)

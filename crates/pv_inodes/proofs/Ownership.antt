@@ -52,13 +52,14 @@ sum_over-changed inodes count s n below =
     let all = sum_by-range_changed (changed count s n) count 0 inodes s (omega arith) (omega arith) (λ t differs. changed-other count s n t differs) in
     omega (arith, all, here)
 
-module _ (inodes first total : ℕ) (free : List Bool) (count count' : ℕ → ℕ) (owned owned' : ℕ → ℕ → ℕ) where
+module _ (inodes most first total : ℕ) (free : List Bool) (count count' : ℕ → ℕ) (owned owned' : ℕ → ℕ → ℕ) where
   -- the same blocks are owned
-  pub owning-same : IsOwning inodes first total free count owned → ((t : ℕ) → t < inodes → count' t ≡ count t) → ((t i : ℕ) → t < inodes → i < count t → owned' t i ≡ owned t i) → IsOwning inodes first total free count' owned'
+  pub owning-same : IsOwning inodes most first total free count owned → ((t : ℕ) → t < inodes → count' t ≡ count t) → ((t i : ℕ) → t < inodes → i < count t → owned' t i ≡ owned t i) → IsOwning inodes most first total free count' owned'
   owning-same old same_count same_owned =
       let within_old : (t i : ℕ) → t < inodes → i < count' t → i < count t = λ t i below within. omega (arith, same_count t below) in
       let is : (t i : ℕ) → t < inodes → i < count' t → owned' t i ≡ owned t i = λ t i below within. same_owned t i below (within_old t i below within) in
       record {
+        few = λ t below. omega (arith, same_count t below, old.few t below);
         from = λ t i below within. rw (is t i below within) (old.from t i below (within_old t i below within));
         within = λ t i below within. rw (is t i below within) (old.within t i below (within_old t i below within));
         taken = λ t i below within. rw (is t i below within) (old.taken t i below (within_old t i below within));
@@ -66,12 +67,12 @@ module _ (inodes first total : ℕ) (free : List Bool) (count count' : ℕ → �
         counted = omega (arith, old.counted, sum_over-same inodes count' count same_count);
       }
 
-module _ (inodes first total : ℕ) (free : List Bool) (count : ℕ → ℕ) (owned : ℕ → ℕ → ℕ) (old : IsOwning inodes first total free count owned) (long : length free ≡ total) where
+module _ (inodes most first total : ℕ) (free : List Bool) (count : ℕ → ℕ) (owned : ℕ → ℕ → ℕ) (old : IsOwning inodes most first total free count owned) (long : length free ≡ total) where
   -- a free block is not owned
   pub free_unowned : (k : ℕ) → get_or free k true ≡ true → (t i : ℕ) → t < inodes → i < count t → owned t i ≢ k
   free_unowned k is_free t i below within same = false≢true (sym (old.taken t i below within) ∙ ap (λ y. get_or free y true) same ∙ is_free)
 
-  module _ (s : ℕ) (below : s < inodes) (k : ℕ) (is_free : (d : Bool) → get_or free k d ≡ true) (from : first ≤ k) (within : k < total) (owned' : ℕ → ℕ → ℕ) (same : (t i : ℕ) → t < inodes → i < count t → owned' t i ≡ owned t i) (here : owned' s (count s) ≡ k) where
+  module _ (s : ℕ) (below : s < inodes) (room : count s < most) (k : ℕ) (is_free : (d : Bool) → get_or free k d ≡ true) (from : first ≤ k) (within : k < total) (owned' : ℕ → ℕ → ℕ) (same : (t i : ℕ) → t < inodes → i < count t → owned' t i ≡ owned t i) (here : owned' s (count s) ≡ k) where
     -- a block that is owned now is the one that was taken, or was owned before
     new_or_old : (t i : ℕ) → i < changed count s (suc (count s)) t → ((t ≡ s) × (i ≡ count s)) ⊎ (i < count t)
     new_or_old t i in_range = elim (cases_eq t s) [
@@ -98,8 +99,12 @@ module _ (inodes first total : ℕ) (free : List Bool) (count : ℕ → ℕ) (ow
         omega (arith, old.counted, fewer, more)
 
     -- inode s takes a free block
-    pub owning-take : IsOwning inodes first total (set free k false) (changed count s (suc (count s))) owned'
+    pub owning-take : IsOwning inodes most first total (set free k false) (changed count s (suc (count s))) owned'
     owning-take = record {
+      few = λ t below_t. elim (cases_eq t s) [
+        | inl equal ↦ rw (equal, changed-same count s (suc (count s))) room
+        | inr differs ↦ rw (changed-other count s (suc (count s)) t differs) (old.few t below_t)
+      ];
       from = λ t i below_t in_range. elim (new_or_old t i in_range) [
         | inl new ↦ rw (new_is t i new) from
         | inr before ↦ rw (same t i below_t before) (old.from t i below_t before)
@@ -151,8 +156,14 @@ module _ (inodes first total : ℕ) (free : List Bool) (count : ℕ → ℕ) (ow
         omega (arith, old.counted, fewer, more)
 
     -- inode s gives back the last block that it owns
-    pub owning-give : IsOwning inodes first total (set free (owned s n) true) (changed count s n) owned
+    pub owning-give : IsOwning inodes most first total (set free (owned s n) true) (changed count s n) owned
     owning-give = record {
+      few = λ t below_t. elim (cases_eq t s) [
+        | inl equal ↦
+            let most_s = old.few s below in
+            rw (equal, changed-same count s n) (omega arith)
+        | inr differs ↦ rw (changed-other count s n t differs) (old.few t below_t)
+      ];
       from = λ t i below_t in_range. old.from t i below_t (still t i in_range).0;
       within = λ t i below_t in_range. old.within t i below_t (still t i in_range).0;
       taken = λ t i below_t in_range. get_or-set_other free (owned s n) (owned t i) true true (not_given t i below_t in_range) ∙ old.taken t i below_t (still t i in_range).0;

@@ -5,32 +5,33 @@ use Rattle.std.proofs.lemmas.List.{get_or-take, get_or-drop, length-take-le, len
 use Rattle.std.proofs.Math.Seq.{take-add}
 use borrow.Rule.Slice.PartMut.{put_mid}
 use Rattle.std.proofs.lemmas.List.FromFn.{length-map-range_with_len}
+use Rattle.pv_model.specs.declared.version.Version.{Version}
 use Rattle.pv_model.specs.Bytes.{Bytes}
 use Rattle.pv_model.specs.Effect.{resize}
 use Rattle.pv_model.specs.Numbered.{Numbered, least_free}
-use Rattle.pv_model.specs.Room.{need}
-use Rattle.pv_model.specs.declared.version.Version.TheVariants.{V1}
+use Rattle.pv_model.specs.Room.{greatest_length}
 use Rattle.pv_blocks.specs.BlockStore.{BlockStore, free_count}
 use Rattle.pv_inodes.specs.Files.{Contained, Files, IsUsed, bytes_at, total_room, HasRoom, LacksRoom, cut, new_number}
-use Rattle.pv_inodes.specs.Layout.{block_at, kind_at, owned_at, place_of, content_byte, node_at, nodes_in}
+use Rattle.pv_inodes.specs.Layout.{block_at, kind_at, owned_at, wanted, place_of, content_byte, node_at, nodes_in}
 use Rattle.pv_inodes.specs.Sound.{IsSound, files_of}
 use Rattle.pv_inodes.proofs.Becoming.{nodes-files_of, held-used}
 use Rattle.pv_inodes.proofs.Bytes.{same_bytes, length-resize}
 use Rattle.pv_inodes.proofs.Contents.{get_or-content_at, node_at-free, node_at-used, at_number-nodes_in, length-nodes_in}
-use Rattle.pv_inodes.proofs.Edits.{total_room-with_bytes, blocks-with_bytes}
+use Rattle.pv_inodes.proofs.Edits.{total_room-in_version, blocks-with_bytes}
 use Rattle.pv_inodes.proofs.InUse.{InUse, free_left, place_in_use}
+use Rattle.pv_inodes.proofs.Layouts.{need-wanted}
 use Rattle.pv_inodes.proofs.Numbers.{least_free_is, least_free_none}
 
 -- an inode with a kind is in use
-pub used_from : (st : BlockStore) (inodes s : ℕ) → s < inodes → kind_at st.blocks s ≢ 0 → IsUsed (files_of st inodes) (suc s)
-used_from st inodes s below some = ap is_some (held-used st inodes s below (omega arith))
+pub used_from : (version : Version) (st : BlockStore) (inodes s : ℕ) → s < inodes → kind_at version st.blocks s ≢ 0 → IsUsed (files_of version st inodes) (suc s)
+used_from version st inodes s below some = ap is_some (held-used version st inodes s below (omega arith))
 
 -- a part of the content, from the block in which it lies
-module _ (st : BlockStore) (inodes : ℕ) (f : Files) (n s k start count : ℕ) (sound : IsSound st inodes) (known : InUse st inodes f n s) (owned : k ≡ owned_at st.blocks s (place_of (start / 512))) (some : 0 < count) (fits : start % 512 + count ≤ 512) (within : start + count ≤ length (bytes_at f n)) where
+module _ (version : Version) (st : BlockStore) (inodes : ℕ) (f : Files) (n s k start count : ℕ) (sound : IsSound version st inodes) (known : InUse version st inodes f n s) (owned : k ≡ owned_at version st.blocks s (place_of (start / 512))) (some : 0 < count) (fits : start % 512 + count ≤ 512) (within : start + count ≤ length (bytes_at f n)) where
   block_whole : length (block_at st.blocks k) ≡ 512
   block_whole =
-      let range = place_in_use st inodes f n s known start (omega arith) in
-      rw owned (sound.shape.whole (owned_at st.blocks s (place_of (start / 512))) (known.owned_within (place_of (start / 512)) range))
+      let range = place_in_use version st inodes f n s known start (omega arith) in
+      rw owned (sound.shape.whole (owned_at version st.blocks s (place_of (start / 512))) (known.owned_within (place_of (start / 512)) range))
 
   byte_read : (i : ℕ) → i < count → get_or (bytes_at f n) (start + i) 0 ≡ get_or (block_at st.blocks k) (start % 512 + i) 0
   unfolding content_byte
@@ -38,7 +39,7 @@ module _ (st : BlockStore) (inodes : ℕ) (f : Files) (n s k start count : ℕ) 
       let block : (start + i) / 512 ≡ start / 512 = omega arith in
       let place : (start + i) % 512 ≡ start % 512 + i = omega arith in
       ap (λ (xs : Bytes). get_or xs (start + i) 0) (sym known.content)
-      ∙ get_or-content_at st.blocks s (start + i) (omega (arith, known.size))
+      ∙ get_or-content_at version st.blocks s (start + i) (omega (arith, known.size))
       ∙ rw (block, place, ← owned) refl
 
   pub part_read : take count (drop (start % 512) (block_at st.blocks k)) ≡ take count (drop start (bytes_at f n))
@@ -53,42 +54,45 @@ module _ (st : BlockStore) (inodes : ℕ) (f : Files) (n s k start count : ℕ) 
       ∙ sym (get_or-take count (drop start (bytes_at f n)) i 0 less ∙ get_or-drop start (bytes_at f n) i 0 ∙ byte_read i less))
 
 -- what a test of the room says
-module _ (st : BlockStore) (inodes : ℕ) (f : Files) (n s size : ℕ) (sound : IsSound st inodes) (view : files_of st inodes ≡ f) (used : IsUsed f n) (known : InUse st inodes f n s) where
-  room_after : total_room (cut f n size) + need V1 (length (bytes_at f n)) ≡ total_room f + need V1 size
-  room_after = rw (length-resize (bytes_at f n) size) at (total_room-with_bytes f n (resize (bytes_at f n) size) used)
+module _ (version : Version) (st : BlockStore) (inodes : ℕ) (f : Files) (n s size : ℕ) (sound : IsSound version st inodes) (view : files_of version st inodes ≡ f) (used : IsUsed f n) (known : InUse version st inodes f n s) (allowed : size ≤ greatest_length version) where
+  room_after : total_room (cut f n size) + wanted (length (bytes_at f n)) ≡ total_room f + wanted size
+  room_after =
+      let change = rw (length-resize (bytes_at f n) size) at (total_room-in_version f n (resize (bytes_at f n) size) version used known.same_version) in
+      let old = need-wanted version (length (bytes_at f n)) (rw known.size at known.allowed) in
+      omega (arith, change, old, need-wanted version size allowed)
 
-  pub has_room_if : need V1 size - need V1 (length (bytes_at f n)) ≤ free_count st → HasRoom (cut f n size)
+  pub has_room_if : wanted size - wanted (length (bytes_at f n)) ≤ free_count st → HasRoom (cut f n size)
   has_room_if enough =
-      omega (arith, room_after, free_left st inodes f sound view, blocks-with_bytes f n (resize (bytes_at f n) size) used)
+      omega (arith, room_after, free_left version st inodes f sound view, blocks-with_bytes f n (resize (bytes_at f n) size) used)
 
-  pub lacks_room_if : free_count st < need V1 size - need V1 (length (bytes_at f n)) → LacksRoom (cut f n size)
+  pub lacks_room_if : free_count st < wanted size - wanted (length (bytes_at f n)) → LacksRoom (cut f n size)
   lacks_room_if wanting =
-      omega (arith, room_after, free_left st inodes f sound view, blocks-with_bytes f n (resize (bytes_at f n) size) used)
+      omega (arith, room_after, free_left version st inodes f sound view, blocks-with_bytes f n (resize (bytes_at f n) size) used)
 
 -- the number that a new inode gets
-pub node_none : (bs : List Bytes) (s : ℕ) → node_at bs s ≡ None → kind_at bs s ≡ 0
-node_none bs s none = elim (cases_eq (kind_at bs s) 0) [
+pub node_none : (version : Version) (bs : List Bytes) (s : ℕ) → node_at version bs s ≡ None → kind_at version bs s ≡ 0
+node_none version bs s none = elim (cases_eq (kind_at version bs s) 0) [
   | inl free ↦ free
-  | inr used ↦ absurd (false≢true (ap is_some (sym none ∙ node_at-used bs s (omega arith))))
+  | inr used ↦ absurd (false≢true (ap is_some (sym none ∙ node_at-used version bs s (omega arith))))
 ]
 
-pub new_number-found : (st : BlockStore) (inodes s : ℕ) → s < inodes → kind_at st.blocks s ≡ 0 → ((t : ℕ) → t < s → kind_at st.blocks t ≢ 0) → new_number (files_of st inodes) ≡ suc s
+pub new_number-found : (version : Version) (st : BlockStore) (inodes s : ℕ) → s < inodes → kind_at version st.blocks s ≡ 0 → ((t : ℕ) → t < s → kind_at version st.blocks t ≢ 0) → new_number (files_of version st inodes) ≡ suc s
 unfolding nodes_in
-new_number-found st inodes s below free used =
-    ap (λ (nodes : Numbered Contained). suc (least_free (drop 1 nodes))) (nodes-files_of st inodes)
-    ∙ ap suc (least_free_is (drop 1 (nodes_in st.blocks inodes)) s (rw (length-map-range_with_len (node_at st.blocks) 0 inodes) below) (at_number-nodes_in st.blocks inodes s below ∙ node_at-free st.blocks s free)
-    (λ t less none. used t less (node_none st.blocks t (sym (at_number-nodes_in st.blocks inodes t (omega arith)) ∙ none))))
+new_number-found version st inodes s below free used =
+    ap (λ (nodes : Numbered Contained). suc (least_free (drop 1 nodes))) (nodes-files_of version st inodes)
+    ∙ ap suc (least_free_is (drop 1 (nodes_in version st.blocks inodes)) s (rw (length-map-range_with_len (node_at version st.blocks) 0 inodes) below) (at_number-nodes_in version st.blocks inodes s below ∙ node_at-free version st.blocks s free)
+    (λ t less none. used t less (node_none version st.blocks t (sym (at_number-nodes_in version st.blocks inodes t (omega arith)) ∙ none))))
 
-pub new_number-none : (st : BlockStore) (inodes : ℕ) → ((t : ℕ) → t < inodes → kind_at st.blocks t ≢ 0) → new_number (files_of st inodes) ≡ length (files_of st inodes).nodes
+pub new_number-none : (version : Version) (st : BlockStore) (inodes : ℕ) → ((t : ℕ) → t < inodes → kind_at version st.blocks t ≢ 0) → new_number (files_of version st inodes) ≡ length (files_of version st inodes).nodes
 unfolding nodes_in
-new_number-none st inodes used =
-    let long = length-map-range_with_len (node_at st.blocks) 0 inodes in
-    ap (λ (nodes : Numbered Contained). suc (least_free (drop 1 nodes))) (nodes-files_of st inodes)
-    ∙ ap suc (least_free_none (drop 1 (nodes_in st.blocks inodes)) (λ t less none. used t (rw long at less) (node_none st.blocks t (sym (at_number-nodes_in st.blocks inodes t (rw long at less)) ∙ none))))
-    ∙ sym (ap (λ (nodes : Numbered Contained). length nodes) (nodes-files_of st inodes))
+new_number-none version st inodes used =
+    let long = length-map-range_with_len (node_at version st.blocks) 0 inodes in
+    ap (λ (nodes : Numbered Contained). suc (least_free (drop 1 nodes))) (nodes-files_of version st inodes)
+    ∙ ap suc (least_free_none (drop 1 (nodes_in version st.blocks inodes)) (λ t less none. used t (rw long at less) (node_none version st.blocks t (sym (at_number-nodes_in version st.blocks inodes t (rw long at less)) ∙ none))))
+    ∙ sym (ap (λ (nodes : Numbered Contained). length nodes) (nodes-files_of version st inodes))
 
-pub length-files_of : (st : BlockStore) (inodes : ℕ) → length (files_of st inodes).nodes ≡ suc inodes
-length-files_of st inodes = ap (λ (nodes : Numbered Contained). length nodes) (nodes-files_of st inodes) ∙ length-nodes_in st.blocks inodes
+pub length-files_of : (version : Version) (st : BlockStore) (inodes : ℕ) → length (files_of version st inodes).nodes ≡ suc inodes
+length-files_of version st inodes = ap (λ (nodes : Numbered Contained). length nodes) (nodes-files_of version st inodes) ∙ length-nodes_in version st.blocks inodes
 
 -- one part more of the buffer is read
 pub read_more : (bytes old : Bytes) (at m n : ℕ) → m + n ≤ length old → at + m + n ≤ length bytes → put_mid m n (take m (drop at bytes) ++ drop m old) (take n (drop (at + m) bytes)) ≡ take (m + n) (drop at bytes) ++ drop (m + n) old

@@ -2,7 +2,7 @@
 use Rattle.std.specs.Prelude.{ℕ, zero, suc, ◌<◌, ◌≤◌, [], ◌∷◌, length, drop, sum_by, Option, None, Some, IsSome, option_map}
 use Rattle.pv_model.specs.declared.sort.Sort.{Sort}
 use Rattle.pv_model.specs.declared.sort.Sort.TheVariants.{Directory, File, Executable, Symlink}
-use Rattle.pv_model.specs.declared.version.Version.TheVariants.{V1}
+use Rattle.pv_model.specs.declared.version.Version.{Version}
 use Rattle.pv_model.specs.Bytes.{Bytes}
 use Rattle.pv_model.specs.Effect.{overwrite, resize}
 use Rattle.pv_model.specs.Numbered.{Numbered, at_number, with_number, without_number, least_free, present}
@@ -13,8 +13,9 @@ pub record Contained : Type 0 where
   pub sort : Sort
   pub bytes : Bytes
 
--- what the inodes hold, by their numbers from 1 on, and how many data blocks there are
+-- the version of an image, what its inodes hold, by their numbers from 1 on, and how many data blocks there are
 pub record Files : Type 0 where
+  pub version : Version
   pub nodes : Numbered Contained
   pub blocks : ℕ
 
@@ -52,12 +53,12 @@ abbrev pub sort_at : Files → ℕ → Option Sort
 sort_at f n = option_map (λ c. c.sort) (held f n)
 
 -- the data blocks that a content needs
-abbrev pub room_of : Contained → ℕ
-room_of c = need V1 (length c.bytes)
+abbrev pub room_of : Version → Contained → ℕ
+room_of version c = need version (length c.bytes)
 
 -- the data blocks that all contents need
 abbrev pub total_room : Files → ℕ
-total_room f = sum_by room_of (present f.nodes)
+total_room f = sum_by (room_of f.version) (present f.nodes)
 
 -- there are data blocks enough
 abbrev pub HasRoom : Files → Type 0

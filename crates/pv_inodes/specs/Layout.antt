@@ -1,10 +1,10 @@
--- Where an image of version 1 has what, by its blocks. Inodes are counted from 0 here.
-use Rattle.std.specs.Prelude.{ℕ, suc, ◌+◌, ◌-◌, ◌*◌, ◌/◌, ◌%◌, if◌then◌else◌, nat_le, nat_lt, ◌==◌, List, [], ◌∷◌, ◌++◌, map, length, take, drop, replicate, slice_index, slice_index_or, slice_set, Option, None, Some}
+-- Where an image has what, by its blocks. Inodes are counted from 0 here.
+use Rattle.std.specs.Prelude.{ℕ, ◌+◌, ◌-◌, ◌*◌, ◌/◌, ◌%◌, min, if◌then◌else◌, ◌==◌, List, [], ◌∷◌, ◌++◌, map, length, take, drop, replicate, slice_index, slice_index_or, slice_set, Option, None, Some}
 use Rattle.std.specs.List.{range_with_len}
 use Rattle.byteorder.specs.Endian.{little_from, little_bytes}
-use Rattle.pv_model.specs.declared.version.Version.TheVariants.{V1}
+use Rattle.pv_model.specs.declared.version.Version.{Version}
 use Rattle.pv_model.specs.Bytes.{Bytes}
-use Rattle.pv_model.specs.Room.{need}
+use Rattle.pv_model.specs.Image.{inode_length, index_pointers}
 use Rattle.pv_inodes.specs.Files.{Contained, sort_of}
 
 -- block k
@@ -20,63 +20,89 @@ unfoldable pub splice : List Bytes → ℕ → ℕ → Bytes → List Bytes
 splice bs k at new = slice_set bs k (take at (block_at bs k) ++ (new ++ drop (at + length new) (block_at bs k)))
 
 -- the block in which inode s stands
-abbrev pub home : ℕ → ℕ
-home s = s / 16 + 1
+unfoldable pub home : Version → ℕ → ℕ
+home version s = s / (512 / inode_length version) + 1
 
 -- where in that block it begins
-abbrev pub offset : ℕ → ℕ
-offset s = 32 * (s % 16)
+unfoldable pub offset : Version → ℕ → ℕ
+offset version s = inode_length version * (s % (512 / inode_length version))
 
 -- what inode s is, by a number; 0 is free
-unfoldable pub kind_at : List Bytes → ℕ → ℕ
-kind_at bs s = number bs (home s) (offset s) 1
+unfoldable pub kind_at : Version → List Bytes → ℕ → ℕ
+kind_at version bs s = number bs (home version s) (offset version s) 1
 
 -- the length of its content
-unfoldable pub size_at : List Bytes → ℕ → ℕ
-size_at bs s = number bs (home s) (offset s + 4) 4
+unfoldable pub size_at : Version → List Bytes → ℕ → ℕ
+size_at version bs s = number bs (home version s) (offset version s + 4) 4
 
--- pointer i in inode s: those to the first ten blocks of content, then that to the index block
-unfoldable pub direct_at : List Bytes → ℕ → ℕ → ℕ
-direct_at bs s i = number bs (home s) (offset s + 8 + 2 * i) 2
+-- how many pointers an inode has: ten to blocks of content, then those to index blocks
+abbrev pub pointer_count : Version → ℕ
+pointer_count version = 10 + index_pointers version
 
--- the i-th block that inode s owns: ten of content, the index block, and those to which the index block points
-unfoldable pub owned_at : List Bytes → ℕ → ℕ → ℕ
-owned_at bs s i = if nat_le i 10 then direct_at bs s i else number bs (direct_at bs s 10) (2 * (i - 11)) 2
+-- pointer p in inode s
+unfoldable pub pointer_at : Version → List Bytes → ℕ → ℕ → ℕ
+pointer_at version bs s p = number bs (home version s) (offset version s + 8 + 2 * p) 2
+
+-- The blocks that an inode owns stand in one row: ten of content, then each index block before the 256 of content
+-- to which it points.
+
+-- how many an inode can own
+abbrev pub most_owned : Version → ℕ
+most_owned version = 10 + 257 * index_pointers version
+
+-- how far the i-th of them is behind the index block that points to it; 0 where the inode itself points to it
+abbrev pub behind_index : ℕ → ℕ
+behind_index i = (i - 10) % 257
+
+-- which pointer of the inode is that to the i-th of them, or else to the index block that points to it
+unfoldable pub pointer_of : ℕ → ℕ
+pointer_of i = min i 10 + (i - 10) / 257
+
+-- the i-th block that inode s owns
+unfoldable pub owned_at : Version → List Bytes → ℕ → ℕ → ℕ
+owned_at version bs s i =
+    if behind_index i == 0 then pointer_at version bs s (pointer_of i)
+    else number bs (pointer_at version bs s (pointer_of i)) (2 * (behind_index i - 1)) 2
+
+-- how many blocks a content of this length owns, those of its bytes and the index blocks
+unfoldable pub wanted : ℕ → ℕ
+wanted n = let b = (n + 511) / 512 in b + (b + 245) / 256
 
 -- how many blocks inode s owns
-unfoldable pub owned_count : List Bytes → ℕ → ℕ
-owned_count bs s = if kind_at bs s == 0 then 0 else need V1 (size_at bs s)
+unfoldable pub owned_count : Version → List Bytes → ℕ → ℕ
+owned_count version bs s = if kind_at version bs s == 0 then 0 else wanted (size_at version bs s)
 
--- which of the blocks that an inode owns is block j of its content
+-- which of the blocks that an inode owns is block j of its content: an index block stands before the 10th, and before
+-- each 256th from there on
 unfoldable pub place_of : ℕ → ℕ
-place_of j = if nat_lt j 10 then j else suc j
+place_of j = j + (j + 246) / 256
 
 -- a byte of the content of inode s
-unfoldable pub content_byte : List Bytes → ℕ → ℕ → ℕ
-content_byte bs s x = slice_index (block_at bs (owned_at bs s (place_of (x / 512)))) (x % 512)
+unfoldable pub content_byte : Version → List Bytes → ℕ → ℕ → ℕ
+content_byte version bs s x = slice_index (block_at bs (owned_at version bs s (place_of (x / 512)))) (x % 512)
 
 -- the content of inode s
-unfoldable pub content_at : List Bytes → ℕ → Bytes
-content_at bs s = map (content_byte bs s) (range_with_len 0 (size_at bs s))
+unfoldable pub content_at : Version → List Bytes → ℕ → Bytes
+content_at version bs s = map (content_byte version bs s) (range_with_len 0 (size_at version bs s))
 
 -- what inode s holds, if it is not free
-unfoldable pub node_at : List Bytes → ℕ → Option Contained
-node_at bs s = if kind_at bs s == 0 then None else Some (record { sort = sort_of (kind_at bs s); bytes = content_at bs s })
+unfoldable pub node_at : Version → List Bytes → ℕ → Option Contained
+node_at version bs s = if kind_at version bs s == 0 then None else Some (record { sort = sort_of (kind_at version bs s); bytes = content_at version bs s })
 
 -- what so many inodes hold, by their numbers, which are one more
-unfoldable pub nodes_in : List Bytes → ℕ → List (Option Contained)
-nodes_in bs inodes = None ∷ map (node_at bs) (range_with_len 0 inodes)
+unfoldable pub nodes_in : Version → List Bytes → ℕ → List (Option Contained)
+nodes_in version bs inodes = None ∷ map (node_at version bs) (range_with_len 0 inodes)
 
-unfoldable pub with_kind : List Bytes → ℕ → ℕ → List Bytes
-with_kind bs s kind = splice bs (home s) (offset s) (kind ∷ [])
+unfoldable pub with_kind : Version → List Bytes → ℕ → ℕ → List Bytes
+with_kind version bs s kind = splice bs (home version s) (offset version s) (kind ∷ [])
 
-unfoldable pub with_size : List Bytes → ℕ → ℕ → List Bytes
-with_size bs s size = splice bs (home s) (offset s + 4) (little_bytes 4 size)
+unfoldable pub with_size : Version → List Bytes → ℕ → ℕ → List Bytes
+with_size version bs s size = splice bs (home version s) (offset version s + 4) (little_bytes 4 size)
 
-unfoldable pub with_owned : List Bytes → ℕ → ℕ → ℕ → List Bytes
-with_owned bs s i k =
-    if nat_le i 10 then splice bs (home s) (offset s + 8 + 2 * i) (little_bytes 2 k)
-    else splice bs (direct_at bs s 10) (2 * (i - 11)) (little_bytes 2 k)
+unfoldable pub with_owned : Version → List Bytes → ℕ → ℕ → ℕ → List Bytes
+with_owned version bs s i k =
+    if behind_index i == 0 then splice bs (home version s) (offset version s + 8 + 2 * pointer_of i) (little_bytes 2 k)
+    else splice bs (pointer_at version bs s (pointer_of i)) (2 * (behind_index i - 1)) (little_bytes 2 k)
 
 -- a block of zeros
 unfoldable pub zeros : Bytes

@@ -14,9 +14,10 @@ count_set flags = count_by (λ is_set. is_set) flags
 unfoldable pub changed : (ℕ → ℕ) → ℕ → ℕ → ℕ → ℕ
 changed count s n t = if t == s then n else count t
 
--- Inode s owns its first `count s` blocks: each is a data block and is not free, no two are one block, and each
--- data block is free or owned.
-pub record IsOwning (inodes first total : ℕ) (free : List Bool) (count : ℕ → ℕ) (owned : ℕ → ℕ → ℕ) : Type 0 where
+-- Inode s owns its first `count s` blocks, as many as `most`: each is a data block and is not free, no two are one
+-- block, and each data block is free or owned.
+pub record IsOwning (inodes most first total : ℕ) (free : List Bool) (count : ℕ → ℕ) (owned : ℕ → ℕ → ℕ) : Type 0 where
+  pub few : (s : ℕ) → s < inodes → count s ≤ most
   pub from : (s i : ℕ) → s < inodes → i < count s → first ≤ owned s i
   pub within : (s i : ℕ) → s < inodes → i < count s → owned s i < total
   pub taken : (s i : ℕ) → s < inodes → i < count s → slice_index_or free (owned s i) true ≡ false

@@ -1,48 +1,86 @@
-//! The sizes of an image of version 1, and how many blocks a content needs.
-ghost use Rattle.std.specs.Prelude.{◌≡◌, ◌≤◌};
-ghost use Rattle.pv_model.specs.declared.version.Version.TheVariants.{V1};
-ghost use Rattle.pv_model.specs.Room.{need, greatest_length};
-ghost use Rattle.pv_inodes.specs.Layout.{place_of};
+//! Where an inode stands and has what, and the row in which the blocks that it owns stand.
+ghost use Rattle.std.specs.Prelude.{◌≡◌, ◌+◌, ◌*◌, ◌≤◌};
+ghost use Rattle.pv_model.specs.declared.version.Version.TheVariants.{V2};
+ghost use Rattle.pv_model.specs.Room.{greatest_length};
+ghost use Rattle.pv_inodes.specs.Layout.{home, offset, pointer_count, behind_index, pointer_of, place_of, wanted};
 
-/// Bytes of an inode.
-pub(crate) const INODE: usize = 32;
+use pv_model::limits::BLOCK;
+use pv_model::{Layout, Version};
 
-/// Inodes in a block.
-pub(crate) const INODES: u16 = 16;
-
-/// Blocks of content to which an inode points itself; the others stand in its index block.
+/// Blocks of content to which an inode points itself.
 pub(crate) const DIRECT: u16 = 10;
 
-/// The length of a content that uses all direct pointers.
-pub(crate) const DIRECT_LENGTH: u32 = 5_120;
-
-/// The greatest length of a content, in bytes.
-pub const GREATEST: u32 = 136_192;
+/// Blocks of content to which an index block points.
+pub(crate) const POINTED: u16 = 256;
 
 /// Where an inode has its size, in 4 bytes.
 pub(crate) const SIZE: usize = 4;
 
-/// Where an inode has its pointers, of 2 bytes each: the direct ones, then that to the index block.
+/// Where an inode has its pointers, of 2 bytes each: those to blocks of content, then those to index blocks.
 pub(crate) const POINTERS: usize = 8;
 
 /// Bytes of a block, as a length of a content.
 pub(crate) const BLOCK_LENGTH: u32 = 512;
 
-/// How many blocks a content of this length needs, its index block among them.
-#[tactic(auto, using(std::proofs::lemmas::Bool::Decides::nat_tests), unfolding(pv_model::specs::Room::need))]
+// Inodes of a block.
+const INODES_V1: u16 = 16;
+
+const INODES_V2: u16 = 8;
+
+/// The block in which an inode stands.
+#[tactic(auto, unfolding(crate::specs::Layout::home))]
+pub(crate) fn home(version: Version, slot: u16) -> u16
+    ensures { result ≡ home version slot }
+{
+    match version {
+        Version::V1 => slot / INODES_V1 + 1,
+        Version::V2 => slot / INODES_V2 + 1,
+    }
+}
+
+/// Where in its block an inode begins.
+#[tactic(auto, unfolding(crate::specs::Layout::offset))]
+pub(crate) fn offset(version: Version, slot: u16) -> usize
+    ensures value { result ≡ offset version slot }
+    ensures fits { result + 8 + 2 * pointer_count version ≤ 512 }
+{
+    match version {
+        Version::V1 => Layout::V1.inode_length * (slot % INODES_V1) as usize,
+        Version::V2 => Layout::V2.inode_length * (slot % INODES_V2) as usize,
+    }
+}
+
+/// How many blocks a content of this length owns, its index blocks among them.
+#[tactic(auto, unfolding(crate::specs::Layout::wanted))]
 pub(crate) fn room(size: u32) -> u16
-    requires { size ≤ greatest_length V1 }
-    ensures { result ≡ need V1 size }
+    requires { size ≤ greatest_length V2 }
+    ensures { result ≡ wanted size }
 {
     let blocks = size.div_ceil(BLOCK_LENGTH) as u16;
-    if blocks <= DIRECT { blocks } else { blocks + 1 }
+    blocks + blocks.saturating_sub(DIRECT).div_ceil(POINTED)
 }
 
 /// Which of the blocks that an inode owns is a block of its content.
-#[tactic(auto, using(std::proofs::lemmas::Bool::Decides::nat_tests), unfolding(crate::specs::Layout::place_of))]
+#[tactic(auto, unfolding(crate::specs::Layout::place_of))]
 pub(crate) fn place(block: u16) -> u16
-    requires { block ≤ 265 }
+    requires { block ≤ 1290 }
     ensures { result ≡ place_of block }
 {
-    if block < DIRECT { block } else { block + 1 }
+    block + (block + POINTED - DIRECT) / POINTED
+}
+
+/// Which pointer of an inode is that to the i-th block that it owns, or to the index block that points to it.
+#[tactic(auto, unfolding(crate::specs::Layout::pointer_of))]
+pub(crate) fn pointer_of(i: u16) -> u16
+    ensures { result ≡ pointer_of i }
+{
+    i.min(DIRECT) + i.saturating_sub(DIRECT) / (POINTED + 1)
+}
+
+/// How far the i-th block that an inode owns is behind the index block that points to it; 0 where the inode
+/// itself points to it.
+pub(crate) fn behind_index(i: u16) -> u16
+    ensures { result ≡ behind_index i }
+{
+    i.saturating_sub(DIRECT) % (POINTED + 1)
 }

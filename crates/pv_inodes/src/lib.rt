@@ -1,16 +1,19 @@
 //! Files on blocks: inodes by their numbers, each with a sort and bytes.
 //!
-//! The layout is that of an image of version 1: block 0 is a header, which is not looked at here, then
-//! come the blocks of inodes, then the data blocks. A contract sees `Files`: what each inode holds, and
-//! how many data blocks there are. Pointers, and which block is whose, stand in the invariant alone.
-//! `layout` has the sizes, `fields` the numbers that stand in blocks, and `inodes` has `Inodes`.
+//! The layout is that of an image of either version: block 0 is a header, which is not looked at here, then
+//! come the blocks of inodes, then the data blocks. A contract sees `Files`: the version, what each inode
+//! holds, and how many data blocks there are. Pointers, and which block is whose, stand in the invariant
+//! alone. `layout` says where an inode has what, `fields` has the numbers that stand in blocks, `table` the
+//! fields of inodes and the blocks that they own, and `inodes` has `Inodes`.
 #![tactic(auto)]
 
 mod fields;
 mod inodes;
-pub mod layout;
+mod layout;
 mod space;
 mod table;
+#[cfg(test)]
+mod tests;
 
 pub use inodes::Inodes;
 pub use space::Space;

@@ -1,111 +1,121 @@
 //! The fields of an inode, and the blocks that it owns. Inodes are counted from 0 here.
 ghost use Rattle.std.specs.Prelude.{◌≡◌, ◌<◌, ◌≤◌, ◌≢◌, length};
 ghost use Rattle.pv_blocks.specs.BlockStore.{free_count, IsFree, with_block};
-ghost use Rattle.pv_inodes.specs.Layout.{home, offset, kind_at, size_at, direct_at, owned_at, with_kind, with_size, with_owned, zeros};
+ghost use Rattle.pv_inodes.specs.Layout.{home, kind_at, size_at, pointer_at, pointer_count, pointer_of, behind_index, most_owned, owned_at, place_of, with_kind, with_size, with_owned, zeros};
 ghost use Rattle.pv_inodes.specs.Sound.{pushed};
 
 use crate::fields::{byte_at, put, put_u16, put_u32, u16_at, u32_at};
-use crate::layout::{DIRECT, INODE, INODES, POINTERS, SIZE};
+use crate::layout::{DIRECT, POINTED, POINTERS, SIZE, behind_index, home, offset, pointer_of};
 use pv_blocks::Blocks;
-
-/// The block in which an inode stands.
-fn home(slot: u16) -> u16
-    ensures { result ≡ home slot }
-{
-    slot / INODES + 1
-}
-
-/// Where in its block an inode begins.
-fn offset(slot: u16) -> usize
-    ensures value { result ≡ offset slot }
-    ensures fits { result ≤ 480 }
-{
-    INODE * (slot % INODES) as usize
-}
+use pv_model::Version;
 
 /// What an inode is, as a number; 0 is free.
 #[tactic(auto, unfolding(crate::specs::Layout::kind_at))]
-pub(crate) fn kind_of(blocks: &Blocks, slot: u16) -> u8
-    requires { home slot < length blocks.now.blocks }
-    ensures { result ≡ kind_at blocks.now.blocks slot }
+pub(crate) fn kind_of(blocks: &Blocks, version: Version, slot: u16) -> u8
+    requires { home version slot < length blocks.now.blocks }
+    ensures { result ≡ kind_at version blocks.now.blocks slot }
 {
-    byte_at(blocks, home(slot), offset(slot))
+    byte_at(blocks, home(version, slot), offset(version, slot))
 }
 
 /// The length of an inode's content.
 #[tactic(auto, unfolding(crate::specs::Layout::size_at))]
-pub(crate) fn size_of(blocks: &Blocks, slot: u16) -> u32
-    requires { home slot < length blocks.now.blocks }
-    ensures { result ≡ size_at blocks.now.blocks slot }
+pub(crate) fn size_of(blocks: &Blocks, version: Version, slot: u16) -> u32
+    requires { home version slot < length blocks.now.blocks }
+    ensures { result ≡ size_at version blocks.now.blocks slot }
 {
-    u32_at(blocks, home(slot), offset(slot) + SIZE)
+    u32_at(blocks, home(version, slot), offset(version, slot) + SIZE)
 }
 
-/// A pointer in an inode: the ten direct ones, then that to the index block.
-#[tactic(auto, unfolding(crate::specs::Layout::direct_at))]
-fn direct(blocks: &Blocks, slot: u16, i: u16) -> u16
-    requires block { home slot < length blocks.now.blocks }
-    requires pointer { i ≤ 10 }
-    ensures { result ≡ direct_at blocks.now.blocks slot i }
+/// A pointer in an inode: ten to blocks of content, then those to index blocks.
+#[tactic(auto, unfolding(crate::specs::Layout::pointer_at))]
+fn pointer(blocks: &Blocks, version: Version, slot: u16, p: u16) -> u16
+    requires block { home version slot < length blocks.now.blocks }
+    requires pointer { p < pointer_count version }
+    ensures { result ≡ pointer_at version blocks.now.blocks slot p }
 {
-    u16_at(blocks, home(slot), offset(slot) + POINTERS + 2 * i as usize)
+    u16_at(
+        blocks,
+        home(version, slot),
+        offset(version, slot) + POINTERS + 2 * p as usize,
+    )
 }
 
-/// The i-th block that an inode owns: ten of content, the index block, the others of content.
-#[tactic(auto, using(std::proofs::lemmas::Bool::Decides::nat_tests), unfolding(crate::specs::Layout::owned_at))]
-pub(crate) fn owned_by(blocks: &Blocks, slot: u16, i: u16) -> u16
-    requires block { home slot < length blocks.now.blocks }
-    requires pointer { i ≤ 266 }
-    requires index { 10 < i → direct_at blocks.now.blocks slot 10 < length blocks.now.blocks }
-    ensures { result ≡ owned_at blocks.now.blocks slot i }
+/// The i-th block that an inode owns, its index blocks among them.
+#[tactic(auto, using(std::proofs::lemmas::Bool::Decides::nat_tests, crate::proofs::Layouts::has_pointer), unfolding(crate::specs::Layout::owned_at))]
+pub(crate) fn owned_by(blocks: &Blocks, version: Version, slot: u16, i: u16) -> u16
+    requires block { home version slot < length blocks.now.blocks }
+    requires owned { i < most_owned version }
+    requires index { behind_index i ≢ 0 → pointer_at version blocks.now.blocks slot (pointer_of i) < length blocks.now.blocks }
+    ensures { result ≡ owned_at version blocks.now.blocks slot i }
 {
-    if i <= DIRECT {
-        direct(blocks, slot, i)
+    let pointer = pointer(blocks, version, slot, pointer_of(i));
+    let behind = behind_index(i);
+    if behind == 0 {
+        pointer
     } else {
-        u16_at(
-            blocks,
-            direct(blocks, slot, DIRECT),
-            2 * (i - DIRECT - 1) as usize,
-        )
+        u16_at(blocks, pointer, 2 * (behind - 1) as usize)
+    }
+}
+
+/// A block of an inode's content.
+pub(crate) fn content_block(blocks: &Blocks, version: Version, slot: u16, block: u16) -> u16
+    requires block { home version slot < length blocks.now.blocks }
+    requires owned { place_of block < most_owned version }
+    requires index { behind_index (place_of block) ≢ 0 → pointer_at version blocks.now.blocks slot (pointer_of (place_of block)) < length blocks.now.blocks }
+    ensures { result ≡ owned_at version blocks.now.blocks slot (place_of block) }
+{
+    if block < DIRECT {
+        pointer(blocks, version, slot, block)
+    } else {
+        let past = block - DIRECT;
+        let index = pointer(blocks, version, slot, DIRECT + past / POINTED);
+        u16_at(blocks, index, 2 * (past % POINTED) as usize)
     }
 }
 
 /// Writes what an inode is.
 #[tactic(auto, unfolding(crate::specs::Layout::with_kind))]
-pub(crate) fn set_kind(blocks: &mut Blocks, slot: u16, kind: u8)
-    requires { home slot < length blocks.old.blocks }
-    ensures { blocks.new ≡ record blocks.old { blocks = with_kind blocks.old.blocks slot kind } }
+pub(crate) fn set_kind(blocks: &mut Blocks, version: Version, slot: u16, kind: u8)
+    requires { home version slot < length blocks.old.blocks }
+    ensures { blocks.new ≡ record blocks.old { blocks = with_kind version blocks.old.blocks slot kind } }
 {
-    put(blocks, home(slot), offset(slot), &[kind]);
+    put(blocks, home(version, slot), offset(version, slot), &[kind]);
 }
 
 /// Writes the length of an inode's content.
 #[tactic(auto, unfolding(crate::specs::Layout::with_size))]
-pub(crate) fn set_size(blocks: &mut Blocks, slot: u16, size: u32)
-    requires { home slot < length blocks.old.blocks }
-    ensures { blocks.new ≡ record blocks.old { blocks = with_size blocks.old.blocks slot size } }
+pub(crate) fn set_size(blocks: &mut Blocks, version: Version, slot: u16, size: u32)
+    requires { home version slot < length blocks.old.blocks }
+    ensures { blocks.new ≡ record blocks.old { blocks = with_size version blocks.old.blocks slot size } }
 {
-    put_u32(blocks, home(slot), offset(slot) + SIZE, size);
+    put_u32(
+        blocks,
+        home(version, slot),
+        offset(version, slot) + SIZE,
+        size,
+    );
 }
 
 /// Writes which block is the i-th that an inode owns.
-#[tactic(auto, using(std::proofs::lemmas::Bool::Decides::nat_tests), unfolding(crate::specs::Layout::with_owned))]
-pub(crate) fn set_owned(blocks: &mut Blocks, slot: u16, i: u16, k: u16)
-    requires block { home slot < length blocks.old.blocks }
-    requires pointer { i ≤ 266 }
-    requires index { 10 < i → direct_at blocks.old.blocks slot 10 < length blocks.old.blocks }
-    ensures { blocks.new ≡ record blocks.old { blocks = with_owned blocks.old.blocks slot i k } }
+#[tactic(auto, using(std::proofs::lemmas::Bool::Decides::nat_tests, crate::proofs::Layouts::has_pointer), unfolding(crate::specs::Layout::with_owned))]
+pub(crate) fn set_owned(blocks: &mut Blocks, version: Version, slot: u16, i: u16, k: u16)
+    requires block { home version slot < length blocks.old.blocks }
+    requires owned { i < most_owned version }
+    requires index { behind_index i ≢ 0 → pointer_at version blocks.old.blocks slot (pointer_of i) < length blocks.old.blocks }
+    ensures { blocks.new ≡ record blocks.old { blocks = with_owned version blocks.old.blocks slot i k } }
 {
-    if i <= DIRECT {
+    let behind = behind_index(i);
+    if behind == 0 {
         put_u16(
             blocks,
-            home(slot),
-            offset(slot) + POINTERS + 2 * i as usize,
+            home(version, slot),
+            offset(version, slot) + POINTERS + 2 * pointer_of(i) as usize,
             k,
         );
     } else {
-        let index = direct(blocks, slot, DIRECT);
-        put_u16(blocks, index, 2 * (i - DIRECT - 1) as usize, k);
+        let index = pointer(blocks, version, slot, pointer_of(i));
+        put_u16(blocks, index, 2 * (behind - 1) as usize, k);
     }
 }
 
@@ -115,25 +125,25 @@ fn clear(blocks: &mut Blocks, k: u16)
     requires { k < length blocks.old.blocks }
     ensures { blocks.new ≡ with_block blocks.old k zeros }
 {
-    blocks.write(k, &[0; 512]);
+    blocks.lend_mut(k).fill(0);
 }
 
 /// Takes a free block, clears it, and writes that it is the i-th block that an inode owns. The result is
 /// the block.
-pub(crate) fn push_block(blocks: &mut Blocks, slot: u16, i: u16) -> u16
+pub(crate) fn push_block(blocks: &mut Blocks, version: Version, slot: u16, i: u16) -> u16
     requires free { free_count blocks.old ≢ 0 }
-    requires home { home slot < blocks.old.first }
+    requires home { home version slot < blocks.old.first }
     requires first { blocks.old.first ≤ length blocks.old.blocks }
     requires whole { length blocks.old.free ≡ length blocks.old.blocks }
-    requires pointer { i ≤ 266 }
-    requires index { 10 < i → direct_at blocks.old.blocks slot 10 < length blocks.old.blocks }
+    requires owned { i < most_owned version }
+    requires index { behind_index i ≢ 0 → pointer_at version blocks.old.blocks slot (pointer_of i) < length blocks.old.blocks }
     ensures free { IsFree blocks.old result }
-    ensures after { blocks.new ≡ pushed blocks.old slot i result }
+    ensures after { blocks.new ≡ pushed version blocks.old slot i result }
 {
     let Some(k) = blocks.take() else {
         unreachable!()
     };
     clear(blocks, k);
-    set_owned(blocks, slot, i, k);
+    set_owned(blocks, version, slot, i, k);
     k
 }

@@ -12,8 +12,8 @@ use Rattle.pv_model.specs.Bytes.{Bytes, is_empty}
 use Rattle.pv_model.specs.Calls.Paths.{link_text}
 use Rattle.pv_model.specs.Tree.{Node, directory_node, file_node, link_node, Tree, root, node_at, find_entry, is_directory, is_directory_at, is_link_text, IsWellFormed}
 use Rattle.pv_model.specs.Walk.{Walked, Behind, Onward, at_node}
-use Rattle.pv_laws.proofs.Places.{link-text, parent-directory}
-use Rattle.pv_laws.proofs.Trees.{sound}
+use Rattle.pv_tree_laws.proofs.Places.{link-text, parent-directory}
+use Rattle.pv_tree_laws.proofs.Trees.{sound}
 use Rattle.pv_tree.specs.Trees.{sort_of, bytes_of}
 
 -- ---- what there is in a well-formed tree

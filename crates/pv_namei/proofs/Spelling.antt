@@ -10,7 +10,7 @@ use Rattle.std.proofs.lemmas.List.Folds.{list_all-append}
 use Rattle.std.proofs.lemmas.List.Sums.{sum_by-cons}
 use Rattle.pv_model.specs.Bytes.{Bytes, is_empty, onto_first}
 use Rattle.pv_model.specs.Walk.{split_slashes, pieces, weight}
-use Rattle.pv_laws.proofs.Places.{is_spelled, is_piece, pieces-spelled}
+use Rattle.pv_tree_laws.proofs.Places.{is_spelled, is_piece, pieces-spelled}
 use Rattle.pv_namei.specs.Pieces.{with_slashes, IsSpelledOut}
 
 abbrev any : ℕ → Bool

@@ -6,7 +6,6 @@ ghost use Rattle.pv_model.specs.Walk.{is_dot, is_dot_dot, along, Behind};
 ghost use Rattle.pv_namei.specs.Onward.{led, named, IsAheadIn};
 
 use crate::lookup::Lookup;
-use pv_model::limits::{NAME_V1, NAME_V2};
 use pv_model::{Errno, Name, Version};
 use pv_tree::Tree;
 
@@ -33,17 +32,6 @@ pub(crate) fn is_dot_dot(piece: &[u8]) -> bool
     matches!(piece, b"..")
 }
 
-// The greatest length of a name.
-fn greatest_name(version: Version) -> usize
-    ensures value { result ≡ greatest_name version }
-    ensures fits { result ≤ 255 }
-{
-    match version {
-        Version::V1 => NAME_V1,
-        Version::V2 => NAME_V2,
-    }
-}
-
 // A piece as a name; ENAMETOOLONG where it is longer than a name may be.
 fn read_name(version: Version, piece: &[u8]) -> Result<Name, Errno>
     ensures ok { IfOk result (λ name. name ≡ piece.now) }
@@ -51,7 +39,7 @@ fn read_name(version: Version, piece: &[u8]) -> Result<Name, Errno>
     ensures too_long { OnErr result (greatest_name version < length piece.now) }
     ensures err { IfErr result (λ e. e ≡ Errno.ENAMETOOLONG) }
 {
-    if piece.len() > greatest_name(version) {
+    if piece.len() > version.layout().name_limit {
         return Err(Errno::ENAMETOOLONG);
     }
     match Name::new(piece) {

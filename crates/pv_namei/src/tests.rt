@@ -1,13 +1,12 @@
 //! Walks in small trees.
 ghost use Rattle.std.specs.Prelude.{◌≡◌, ◌≤◌, ◌==◌, not, nat_lt, length, vec_len, IsTrue, IfOk, None};
 ghost use Rattle.std.specs.List.{list_all};
-ghost use Rattle.pv_model.specs.declared.version.Version.TheVariants.{V1};
-ghost use Rattle.pv_model.specs.Tree.{is_name, is_name_byte, is_link_text, find_entry};
-ghost use Rattle.pv_laws.specs.Tree.{Stands};
+ghost use Rattle.pv_model.specs.Tree.{greatest_name, is_name, is_name_byte, is_link_text, find_entry};
+ghost use Rattle.pv_tree_laws.specs.Tree.{Stands};
 
 use crate::ahead::{is_dot, is_dot_dot};
 use crate::{Lookup, PlainLookup, resolve};
-use pv_model::{Errno, Follow, Kind, Place};
+use pv_model::{Errno, Follow, Kind, Place, Version, is_name};
 use pv_tree::{Store, Tree};
 use std::alloc::{AllocError, Global};
 use std::process::Abort;
@@ -25,30 +24,6 @@ enum Expected<'a> {
 }
 
 use Expected::{At, Fault, Node};
-
-// Whether a name would be too long.
-fn is_long(name: &[u8]) -> bool
-    ensures { result ≡ nat_lt 60 (length name.now) }
-{
-    name.len() > 60
-}
-
-// Whether each byte may stand in a name.
-fn has_name_bytes(name: &[u8]) -> bool
-    ensures { result ≡ list_all is_name_byte name.now }
-{
-    name.iter().all(|b| *b != 0 && *b != b'/')
-}
-
-// Whether bytes are a name.
-fn is_name(name: &[u8]) -> bool
-    ensures { IsTrue result → IsTrue (is_name V1 name.now) }
-{
-    if name.is_empty() || is_long(name) || is_dot(name) || is_dot_dot(name) {
-        return false;
-    }
-    has_name_bytes(name)
-}
 
 // Whether a link's text would be too long.
 fn is_long_text(text: &[u8]) -> bool
@@ -80,7 +55,7 @@ fn empty_tree(alloc: Global, blocks: u16) -> Result<Tree, AllocError>
     requires few { blocks ≤ 100 }
 {
     let zeros = vec![in alloc; 0; 512 * blocks as usize]?;
-    Ok(Store::empty(zeros, blocks, 64).into_tree())
+    Ok(Store::empty(zeros, blocks, 64, Version::V1).into_tree())
 }
 
 // So many equal bytes.
@@ -93,12 +68,12 @@ fn repeated(alloc: Global, byte: u8, length: usize) -> Result<Vec<u8>, AllocErro
 // A name that a directory has not.
 fn expect_new(rt: &impl Abort, tree: &Tree, directory: u16, name: &[u8])
     ensures directory { Stands tree.now.tree directory }
-    ensures name { IsTrue (is_name V1 name.now) }
+    ensures name { IsTrue (is_name tree.now.tree.version name.now) }
     ensures absent { find_entry tree.now.tree directory name.now ≡ None }
 {
     assert!(rt; tree.is_directory(directory));
     assert!(rt; tree.parent(directory).is_some());
-    assert!(rt; is_name(name));
+    assert!(rt; is_name(tree.sizes().version, name));
     assert!(rt; tree.find(directory, name).is_none());
 }
 

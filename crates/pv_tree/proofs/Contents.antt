@@ -13,20 +13,23 @@ use Rattle.pv_model.specs.Room.{node_length, greatest_length, is_too_long}
 use Rattle.pv_model.specs.Sealed.{is_file}
 use Rattle.pv_model.specs.Tree.{Node, directory_node, file_node, link_node, Tree, node_at, entries_of, entries_at, is_directory, find_entry, with_node}
 use Rattle.pv_dirs.specs.Trees.{written, cut, replaced, total_need, LacksRoom, bytes_of as content_of}
-use Rattle.pv_laws.specs.Tree.{IsSound}
-use Rattle.pv_laws.proofs.Changes.{node_at-same, node_at-other}
-use Rattle.pv_laws.proofs.Edits.{sound-content}
-use Rattle.pv_laws.proofs.Entries.{by_name}
-use Rattle.pv_laws.proofs.Numbered.{at_number-below, length-with_number}
-use Rattle.pv_laws.proofs.Rooms.{too_long-at, length-within}
-use Rattle.pv_laws.proofs.Trees.{sound, well_formed}
+use Rattle.pv_tree_laws.specs.Spelled.{are_bytes}
+use Rattle.pv_tree_laws.specs.Tree.{IsSound}
+use Rattle.pv_tree_laws.proofs.Changes.{node_at-same, node_at-other}
+use Rattle.pv_tree_laws.proofs.Edits.{sound-content}
+use Rattle.pv_tree_laws.proofs.Entries.{by_name}
+use Rattle.pv_tree_laws.proofs.Spelled.{bytes-with_node, bytes-overwrite, bytes-resize}
+use Rattle.pv_tree_laws.proofs.Numbered.{at_number-below, length-with_number}
+use Rattle.pv_tree_laws.proofs.Rooms.{too_long-at, length-within}
+use Rattle.pv_tree_laws.proofs.Trees.{sound, well_formed}
 use Rattle.pv_tree.specs.Changes.{overwritten, resized}
 use Rattle.pv_tree.specs.Rooms.{refusal}
 use Rattle.pv_tree.specs.Standing.{stored, IsCounted, IsTied}
+use Rattle.pv_tree.proofs.Carrying.{carried}
 use Rattle.pv_tree.proofs.Keeping.{is_kept, trimmed-all, all-kept}
 use Rattle.pv_tree.proofs.Names.{name_count, names-same}
 use Rattle.pv_tree.proofs.Parents.{parent-same}
-use Rattle.pv_tree.proofs.Rooms.{refusal-none, refusal-fits, refusal-long, refusal-full, short-with_node, fits-from, fits-lacks}
+use Rattle.pv_tree.proofs.Rooms.{refusal-fits, refusal-long, refusal-full, short-with_node, fits-from, fits-lacks}
 
 -- ---- files
 
@@ -35,12 +38,6 @@ file-of None is = cc
 file-of (Some (directory_node es)) is = cc
 file-of (Some (file_node x old)) is = (x, old, refl)
 file-of (Some (link_node text)) is = cc
-
-pub file-there : (o : Option Node) → is_file o ≡ true → (is_some o ≡ true) × (is_directory o ≡ false)
-file-there None is = cc
-file-there (Some (directory_node es)) is = cc
-file-there (Some (file_node x old)) is = (refl, refl)
-file-there (Some (link_node text)) is = cc
 
 written-file : (t : Tree) (f at : ℕ) (bytes : Bytes) (x : Bool) (old : Bytes) → node_at t f ≡ Some (file_node x old) → written t f at bytes ≡ overwritten t f at bytes
 written-file t f at [] x old is = refl
@@ -58,7 +55,7 @@ length-resize old n = simp (length-append, length-take, length-replicate) (omega
 
 -- ---- other bytes in a file
 
-module _ (t : Tree) (parents names holds : List ℕ) (tied : IsTied t parents names holds) (f : ℕ) (x : Bool) (old new : Bytes) (is : node_at t f ≡ Some (file_node x old)) where
+module _ (t : Tree) (parents names holds : List ℕ) (tied : IsTied t parents names holds) (f : ℕ) (x : Bool) (old new : Bytes) (is : node_at t f ≡ Some (file_node x old)) (spelled : are_bytes new ≡ true) where
   c : IsCounted t parents names holds
   c = tied.counted
 
@@ -97,44 +94,31 @@ module _ (t : Tree) (parents names holds : List ℕ) (tied : IsTied t parents na
 
   pub content-tied : refusal v ≡ None → IsTied v parents names holds
   content-tied allowed =
-      let room = refusal-none v allowed in
       record {
-        counted = record {
-          well_formed = well_formed v r;
-          version = c.version;
-          few = c.few;
-          fits = room.1;
-          short = room.0;
-          held_are_nodes = λ n more. same-as is_some refl n ∙ c.held_are_nodes n more;
-          places_of_parents = c.places_of_parents;
-          places_of_names = c.places_of_names;
-          places_of_holds = c.places_of_holds;
-          parents_stored = λ n dir.
-              c.parents_stored n (sym (same-as is_directory refl n) ∙ dir)
-              ∙ ap stored (sym (parent-same t v s r n dir (λ d q found. same-found d q ∙ found) (λ d q found. sym (same-found d q) ∙ found)));
-          names_counted = λ n. c.names_counted n ∙ sym (same-names n);
-        };
+        counted = carried t v parents names holds c parents names holds r refl allowed (bytes-with_node t f (file_node x new) within spelled c.bytes) refl refl refl
+            (λ n more. same-as is_some refl n ∙ c.held_are_nodes n more)
+            (λ n dir.
+            c.parents_stored n (sym (same-as is_directory refl n) ∙ dir)
+            ∙ ap stored (sym (parent-same t v s r n dir (λ d q found. same-found d q ∙ found) (λ d q found. sym (same-found d q) ∙ found))))
+            (λ n. c.names_counted n ∙ sym (same-names n));
         is_trimmed = trimmed-all v holds (λ n there.
             ap (λ k. is_kept n k (slice_index holds n)) (same-names n) ∙ all-kept t holds tied.is_trimmed n (sym (same-as is_some refl n) ∙ there));
       }
 
-  greatest : greatest_length t.version ≡ 136192
-  greatest = ap greatest_length c.version
-
   -- the old bytes are not too many
-  pub old-within : length old ≤ 136192
-  old-within = omega (arith, length-within t f (file_node x old) is c.short, greatest)
+  pub old-within : length old ≤ greatest_length t.version
+  old-within = omega (arith, length-within t f (file_node x old) is c.short)
 
-  too_long : 136192 < length new → is_too_long v ≡ true
-  too_long past = too_long-at v f (file_node x new) here (lt-ltb (greatest_length t.version) (length new) (omega (arith, greatest)))
+  too_long : greatest_length t.version < length new → is_too_long v ≡ true
+  too_long past = too_long-at v f (file_node x new) here (lt-ltb (greatest_length t.version) (length new) (omega (arith)))
 
-  not_too_long : length new ≤ 136192 → is_too_long v ≡ false
-  not_too_long few = short-with_node t f (file_node x new) c.short (omega (arith, greatest))
+  not_too_long : length new ≤ greatest_length t.version → is_too_long v ≡ false
+  not_too_long few = short-with_node t f (file_node x new) c.short (omega (arith))
 
   fits-v : total_need v ≤ v.blocks → Rattle.pv_model.specs.Room.fits v ≡ true
   fits-v room = fits-from v (r.numbers) (well_formed v r).no_zero room
 
-  module _ (a : Result (Unit {0}) Space) (too_big : (a ≡ Err TooBig) ↔ (136192 < length new)) (full : (a ≡ Err Full) ↔ ((length new ≤ 136192) × LacksRoom v)) where
+  module _ (a : Result (Unit {0}) Space) (too_big : (a ≡ Err TooBig) ↔ (greatest_length t.version < length new)) (full : (a ≡ Err Full) ↔ ((length new ≤ greatest_length t.version) × LacksRoom v)) where
     pub content-allowed : OnOk a (refusal v ≡ None)
     content-allowed = by a refl
       where
@@ -148,7 +132,7 @@ module _ (t : Tree) (parents names holds : List ℕ) (tied : IsTied t parents na
             (λ lacks. let bad = full.1 (few, lacks) in cc)
             (λ room. refusal-fits v (not_too_long few) (fits-v room))
             (cases_lt v.blocks (total_need v)))
-            (cases_lt 136192 (length new))
+            (cases_lt (greatest_length t.version) (length new))
 
     pub content-refused : IfErr a (λ why. refusal v ≡ Some why)
     content-refused = by a refl
@@ -173,29 +157,33 @@ answered t u v parents names holds tied (Ok done) same none allowed then' = subs
 answered t u v parents names holds tied (Err why) none same allowed then' = subst (λ w. IsTied w parents names holds) (sym same) tied
 
 module _ (t u : Tree) (parents names holds : List ℕ) (tied : IsTied t parents names holds) (f : ℕ) (x : Bool) (old : Bytes) (is : node_at t f ≡ Some (file_node x old)) (a : Result (Unit {0}) Space) where
+  old-bytes : are_bytes old ≡ true
+  old-bytes = tied.counted.bytes f (file_node x old) is
+
   pub resize-answer : (size : ℕ) → OnOk a (u ≡ cut t f size) → OnErr a (u ≡ t)
-      → ((a ≡ Err TooBig) ↔ (136192 < size)) → ((a ≡ Err Full) ↔ ((size ≤ 136192) × LacksRoom (cut t f size))) → IsAnswer t u (resized t f size) parents names holds a
+      → ((a ≡ Err TooBig) ↔ (greatest_length t.version < size)) → ((a ≡ Err Full) ↔ ((size ≤ greatest_length t.version) × LacksRoom (cut t f size))) → IsAnswer t u (resized t f size) parents names holds a
   resize-answer size ok err too_big full =
       let new = resize old size in
+      let spelled = bytes-resize old size old-bytes in
       let long = length-resize old size in
       let v : Tree = with_node t f (file_node x new) in
       let after : resized t f size ≡ v = ap (λ o. with_content_of t f o (resize (bytes_of o) size)) is in
       let cut_is : cut t f size ≡ v = cut-file t f size x old is ∙ after in
-      let big : (a ≡ Err TooBig) ↔ (136192 < length new) = (λ at. let past = too_big.0 at in omega arith, λ past. too_big.1 (omega arith)) in
-      let wanting : (a ≡ Err Full) ↔ ((length new ≤ 136192) × LacksRoom v) =
+      let big : (a ≡ Err TooBig) ↔ (greatest_length t.version < length new) = (λ at. let past = too_big.0 at in omega arith, λ past. too_big.1 (omega arith)) in
+      let wanting : (a ≡ Err Full) ↔ ((length new ≤ greatest_length t.version) × LacksRoom v) =
       (λ at. (let why = (full.0 at).0 in omega arith, subst LacksRoom cut_is (full.0 at).1), λ why. full.1 (let few = why.0 in omega arith, subst LacksRoom (sym cut_is) why.1)) in
-      let allowed = content-allowed t parents names holds tied f x old new is a big wanting in
+      let allowed = content-allowed t parents names holds tied f x old new is spelled a big wanting in
       record {
-        tied = answered t u v parents names holds tied a (Rattle.std.proofs.lemmas.Result.on_ok_weaker a (λ same. same ∙ cut_is) ok) err allowed (content-tied t parents names holds tied f x old new is);
+        tied = answered t u v parents names holds tied a (Rattle.std.proofs.lemmas.Result.on_ok_weaker a (λ same. same ∙ cut_is) ok) err allowed (content-tied t parents names holds tied f x old new is spelled);
         ok = Rattle.std.proofs.lemmas.Result.on_ok_weaker a (λ same. same ∙ cut-file t f size x old is) ok;
         allowed = subst (λ w. OnOk a (refusal w ≡ None)) (sym after) allowed;
-        refused = subst (λ w. IfErr a (λ why. refusal w ≡ Some why)) (sym after) (content-refused t parents names holds tied f x old new is a big wanting);
+        refused = subst (λ w. IfErr a (λ why. refusal w ≡ Some why)) (sym after) (content-refused t parents names holds tied f x old new is spelled a big wanting);
       }
 
-  pub write-answer : (at : ℕ) (bytes : Bytes) → OnOk a (u ≡ written t f at bytes) → OnErr a (u ≡ t)
-      → ((a ≡ Err TooBig) ↔ ((0 < length bytes) × (136192 < at + length bytes)))
-      → ((a ≡ Err Full) ↔ ((0 < length bytes) × (at + length bytes ≤ 136192) × LacksRoom (written t f at bytes))) → IsAnswer t u (overwritten t f at bytes) parents names holds a
-  write-answer at [] ok err too_big full = by a refl ok err
+  pub write-answer : (at : ℕ) (bytes : Bytes) → are_bytes bytes ≡ true → OnOk a (u ≡ written t f at bytes) → OnErr a (u ≡ t)
+      → ((a ≡ Err TooBig) ↔ ((0 < length bytes) × (greatest_length t.version < at + length bytes)))
+      → ((a ≡ Err Full) ↔ ((0 < length bytes) × (at + length bytes ≤ greatest_length t.version) × LacksRoom (written t f at bytes))) → IsAnswer t u (overwritten t f at bytes) parents names holds a
+  write-answer at [] given ok err too_big full = by a refl ok err
     where
       by : (o : Result (Unit {0}) Space) → a ≡ o → OnOk o (u ≡ t) → OnErr o (u ≡ t) → IsAnswer t u t parents names holds a
       by (Ok done) same ok err = subst (λ o. IsAnswer t u t parents names holds o) (sym same) (record {
@@ -206,20 +194,21 @@ module _ (t u : Tree) (parents names holds : List ℕ) (tied : IsTied t parents 
       })
       by (Err TooBig) same ok err = let why = (too_big.0 same).0 in absurd (omega arith)
       by (Err Full) same ok err = let why = (full.0 same).0 in absurd (omega arith)
-  write-answer at (b ∷ bytes) ok err too_big full =
+  write-answer at (b ∷ bytes) given ok err too_big full =
       let new = overwrite old at (b ∷ bytes) in
       let long = length-overwrite old at (b ∷ bytes) in
-      let few = old-within t parents names holds tied f x old new is in
+      let spelled = bytes-overwrite old at (b ∷ bytes) old-bytes given in
+      let few = old-within t parents names holds tied f x old new is spelled in
       let v : Tree = with_node t f (file_node x new) in
       let after : overwritten t f at (b ∷ bytes) ≡ v = ap (λ o. with_content_of t f o (overwrite (bytes_of o) at (b ∷ bytes))) is in
       let written_is : written t f at (b ∷ bytes) ≡ v = written-file t f at (b ∷ bytes) x old is ∙ after in
-      let big : (a ≡ Err TooBig) ↔ (136192 < length new) = (λ e. let past = (too_big.0 e).1 in omega arith, λ past. too_big.1 (omega arith, omega arith)) in
-      let wanting : (a ≡ Err Full) ↔ ((length new ≤ 136192) × LacksRoom v) =
+      let big : (a ≡ Err TooBig) ↔ (greatest_length t.version < length new) = (λ e. let past = (too_big.0 e).1 in omega arith, λ past. too_big.1 (omega arith, omega arith)) in
+      let wanting : (a ≡ Err Full) ↔ ((length new ≤ greatest_length t.version) × LacksRoom v) =
       (λ e. (let why = (full.0 e).1 in omega arith, subst LacksRoom written_is (full.0 e).2), λ why. full.1 (omega arith, let enough = why.0 in omega arith, subst LacksRoom (sym written_is) why.1)) in
-      let allowed = content-allowed t parents names holds tied f x old new is a big wanting in
+      let allowed = content-allowed t parents names holds tied f x old new is spelled a big wanting in
       record {
-        tied = answered t u v parents names holds tied a (Rattle.std.proofs.lemmas.Result.on_ok_weaker a (λ same. same ∙ written_is) ok) err allowed (content-tied t parents names holds tied f x old new is);
+        tied = answered t u v parents names holds tied a (Rattle.std.proofs.lemmas.Result.on_ok_weaker a (λ same. same ∙ written_is) ok) err allowed (content-tied t parents names holds tied f x old new is spelled);
         ok = Rattle.std.proofs.lemmas.Result.on_ok_weaker a (λ same. same ∙ written-file t f at (b ∷ bytes) x old is) ok;
         allowed = subst (λ w. OnOk a (refusal w ≡ None)) (sym after) allowed;
-        refused = subst (λ w. IfErr a (λ why. refusal w ≡ Some why)) (sym after) (content-refused t parents names holds tied f x old new is a big wanting);
+        refused = subst (λ w. IfErr a (λ why. refusal w ≡ Some why)) (sym after) (content-refused t parents names holds tied f x old new is spelled a big wanting);
       }

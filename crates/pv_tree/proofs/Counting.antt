@@ -5,25 +5,24 @@ use Rattle.std.specs.FinMap.Entries.{find}
 use Rattle.std.proofs.lemmas.Bool.{cases_eq, cases_Bool, or_left, or_right, or_cases, lt-ltb}
 use Rattle.std.proofs.lemmas.List.{get_or-set_same, get_or-set_other, length-set}
 use Rattle.pv_model.specs.Held.{among}
-use Rattle.pv_model.specs.Room.{is_too_long}
 use Rattle.pv_model.specs.Tree.{Node, Tree, root, node_at, is_directory, is_directory_at, find_entry, entries_of, parent}
 use Rattle.pv_dirs.specs.Trees.{without_node}
-use Rattle.pv_laws.specs.Held.{wanted, kept}
-use Rattle.pv_laws.specs.Room.{IsNoLarger}
-use Rattle.pv_laws.specs.Tree.{IsSound}
-use Rattle.pv_laws.proofs.Changes.{some-below}
-use Rattle.pv_laws.proofs.Entries.{by_name}
-use Rattle.pv_laws.proofs.Numbered.{keep-some, keep-passes, length-keep}
-use Rattle.pv_laws.proofs.Rooms.{smaller-fits, smaller-not_too_long}
-use Rattle.pv_laws.proofs.Trees.{ordered, sound, well_formed, among-entry, parent-entry, parent-root}
-use Rattle.pv_laws.proofs.Trim.{only-sound, entries-only, find-only, wanted-covers, kept_in_turn}
-use Rattle.pv_laws.proofs.Whole.{kept-no_larger}
+use Rattle.pv_tree_laws.specs.Kept.{wanted, kept}
+use Rattle.pv_tree_laws.specs.Tree.{IsSound}
+use Rattle.pv_tree_laws.proofs.Changes.{some-below}
+use Rattle.pv_tree_laws.proofs.Entries.{by_name}
+use Rattle.pv_tree_laws.proofs.Numbered.{keep-some, keep-passes, length-keep}
+use Rattle.pv_tree_laws.proofs.Trees.{ordered, sound, among-entry, parent-entry, parent-root}
+use Rattle.pv_tree_laws.proofs.Keeping.{only-sound, entries-only, find-only, wanted-covers, kept_in_turn}
 use Rattle.pv_tree.specs.Changes.{settled}
 use Rattle.pv_tree.specs.Holding.{held_numbers, held_more, held_less, trimmed}
 use Rattle.pv_tree.specs.Standing.{stored, IsCounted, IsTied}
+use Rattle.pv_tree_laws.proofs.Spelled.{bytes-kept}
+use Rattle.pv_tree.proofs.Carrying.{carried}
 use Rattle.pv_tree.proofs.Keeping.{is_kept, wanted-counted, trimmed-all, trimmed-one, all-kept}
 use Rattle.pv_tree.proofs.Names.{name_count, named-is, names-same, is_positive, positive-is, is-positive, none-positive}
 use Rattle.pv_tree.proofs.Parents.{parent-same}
+use Rattle.pv_tree.proofs.Rooms.{refusal-fits, trimmed-allowed}
 
 -- ---- numbers in places
 
@@ -59,11 +58,6 @@ kept-named n names holds more = or_right (root == n) _ (or_left (is_positive nam
 
 settled-kept : (t : Tree) (n names holds : ℕ) → settled t n names holds ≡ cond (is_kept n names holds) t (without_node t n)
 settled-kept t n names holds = ap (λ b. cond ((root == n) || b) t (without_node t n)) (ap₂ (λ a b. a || b) (lt-positive names) (lt-positive holds))
-
--- ---- a tree that is not longer
-
-pub no_longer : (t u : Tree) → IsNoLarger u t → is_too_long t ≡ false → is_too_long u ≡ false
-no_longer t u less short = ⊎_elim (λ long. let was = smaller-not_too_long t u less long in cc) (λ no_long. no_long) (cases_Bool (is_too_long u))
 
 some_at : (o : Option Node) → is_directory o ≡ true → (node : Node) × (o ≡ Some node)
 some_at None is = cc
@@ -101,24 +95,14 @@ module _ (t : Tree) (parents names holds : List ℕ) (c : IsCounted t parents na
       let covers = wanted-covers t held in
       let r = only-sound t (wanted t held) s covers in
       let same = find-only t (wanted t held) s covers in
-      let less = kept-no_larger t held in
       record {
-        counted = record {
-          well_formed = well_formed u r;
-          version = c.version;
-          few = c.few;
-          fits = smaller-fits t u less c.fits;
-          short = no_longer t u less c.short;
-          held_are_nodes = λ n more.
-              ap is_some (keep-passes (among (wanted t held)) t.nodes n (wanted-counted t holds n ∙ kept-held n (name_count t n) (slice_index holds n) more)) ∙ c.held_are_nodes n more;
-          places_of_parents = c.places_of_parents;
-          places_of_names = c.places_of_names;
-          places_of_holds = c.places_of_holds;
-          parents_stored = λ n is.
-              c.parents_stored n (kept-directory t held n is)
-              ∙ ap stored (sym (parent-same t u s r n is (λ e q found. same e q ∙ found) (λ e q found. sym (same e q) ∙ found)));
-          names_counted = λ n. c.names_counted n ∙ sym (names-same t u (length-keep (among (wanted t held)) t.nodes) (entries-only t (wanted t held) s covers) n);
-        };
+        counted = carried t u parents names holds c parents names holds r refl (trimmed-allowed t holds (refusal-fits t c.short c.fits)) (bytes-kept t held c.bytes) refl refl refl
+            (λ n more.
+            ap is_some (keep-passes (among (wanted t held)) t.nodes n (wanted-counted t holds n ∙ kept-held n (name_count t n) (slice_index holds n) more)) ∙ c.held_are_nodes n more)
+            (λ n is.
+            c.parents_stored n (kept-directory t held n is)
+            ∙ ap stored (sym (parent-same t u s r n is (λ e q found. same e q ∙ found) (λ e q found. sym (same e q) ∙ found))))
+            (λ n. c.names_counted n ∙ sym (names-same t u (length-keep (among (wanted t held)) t.nodes) (entries-only t (wanted t held) s covers) n));
         is_trimmed = kept_in_turn t held held s (λ n is. is);
       }
 
@@ -175,19 +159,8 @@ module _ (t : Tree) (parents names holds : List ℕ) (tied : IsTied t parents na
 
   -- other numbers of holders, no node of which is missing
   counted-with : (other : List ℕ) → length other ≡ length holds → ((m : ℕ) → 0 < slice_index other m → is_some (node_at t m) ≡ true) → IsCounted t parents names other
-  counted-with other long there = record {
-    well_formed = c.well_formed;
-    version = c.version;
-    few = c.few;
-    fits = c.fits;
-    short = c.short;
-    held_are_nodes = there;
-    places_of_parents = c.places_of_parents;
-    places_of_names = c.places_of_names;
-    places_of_holds = long ∙ c.places_of_holds;
-    parents_stored = c.parents_stored;
-    names_counted = c.names_counted;
-  }
+  counted-with other long there =
+      carried t t parents names holds c parents names other (sound t c.well_formed) refl (refusal-fits t c.short c.fits) c.bytes refl refl long there c.parents_stored c.names_counted
 
   pub tied-more : is_some (node_at t n) ≡ true → IsTied t parents names (held_more holds n)
   tied-more is =

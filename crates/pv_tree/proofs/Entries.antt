@@ -6,8 +6,8 @@ use Rattle.std.specs.declared.cmp.Ordering.TheVariants.{Less, Equal, Greater}
 use Rattle.std.proofs.lemmas.Cmp.{nat_list_cmp_total}
 use Rattle.pv_model.specs.Bytes.{Bytes}
 use Rattle.pv_model.specs.Tree.{Entries}
-use Rattle.pv_laws.proofs.Changes.{cases_name}
-use Rattle.pv_laws.proofs.Entries.{by_name, is_other, tied-same, find-put_same, find-put_other, find-without_same, find-without_other, told, tell}
+use Rattle.pv_tree_laws.proofs.Changes.{cases_name}
+use Rattle.pv_tree_laws.proofs.Entries.{by_name, is_other, tied-same, find-put_same, find-put_other, find-without_same, find-without_other, told, tell}
 
 -- entries in order that find the same are the same
 pub same_found : (es fs : Entries) → is_sorted by_name es ≡ true → is_sorted by_name fs ≡ true → ((q : Bytes) → find by_name q es ≡ find by_name q fs) → es ≡ fs
@@ -45,11 +45,6 @@ put_over name n es sorted =
 pub length_more : (name : Bytes) (n : ℕ) (es : Entries) → is_sorted by_name es ≡ true → find by_name name es ≡ None → length (put by_name name n es) ≡ suc (length es)
 length_more name n es sorted none =
     length-put by_name nat_list_cmp_total name n es (tell _ sorted) ∙ ap (λ o. cond (is_some o) (length es) (length es + 1)) none ∙ omega arith
-
-pub length_less : (name : Bytes) (n : ℕ) (es : Entries) → is_sorted by_name es ≡ true → find by_name name es ≡ Some n → suc (length (where_key by_name (is_other name) es)) ≡ length es
-length_less name n es sorted found =
-    let less = where_key by_name (is_other name) es in
-    sym (length_more name n less (sorted_without name es sorted) (find-without_same name es)) ∙ ap length (put_back name n es sorted found)
 
 -- ---- the entries for a node
 

@@ -1,7 +1,9 @@
 pub mod Entries
+pub mod Limits
 pub mod Names
 pub mod Parents
 pub mod Keeping
+pub mod Carrying
 pub mod Counting
 pub mod Linking
 pub mod Rooms

@@ -6,23 +6,25 @@ use Rattle.std.proofs.lemmas.List.{length-set}
 use Rattle.pv_model.specs.Bytes.{Bytes}
 use Rattle.pv_model.specs.Calls.Paths.{entries_there}
 use Rattle.pv_model.specs.Tree.{Tree, root, node_at, entries_at, is_directory_at, find_entry, parent, with_entry, without_entry, is_name}
-use Rattle.pv_laws.specs.Tree.{IsSound, Stands}
-use Rattle.pv_laws.proofs.Above.{stands-reached}
-use Rattle.pv_laws.proofs.Changes.{SameShape, shape-with_entry, shape-without_entry, has_entry-directory, with_entry-cases, with_entry-stays, without_entry-was, without_entry-stays}
-use Rattle.pv_laws.proofs.Edits.{sound-with_entry, sound-without_entry}
-use Rattle.pv_laws.proofs.Grown.{no_larger-without}
-use Rattle.pv_laws.proofs.Rooms.{smaller-fits}
-use Rattle.pv_laws.proofs.Trees.{ordered, sound, well_formed, parent-unnamed}
+use Rattle.pv_tree_laws.specs.Spelled.{are_bytes}
+use Rattle.pv_tree_laws.specs.Tree.{IsSound, Stands}
+use Rattle.pv_tree_laws.proofs.Above.{stands-reached}
+use Rattle.pv_tree_laws.proofs.Changes.{SameShape, shape-with_entry, shape-without_entry, has_entry-directory, with_entry-cases, with_entry-stays, without_entry-was, without_entry-stays}
+use Rattle.pv_tree_laws.proofs.Edits.{sound-with_entry, sound-without_entry}
+use Rattle.pv_tree_laws.proofs.Rooms.{no_larger-without}
+use Rattle.pv_tree_laws.proofs.Spelled.{bytes-with_entry, bytes-without_entry}
+use Rattle.pv_tree_laws.proofs.Trees.{ordered, sound, parent-unnamed}
 use Rattle.pv_tree.specs.Changes.{settled}
 use Rattle.pv_tree.specs.Holding.{trimmed}
 use Rattle.pv_tree.specs.Rooms.{refusal}
 use Rattle.pv_tree.specs.Standing.{stored, IsCounted, IsTied}
-use Rattle.pv_tree.proofs.Counting.{below, read-same, read-other, kept-more, no_longer, settled-is}
+use Rattle.pv_tree.proofs.Carrying.{carried}
+use Rattle.pv_tree.proofs.Counting.{below, read-same, read-other, kept-more, settled-is}
 use Rattle.pv_tree.proofs.Entries.{one_if}
 use Rattle.pv_tree.proofs.Keeping.{trimmed-all, all-kept}
 use Rattle.pv_tree.proofs.Names.{name_count, names-with_entry, names-without_entry, names-most}
 use Rattle.pv_tree.proofs.Parents.{parent-same}
-use Rattle.pv_tree.proofs.Rooms.{refusal-none}
+use Rattle.pv_tree.proofs.Rooms.{smaller-allowed}
 
 pub one_if-same : (m n : ℕ) → n ≡ m → one_if m n ≡ 1
 one_if-same m n same = ap (λ b. cond b 1 0) (eq-eqb m n (sym same))
@@ -38,10 +40,10 @@ module _ (t : Tree) (parents names holds : List ℕ) (tied : IsTied t parents na
 
   -- a count of names has room for one more
   pub count-fits : (n : ℕ) → slice_index names n + 1 < 2 ^ 32
-  count-fits n = omega (arith, c.names_counted n, names-most t c.version c.short n, c.well_formed.numbers, c.few)
+  count-fits n = omega (arith, c.names_counted n, names-most t c.short n, c.well_formed.numbers, c.few)
 
 module _ (t : Tree) (parents names holds : List ℕ) (tied : IsTied t parents names holds) (d : ℕ) (name : Bytes) (n : ℕ)
-    (stands : Stands t d) (free : find_entry t d name ≡ None) (good : is_name t.version name ≡ true) (there : is_some (node_at t n) ≡ true) (plain : is_directory_at t n ≡ false) where
+    (stands : Stands t d) (free : find_entry t d name ≡ None) (good : is_name t.version name ≡ true) (spelled : are_bytes name ≡ true) (there : is_some (node_at t n) ≡ true) (plain : is_directory_at t n ≡ false) where
   abbrev u : Tree
   u = with_entry t d name n
 
@@ -78,21 +80,10 @@ module _ (t : Tree) (parents names holds : List ℕ) (tied : IsTied t parents na
 
   pub linked-tied : refusal u ≡ None → IsTied u parents counts holds
   linked-tied allowed =
-      let room = refusal-none u allowed in
       record {
-        counted = record {
-          well_formed = well_formed u r;
-          version = cl.version;
-          few = cl.few;
-          fits = room.1;
-          short = room.0;
-          held_are_nodes = λ m more. shape.there m ∙ cl.held_are_nodes m more;
-          places_of_parents = cl.places_of_parents;
-          places_of_names = length-set names n (slice_index names n + 1) ∙ cl.places_of_names;
-          places_of_holds = cl.places_of_holds;
-          parents_stored = λ m is. cl.parents_stored m (sym (shape.directory m) ∙ is) ∙ ap stored (sym (same-parent m is));
-          names_counted = counted-names;
-        };
+        counted = carried t u parents names holds cl parents counts holds r refl allowed (bytes-with_entry t d name n stands.0 spelled cl.bytes)
+            refl (length-set names n (slice_index names n + 1)) refl (λ m more. shape.there m ∙ cl.held_are_nodes m more)
+            (λ m is. cl.parents_stored m (sym (shape.directory m) ∙ is) ∙ ap stored (sym (same-parent m is))) counted-names;
         is_trimmed = trimmed-all u holds (λ m is.
             kept-more m (name_count t m) (name_count u m) (slice_index holds m) (slice_index holds m)
             (omega (arith, names-with_entry t m d name n stands.0 free)) (omega arith)
@@ -166,30 +157,20 @@ module _ (t : Tree) (parents names holds : List ℕ) (tied : IsTied t parents na
 
   pub unlinked-counted : IsCounted w orphaned fewer holds
   unlinked-counted =
-      let less = no_larger-without t d name dir in
-      record {
-        well_formed = well_formed w ru;
-        version = cu.version;
-        few = cu.few;
-        fits = smaller-fits t w less cu.fits;
-        short = no_longer t w less cu.short;
-        held_are_nodes = λ m more. shape-less.there m ∙ cu.held_are_nodes m more;
-        places_of_parents = length-set parents n 0 ∙ cu.places_of_parents;
-        places_of_names = length-set names n (slice_index names n - 1) ∙ cu.places_of_names;
-        places_of_holds = cu.places_of_holds;
-        parents_stored = λ m is.
-            ⊎_elim
-            (λ same. ap (slice_index orphaned) same ∙ read-same parents n 0 (omega (arith, place, cu.places_of_parents))
-            ∙ ap stored (sym (no-parent (ap (is_directory_at w) (sym same) ∙ is))) ∙ ap (λ k. stored (parent w k)) (sym same))
-            (λ other. read-other parents n m 0 other ∙ cu.parents_stored m (sym (shape-less.directory m) ∙ is) ∙ ap stored (sym (same-parent-less m other is)))
-            (cases_eq m n);
-        names_counted = λ m.
-            ⊎_elim
-            (λ same. ap (slice_index fewer) same ∙ read-same names n (slice_index names n - 1) (omega (arith, place, cu.places_of_names))
-            ∙ omega (arith, cu.names_counted n, counts-less n, one_if-same n n refl) ∙ ap (name_count w) (sym same))
-            (λ other. read-other names n m (slice_index names n - 1) other ∙ omega (arith, cu.names_counted m, counts-less m, one_if-other n m other))
-            (cases_eq m n);
-      }
+      carried t w parents names holds cu orphaned fewer holds ru refl (smaller-allowed t w (no_larger-without t d name dir) cu.short cu.fits) (bytes-without_entry t d name dir cu.bytes)
+      (length-set parents n 0) (length-set names n (slice_index names n - 1)) refl (λ m more. shape-less.there m ∙ cu.held_are_nodes m more)
+      (λ m is.
+      ⊎_elim
+      (λ same. ap (slice_index orphaned) same ∙ read-same parents n 0 (omega (arith, place, cu.places_of_parents))
+      ∙ ap stored (sym (no-parent (ap (is_directory_at w) (sym same) ∙ is))) ∙ ap (λ k. stored (parent w k)) (sym same))
+      (λ other. read-other parents n m 0 other ∙ cu.parents_stored m (sym (shape-less.directory m) ∙ is) ∙ ap stored (sym (same-parent-less m other is)))
+      (cases_eq m n))
+      (λ m.
+      ⊎_elim
+      (λ same. ap (slice_index fewer) same ∙ read-same names n (slice_index names n - 1) (omega (arith, place, cu.places_of_names))
+      ∙ omega (arith, cu.names_counted n, counts-less n, one_if-same n n refl) ∙ ap (name_count w) (sym same))
+      (λ other. read-other names n m (slice_index names n - 1) other ∙ omega (arith, cu.names_counted m, counts-less m, one_if-other n m other))
+      (cases_eq m n))
 
   -- the node goes, or stays
   pub settled-unlinked : settled w n (slice_index fewer n) (slice_index holds n) ≡ trimmed w holds

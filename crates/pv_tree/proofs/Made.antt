@@ -5,31 +5,31 @@ use Rattle.std.specs.FinMap.Entries.{find, put}
 use Rattle.std.proofs.lemmas.Bool.{cases_eq}
 use Rattle.std.proofs.lemmas.List.{length-set}
 use Rattle.pv_model.specs.declared.sort.Kind.{Kind}
-use Rattle.pv_model.specs.declared.version.Version.TheVariants.{V1}
 use Rattle.pv_model.specs.Bytes.{Bytes}
 use Rattle.pv_model.specs.Tree.{Node, directory_node, Tree, node_at, entries_at, is_directory, is_directory_at, find_entry, parent, with_node, with_entry, new_number, is_name, is_node}
-use Rattle.pv_laws.specs.Tree.{IsSound, Stands}
-use Rattle.pv_laws.proofs.Above.{stands-reached}
-use Rattle.pv_laws.proofs.Changes.{directory-below, node_at-other, with_entry-cases, with_entry-stays, found-with}
-use Rattle.pv_laws.proofs.Edits.{new_number-free, sound-with_new_node}
-use Rattle.pv_laws.proofs.Entries.{by_name}
-use Rattle.pv_laws.proofs.Grown.{still-there}
-use Rattle.pv_laws.proofs.Numbered.{length-with_number}
-use Rattle.pv_laws.proofs.Trees.{sound, well_formed, entry-parent}
+use Rattle.pv_tree_laws.specs.Spelled.{are_bytes, has_bytes}
+use Rattle.pv_tree_laws.specs.Tree.{IsSound, Stands}
+use Rattle.pv_tree_laws.proofs.Above.{stands-reached}
+use Rattle.pv_tree_laws.proofs.Changes.{directory-below, node_at-other, with_entry-cases, with_entry-stays, found-with, still-there}
+use Rattle.pv_tree_laws.proofs.Edits.{new_number-free, sound-with_new_node}
+use Rattle.pv_tree_laws.proofs.Entries.{by_name}
+use Rattle.pv_tree_laws.proofs.Spelled.{bytes-with_node, bytes-with_entry}
+use Rattle.pv_tree_laws.proofs.Numbered.{length-with_number}
+use Rattle.pv_tree_laws.proofs.Trees.{sound, entry-parent}
 use Rattle.pv_tree.specs.Changes.{new_node}
 use Rattle.pv_tree.specs.Rooms.{refusal}
 use Rattle.pv_tree.specs.Standing.{stored, IsCounted, IsTied}
+use Rattle.pv_tree.proofs.Carrying.{carried}
 use Rattle.pv_tree.proofs.Counting.{unnamed, directory-some, read-same, read-other, kept-more, kept-named}
 use Rattle.pv_tree.proofs.Keeping.{trimmed-all, all-kept}
 use Rattle.pv_tree.proofs.Linking.{one_if-same, one_if-other}
 use Rattle.pv_tree.proofs.Making.{new-entries, entries-one, directory-one, absent-one}
 use Rattle.pv_tree.proofs.Names.{name_count, names-with_entry, names-same}
 use Rattle.pv_tree.proofs.Parents.{parent-same}
-use Rattle.pv_tree.proofs.Rooms.{refusal-none}
 
 module _ (t : Tree) (parents names holds : List ℕ) (tied : IsTied t parents names holds) (d : ℕ) (name : Bytes) (k : Kind)
-    (stands : Stands t d) (free : find_entry t d name ≡ None) (good : is_name t.version name ≡ true) (fine : is_node V1 (new_node k) ≡ true)
-    (below : new_number t < length t.nodes) where
+    (stands : Stands t d) (free : find_entry t d name ≡ None) (good : is_name t.version name ≡ true) (fine : is_node t.version (new_node k) ≡ true)
+    (spelled : are_bytes name ≡ true) (filled : has_bytes (new_node k) ≡ true) (below : new_number t < length t.nodes) where
   c : IsCounted t parents names holds
   c = tied.counted
 
@@ -49,19 +49,19 @@ module _ (t : Tree) (parents names holds : List ℕ) (tied : IsTied t parents na
   u = with_entry t1 d name m
 
   same-entries : (e : ℕ) → entries_at t1 e ≡ entries_at t e
-  same-entries e = entries-one t c.well_formed c.version c.short d name k stands.0 free fine e
+  same-entries e = entries-one t c.well_formed c.short d name k stands.0 free fine e
 
   dir-one : is_directory_at t1 d ≡ true
-  dir-one = directory-one t c.well_formed c.version c.short d name k stands.0 free fine
+  dir-one = directory-one t c.well_formed c.short d name k stands.0 free fine
 
   free-one : find_entry t1 d name ≡ None
-  free-one = absent-one t c.well_formed c.version c.short d name k stands.0 free fine
+  free-one = absent-one t c.well_formed c.short d name k stands.0 free fine
 
   same-found : (e : ℕ) (q : Bytes) → find_entry t1 e q ≡ find_entry t e q
   same-found e q = ap (find by_name q) (same-entries e)
 
   r : IsSound u
-  r = sound-with_new_node t s d name node stands.0 (stands-reached t s d stands.1) free good (ap (λ v. is_node v node) c.version ∙ fine) (new-entries k) below
+  r = sound-with_new_node t s d name node stands.0 (stands-reached t s d stands.1) free good fine (new-entries k) below
 
   below-one : d < length t1.nodes
   below-one = directory-below t1 d dir-one
@@ -105,31 +105,22 @@ module _ (t : Tree) (parents names holds : List ℕ) (tied : IsTied t parents na
 
   pub made-tied : refusal u ≡ None → IsTied u (slice_set parents m d) (slice_set names m 1) holds
   made-tied allowed =
-      let room = refusal-none u allowed in
       record {
-        counted = record {
-          well_formed = well_formed u r;
-          version = c.version;
-          few = c.few;
-          fits = room.1;
-          short = room.0;
-          held_are_nodes = λ x more. stays-there x (c.held_are_nodes x more);
-          places_of_parents = length-set parents m d ∙ c.places_of_parents;
-          places_of_names = length-set names m 1 ∙ c.places_of_names;
-          places_of_holds = c.places_of_holds;
-          parents_stored = λ x is.
-              ⊎_elim
-              (λ same. ap (slice_index (slice_set parents m d)) same ∙ read-same parents m d (omega (arith, in-range, c.places_of_parents))
-              ∙ ap stored (sym (new-parent (ap (is_directory_at u) (sym same) ∙ is))) ∙ ap (λ y. stored (parent u y)) (sym same))
-              (λ other. read-other parents m x d other ∙ c.parents_stored x (was-directory x other is) ∙ ap stored (sym (same-parent x other is)))
-              (cases_eq x m);
-          names_counted = λ x.
-              ⊎_elim
-              (λ same. ap (slice_index (slice_set names m 1)) same ∙ read-same names m 1 (omega (arith, in-range, c.places_of_names))
-              ∙ omega (arith, names-is m, one_if-same m m refl, no-names) ∙ ap (name_count u) (sym same))
-              (λ other. read-other names m x 1 other ∙ omega (arith, c.names_counted x, names-is x, one_if-other m x other))
-              (cases_eq x m);
-        };
+        counted = carried t u parents names holds c (slice_set parents m d) (slice_set names m 1) holds r refl allowed
+            (bytes-with_entry t1 d name m dir-one spelled (bytes-with_node t m node below filled c.bytes)) (length-set parents m d) (length-set names m 1) refl
+            (λ x more. stays-there x (c.held_are_nodes x more))
+            (λ x is.
+            ⊎_elim
+            (λ same. ap (slice_index (slice_set parents m d)) same ∙ read-same parents m d (omega (arith, in-range, c.places_of_parents))
+            ∙ ap stored (sym (new-parent (ap (is_directory_at u) (sym same) ∙ is))) ∙ ap (λ y. stored (parent u y)) (sym same))
+            (λ other. read-other parents m x d other ∙ c.parents_stored x (was-directory x other is) ∙ ap stored (sym (same-parent x other is)))
+            (cases_eq x m))
+            (λ x.
+            ⊎_elim
+            (λ same. ap (slice_index (slice_set names m 1)) same ∙ read-same names m 1 (omega (arith, in-range, c.places_of_names))
+            ∙ omega (arith, names-is m, one_if-same m m refl, no-names) ∙ ap (name_count u) (sym same))
+            (λ other. read-other names m x 1 other ∙ omega (arith, c.names_counted x, names-is x, one_if-other m x other))
+            (cases_eq x m));
         is_trimmed = trimmed-all u holds (λ x is.
             ⊎_elim
             (λ same. kept-named x (name_count u x) (slice_index holds x) (omega (arith, names-is x, one_if-same m x same)))

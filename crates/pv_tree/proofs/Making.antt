@@ -9,22 +9,23 @@ use Rattle.pv_inodes.specs.declared.space.Space.TheVariants.{Full, TooBig}
 use Rattle.pv_inodes.proofs.Numbers.{with_number-itself, without_number-with_number}
 use Rattle.pv_model.specs.declared.sort.Kind.{Kind}
 use Rattle.pv_model.specs.declared.sort.Kind.TheVariants.{Directory, File, Executable, Symlink}
-use Rattle.pv_model.specs.declared.version.Version.TheVariants.{V1}
+use Rattle.pv_model.specs.declared.version.Version.{Version}
 use Rattle.pv_model.specs.Bytes.{Bytes, is_empty}
 use Rattle.pv_model.specs.Effect.{overwrite, size_of}
 use Rattle.pv_model.specs.Numbered.{Numbered, at_number, with_number, without_number}
-use Rattle.pv_model.specs.Room.{node_length, greatest_length, is_too_long, fits}
+use Rattle.pv_model.specs.Room.{node_length, greatest_entries, greatest_length, is_too_long, fits}
 use Rattle.pv_model.specs.Tree.{Node, directory_node, file_node, link_node, Tree, node_at, entries_of, entries_at, is_directory, is_directory_at, find_entry, with_node, with_entry, with_new_node, new_number, is_node, is_link_text, IsWellFormed}
 use Rattle.pv_dirs.specs.Trees.{new_node as empty_node, written, replaced, bytes_of, without_node, LacksRoom}
-use Rattle.pv_laws.proofs.Changes.{directory-below, node_at-same}
-use Rattle.pv_laws.proofs.Edits.{new_number-free}
-use Rattle.pv_laws.proofs.Entries.{by_name}
-use Rattle.pv_laws.proofs.Grown.{still-there}
-use Rattle.pv_laws.proofs.Numbered.{at_number-below, at_number-drop, length-with_number, with_number-other, with_number-same_within, with_number-other_within, without_number-same, without_number-other, length-without_number, length-drop_one, least_free-within, least_free-below, present-all, present-drop, same_numbered}
-use Rattle.pv_laws.proofs.Trees.{ordered}
+use Rattle.pv_tree_laws.specs.Spelled.{has_bytes}
+use Rattle.pv_tree_laws.proofs.Changes.{directory-below, node_at-same, still-there}
+use Rattle.pv_tree_laws.proofs.Edits.{new_number-free}
+use Rattle.pv_tree_laws.proofs.Entries.{by_name}
+use Rattle.pv_tree_laws.proofs.Numbered.{at_number-below, at_number-drop, length-with_number, with_number-other, with_number-same_within, with_number-other_within, without_number-same, without_number-other, length-without_number, length-drop_one, least_free-within, least_free-below, present-all, present-drop, same_numbered}
+use Rattle.pv_tree_laws.proofs.Trees.{ordered}
 use Rattle.pv_tree.specs.Changes.{new_node, sort_of}
 use Rattle.pv_tree.specs.Rooms.{refusal}
 use Rattle.pv_tree.specs.Standing.{IsShaped}
+use Rattle.pv_tree.proofs.Limits.{entries_allowed, entries_past, text_allowed}
 use Rattle.pv_tree.proofs.Rooms.{refusal-long, refusal-full, short-with_node, too_long-more, short-more, fits-few}
 
 -- ---- results
@@ -36,6 +37,10 @@ at-err (Err why) is p = p
 pub at-ok : {P : Type 0} (r : Result (Unit {0}) Space) → is_err r ≡ false → OnOk r P → P
 at-ok (Ok x) is p = p
 at-ok (Err why) is p = cc
+
+pub always : {P : Type 0} (r : Result (Unit {0}) Space) → P → OnOk r P
+always (Ok x) p = p
+always (Err why) p = tt
 
 -- ---- what is in a new node
 
@@ -55,14 +60,14 @@ link-length : (text : Bytes) → is_link_text text ≡ true → length text ≤ 
 link-length text is = leb-true (length text) 1023 (and_parts (not (is_empty text)) (nat_le (length text) 1023) (and_parts (not (is_empty text) && nat_le (length text) 1023) _ is).0).1
 
 pub lacks-link : (t : Tree) (n : ℕ) (text : Bytes) → node_at t n ≡ Some (link_node []) → is_link_text text ≡ true → (r : Result (Unit {0}) Space)
-    → ((r ≡ Err TooBig) ↔ ((0 < length text) × (136192 < 0 + length text)))
-    → ((r ≡ Err Full) ↔ ((0 < length text) × (0 + length text ≤ 136192) × LacksRoom (written t n 0 text)))
+    → ((r ≡ Err TooBig) ↔ ((0 < length text) × (greatest_length t.version < 0 + length text)))
+    → ((r ≡ Err Full) ↔ ((0 < length text) × (0 + length text ≤ greatest_length t.version) × LacksRoom (written t n 0 text)))
     → OnErr r (LacksRoom (with_node t n (link_node text)))
 lacks-link t n text at good r too_big full = by r refl
   where
     by : (a : Result (Unit {0}) Space) → r ≡ a → OnErr a (LacksRoom (with_node t n (link_node text)))
     by (Ok x) is = tt
-    by (Err TooBig) is = let short = link-length text good in let long = (too_big.0 is).1 in absurd (omega arith)
+    by (Err TooBig) is = let short = link-length text good in let long = (too_big.0 is).1 in absurd (omega (arith, text_allowed t.version))
     by (Err Full) is = subst LacksRoom (wrote-link t n text at) (full.0 is).2
 
 pub same-empty : (k : Kind) → ((x : _) → k ≡ Symlink x → ⊥) → new_node k ≡ empty_node (sort_of k)
@@ -70,6 +75,12 @@ same-empty Directory other = refl
 same-empty File other = refl
 same-empty Executable other = refl
 same-empty (Symlink text) other = absurd (other text refl)
+
+pub bytes-other : (k : Kind) → ((x : _) → k ≡ Symlink x → ⊥) → has_bytes (new_node k) ≡ true
+bytes-other Directory other = refl
+bytes-other File other = refl
+bytes-other Executable other = refl
+bytes-other (Symlink text) other = absurd (other text refl)
 
 pub filled : (t : Tree) (n : ℕ) (node : Node) → node_at t n ≡ Some node → t ≡ with_node t n node
 filled t n node at = ap (λ nodes. record t { nodes = nodes }) (sym (with_number-itself t.nodes n node at))
@@ -106,11 +117,11 @@ new-entries File = refl
 new-entries Executable = refl
 new-entries (Symlink text) = refl
 
-new-length : (k : Kind) → is_node V1 (new_node k) ≡ true → node_length V1 (new_node k) ≤ 1023
-new-length Directory good = omega arith
-new-length File good = omega arith
-new-length Executable good = omega arith
-new-length (Symlink text) good = link-length text.now good
+new-length : (v : Version) (k : Kind) → is_node v (new_node k) ≡ true → node_length v (new_node k) ≤ 1023
+new-length v Directory good = omega arith
+new-length v File good = omega arith
+new-length v Executable good = omega arith
+new-length v (Symlink text) good = link-length text.now good
 
 pub size-entries : (t : Tree) (d k : ℕ) → is_directory_at t d ≡ true → option_map size_of (node_at t d) ≡ Some k → k ≡ length (entries_at t d)
 size-entries t d k is size = by (node_at t d) refl is size
@@ -121,8 +132,8 @@ size-entries t d k is size = by (node_at t d) refl is size
     by (Some (file_node executable bytes)) at is size = cc
     by (Some (link_node text)) at is size = cc
 
-module _ (t : Tree) (w : IsWellFormed t) (version : t.version ≡ V1) (short : is_too_long t ≡ false) (d : ℕ) (name : Bytes) (k : Kind)
-    (is : is_directory_at t d ≡ true) (free : find_entry t d name ≡ None) (good : is_node V1 (new_node k) ≡ true) where
+module _ (t : Tree) (w : IsWellFormed t) (short : is_too_long t ≡ false) (d : ℕ) (name : Bytes) (k : Kind)
+    (is : is_directory_at t d ≡ true) (free : find_entry t d name ≡ None) (good : is_node t.version (new_node k) ≡ true) where
   abbrev m : ℕ
   m = new_number t
 
@@ -161,16 +172,14 @@ module _ (t : Tree) (w : IsWellFormed t) (version : t.version ≡ V1) (short : i
 
   short-one : is_too_long t1 ≡ false
   short-one =
-      let length_is : node_length t.version node ≡ node_length V1 node = ap (λ v. node_length v node) version in
-      let greatest : greatest_length t.version ≡ 136192 = ap greatest_length version in
-      short-with_node t m node short (omega (arith, new-length k good))
+      short-with_node t m node short (omega (arith, new-length t.version k good, text_allowed t.version))
 
-  pub few-one : length (entries_at t d) < 2128 → length (entries_at t1 d) < 2128
+  pub few-one : length (entries_at t d) < greatest_entries t.version → length (entries_at t1 d) < greatest_entries t.version
   few-one few = omega (arith, ap length (entries-one d))
 
   -- a directory that is full
-  pub refused-long : 2128 ≤ length (entries_at t d) → refusal u ≡ Some TooBig
-  refused-long many = refusal-long u (too_long-more t1 version d (sorted-one d) name m directory-one absent-one (omega (arith, ap length (entries-one d))))
+  pub refused-long : greatest_entries t.version ≤ length (entries_at t d) → refusal u ≡ Some TooBig
+  refused-long many = refusal-long u (too_long-more t1 d (sorted-one d) name m directory-one absent-one (entries_past t.version (length (entries_at t1 d)) (omega (arith, ap length (entries-one d)))))
 
   there-one : (n : ℕ) → is_some (node_at t1 n) ≡ true → is_some (node_at u n) ≡ true
   there-one n there = still-there t1 d (directory_node (put by_name name m (entries_at t1 d))) (directory-below t1 d directory-one) n there
@@ -186,9 +195,9 @@ module _ (t : Tree) (w : IsWellFormed t) (version : t.version ≡ V1) (short : i
       (cases_lt n t.inodes))
 
   -- an image whose numbers are all in use
-  pub refused-crowded : length (entries_at t d) < 2128 → m ≡ length t.nodes → refusal u ≡ Some Full
+  pub refused-crowded : length (entries_at t d) < greatest_entries t.version → m ≡ length t.nodes → refusal u ≡ Some Full
   refused-crowded few full =
-      refusal-full u (short-more t1 version d (sorted-one d) name m directory-one absent-one short-one (omega (arith, few-one few)))
+      refusal-full u (short-more t1 d (sorted-one d) name m directory-one absent-one short-one (entries_allowed t.version (length (entries_at t1 d)) (few-one few)))
       (⊎_elim
       (λ room.
       let many = present-all (drop 1 u.nodes) (suc t.inodes) (crowd full) in
@@ -203,7 +212,6 @@ module _ (t : Tree) (w : IsWellFormed t) (version : t.version ≡ V1) (short : i
     numbers = length-with_number t.nodes m node below ∙ w.numbers;
     no_zero = with_number-other_within t.nodes m node 0 within (λ same. absurd (omega arith)) ∙ w.no_zero;
     ordered = sorted-one;
-    version = version;
     short = short-one;
   }
 

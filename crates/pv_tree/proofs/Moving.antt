@@ -8,30 +8,31 @@ use Rattle.std.proofs.lemmas.List.{length-set}
 use Rattle.pv_inodes.specs.declared.space.Space.{Space}
 use Rattle.pv_model.specs.Bytes.{Bytes}
 use Rattle.pv_model.specs.Calls.Paths.{contains_directory, entries_there}
-use Rattle.pv_model.specs.Room.{entry_length, is_too_long, fits}
+use Rattle.pv_model.specs.Room.{entry_length, fits}
 use Rattle.pv_model.specs.Tree.{Entries, Node, directory_node, file_node, link_node, Tree, node_at, entries_of, entries_at, is_directory, is_directory_at, find_entry, parent, with_node, with_entry, without_entry, is_name, is_node, IsWellFormed}
-use Rattle.pv_laws.specs.Room.{IsNoLonger, IsNoLarger}
-use Rattle.pv_laws.specs.Tree.{IsSound, Stands}
-use Rattle.pv_laws.proofs.Above.{not_contained}
-use Rattle.pv_laws.proofs.Changes.{SameShape, shape-along, shape-with_entry, shape-without_entry, directory-below, node_at-same, node_at-other, has_entry-directory, entries-with_node, entries-good, found-with, found-without, with_entry-cases, with_entry-stays, without_entry-was, without_entry-stays}
-use Rattle.pv_laws.proofs.Edits.{sound-moved}
-use Rattle.pv_laws.proofs.Entries.{by_name, is_other, find-list_all, tell}
-use Rattle.pv_laws.proofs.Grown.{no_larger-without}
-use Rattle.pv_laws.proofs.Rooms.{smaller-fits}
-use Rattle.pv_laws.proofs.Trees.{ordered, sound, well_formed, entry-parent, parent-unnamed}
-use Rattle.pv_model.specs.declared.version.Version.TheVariants.{V1}
+use Rattle.pv_tree_laws.specs.Room.{IsNoLonger, IsNoLarger}
+use Rattle.pv_tree_laws.specs.Spelled.{are_bytes, AllBytes}
+use Rattle.pv_tree_laws.specs.Tree.{IsSound, Stands}
+use Rattle.pv_tree_laws.proofs.Above.{not_contained}
+use Rattle.pv_tree_laws.proofs.Changes.{SameShape, shape-along, shape-with_entry, shape-without_entry, directory-below, node_at-same, node_at-other, has_entry-directory, entries-with_node, entries-good, found-with, found-without, with_entry-cases, with_entry-stays, without_entry-was, without_entry-stays}
+use Rattle.pv_tree_laws.proofs.Edits.{sound-moved}
+use Rattle.pv_tree_laws.proofs.Entries.{by_name, is_other, find-list_all, tell}
+use Rattle.pv_tree_laws.proofs.Rooms.{no_larger-without}
+use Rattle.pv_tree_laws.proofs.Spelled.{bytes-with_entry, bytes-without_entry}
+use Rattle.pv_tree_laws.proofs.Trees.{ordered, sound, entry-parent, parent-unnamed}
 use Rattle.pv_tree.specs.Changes.{moved, moved_node, settled}
 use Rattle.pv_tree.specs.Holding.{trimmed}
 use Rattle.pv_tree.specs.Rooms.{refusal}
 use Rattle.pv_tree.specs.Standing.{stored, IsShaped, IsCounted, IsTied}
-use Rattle.pv_tree.proofs.Counting.{below, read-same, read-other, kept-more, no_longer, settled-is}
+use Rattle.pv_tree.proofs.Carrying.{carried}
+use Rattle.pv_tree.proofs.Counting.{below, read-same, read-other, kept-more, settled-is}
 use Rattle.pv_tree.proofs.Entries.{one_if, put_back, put_over}
 use Rattle.pv_tree.proofs.Keeping.{is_kept, trimmed-all, all-kept}
 use Rattle.pv_tree.proofs.Linking.{one_if-same, one_if-other}
 use Rattle.pv_tree.proofs.Making.{with_node-twice, filled}
 use Rattle.pv_tree.proofs.Names.{name_count, names-with_entry, names-without_entry}
 use Rattle.pv_tree.proofs.Parents.{parent-same}
-use Rattle.pv_tree.proofs.Rooms.{refusal-none, refusal-fits}
+use Rattle.pv_tree.proofs.Rooms.{refusal-none, refusal-fits, no_longer, no_longer-self, smaller-allowed}
 
 -- ---- entries taken away and put back
 
@@ -79,7 +80,6 @@ shaped-less t s each d name is =
       numbers = shape.numbers ∙ s.numbers;
       no_zero = none-there (node_at (without_entry t d name) 0) (shape.there 0 ∙ ap is_some s.no_zero);
       ordered = ordered (without_entry t d name) shape.each_node;
-      version = s.version;
       short = no_longer t (without_entry t d name) (no_larger-without t d name is) s.short;
     }
 
@@ -98,10 +98,6 @@ module _ (t : Tree) (d : ℕ) (name : Bytes) (n m : ℕ) (is : is_directory_at t
   longer (Some (file_node executable bytes)) at dir = cc
   longer (Some (link_node text)) at dir = cc
 
-  no_longer-self : (o : Option Node) → IsNoLonger t.version o o
-  no_longer-self None = tt
-  no_longer-self (Some node) = Rattle.std.proofs.Common.le_refl _
-
   pub no_larger-over : IsNoLarger (with_entry t d name n) t
   no_larger-over =
       let below = directory-below t d is in
@@ -112,7 +108,7 @@ module _ (t : Tree) (d : ℕ) (name : Bytes) (n m : ℕ) (is : is_directory_at t
         nodes = λ k. ⊎_elim
             (λ same. subst (λ j. IsNoLonger t.version (node_at (with_entry t d name n) j) (node_at t j)) (sym same)
             (subst (λ o. IsNoLonger t.version o (node_at t d)) (sym (node_at-same t d (directory_node over) below)) (longer (node_at t d) refl is)))
-            (λ other. subst (λ o. IsNoLonger t.version o (node_at t k)) (sym (node_at-other t d (directory_node over) k below other)) (no_longer-self (node_at t k)))
+            (λ other. subst (λ o. IsNoLonger t.version o (node_at t k)) (sym (node_at-other t d (directory_node over) k below other)) (no_longer-self t.version (node_at t k)))
             (cases_eq k d);
       }
 
@@ -157,10 +153,9 @@ module _ (t : Tree) (wf : IsWellFormed t) (sh : IsShaped t) (fit : fits t ≡ tr
       by None is = refl
       by (Some x) is = let was = (without_entry-was t d name at-from e other x is).1 in cc
 
-  pub name-good : is_name V1 name ≡ true
+  pub name-good : is_name t.version name ≡ true
   name-good =
-      ap (λ v. is_name v name) (sym sh.version)
-      ∙ find-list_all (λ (x : Bytes × ℕ). is_name t.version x.0) name n (entries_at t d) (entries-good t d wf.each_node).1 has
+      find-list_all (λ (x : Bytes × ℕ). is_name t.version x.0) name n (entries_at t d) (entries-good t d wf.each_node).1 has
 
   -- the entry can be put back
   pub back-is : with_entry between d name n ≡ t
@@ -202,9 +197,9 @@ module _ (t : Tree) (wf : IsWellFormed t) (sh : IsShaped t) (fit : fits t ≡ tr
     pub replaced-allowed : refusal (with_entry bared e other n) ≡ None
     replaced-allowed =
         let fewer = no_larger-over between e other n m between-directory (between-shaped.ordered e) still-had in
+        let room = refusal-none between (smaller-allowed t between (no_larger-without t d name at-from) sh.short fit) in
         ap refusal replaced-is
-        ∙ refusal-fits (with_entry between e other n) (no_longer between (with_entry between e other n) fewer between-shaped.short)
-        (smaller-fits between (with_entry between e other n) fewer (smaller-fits t between (no_larger-without t d name at-from) fit))
+        ∙ smaller-allowed between (with_entry between e other n) fewer room.0 room.1
 
 -- ---- the node under the other name
 
@@ -213,16 +208,18 @@ pub record IsMove (t : Tree) (d : ℕ) (name : Bytes) (e : ℕ) (other : Bytes) 
   pub found : find_entry t d name ≡ Some n
   pub stands : Stands t e
   pub good : is_name t.version other ≡ true
+  pub spelled : are_bytes other ≡ true
   pub clear : contains_directory t n e ≡ false
   pub apart : find_entry t e other ≢ Some n
   pub empty : entries_there t (find_entry t e other) ≡ []
 
-pub is-move : (t u : Tree) → t ≡ u → t.version ≡ V1 → (d : ℕ) (name : Bytes) (e : ℕ) (other : Bytes) (n : ℕ) → find_entry t d name ≡ Some n → Stands u e → is_name V1 other ≡ true
+pub is-move : (t u : Tree) → t ≡ u → (d : ℕ) (name : Bytes) (e : ℕ) (other : Bytes) (n : ℕ) → find_entry t d name ≡ Some n → Stands u e → is_name u.version other ≡ true → are_bytes other ≡ true
     → IfSome (find_entry u d name) (λ k. contains_directory u k e ≡ false) → find_entry u e other ≢ find_entry u d name → entries_there u (find_entry u e other) ≡ [] → IsMove t d name e other n
-is-move t u same version d name e other n found stands good clear apart empty = record {
+is-move t u same d name e other n found stands good spelled clear apart empty = record {
   found = found;
   stands = subst (λ (v : Tree). Stands v e) (sym same) stands;
-  good = ap (λ v. is_name v other) version ∙ good;
+  good = ap (λ (v : Tree). is_name v.version other) same ∙ good;
+  spelled = spelled;
   clear = subst (λ o. IfSome o (λ k. contains_directory t k e ≡ false)) found
       (subst (λ (v : Tree). IfSome (find_entry v d name) (λ k. contains_directory v k e ≡ false)) (sym same) clear);
   apart = λ is. apart (ap (λ (v : Tree). find_entry v e other) (sym same) ∙ is ∙ sym found ∙ ap (λ (v : Tree). find_entry v d name) same);
@@ -304,6 +301,9 @@ module _ (t : Tree) (parents names holds : List ℕ) (tied : IsTied t parents na
       (λ here same. beside (ap₂ (find_entry t) (sym here) (sym same) ∙ has)))
       (λ a q has. ⊎_elim (λ new. absurd (away new.2)) (λ old. (without_entry-was t d name from a q x old.1).1) (with_entry-cases b e other into n a q x has))
 
+  bytes-u : AllBytes u
+  bytes-u = bytes-with_entry b e other n into mv.spelled (bytes-without_entry t d name from c.bytes)
+
   abbrev moved_parents : List ℕ
   moved_parents = slice_set parents n e
 
@@ -329,27 +329,17 @@ module _ (t : Tree) (parents names holds : List ℕ) (tied : IsTied t parents na
 
     pub moved-tied : refusal u ≡ None → IsTied u moved_parents names holds
     moved-tied allowed =
-        let room = refusal-none u allowed in
         record {
-          counted = record {
-            well_formed = well_formed u r;
-            version = c.version;
-            few = c.few;
-            fits = room.1;
-            short = room.0;
-            held_are_nodes = λ x more. shape-u.there x ∙ c.held_are_nodes x more;
-            places_of_parents = length-set parents n e ∙ c.places_of_parents;
-            places_of_names = c.places_of_names;
-            places_of_holds = c.places_of_holds;
-            parents_stored = λ x is.
-                ⊎_elim
-                (λ same. ap (slice_index moved_parents) same ∙ read-same parents n e place-n
-                ∙ ap stored (sym (new-parent (ap (is_directory_at u) (sym same) ∙ is))) ∙ ap (λ y. stored (parent u y)) (sym same))
-                (λ away. read-other parents n x e away ∙ c.parents_stored x (sym (shape-u.directory x) ∙ is)
-                ∙ ap stored (sym (same-parent x away (λ has. cc (sym free ∙ has)) is)))
-                (cases_eq x n);
-            names_counted = λ x. c.names_counted x ∙ sym (names-u x);
-          };
+          counted = carried t u parents names holds c moved_parents names holds r refl allowed bytes-u (length-set parents n e) refl refl
+              (λ x more. shape-u.there x ∙ c.held_are_nodes x more)
+              (λ x is.
+              ⊎_elim
+              (λ same. ap (slice_index moved_parents) same ∙ read-same parents n e place-n
+              ∙ ap stored (sym (new-parent (ap (is_directory_at u) (sym same) ∙ is))) ∙ ap (λ y. stored (parent u y)) (sym same))
+              (λ away. read-other parents n x e away ∙ c.parents_stored x (sym (shape-u.directory x) ∙ is)
+              ∙ ap stored (sym (same-parent x away (λ has. cc (sym free ∙ has)) is)))
+              (cases_eq x n))
+              (λ x. c.names_counted x ∙ sym (names-u x));
           is_trimmed = moved-trimmed;
         }
 
@@ -374,14 +364,10 @@ module _ (t : Tree) (parents names holds : List ℕ) (tied : IsTied t parents na
     pub less-moved : IsNoLarger u b
     less-moved = no_larger-over b e other n m into (sorted-b e) had-between
 
-    short-u : is_too_long u ≡ false
-    short-u = no_longer b u less-moved (no_longer t b (no_larger-without t d name from) c.short)
-
-    fits-u : fits u ≡ true
-    fits-u = smaller-fits b u less-moved (smaller-fits t b (no_larger-without t d name from) c.fits)
-
     pub moved-allowed : refusal u ≡ None
-    moved-allowed = refusal-fits u short-u fits-u
+    moved-allowed =
+        let between = refusal-none b (smaller-allowed t b (no_larger-without t d name from) c.short c.fits) in
+        smaller-allowed b u less-moved between.0 between.1
 
     there-m : is_some (node_at t m) ≡ true
     there-m = s.entries_are_nodes e other m had
@@ -419,29 +405,21 @@ module _ (t : Tree) (parents names holds : List ℕ) (tied : IsTied t parents na
         (cases_eq x n)
 
     pub replaced-counted : IsCounted u left_parents fewer holds
-    replaced-counted = record {
-      well_formed = well_formed u r;
-      version = c.version;
-      few = c.few;
-      fits = fits-u;
-      short = short-u;
-      held_are_nodes = λ x more. shape-u.there x ∙ c.held_are_nodes x more;
-      places_of_parents = length-set moved_parents m 0 ∙ length-set parents n e ∙ c.places_of_parents;
-      places_of_names = length-set names m (slice_index names m - 1) ∙ c.places_of_names;
-      places_of_holds = c.places_of_holds;
-      parents_stored = λ x is.
-          ⊎_elim
-          (λ same. ap (slice_index left_parents) same ∙ read-same moved_parents m 0 (omega (arith, place-m, c.places_of_parents, length-set parents n e))
-          ∙ ap stored (sym (no-parent (ap (is_directory_at u) (sym same) ∙ is))) ∙ ap (λ y. stored (parent u y)) (sym same))
-          (λ away. read-other moved_parents m x 0 away ∙ other-parent x is away)
-          (cases_eq x m);
-      names_counted = λ x.
-          ⊎_elim
-          (λ same. ap (slice_index fewer) same ∙ read-same names m (slice_index names m - 1) (omega (arith, place-m, c.places_of_names))
-          ∙ omega (arith, c.names_counted m, names-w m, one_if-same m m refl) ∙ ap (name_count u) (sym same))
-          (λ away. read-other names m x (slice_index names m - 1) away ∙ omega (arith, c.names_counted x, names-w x, one_if-other m x away))
-          (cases_eq x m);
-    }
+    replaced-counted =
+        carried t u parents names holds c left_parents fewer holds r refl moved-allowed bytes-u (length-set moved_parents m 0 ∙ length-set parents n e)
+        (length-set names m (slice_index names m - 1)) refl (λ x more. shape-u.there x ∙ c.held_are_nodes x more)
+        (λ x is.
+        ⊎_elim
+        (λ same. ap (slice_index left_parents) same ∙ read-same moved_parents m 0 (omega (arith, place-m, c.places_of_parents, length-set parents n e))
+        ∙ ap stored (sym (no-parent (ap (is_directory_at u) (sym same) ∙ is))) ∙ ap (λ y. stored (parent u y)) (sym same))
+        (λ away. read-other moved_parents m x 0 away ∙ other-parent x is away)
+        (cases_eq x m))
+        (λ x.
+        ⊎_elim
+        (λ same. ap (slice_index fewer) same ∙ read-same names m (slice_index names m - 1) (omega (arith, place-m, c.places_of_names))
+        ∙ omega (arith, c.names_counted m, names-w m, one_if-same m m refl) ∙ ap (name_count u) (sym same))
+        (λ away. read-other names m x (slice_index names m - 1) away ∙ omega (arith, c.names_counted x, names-w x, one_if-other m x away))
+        (cases_eq x m))
 
     pub settled-replaced : settled u m (slice_index fewer m) (slice_index holds m) ≡ trimmed u holds
     settled-replaced =

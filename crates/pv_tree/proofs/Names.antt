@@ -1,19 +1,19 @@
 -- How many names nodes have.
-use Rattle.std.proofs.Common.{◌≡◌, ◌≢◌, ℕ, zero, suc, ◌+◌, ◌*◌, ◌<◌, ◌≤◌, Bool, true, false, cond, ◌||◌, ◌==◌, List, [], ◌∷◌, ◌++◌, map, filter, flat_map, length, Option, None, Some, is_some, zero-add, refl, ap, ap₂, sym, ◌∙◌, arith, ⊎_elim}
+use Rattle.std.proofs.Common.{◌≡◌, ℕ, zero, suc, ◌+◌, ◌*◌, ◌<◌, ◌≤◌, Bool, true, false, cond, ◌||◌, ◌==◌, List, [], ◌∷◌, map, filter, flat_map, length, Option, None, Some, zero-add, refl, ap, ap₂, sym, ◌∙◌, arith}
 use Rattle.std.specs.FinMap.Entries.{put, where_key}
 use Rattle.std.proofs.Math.ListN.{length-append}
 use Rattle.std.proofs.lemmas.List.{length-map}
 use Rattle.std.proofs.lemmas.List.Folds.{list_any-append}
-use Rattle.pv_model.specs.declared.version.Version.TheVariants.{V1}
 use Rattle.pv_model.specs.Bytes.{Bytes}
 use Rattle.pv_model.specs.Held.{among}
 use Rattle.pv_model.specs.Numbered.{Numbered, at_number, with_number, numbered_from}
 use Rattle.pv_model.specs.Room.{is_too_long}
 use Rattle.pv_model.specs.Tree.{Entries, Node, directory_node, file_node, link_node, Tree, node_at, entries_of, entries_at, is_directory_at, find_entry, names_in, names_of, named_numbers, with_node, with_entry, without_entry}
-use Rattle.pv_laws.proofs.Changes.{directory-below}
-use Rattle.pv_laws.proofs.Entries.{by_name, is_other}
-use Rattle.pv_laws.proofs.Rooms.{length-within}
-use Rattle.pv_laws.proofs.Trees.{IsOrdered}
+use Rattle.pv_tree_laws.proofs.Changes.{directory-below}
+use Rattle.pv_tree_laws.proofs.Entries.{by_name, is_other}
+use Rattle.pv_tree_laws.proofs.Rooms.{length-within}
+use Rattle.pv_tree_laws.proofs.Trees.{IsOrdered}
+use Rattle.pv_tree.proofs.Limits.{entries_few}
 use Rattle.pv_tree.proofs.Entries.{count_in, one_if, count-put, count-without, count-most}
 
 abbrev pub name_count : Tree → ℕ → ℕ
@@ -118,20 +118,20 @@ named-is t n = named-counted n 0 t.nodes
 
 -- ---- how many there can be
 
-names-most_from : (n k : ℕ) (xs : Numbered Node) → ((d : ℕ) → length (entries_of (at_number xs d)) ≤ 2128) → length (names_from n k xs) ≤ 2128 * length xs
+names-most_from : (n k : ℕ) (xs : Numbered Node) → ((d : ℕ) → length (entries_of (at_number xs d)) ≤ 2540) → length (names_from n k xs) ≤ 2540 * length xs
 names-most_from n k [] few = omega arith
 names-most_from n k (o ∷ xs) few =
     omega (arith, names-cons n k o xs, count-most n (entries_of o), few 0, names-most_from n (suc k) xs (λ d. few (suc d)))
 
-entries-most : (t : Tree) → t.version ≡ V1 → is_too_long t ≡ false → (d : ℕ) → length (entries_at t d) ≤ 2128
-entries-most t version short d = by (node_at t d) refl
+entries-most : (t : Tree) → is_too_long t ≡ false → (d : ℕ) → length (entries_at t d) ≤ 2540
+entries-most t short d = by (node_at t d) refl
   where
-    by : (o : Option Node) → node_at t d ≡ o → length (entries_of o) ≤ 2128
+    by : (o : Option Node) → node_at t d ≡ o → length (entries_of o) ≤ 2540
     by None at = omega arith
     by (Some (directory_node es)) at =
-        let within = Rattle.std.proofs.Common.subst (λ v. Rattle.pv_model.specs.Room.entry_length v * length es ≤ Rattle.pv_model.specs.Room.greatest_length v) version (length-within t d (directory_node es) at short) in omega arith
+        entries_few t.version (length es) (length-within t d (directory_node es) at short)
     by (Some (file_node executable bytes)) at = omega arith
     by (Some (link_node text)) at = omega arith
 
-pub names-most : (t : Tree) → t.version ≡ V1 → is_too_long t ≡ false → (n : ℕ) → name_count t n ≤ 2128 * length t.nodes
-names-most t version short n = names-most_from n 0 t.nodes (entries-most t version short)
+pub names-most : (t : Tree) → is_too_long t ≡ false → (n : ℕ) → name_count t n ≤ 2540 * length t.nodes
+names-most t short n = names-most_from n 0 t.nodes (entries-most t short)

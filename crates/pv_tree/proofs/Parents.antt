@@ -1,13 +1,14 @@
 -- Parents in trees that change.
-use Rattle.std.proofs.Common.{◌≡◌, ◌≢◌, ℕ, suc, ◌+◌, true, ◌==◌, length, Option, None, Some, refl, ap, sym, ◌∙◌, arith, ⊎_elim}
+use Rattle.std.proofs.Common.{◌≡◌, ◌≢◌, ℕ, suc, ◌+◌, Bool, true, false, cond, ◌||◌, ◌==◌, [], append-nil, flat_map, length, Option, None, Some, refl, ap, ap₂, sym, ◌∙◌, arith, ⊎_elim}
+use Rattle.std.specs.Prelude.{option_to_list}
 use Rattle.std.specs.List.{list_any}
-use Rattle.std.proofs.lemmas.Bool.{cases_eq}
+use Rattle.std.proofs.lemmas.Bool.{cases_eq, eq-eqb, ne_eqb, or_left}
 use Rattle.pv_model.specs.Calls.Paths.{contains_directory}
-use Rattle.pv_laws.proofs.Changes.{has_entry-directory}
+use Rattle.pv_tree_laws.proofs.Changes.{has_entry-directory}
 use Rattle.pv_model.specs.Bytes.{Bytes}
 use Rattle.pv_model.specs.Tree.{Tree, root, is_directory_at, find_entry, parent, ancestors_within, ancestors, IsWellFormed}
-use Rattle.pv_laws.specs.Tree.{IsSound}
-use Rattle.pv_laws.proofs.Trees.{ordered, parent-entry, parent-none_named, parent-unnamed, parent-root, entry-parent}
+use Rattle.pv_tree_laws.specs.Tree.{IsSound}
+use Rattle.pv_tree_laws.proofs.Trees.{ordered, parent-entry, parent-none_named, parent-unnamed, parent-root, entry-parent}
 
 -- where a directory's entry stays, so does its parent
 pub parent-same : (t u : Tree) → IsSound t → IsSound u → (n : ℕ) → is_directory_at u n ≡ true
@@ -30,6 +31,28 @@ parent-same t u s r n is stays was =
 pub above-directory : (t : Tree) → IsWellFormed t → (d : ℕ) → d ≢ root → (p : ℕ) → parent t d ≡ Some p → is_directory_at t p ≡ true
 above-directory t w d below p up = let found = parent-entry t (ordered t w.each_node) d p below up in has_entry-directory t p found.0 d found.1
 
-pub contains-all : (t : Tree) (inodes : ℕ) → length t.nodes ≡ suc inodes → (n d : ℕ) → list_any (λ e. e == n) (ancestors_within t (inodes + 1) d) ≡ contains_directory t n d
+-- among the directory and those above it in so many steps
+abbrev pub is_among : Tree → ℕ → ℕ → ℕ → Bool
+is_among t n steps d = list_any (λ e. e == n) (ancestors_within t steps d)
+
+pub among-all : (t : Tree) (inodes : ℕ) → length t.nodes ≡ suc inodes → (n d : ℕ) → is_among t n (inodes + 1) d ≡ contains_directory t n d
 unfolding ancestors
-contains-all t inodes numbers n d = let same : inodes + 1 ≡ length t.nodes = omega arith in ap (λ k. list_any (λ e. e == n) (ancestors_within t k d)) same
+among-all t inodes numbers n d = let same : inodes + 1 ≡ length t.nodes = omega arith in ap (λ k. is_among t n k d) same
+
+pub among-itself : (t : Tree) (n k d : ℕ) → d ≡ n → is_among t n (suc k) d ≡ true
+among-itself t n k d same = or_left (d == n) _ (eq-eqb d n same)
+
+-- from another directory one step up
+pub among-above : (t : Tree) (n k d p : ℕ) → d ≢ n → d ≢ root → parent t d ≡ Some p → is_among t n (suc k) d ≡ is_among t n k p
+among-above t n k d p other below up =
+    ap₂ (λ a above. a || list_any (λ e. e == n) (flat_map (ancestors_within t k) above)) (ne_eqb d n other) (ap (λ b. cond b [] (option_to_list (parent t d))) (ne_eqb d root below) ∙ ap option_to_list up)
+    ∙ ap (list_any (λ e. e == n)) (append-nil (ancestors_within t k p))
+
+-- nothing is above the root, nor above a removed directory
+pub among-top : (t : Tree) (n k d : ℕ) → d ≢ n → d ≡ root → is_among t n (suc k) d ≡ false
+among-top t n k d other top =
+    ap₂ (λ a above. a || list_any (λ e. e == n) (flat_map (ancestors_within t k) above)) (ne_eqb d n other) (ap (λ b. cond b [] (option_to_list (parent t d))) (eq-eqb d root top))
+
+pub among-removed : (t : Tree) (n k d : ℕ) → d ≢ n → d ≢ root → parent t d ≡ None → is_among t n (suc k) d ≡ false
+among-removed t n k d other below up =
+    ap₂ (λ a above. a || list_any (λ e. e == n) (flat_map (ancestors_within t k) above)) (ne_eqb d n other) (ap (λ b. cond b [] (option_to_list (parent t d))) (ne_eqb d root below) ∙ ap option_to_list up)

@@ -6,22 +6,23 @@ use Rattle.std.specs.List.{list_any}
 use Rattle.std.proofs.lemmas.Bool.{and_parts, and_from, or_parts, cases_eq, cases_lt, cases_Bool, lt-ltb, le-ltb, lt-leb, le-leb, leb-true}
 use Rattle.pv_inodes.specs.declared.space.Space.{Space}
 use Rattle.pv_inodes.specs.declared.space.Space.TheVariants.{Full, TooBig}
-use Rattle.pv_model.specs.declared.version.Version.TheVariants.{V1}
+use Rattle.pv_model.specs.declared.version.Version.{Version}
 use Rattle.pv_model.specs.Bytes.{Bytes}
 use Rattle.pv_model.specs.Numbered.{Numbered, with_number, present}
-use Rattle.pv_model.specs.Room.{entry_length, node_length, greatest_length, is_too_long, fits}
+use Rattle.pv_model.specs.Room.{entry_length, node_length, greatest_entries, greatest_length, is_too_long, fits}
 use Rattle.pv_model.specs.Tree.{Entries, Node, directory_node, file_node, link_node, Tree, node_at, entries_of, entries_at, is_directory, is_directory_at, find_entry, with_node, with_entry, IsWellFormed}
 use Rattle.pv_dirs.specs.Trees.{total_need, LacksRoom, grown_length}
-use Rattle.pv_laws.proofs.Changes.{directory-below, node_at-same, node_at-other}
-use Rattle.pv_laws.proofs.Entries.{by_name}
-use Rattle.pv_laws.proofs.Rooms.{too_long-at, smaller-fits, smaller-not_too_long}
-use Rattle.pv_laws.proofs.Whole.{kept-no_larger}
+use Rattle.pv_tree_laws.proofs.Changes.{directory-below, node_at-same, node_at-other}
+use Rattle.pv_tree_laws.proofs.Entries.{by_name}
+use Rattle.pv_tree_laws.proofs.Rooms.{too_long-at, smaller-fits, smaller-not_too_long}
+use Rattle.pv_tree_laws.proofs.Rooms.{kept-no_larger}
 use Rattle.pv_tree.specs.Holding.{held_numbers, trimmed}
-use Rattle.pv_laws.specs.Room.{IsNoLonger, IsNoLarger}
-use Rattle.pv_laws.proofs.Trees.{ordered}
+use Rattle.pv_tree_laws.specs.Room.{IsNoLonger, IsNoLarger}
+use Rattle.pv_tree_laws.proofs.Trees.{ordered}
 use Rattle.pv_tree.specs.Rooms.{refusal}
 use Rattle.pv_tree.specs.Standing.{IsShaped, IsCounted}
 use Rattle.pv_tree.proofs.Entries.{length_more}
+use Rattle.pv_tree.proofs.Limits.{entries_allowed}
 
 -- ---- what a refusal says
 
@@ -41,14 +42,20 @@ refusal-long t long = ap (λ a. cond a (Some TooBig) (cond (fits t) None (Some F
 pub refusal-full : (t : Tree) → is_too_long t ≡ false → fits t ≡ false → refusal t ≡ Some Full
 refusal-full t short full = ap₂ (λ a b. cond a (Some TooBig) (cond b None (Some Full))) short full
 
--- what is allowed is so when it is trimmed
+pub no_longer-self : (v : Version) (o : Option Node) → IsNoLonger v o o
+no_longer-self v None = tt
+no_longer-self v (Some node) = Rattle.std.proofs.Common.le_refl _
+
+pub no_longer : (t u : Tree) → IsNoLarger u t → is_too_long t ≡ false → is_too_long u ≡ false
+no_longer t u less short = ⊎_elim (λ long. let was = smaller-not_too_long t u less long in cc) (λ no_long. no_long) (cases_Bool (is_too_long u))
+
+-- a tree that needs no more is allowed
+pub smaller-allowed : (t u : Tree) → IsNoLarger u t → is_too_long t ≡ false → fits t ≡ true → refusal u ≡ None
+smaller-allowed t u less short room = refusal-fits u (no_longer t u less short) (smaller-fits t u less room)
+
+-- and so is what is left of it when it is trimmed
 pub trimmed-allowed : (t : Tree) (holds : List ℕ) → refusal t ≡ None → refusal (trimmed t holds) ≡ None
-trimmed-allowed t holds allowed =
-    let room = refusal-none t allowed in
-    let less = kept-no_larger t (held_numbers holds) in
-    refusal-fits (trimmed t holds)
-    (⊎_elim (λ long. let was = smaller-not_too_long t (trimmed t holds) less long in let isnt = room.0 in cc) (λ short. short) (cases_Bool (is_too_long (trimmed t holds))))
-    (smaller-fits t (trimmed t holds) less room.1)
+trimmed-allowed t holds allowed = let room = refusal-none t allowed in smaller-allowed t (trimmed t holds) (kept-no_larger t (held_numbers holds)) room.0 room.1
 
 -- ---- whether a tree fits
 
@@ -74,10 +81,6 @@ and_false false b is = refl
 pub fits-lacks : (t : Tree) → LacksRoom t → fits t ≡ false
 unfolding fits
 fits-lacks t lacks = and_false (nat_le (length (present t.nodes)) t.inodes) _ (lt-leb (total_need t) t.blocks lacks)
-
-pub fits-room : (t : Tree) → fits t ≡ true → total_need t ≤ t.blocks
-unfolding fits
-fits-room t is = leb-true (total_need t) t.blocks (and_parts (nat_le (length (present t.nodes)) t.inodes) _ is).1
 
 pub fits-few : (t : Tree) → fits t ≡ true → length (present t.nodes) ≤ t.inodes
 unfolding fits
@@ -109,31 +112,27 @@ shaped t parents names holds c = record {
   numbers = c.well_formed.numbers;
   no_zero = c.well_formed.no_zero;
   ordered = ordered t c.well_formed.each_node;
-  version = c.version;
   short = c.short;
 }
 
-module _ (t : Tree) (version : t.version ≡ V1) (d : ℕ) (sorted : is_sorted by_name (entries_at t d) ≡ true) (name : Bytes) (n : ℕ)
+module _ (t : Tree) (d : ℕ) (sorted : is_sorted by_name (entries_at t d) ≡ true) (name : Bytes) (n : ℕ)
     (is : is_directory_at t d ≡ true) (none : find_entry t d name ≡ None) where
   abbrev more : Entries
   more = put by_name name n (entries_at t d)
 
-  long : node_length t.version (directory_node more) ≡ 64 * length more
-  long = ap (λ v. entry_length v * length more) version
-
   count : length more ≡ suc (length (entries_at t d))
   count = length_more name n (entries_at t d) sorted none
 
-  greatest : greatest_length t.version ≡ 136192
-  greatest = ap greatest_length version
+  long : node_length t.version (directory_node more) ≡ grown_length t d
+  long = ap (λ n. entry_length t.version * n) count
 
-  pub too_long-more : 136192 < grown_length t d → is_too_long (with_entry t d name n) ≡ true
+  pub too_long-more : greatest_length t.version < grown_length t d → is_too_long (with_entry t d name n) ≡ true
   too_long-more past =
       too_long-at (with_entry t d name n) d (directory_node more) (node_at-same t d (directory_node more) (directory-below t d is))
-      (lt-ltb (greatest_length t.version) (node_length t.version (directory_node more)) (omega (arith, long, count, greatest)))
+      (lt-ltb (greatest_length t.version) (node_length t.version (directory_node more)) (omega (arith, long)))
 
-  pub short-more : is_too_long t ≡ false → grown_length t d ≤ 136192 → is_too_long (with_entry t d name n) ≡ false
-  short-more short within = short-with_node t d (directory_node more) short (omega (arith, long, count, greatest))
+  pub short-more : is_too_long t ≡ false → grown_length t d ≤ greatest_length t.version → is_too_long (with_entry t d name n) ≡ false
+  short-more short within = short-with_node t d (directory_node more) short (omega (arith, long))
 
   -- a directory with one more entry needs no less
   longer : (o : Option Node) → node_at t d ≡ o → IsNoLonger t.version o (Some (directory_node more))
@@ -143,10 +142,6 @@ module _ (t : Tree) (version : t.version ≡ V1) (d : ℕ) (sorted : is_sorted b
       Rattle.std.proofs.Common.mul-le-mul_left (entry_length t.version) (omega (arith, count, ap length same))
   longer (Some (file_node executable bytes)) at = let isnt = ap is_directory at in cc
   longer (Some (link_node text)) at = let isnt = ap is_directory at in cc
-
-  no_longer-self : (o : Option Node) → IsNoLonger t.version o o
-  no_longer-self None = tt
-  no_longer-self (Some node) = Rattle.std.proofs.Common.le_refl _
 
   pub no_larger-more : IsNoLarger t (with_entry t d name n)
   no_larger-more =
@@ -158,7 +153,7 @@ module _ (t : Tree) (version : t.version ≡ V1) (d : ℕ) (sorted : is_sorted b
         nodes = λ m. ⊎_elim
             (λ same. subst (λ k. IsNoLonger t.version (node_at t k) (node_at (with_entry t d name n) k)) (sym same)
             (subst (λ o. IsNoLonger t.version (node_at t d) o) (sym (node_at-same t d (directory_node more) below)) (longer (node_at t d) refl)))
-            (λ other. subst (λ o. IsNoLonger t.version (node_at t m) o) (sym (node_at-other t d (directory_node more) m below other)) (no_longer-self (node_at t m)))
+            (λ other. subst (λ o. IsNoLonger t.version (node_at t m) o) (sym (node_at-other t d (directory_node more) m below other)) (no_longer-self t.version (node_at t m)))
             (cases_eq m d);
       }
 
@@ -172,32 +167,32 @@ module _ (t : Tree) (s : IsShaped t) (d : ℕ) (name : Bytes) (n : ℕ) (is : is
   below : d < length t.nodes
   below = directory-below t d is
 
-  too_long : 136192 < grown_length t d → is_too_long u ≡ true
-  too_long = too_long-more t s.version d (s.ordered d) name n is none
+  too_long : greatest_length t.version < grown_length t d → is_too_long u ≡ true
+  too_long = too_long-more t d (s.ordered d) name n is none
 
-  not_too_long : grown_length t d ≤ 136192 → is_too_long u ≡ false
-  not_too_long within = short-more t s.version d (s.ordered d) name n is none s.short within
+  not_too_long : grown_length t d ≤ greatest_length t.version → is_too_long u ≡ false
+  not_too_long within = short-more t d (s.ordered d) name n is none s.short within
 
   numbers : length u.nodes ≡ suc u.inodes
-  numbers = Rattle.pv_laws.proofs.Numbered.length-with_number t.nodes d (directory_node entered) below ∙ s.numbers
+  numbers = Rattle.pv_tree_laws.proofs.Numbered.length-with_number t.nodes d (directory_node entered) below ∙ s.numbers
 
   no_zero : node_at u 0 ≡ None
   no_zero = ⊎_elim
       (λ here. let gone : is_directory_at t d ≡ false = ap (is_directory_at t) (sym here) ∙ ap Rattle.pv_model.specs.Tree.is_directory s.no_zero in cc)
-      (λ away. Rattle.pv_laws.proofs.Changes.node_at-other t d (directory_node entered) 0 below away ∙ s.no_zero)
+      (λ away. Rattle.pv_tree_laws.proofs.Changes.node_at-other t d (directory_node entered) 0 below away ∙ s.no_zero)
       (Rattle.std.proofs.lemmas.Bool.cases_eq 0 d)
 
   -- where there is no room without the entry, there is none with it
-  pub refused-before : length (entries_at t d) < 2128 → LacksRoom t → refusal u ≡ Some Full
+  pub refused-before : length (entries_at t d) < greatest_entries t.version → LacksRoom t → refusal u ≡ Some Full
   refused-before few lacks =
-      refusal-full u (not_too_long (omega arith))
+      refusal-full u (not_too_long (entries_allowed t.version (length (entries_at t d)) few))
       (⊎_elim
-      (λ is_room. let before = smaller-fits u t (no_larger-more t s.version d (s.ordered d) name n is none) is_room in let isnt = fits-lacks t lacks in cc)
+      (λ is_room. let before = smaller-fits u t (no_larger-more t d (s.ordered d) name n is none) is_room in let isnt = fits-lacks t lacks in cc)
       (λ no_room. no_room)
       (cases_Bool (fits u)))
 
   module _ (r : Result (Unit {0}) Space)
-      (too_big : (r ≡ Err TooBig) ↔ (136192 < grown_length t d)) (full : (r ≡ Err Full) ↔ ((grown_length t d ≤ 136192) × LacksRoom u)) where
+      (too_big : (r ≡ Err TooBig) ↔ (greatest_length t.version < grown_length t d)) (full : (r ≡ Err Full) ↔ ((grown_length t d ≤ greatest_length t.version) × LacksRoom u)) where
     pub add-allowed : OnOk r (refusal u ≡ None)
     add-allowed = by r refl
       where
@@ -211,7 +206,7 @@ module _ (t : Tree) (s : IsShaped t) (d : ℕ) (name : Bytes) (n : ℕ) (is : is
             (λ lacks. let bad = full.1 (within, lacks) in cc)
             (λ room. refusal-fits u (not_too_long within) (fits-from u numbers no_zero room))
             (cases_lt u.blocks (total_need u)))
-            (cases_lt 136192 (grown_length t d))
+            (cases_lt (greatest_length t.version) (grown_length t d))
 
     pub add-refused : IfErr r (λ why. refusal u ≡ Some why)
     add-refused = by r refl

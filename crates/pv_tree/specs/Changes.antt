@@ -4,11 +4,17 @@ use Rattle.pv_model.specs.declared.sort.Kind.{Kind}
 use Rattle.pv_model.specs.declared.sort.Kind.TheVariants.{Directory, File, Executable, Symlink}
 use Rattle.pv_model.specs.declared.sort.Sort.{Sort}
 use Rattle.pv_model.specs.declared.sort.Sort.TheVariants.{Directory as SortDirectory, File as SortFile, Executable as SortExecutable, Symlink as SortSymlink}
+use Rattle.pv_model.specs.declared.version.Version.{Version}
 use Rattle.pv_model.specs.Bytes.{Bytes}
 use Rattle.pv_model.specs.Calls.Descriptors.{with_content}
 use Rattle.pv_model.specs.Effect.{bytes_of, overwrite, resize}
+use Rattle.pv_model.specs.Manifest.{empty_tree}
 use Rattle.pv_model.specs.Tree.{Node, directory_node, file_node, link_node, Tree, root, node_at, find_entry, with_entry, without_entry}
 use Rattle.pv_dirs.specs.Trees.{without_node}
+
+-- the tree of the root alone
+abbrev pub root_alone : Version → ℕ → ℕ → Tree
+root_alone v blocks inodes = record (empty_tree blocks inodes) { version = v }
 
 -- a new node
 abbrev pub new_node : Kind → Node

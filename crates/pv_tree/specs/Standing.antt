@@ -3,18 +3,19 @@ use Rattle.std.specs.Prelude.{◌≡◌, ℕ, suc, ◌<◌, ◌≤◌, IsTrue, I
 use Rattle.std.specs.Cmp.Lexicographic.{slice_cmp}
 use Rattle.std.specs.FinMap.Entries.{is_sorted}
 use Rattle.std.specs.Ordering.{nat_cmp}
-use Rattle.pv_model.specs.declared.version.Version.TheVariants.{V1}
 use Rattle.pv_model.specs.Room.{is_too_long, fits}
 use Rattle.pv_model.specs.Tree.{Tree, node_at, entries_at, is_directory_at, names_of, parent, IsWellFormed}
+use Rattle.pv_tree_laws.specs.Spelled.{AllBytes}
 use Rattle.pv_tree.specs.Holding.{HeldTree, holds_at, trimmed}
 
 -- what is true of every tree with its holds
 pub record IsStanding (h : HeldTree) : Type 0 where
   pub well_formed : IsWellFormed h.tree
-  pub version : h.tree.version ≡ V1
   pub few : h.tree.inodes ≤ 4096
   pub fits : IsTrue (fits h.tree)
   pub short : IsFalse (is_too_long h.tree)
+  pub bytes : AllBytes h.tree
+  pub counted : length h.holds ≡ 4097
   pub held_are_nodes : (n : ℕ) → 0 < holds_at h n → IsTrue (is_some (node_at h.tree n))
   pub is_trimmed : trimmed h.tree h.holds ≡ h.tree
 
@@ -23,7 +24,6 @@ pub record IsShaped (t : Tree) : Type 0 where
   pub numbers : length t.nodes ≡ suc t.inodes
   pub no_zero : node_at t 0 ≡ None
   pub ordered : (d : ℕ) → IsTrue (is_sorted (slice_cmp nat_cmp) (entries_at t d))
-  pub version : t.version ≡ V1
   pub short : IsFalse (is_too_long t)
 
 -- how a parent is stored: a removed directory has none
@@ -34,10 +34,10 @@ stored (Some d) = d
 -- what is stored of a tree that is perhaps not yet trimmed: the parent of each directory, and how many names each node has
 pub record IsCounted (t : Tree) (parents names holds : List ℕ) : Type 0 where
   pub well_formed : IsWellFormed t
-  pub version : t.version ≡ V1
   pub few : t.inodes ≤ 4096
   pub fits : IsTrue (fits t)
   pub short : IsFalse (is_too_long t)
+  pub bytes : AllBytes t
   pub held_are_nodes : (n : ℕ) → 0 < slice_index holds n → IsTrue (is_some (node_at t n))
   pub places_of_parents : length parents ≡ 4097
   pub places_of_names : length names ≡ 4097

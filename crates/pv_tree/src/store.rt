@@ -1,11 +1,11 @@
 //! A tree before boot.
 ghost use Rattle.std.specs.Prelude.{◌≡◌, ◌+◌, ◌-◌, ◌*◌, ◌≤◌, vec_len, All};
-ghost use Rattle.pv_model.specs.declared.version.Version.TheVariants.{V1};
 ghost use Rattle.pv_model.specs.Image.{inode_blocks, greatest_blocks};
-ghost use Rattle.pv_model.specs.Manifest.{empty_tree};
+ghost use Rattle.pv_tree.specs.Changes.{root_alone};
 ghost use Rattle.pv_tree.specs.Holding.{IsUnheld};
 
 use crate::Tree;
+use pv_model::Version;
 use std::marker::Model;
 
 /// A tree before boot: nothing is held, so each node but the root has a name.
@@ -26,19 +26,19 @@ impl Model for Store {
 }
 
 impl Store {
-    /// The tree of the root alone, in an image of version 1 of so many blocks and inodes, over as many
+    /// The tree of the root alone, in an image of this version, of so many blocks and inodes, over as many
     /// blocks of zeros. No memory is taken.
-    pub fn empty(zeros: Vec<u8>, blocks: u16, inodes: u16) -> Store
+    pub fn empty(zeros: Vec<u8>, blocks: u16, inodes: u16, version: Version) -> Store
         requires whole { vec_len zeros ≡ 512 * blocks }
         requires zeros { All (λ byte. byte ≡ 0) zeros.items }
         requires some_inodes { 1 ≤ inodes }
         requires few_inodes { inodes ≤ 4096 }
-        requires some_blocks { inode_blocks V1 inodes + 1 ≤ blocks }
-        requires few_blocks { blocks ≤ greatest_blocks V1 }
-        ensures { result ≡ empty_tree (blocks - (inode_blocks V1 inodes + 1)) inodes }
+        requires some_blocks { inode_blocks version inodes + 1 ≤ blocks }
+        requires few_blocks { blocks ≤ greatest_blocks version }
+        ensures { result ≡ root_alone version (blocks - (inode_blocks version inodes + 1)) inodes }
     {
         Store {
-            tree: Tree::empty(zeros, blocks, inodes),
+            tree: Tree::empty(zeros, blocks, inodes, version),
         }
     }
 

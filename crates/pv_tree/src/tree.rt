@@ -1,17 +1,16 @@
 //! A tree on the blocks of an image, with who holds what.
 ghost use Rattle.std.specs.Prelude.{◌≡◌, ◌+◌, ◌-◌, ◌*◌, ◌≤◌, ◌↔◌, min, replicate, slice_set, vec_len, ◌==◌, All, false, [], ◌++◌, length, take, drop, IsTrue, Some, IsSome, option_map};
 ghost use Rattle.std.specs.Option.{option_copied};
-ghost use Rattle.pv_model.specs.declared.version.Version.TheVariants.{V1};
 ghost use Rattle.pv_model.specs.Calls.Descriptors.{next_name};
 ghost use Rattle.pv_model.specs.Effect.{size_of};
 ghost use Rattle.pv_model.specs.Image.{inode_blocks, greatest_blocks};
-ghost use Rattle.pv_model.specs.Manifest.{empty_tree};
 ghost use Rattle.pv_model.specs.Room.{greatest_length};
 ghost use Rattle.pv_model.specs.Tree.{node_at, entries_at, is_directory_at, find_entry, names_of, parent, ancestors_within};
 ghost use Rattle.std.specs.List.{list_any};
 ghost use Rattle.pv_model.specs.Calls.Paths.{contains_directory};
 ghost use Rattle.pv_dirs.specs.Listing.{IsNextName};
 ghost use Rattle.pv_dirs.specs.Trees.{sort_of, bytes_at};
+ghost use Rattle.pv_tree.specs.Changes.{root_alone};
 ghost use Rattle.pv_tree.specs.Holding.{holds_at};
 ghost use Rattle.pv_tree.specs.Standing.{IsStanding};
 
@@ -30,7 +29,7 @@ use std::marker::Model;
 /// The numbers of nodes: 0, which is none, and those of the greatest image.
 pub(crate) const NUMBERS: usize = 4_097;
 
-/// A tree of nodes by names, on the blocks of an image of version 1, and how often each node is held.
+/// A tree of nodes by names, on the blocks of an image, and how often each node is held.
 /// Nothing here takes memory.
 #[derive(Drop)]
 pub struct Tree {
@@ -90,17 +89,17 @@ fn no_holds() -> [u16; NUMBERS]
 
 impl Tree {
     /// The tree of the root alone, in an image of so many blocks and inodes over zeros; nothing is held.
-    pub(crate) fn empty(zeros: Vec<u8>, blocks: u16, inodes: u16) -> Tree
+    pub(crate) fn empty(zeros: Vec<u8>, blocks: u16, inodes: u16, version: Version) -> Tree
         requires whole { vec_len zeros ≡ 512 * blocks }
         requires zeros { All (λ byte. byte ≡ 0) zeros.items }
         requires some_inodes { 1 ≤ inodes }
         requires few_inodes { inodes ≤ 4096 }
-        requires some_blocks { inode_blocks V1 inodes + 1 ≤ blocks }
-        requires few_blocks { blocks ≤ greatest_blocks V1 }
-        ensures tree { result.tree ≡ empty_tree (blocks - (inode_blocks V1 inodes + 1)) inodes }
+        requires some_blocks { inode_blocks version inodes + 1 ≤ blocks }
+        requires few_blocks { blocks ≤ greatest_blocks version }
+        ensures tree { result.tree ≡ root_alone version (blocks - (inode_blocks version inodes + 1)) inodes }
         ensures holds { result.holds ≡ replicate 4097 0 }
     {
-        let mut directories = Directories::empty(zeros, blocks, inodes);
+        let mut directories = Directories::empty(zeros, blocks, inodes, version);
         let Some(_root) = directories.fresh(Sort::Directory) else {
             unreachable!()
         };
@@ -122,7 +121,7 @@ impl Tree {
         Sizes {
             blocks: self.directories.blocks(),
             inodes: self.directories.inodes(),
-            version: Version::V1,
+            version: self.directories.version(),
         }
     }
 
@@ -153,7 +152,7 @@ impl Tree {
     pub fn size(&self, node: u16) -> u32
         requires { IsSome (node_at self.now.tree node) }
         ensures value { option_map size_of (node_at self.now.tree node) ≡ Some result }
-        ensures allowed { result ≤ greatest_length V1 }
+        ensures allowed { result ≤ greatest_length self.now.tree.version }
     {
         self.directories.size(node)
     }
@@ -172,29 +171,20 @@ impl Tree {
         requires { IsTrue (is_directory_at self.now.tree directory) }
         ensures { result ≡ contains_directory self.now.tree node directory }
     {
-        let steps = self.directories.inodes() + 1;
-        self.contains_within(node, directory, steps)
-    }
-
-    // The same in so many steps upwards.
-    fn contains_within(&self, node: u16, directory: u16, steps: u16) -> bool
-        requires { IsTrue (is_directory_at self.now.tree directory) }
-        ensures { result ≡ list_any (λ e. e == node) (ancestors_within self.now.tree steps directory) }
-    {
-        let _ = &self.parents;
-        if steps == 0 {
-            return false;
+        let mut reached = directory;
+        for _step in 0..self.directories.inodes() + 1 {
+            if reached == node {
+                return true;
+            }
+            if reached == ROOT {
+                return false;
+            }
+            let Some(above) = self.parent(reached) else {
+                return false;
+            };
+            reached = above;
         }
-        if directory == node {
-            return true;
-        }
-        if directory == ROOT {
-            return false;
-        }
-        match self.parent(directory) {
-            Some(above) => self.contains_within(node, above, steps - 1),
-            None => false,
-        }
+        false
     }
 
     /// How many names a node has.

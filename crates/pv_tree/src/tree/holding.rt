@@ -1,5 +1,5 @@
 //! Who holds what.
-ghost use Rattle.std.specs.Prelude.{◌≡◌, ◌<◌, suc, ◌-◌, IsSome};
+ghost use Rattle.std.specs.Prelude.{◌≡◌, ◌≢◌, ◌<◌, suc, ◌+◌, ◌-◌, ℕ, IsSome};
 ghost use Rattle.pv_model.specs.Tree.{node_at};
 ghost use Rattle.pv_tree.specs.Changes.{settled};
 ghost use Rattle.pv_tree.specs.Holding.{HeldTree, holds_at, held_more, held_less, trimmed};
@@ -25,6 +25,8 @@ impl Tree {
         requires few { holds_at self.old node < 65535 }
         ensures tree { self.new.tree ≡ self.old.tree }
         ensures holds { self.new.holds ≡ held_more self.old.holds node }
+        ensures more { holds_at self.new node ≡ holds_at self.old node + 1 }
+        ensures others { (other : ℕ) → other ≢ node → holds_at self.new other ≡ holds_at self.old other }
     {
         self.holds[node as usize] += 1;
     }
@@ -34,6 +36,8 @@ impl Tree {
         requires { 0 < holds_at self.old node }
         ensures tree { self.new.tree ≡ trimmed self.old.tree (held_less self.old.holds node) }
         ensures holds { self.new.holds ≡ held_less self.old.holds node }
+        ensures less { holds_at self.new node + 1 ≡ holds_at self.old node }
+        ensures others { (other : ℕ) → other ≢ node → holds_at self.new other ≡ holds_at self.old other }
     {
         let at = node as usize;
         self.holds[at] -= 1;

@@ -1,9 +1,9 @@
 //! New nodes.
 ghost use Rattle.std.specs.Prelude.{◌≡◌, ◌<◌, length, IsTrue, false, None, Some, IfOk, IfErr, OnOk, OnErr};
-ghost use Rattle.pv_model.specs.declared.version.Version.TheVariants.{V1};
-ghost use Rattle.pv_model.specs.Room.{is_too_long};
+ghost use Rattle.pv_model.specs.Room.{greatest_entries, is_too_long};
 ghost use Rattle.pv_model.specs.Tree.{node_at, entries_at, find_entry, is_directory_at, is_name, is_node, with_node, with_entry, with_new_node, new_number, IsWellFormed};
-ghost use Rattle.pv_laws.specs.Tree.{Stands};
+ghost use Rattle.pv_tree_laws.specs.Spelled.{are_bytes, has_bytes};
+ghost use Rattle.pv_tree_laws.specs.Tree.{Stands};
 ghost use Rattle.pv_dirs.specs.Trees.{new_node as empty_node, LacksRoom, without_node};
 ghost use Rattle.pv_tree.specs.Changes.{new_node, sort_of};
 ghost use Rattle.pv_tree.specs.Holding.{with_tree};
@@ -14,9 +14,6 @@ use super::Tree;
 use pv_dirs::Directories;
 use pv_inodes::Space;
 use pv_model::{Kind, Sort};
-
-/// The most entries of a directory.
-const MOST_ENTRIES: u32 = 2_128;
 
 // What a node of a kind is.
 fn sort_of(kind: Kind) -> Sort
@@ -30,16 +27,25 @@ fn sort_of(kind: Kind) -> Sort
     }
 }
 
+// A text as it is read: each number in it is a byte.
+fn as_read(text: &[u8]) -> &[u8]
+    ensures same { result.now ≡ text.now }
+    ensures bytes { IsTrue (are_bytes result.now) }
+{
+    text
+}
+
 // Gives a new node its content. An `Err` says that data blocks are wanting, and then nothing has changed.
 fn fill(directories: &mut Directories, node: u16, kind: Kind) -> Result<(), Space>
     requires fresh { node_at directories.old node ≡ Some (empty_node (sort_of kind)) }
-    requires text { IsTrue (is_node V1 (new_node kind)) }
+    requires text { IsTrue (is_node directories.old.version (new_node kind)) }
     ensures ok { OnOk result (directories.new ≡ with_node directories.old node (new_node kind.entry)) }
     ensures err { OnErr result (directories.new ≡ directories.old) }
     ensures full { OnErr result (LacksRoom (with_node directories.old node (new_node kind.entry))) }
+    ensures bytes { OnOk result (IsTrue (has_bytes (new_node kind.entry))) }
 {
     match kind {
-        Kind::Symlink(text) => directories.write_at(node, 0, text),
+        Kind::Symlink(text) => directories.write_at(node, 0, as_read(text)),
         _ => Ok(()),
     }
 }
@@ -53,7 +59,7 @@ pub(crate) fn enter(
 ) -> Result<(), Space>
     requires shaped { IsShaped directories.old }
     requires directory { IsTrue (is_directory_at directories.old directory) }
-    requires name { IsTrue (is_name V1 name.now) }
+    requires name { IsTrue (is_name directories.old.version name.now) }
     requires absent { find_entry directories.old directory name.now ≡ None }
     ensures ok { OnOk result (directories.new ≡ with_entry directories.old directory name.now node) }
     ensures err { OnErr result (directories.new ≡ directories.old) }
@@ -72,14 +78,15 @@ fn furnish(
     kind: Kind,
 ) -> Result<(), Space>
     requires fresh { node_at directories.old node ≡ Some (empty_node (sort_of kind)) }
-    requires text { IsTrue (is_node V1 (new_node kind)) }
+    requires text { IsTrue (is_node directories.old.version (new_node kind)) }
     requires shaped { IsShaped (with_node directories.old node (new_node kind)) }
     requires directory { IsTrue (is_directory_at (with_node directories.old node (new_node kind)) directory) }
-    requires name { IsTrue (is_name V1 name.now) }
+    requires name { IsTrue (is_name directories.old.version name.now) }
     requires absent { find_entry (with_node directories.old node (new_node kind)) directory name.now ≡ None }
-    requires few { length (entries_at (with_node directories.old node (new_node kind)) directory) < 2128 }
+    requires few { length (entries_at (with_node directories.old node (new_node kind)) directory) < greatest_entries directories.old.version }
     ensures ok { OnOk result (directories.new ≡ with_entry (with_node directories.old node (new_node kind.entry)) directory name.now node) }
     ensures err { OnErr result (directories.new ≡ without_node directories.old node) }
+    ensures bytes { OnOk result (IsTrue (has_bytes (new_node kind.entry))) }
     ensures allowed { OnOk result (refusal (with_entry (with_node directories.old node (new_node kind.entry)) directory name.now node) ≡ None) }
     ensures refused { IfErr result (λ why. refusal (with_entry (with_node directories.old node (new_node kind.entry)) directory name.now node) ≡ Some why) }
 {
@@ -102,20 +109,21 @@ fn add_node(
     kind: Kind,
 ) -> Result<u16, Space>
     requires well_formed { IsWellFormed directories.old }
-    requires version { directories.old.version ≡ V1 }
     requires short { is_too_long directories.old ≡ false }
     requires directory { IsTrue (is_directory_at directories.old directory) }
-    requires name { IsTrue (is_name V1 name.now) }
+    requires name { IsTrue (is_name directories.old.version name.now) }
     requires absent { find_entry directories.old directory name.now ≡ None }
-    requires text { IsTrue (is_node V1 (new_node kind)) }
+    requires text { IsTrue (is_node directories.old.version (new_node kind)) }
     ensures number { IfOk result (λ n. n ≡ new_number directories.old) }
     ensures within { IfOk result (λ n. n < length directories.old.nodes) }
+    ensures bytes { OnOk result (IsTrue (has_bytes (new_node kind.entry))) }
     ensures ok { OnOk result (directories.new ≡ with_new_node directories.old directory name.now (new_node kind.entry)) }
     ensures err { OnErr result (directories.new ≡ directories.old) }
     ensures allowed { OnOk result (refusal (with_new_node directories.old directory name.now (new_node kind.entry)) ≡ None) }
     ensures refused { IfErr result (λ why. refusal (with_new_node directories.old directory name.now (new_node kind.entry)) ≡ Some why) }
 {
-    if directories.size(directory) >= MOST_ENTRIES {
+    let most = directories.version().layout().greatest_entries;
+    if directories.size(directory) >= most {
         return Err(Space::TooBig);
     }
     let Some(node) = directories.fresh(sort_of(kind)) else {
@@ -133,9 +141,9 @@ impl Tree {
     /// the image has not the inode or the blocks for it; then nothing has changed.
     pub fn make(&mut self, directory: u16, name: &[u8], kind: Kind) -> Result<u16, Space>
         requires directory { Stands self.old.tree directory }
-        requires name { IsTrue (is_name V1 name.now) }
+        requires name { IsTrue (is_name self.old.tree.version name.now) }
         requires absent { find_entry self.old.tree directory name.now ≡ None }
-        requires text { IsTrue (is_node V1 (new_node kind)) }
+        requires text { IsTrue (is_node self.old.tree.version (new_node kind)) }
         ensures number { IfOk result (λ n. n ≡ new_number self.old.tree) }
         ensures ok { OnOk result (self.new ≡ with_tree self.old (with_new_node self.old.tree directory name.now (new_node kind.entry))) }
         ensures err { OnErr result (self.new ≡ self.old) }

@@ -1,10 +1,9 @@
 //! Names that nodes get and lose.
 ghost use Rattle.std.specs.Prelude.{◌≡◌, ◌≢◌, [], IsTrue, IsFalse, false, None, Some, IsSome, IfSome, IfErr, OnOk, OnErr};
-ghost use Rattle.pv_model.specs.declared.version.Version.TheVariants.{V1};
 ghost use Rattle.pv_model.specs.Calls.Paths.{contains_directory, entries_there};
 ghost use Rattle.pv_model.specs.Room.{fits};
 ghost use Rattle.pv_model.specs.Tree.{node_at, find_entry, is_directory_at, is_name, with_entry, without_entry, IsWellFormed};
-ghost use Rattle.pv_laws.specs.Tree.{Stands};
+ghost use Rattle.pv_tree_laws.specs.Tree.{Stands};
 ghost use Rattle.pv_tree.specs.Changes.{moved};
 ghost use Rattle.pv_tree.specs.Holding.{with_tree, after, trimmed};
 ghost use Rattle.pv_tree.specs.Rooms.{refusal};
@@ -30,7 +29,7 @@ fn move_over(
     requires fits { IsTrue (fits directories.old) }
     requires present { find_entry directories.old from name.now ≡ Some node }
     requires to { IsTrue (is_directory_at directories.old to) }
-    requires name { IsTrue (is_name V1 other.now) }
+    requires name { IsTrue (is_name directories.old.version other.now) }
     requires taken { IsSome (find_entry directories.old to other.now) }
     requires apart { find_entry directories.old to other.now ≢ Some node }
     ensures { directories.new ≡ with_entry (without_entry directories.old from name.now) to other.now node }
@@ -54,7 +53,7 @@ fn move_to(
     requires fits { IsTrue (fits directories.old) }
     requires present { find_entry directories.old from name.now ≡ Some node }
     requires to { IsTrue (is_directory_at directories.old to) }
-    requires name { IsTrue (is_name V1 other.now) }
+    requires name { IsTrue (is_name directories.old.version other.now) }
     requires free { find_entry directories.old to other.now ≡ None }
     ensures ok { OnOk result (directories.new ≡ with_entry (without_entry directories.old from name.now) to other.now node) }
     ensures err { OnErr result (directories.new ≡ directories.old) }
@@ -75,7 +74,7 @@ impl Tree {
     /// for it; then nothing has changed.
     pub fn link(&mut self, directory: u16, name: &[u8], node: u16) -> Result<(), Space>
         requires directory { Stands self.old.tree directory }
-        requires name { IsTrue (is_name V1 name.now) }
+        requires name { IsTrue (is_name self.old.tree.version name.now) }
         requires absent { find_entry self.old.tree directory name.now ≡ None }
         requires node { IsSome (node_at self.old.tree node) }
         requires other { is_directory_at self.old.tree node ≡ false }
@@ -115,7 +114,7 @@ impl Tree {
         requires from { IsTrue (is_directory_at self.old.tree from) }
         requires present { IsSome (find_entry self.old.tree from name.now) }
         requires to { Stands self.old.tree to }
-        requires name { IsTrue (is_name V1 other.now) }
+        requires name { IsTrue (is_name self.old.tree.version other.now) }
         requires clear { IfSome (find_entry self.old.tree from name.now) (λ n. contains_directory self.old.tree n to ≡ false) }
         requires apart { find_entry self.old.tree to other.now ≢ find_entry self.old.tree from name.now }
         requires empty { entries_there self.old.tree (find_entry self.old.tree to other.now) ≡ [] }

@@ -20,29 +20,29 @@ pub loop-k-preserved : goal.loop-k-preserved
 loop-k-preserved c =
     let bytes = bytes_at c.args.inodes.now c.args.directory in
     let last = option_copied c.args.last in
-    let less : c.loop-k.k < slot_count bytes = omega (arith, c.count-k-end.ensures.value) in
+    let less : c.loop-k.k < slot_count c.args.inodes.now.version bytes = omega (arith, c.count-k-end.ensures.value) in
     let here = ap slot_name c.slot-slot.ensures in
     elim c.if-is_behind.branch [
       | then-is_behind+then-is_before w ↦
           let name = w.name-then-is_before.ensures.value ∙ here in
           w.best-is
           ∙ name_made w.new-best.result w.name-then-is_before.result.now w.new-best.ensures.fits.1 w.new-best.ensures.value (omega (arith, w.name-then-is_before.ensures.short))
-          ∙ name_taken last bytes c.loop-k.k c.loop-k.best c.requires.distinct less c.loop-k.invariant w.name-then-is_before.result.now name
+          ∙ name_taken c.args.inodes.now.version last bytes c.loop-k.k c.loop-k.best c.requires.distinct less c.loop-k.invariant w.name-then-is_before.result.now name
           (ap (is_behind last) (name ∙ sym (c.name.ensures.value ∙ here)) ∙ sym c.is_behind.ensures ∙ w.if-is_behind.true)
           (ap (λ (q : Bytes). is_before q c.loop-k.best) (name ∙ sym (w.name-then-is_behind.ensures.value ∙ here)) ∙ sym w.is_before.ensures ∙ w.if-is_before.true)
       | else-is_behind w ↦
           w.best-is ∙ elim w.else-is_behind.branch [
             | else-is_behind-via-then-is_behind+else-is_before v ↦
                 let name = v.name-then-is_behind.ensures.value ∙ here in
-                name_not_before last bytes c.loop-k.k c.loop-k.best c.requires.distinct less c.loop-k.invariant v.name-then-is_behind.result.now name
+                name_not_before c.args.inodes.now.version last bytes c.loop-k.k c.loop-k.best c.requires.distinct less c.loop-k.invariant v.name-then-is_behind.result.now name
                 (ap (is_behind last) (name ∙ sym (c.name.ensures.value ∙ here)) ∙ sym c.is_behind.ensures ∙ v.if-is_behind.true)
                 (sym v.is_before.ensures ∙ v.if-is_before.false)
             | else-is_behind-via-else-is_behind v ↦
-                name_not_behind last bytes c.loop-k.k c.loop-k.best c.requires.distinct less c.loop-k.invariant c.name.result.now (c.name.ensures.value ∙ here) (sym c.is_behind.ensures ∙ v.if-is_behind.false)
+                name_not_behind c.args.inodes.now.version last bytes c.loop-k.k c.loop-k.best c.requires.distinct less c.loop-k.invariant c.name.result.now (c.name.ensures.value ∙ here) (sym c.is_behind.ensures ∙ v.if-is_behind.false)
           ]
     ]
 
 pub returns : goal.returns
 returns c =
     let bytes = bytes_at c.args.inodes.now c.args.directory in
-    c.loop-k.invariant ∙ ap (λ (es : Entries). next_name (option_copied c.args.last) (in_order es)) (take_all c.loop-k.k (slot_entries bytes) (omega (arith, length-slot_entries bytes, c.count-k-end.ensures.value)))
+    c.loop-k.invariant ∙ ap (λ (es : Entries). next_name (option_copied c.args.last) (in_order es)) (take_all c.loop-k.k (slot_entries c.args.inodes.now.version bytes) (omega (arith, length-slot_entries c.args.inodes.now.version bytes, c.count-k-end.ensures.value)))

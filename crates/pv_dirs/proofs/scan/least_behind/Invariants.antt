@@ -6,4 +6,4 @@ use Rattle.pv_dirs.specs.Slots.{slot_entries, in_order}
 use Rattle.pv_dirs.proofs.scan.least_behind.Given as goal
 
 abbrev pub invariant-loop-k : goal.invariant-loop-k
-invariant-loop-k l = l.best ≡ next_name (option_copied l.last) (in_order (take l.k (slot_entries (bytes_at l.inodes l.directory))))
+invariant-loop-k l = l.best ≡ next_name (option_copied l.last) (in_order (take l.k (slot_entries l.inodes.version (bytes_at l.inodes l.directory))))

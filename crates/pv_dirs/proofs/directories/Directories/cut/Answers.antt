@@ -1,11 +1,12 @@
-use Rattle.std.proofs.Common.{◌≡◌, sym, ap, subst, ◌∙◌}
+use Rattle.std.proofs.Common.{◌≡◌, ◌+◌, ◌<◌, ◌≤◌, sym, ap, subst, ◌∙◌, arith}
 use Rattle.pv_model.specs.Effect.{resize}
+use Rattle.pv_model.specs.Room.{greatest_length}
 use Rattle.pv_model.specs.Tree.{Tree}
 use Rattle.pv_inodes.specs.Files.{Files, bytes_at, cut}
 use Rattle.pv_dirs.specs.Trees.{tree_of, IsHolding, LacksRoom, cut as tree_cut}
 use Rattle.pv_dirs.proofs.Contents.{cut-tree_of, holding-content, lacks_room, lacks_room_back}
 use Rattle.pv_dirs.proofs.Outcomes.{either_way, on_ok}
-use Rattle.pv_dirs.proofs.Viewed.{viewed_used, viewed_content}
+use Rattle.pv_dirs.proofs.Viewed.{viewed_version, viewed_used, viewed_content}
 use Rattle.pv_dirs.proofs.directories.Directories.cut.Goals as goal
 use Rattle.pv_dirs.proofs.directories.Directories.cut.Goals.{After-cut}
 
@@ -30,9 +31,17 @@ invariant_of-self c =
 pub returns-clause-ok : goal.returns-clause-ok
 returns-clause-ok c = on_ok c.cut.result c.cut.ensures.ok (λ is. ap tree_of is ∙ after c)
 
+pub returns-clause-too_big : goal.returns-clause-too_big
+returns-clause-too_big c =
+    let greatest = ap greatest_length (viewed_version c.self.inside.inodes c.args.self.now c.self.view_is) in (
+      λ is. let past = c.cut.ensures.too_big.0 is in omega arith,
+      λ past. c.cut.ensures.too_big.1 (omega arith),
+    )
+
 pub returns-clause-full : goal.returns-clause-full
 returns-clause-full c =
+    let greatest = ap greatest_length (viewed_version c.self.inside.inodes c.args.self.now c.self.view_is) in
     let room = cut c.self.inside.inodes c.args.inode c.args.size in (
-      λ is. let full = c.cut.ensures.full.0 is in (full.0, subst LacksRoom (after c) (lacks_room room c.self.inside.block_count (holding c) full.1)),
-      λ full. c.cut.ensures.full.1 (full.0, lacks_room_back room c.self.inside.block_count (holding c) (subst LacksRoom (sym (after c)) full.1)),
+      λ is. let full = c.cut.ensures.full.0 is in (let few = full.0 in omega arith, subst LacksRoom (after c) (lacks_room room c.self.inside.block_count (holding c) full.1)),
+      λ full. c.cut.ensures.full.1 (let few = full.0 in omega arith, lacks_room_back room c.self.inside.block_count (holding c) (subst LacksRoom (sym (after c)) full.1)),
     )

@@ -1,5 +1,4 @@
 use Rattle.std.proofs.Common.{◌+◌, ap, ◌∙◌}
-use Rattle.pv_model.specs.declared.version.Version.TheVariants.{V1}
 use Rattle.pv_model.specs.Image.{inode_blocks}
 use Rattle.pv_dirs.proofs.Emptiness.{holding-empty, nodes-empty, inodes-empty}
 use Rattle.pv_dirs.proofs.TreeOf.{blocks-tree_of, version-tree_of}
@@ -12,10 +11,10 @@ pub returns-clause-nodes : goal.returns-clause-nodes
 returns-clause-nodes c = nodes-empty c.empty-inodes.result c.args.inodes c.empty-inodes.ensures.nodes
 
 pub returns-clause-blocks : goal.returns-clause-blocks
-returns-clause-blocks c = ap (λ n. n + inode_blocks V1 c.args.inodes + 1) (blocks-tree_of c.empty-inodes.result) ∙ c.empty-inodes.ensures.blocks
+returns-clause-blocks c = ap (λ n. n + inode_blocks c.args.version c.args.inodes + 1) (blocks-tree_of c.empty-inodes.result) ∙ c.empty-inodes.ensures.blocks
 
 pub returns-clause-inodes : goal.returns-clause-inodes
 returns-clause-inodes c = inodes-empty c.empty-inodes.result c.args.inodes c.empty-inodes.ensures.nodes
 
 pub returns-clause-version : goal.returns-clause-version
-returns-clause-version c = version-tree_of c.empty-inodes.result
+returns-clause-version c = version-tree_of c.empty-inodes.result ∙ c.empty-inodes.ensures.version

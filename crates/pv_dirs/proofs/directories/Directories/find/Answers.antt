@@ -13,7 +13,7 @@ use Rattle.pv_dirs.proofs.directories.Directories.find.Goals.{After-self}
 is_directory : (c : After-self) → is_directory_at (tree_of c.self.inside.inodes) c.args.directory ≡ true
 is_directory c = subst (λ (t : Tree). is_directory_at t c.args.directory ≡ true) (sym c.self.view_is) c.requires
 
-found : (c : After-self) → find_entry c.args.self.now c.args.directory c.args.name.now ≡ find by_name c.args.name.now (slot_entries (bytes_at c.self.inside.inodes c.args.directory))
+found : (c : After-self) → find_entry c.args.self.now c.args.directory c.args.name.now ≡ find by_name c.args.name.now (slot_entries c.self.inside.inodes.version (bytes_at c.self.inside.inodes c.args.directory))
 found c = ap (λ (t : Tree). find_entry t c.args.directory c.args.name.now) (sym c.self.view_is) ∙ find_entry-tree_of c.self.inside.inodes c.args.directory c.args.name.now (is_directory c)
 
 pub place-requires : goal.place-requires
@@ -21,12 +21,12 @@ place-requires c = directory_used c.self.inside.inodes c.args.directory (is_dire
 
 pub returns-in_err-k : goal.returns-in_err-k
 returns-in_err-k c =
-    let none : find by_name c.args.name.now (slot_entries (bytes_at c.self.inside.inodes c.args.directory)) ≡ None = c.in_err-k.ensures.absent in
+    let none : find by_name c.args.name.now (slot_entries c.self.inside.inodes.version (bytes_at c.self.inside.inodes c.args.directory)) ≡ None = c.in_err-k.ensures.absent in
     c.from_residual.ensures ∙ sym (found (goal.at.returns-in_err-k c).After-self ∙ none)
 
 pub returns : goal.returns
 returns c =
     let start = (goal.at.returns c).After-self in
     ap Some (c.inode.ensures ∙ ap slot_number c.slot.ensures)
-    ∙ sym (found start ∙ find-slot_entries (bytes_at c.self.inside.inodes c.args.directory) c.in_ok-k.k c.args.name.now
+    ∙ sym (found start ∙ find-slot_entries c.self.inside.inodes.version (bytes_at c.self.inside.inodes c.args.directory) c.in_ok-k.k c.args.name.now
     (directory_slotted c.self.inside.inodes c.self.inside.block_count c.args.directory c.self.invariant (is_directory start)).distinct c.in_ok-k.ensures.within c.in_ok-k.ensures.named)

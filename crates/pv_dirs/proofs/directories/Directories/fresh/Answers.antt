@@ -30,7 +30,7 @@ returns-clause-least c = IfSome_then c.fresh.result c.fresh.ensures.least (λ n 
 pub returns-clause-free : goal.returns-clause-free
 returns-clause-free c =
     IfSome_then c.fresh.result c.fresh.ensures.free
-    (λ n is. ap (λ (t : Tree). node_at t n) (sym c.self.view_is) ∙ node_at-tree_of c.self.inside.inodes n ∙ ap (option_map node_of) is)
+    (λ n is. ap (λ (t : Tree). node_at t n) (sym c.self.view_is) ∙ node_at-tree_of c.self.inside.inodes n ∙ ap (option_map (node_of c.self.inside.inodes.version)) is)
 
 pub returns-clause-within : goal.returns-clause-within
 returns-clause-within c = let same = long c in IfSome_then c.fresh.result c.fresh.ensures.within (λ n is. rw same is)

@@ -22,6 +22,6 @@ returns-clause-value c = c.least_behind.ensures ∙ ap (next_name (option_copied
 
 pub returns-clause-least : goal.returns-clause-least
 returns-clause-least c =
-    let entries = slot_entries (bytes_at c.self.inside.inodes c.args.directory) in
+    let entries = slot_entries c.self.inside.inodes.version (bytes_at c.self.inside.inodes c.args.directory) in
     subst (λ (es : Entries). IsNextName (option_copied c.args.last) es c.least_behind.result) (sym (viewed_entries c.self.inside.inodes c.args.self.now c.args.directory c.self.view_is c.requires))
     (subst (IsNextName (option_copied c.args.last) (in_order entries)) (sym c.least_behind.ensures) (next_name_in_order (option_copied c.args.last) entries))

@@ -1,18 +1,20 @@
-use Rattle.std.proofs.Common.{◌≡◌, ◌+◌, ◌-◌, ◌*◌, ◌≤◌, suc, is_some, length, sym, ap, ◌∙◌, arith}
+use Rattle.std.proofs.Common.{◌≡◌, ◌+◌, ◌-◌, ◌*◌, ◌/◌, ◌≤◌, suc, mul-le-mul_left, is_some, length, sym, ap, ◌∙◌, arith}
 use Rattle.std.proofs.lemmas.Bool.{false≢true}
 use Rattle.pv_model.specs.Bytes.{Bytes}
 use Rattle.pv_model.specs.Effect.{overwrite, resize}
+use Rattle.pv_model.specs.Room.{entry_length}
 use Rattle.pv_model.specs.Tree.{Tree, find_entry, without_entry}
 use Rattle.pv_inodes.specs.Files.{Files, bytes_at, with_bytes}
 use Rattle.pv_inodes.proofs.Edits.{used-with_bytes}
 use Rattle.pv_dirs.specs.Slots.{slot_at}
 use Rattle.pv_dirs.specs.Trees.{tree_of}
-use Rattle.pv_dirs.proofs.Removing.{shortened, holding-removed, tree_of-removed, length-filled}
+use Rattle.pv_dirs.proofs.Removing.{shortened_from, shortened, holding-removed, tree_of-removed, length-filled}
+use Rattle.pv_dirs.proofs.Strides.{slot_some, whole_is}
 use Rattle.pv_dirs.proofs.SlotBytes.{length-slot_at}
 use Rattle.pv_dirs.proofs.TreeOf.{directory_slotted, find_entry-tree_of}
 use Rattle.pv_dirs.proofs.Viewed.{viewed_directory, viewed_directory_used}
 use Rattle.pv_dirs.proofs.directories.Directories.remove.Goals as goal
-use Rattle.pv_dirs.proofs.directories.Directories.remove.Goals.{After-slot-moved, After-shrink}
+use Rattle.pv_dirs.proofs.directories.Directories.remove.Goals.{After-slot-moved, After-as_bytes, After-shrink}
 
 pub place-requires : goal.place-requires
 place-requires c = viewed_directory_used c.self.inside.inodes c.args.self.now c.args.directory c.self.view_is c.requires.directory
@@ -24,38 +26,56 @@ unreachable-requires c =
     absurd (false≢true (sym (ap is_some none) ∙ c.requires.present))
 
 -- the slots are those up to the last
-long : (c : After-slot-moved) → length (bytes_at c.self.inside.inodes c.args.directory) ≡ 64 * suc (c.count-last.result - 1)
+long : (c : After-slot-moved) → length (bytes_at c.self.inside.inodes c.args.directory) ≡ entry_length c.self.inside.inodes.version * suc (c.count-last.result - 1)
 long c =
     let is = viewed_directory c.self.inside.inodes c.args.self.now c.args.directory c.self.view_is c.requires.directory in
     let slotted = directory_slotted c.self.inside.inodes c.self.inside.block_count c.args.directory c.self.invariant is in
-    omega (arith, slotted.whole, c.count-last.ensures.value, c.in-Some.ensures.within)
+    let count : length (bytes_at c.self.inside.inodes c.args.directory) / entry_length c.self.inside.inodes.version ≡ suc (c.count-last.result - 1) = omega (arith, c.count-last.ensures.value, c.in-Some.ensures.within) in
+    whole_is (entry_length c.self.inside.inodes.version) (slot_some c.self.inside.inodes.version) (length (bytes_at c.self.inside.inodes c.args.directory)) slotted.whole
+    ∙ ap (λ n. entry_length c.self.inside.inodes.version * n) count
 
 within : (c : After-slot-moved) → c.in-Some.hole ≤ c.count-last.result - 1
 within c = omega (arith, c.count-last.ensures.value, c.in-Some.ensures.within)
 
-fits : (c : After-slot-moved) → 64 * c.in-Some.hole + length c.slot-moved.result.bytes ≤ length (bytes_at c.self.inside.inodes c.args.directory)
+-- the slot that is moved
+moved : (c : After-as_bytes) → c.as_bytes.result.now ≡ slot_at c.self.inside.inodes.version (bytes_at c.self.inside.inodes c.args.directory) (c.count-last.result - 1)
+moved c = c.as_bytes.ensures.value ∙ c.slot-moved.ensures
+
+fits : (c : After-as_bytes) → entry_length c.self.inside.inodes.version * c.in-Some.hole + length c.as_bytes.result.now ≤ length (bytes_at c.self.inside.inodes c.args.directory)
 fits c =
-    let moved = ap length c.slot-moved.ensures ∙ length-slot_at (bytes_at c.self.inside.inodes c.args.directory) (c.count-last.result - 1) (omega (arith, long c)) in
-    omega (arith, moved, long c, within c)
+    let start = (goal.at.After-as_bytes c).After-slot-moved in
+    let before = mul-le-mul_left (entry_length c.self.inside.inodes.version) (within start) in
+    let whole = ap length (moved c) ∙ length-slot_at c.self.inside.inodes.version (bytes_at c.self.inside.inodes c.args.directory) (c.count-last.result - 1) (omega (arith, long start)) in
+    omega (arith, whole, long start)
+
+pub overwrite-requires-clause-within : goal.overwrite-requires-clause-within
+overwrite-requires-clause-within c = omega (arith, c.start-at.ensures, fits c)
+
+pub overwrite-requires-clause-allowed : goal.overwrite-requires-clause-allowed
+overwrite-requires-clause-allowed c = omega (arith, c.start-at.ensures, fits c, c.count-last.ensures.allowed)
 
 pub shrink-requires-clause-used : goal.shrink-requires-clause-used
 shrink-requires-clause-used c =
     rw c.overwrite.ensures
-    (used-with_bytes c.self.inside.inodes c.args.directory (overwrite (bytes_at c.self.inside.inodes c.args.directory) (64 * c.in-Some.hole) c.slot-moved.result.bytes)
+    (used-with_bytes c.self.inside.inodes c.args.directory (overwrite (bytes_at c.self.inside.inodes c.args.directory) c.start-at.result c.as_bytes.result.now)
     (viewed_directory_used c.self.inside.inodes c.args.self.now c.args.directory c.self.view_is c.requires.directory))
 
 pub shrink-requires-clause-shorter : goal.shrink-requires-clause-shorter
 shrink-requires-clause-shorter c =
     let start = (goal.at.shrink-requires-clause-shorter c).After-slot-moved in
     let is = viewed_directory c.self.inside.inodes c.args.self.now c.args.directory c.self.view_is c.requires.directory in
-    let kept = ap (λ (f : Files). length (bytes_at f c.args.directory)) c.overwrite.ensures ∙ length-filled c.self.inside.inodes c.args.directory c.in-Some.hole c.slot-moved.result.bytes is (fits start) in
-    rw kept (omega (arith, long start))
+    let kept = ap (λ (f : Files). length (bytes_at f c.args.directory))
+    (c.overwrite.ensures ∙ ap (λ n. with_bytes c.self.inside.inodes c.args.directory (overwrite (bytes_at c.self.inside.inodes c.args.directory) n c.as_bytes.result.now)) c.start-at.ensures)
+    ∙ length-filled c.self.inside.inodes c.args.directory c.in-Some.hole c.as_bytes.result.now is (fits (goal.at.shrink-requires-clause-shorter c).After-as_bytes) in
+    omega (arith, kept, c.start-end.ensures, long start)
 
-shortened_is : (c : After-shrink) → c.shrink.new.self ≡ shortened c.self.inside.inodes c.args.directory c.in-Some.hole (slot_at (bytes_at c.self.inside.inodes c.args.directory) (c.count-last.result - 1)) (c.count-last.result - 1)
+shortened_is : (c : After-shrink) → c.shrink.new.self ≡ shortened c.self.inside.inodes c.args.directory c.in-Some.hole (slot_at c.self.inside.inodes.version (bytes_at c.self.inside.inodes c.args.directory) (c.count-last.result - 1)) (c.count-last.result - 1)
 shortened_is c =
     c.shrink.ensures
-    ∙ ap (λ (f : Files). with_bytes f c.args.directory (resize (bytes_at f c.args.directory) (64 * (c.count-last.result - 1)))) c.overwrite.ensures
-    ∙ ap (λ (moved : Bytes). shortened c.self.inside.inodes c.args.directory c.in-Some.hole moved (c.count-last.result - 1)) c.slot-moved.ensures
+    ∙ ap (λ n. with_bytes c.overwrite.new.self c.args.directory (resize (bytes_at c.overwrite.new.self c.args.directory) n)) c.start-end.ensures
+    ∙ ap (λ (f : Files). with_bytes f c.args.directory (resize (bytes_at f c.args.directory) (entry_length c.self.inside.inodes.version * (c.count-last.result - 1)))) c.overwrite.ensures
+    ∙ ap (λ n. shortened_from c.self.inside.inodes c.args.directory n c.as_bytes.result.now (c.count-last.result - 1)) c.start-at.ensures
+    ∙ ap (λ (slot : Bytes). shortened c.self.inside.inodes c.args.directory c.in-Some.hole slot (c.count-last.result - 1)) (c.as_bytes.ensures.value ∙ c.slot-moved.ensures)
 
 pub invariant_of-self : goal.invariant_of-self
 invariant_of-self c =

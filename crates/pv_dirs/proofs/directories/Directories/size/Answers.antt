@@ -1,9 +1,12 @@
-use Rattle.std.proofs.Common.{subst, sym, ap, ◌∙◌, Some}
+use Rattle.std.proofs.Common.{◌≤◌, subst, sym, ap, ◌∙◌, Some, arith}
 use Rattle.std.specs.Prelude.{option_map, IsSome}
 use Rattle.pv_model.specs.Effect.{size_of}
+use Rattle.pv_model.specs.Room.{greatest_length}
 use Rattle.pv_model.specs.Tree.{Tree, node_at}
 use Rattle.pv_dirs.proofs.Contents.{size_directory, size_other}
 use Rattle.pv_dirs.proofs.TreeOf.{used_in}
+use Rattle.pv_dirs.proofs.Strides.{few_allowed}
+use Rattle.pv_dirs.proofs.Viewed.{viewed_version}
 use Rattle.pv_dirs.proofs.directories.Directories.size.Goals as goal
 
 pub kind-requires : goal.kind-requires
@@ -20,3 +23,9 @@ returns-in_default-clause-value c =
     ap (λ (t : Tree). option_map size_of (node_at t c.args.inode)) (sym c.self.view_is)
     ∙ size_other c.self.inside.inodes c.args.inode c.kind.result c.kind.ensures c.in_default.not-Directory
     ∙ ap Some (sym c.size.ensures.value)
+
+pub returns-in-Directory-clause-allowed : goal.returns-in-Directory-clause-allowed
+returns-in-Directory-clause-allowed c = omega (arith, few_allowed c.args.self.now.version, c.count.ensures.few)
+
+pub returns-in_default-clause-allowed : goal.returns-in_default-clause-allowed
+returns-in_default-clause-allowed c = omega (arith, ap greatest_length (viewed_version c.self.inside.inodes c.args.self.now c.self.view_is), c.size.ensures.allowed)

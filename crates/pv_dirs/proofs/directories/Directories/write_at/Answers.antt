@@ -1,10 +1,11 @@
-use Rattle.std.proofs.Common.{◌≡◌, sym, ap, subst, ◌∙◌}
+use Rattle.std.proofs.Common.{◌≡◌, ◌+◌, ◌<◌, ◌≤◌, sym, ap, subst, ◌∙◌, arith}
+use Rattle.pv_model.specs.Room.{greatest_length}
 use Rattle.pv_model.specs.Tree.{Tree}
 use Rattle.pv_inodes.specs.Files.{Files, written}
 use Rattle.pv_dirs.specs.Trees.{tree_of, IsHolding, LacksRoom, written as tree_written}
 use Rattle.pv_dirs.proofs.Contents.{written-tree_of, holding-written, lacks_room, lacks_room_back}
 use Rattle.pv_dirs.proofs.Outcomes.{either_way, on_ok}
-use Rattle.pv_dirs.proofs.Viewed.{viewed_used, viewed_content}
+use Rattle.pv_dirs.proofs.Viewed.{viewed_version, viewed_used, viewed_content}
 use Rattle.pv_dirs.proofs.directories.Directories.write_at.Goals as goal
 use Rattle.pv_dirs.proofs.directories.Directories.write_at.Goals.{After-write_at}
 
@@ -29,9 +30,17 @@ invariant_of-self c =
 pub returns-clause-ok : goal.returns-clause-ok
 returns-clause-ok c = on_ok c.write_at.result c.write_at.ensures.ok (λ is. ap tree_of is ∙ after c)
 
+pub returns-clause-too_big : goal.returns-clause-too_big
+returns-clause-too_big c =
+    let greatest = ap greatest_length (viewed_version c.self.inside.inodes c.args.self.now c.self.view_is) in (
+      λ is. let past = c.write_at.ensures.too_big.0 is in (past.0, let long = past.1 in omega arith),
+      λ past. c.write_at.ensures.too_big.1 (past.0, let long = past.1 in omega arith),
+    )
+
 pub returns-clause-full : goal.returns-clause-full
 returns-clause-full c =
+    let greatest = ap greatest_length (viewed_version c.self.inside.inodes c.args.self.now c.self.view_is) in
     let room = written c.self.inside.inodes c.args.inode c.args.at c.args.bytes.now in (
-      λ is. let full = c.write_at.ensures.full.0 is in (full.0, full.1, subst LacksRoom (after c) (lacks_room room c.self.inside.block_count (holding c) full.2)),
-      λ full. c.write_at.ensures.full.1 (full.0, full.1, lacks_room_back room c.self.inside.block_count (holding c) (subst LacksRoom (sym (after c)) full.2)),
+      λ is. let full = c.write_at.ensures.full.0 is in (full.0, let few = full.1 in omega arith, subst LacksRoom (after c) (lacks_room room c.self.inside.block_count (holding c) full.2)),
+      λ full. c.write_at.ensures.full.1 (full.0, let few = full.1 in omega arith, lacks_room_back room c.self.inside.block_count (holding c) (subst LacksRoom (sym (after c)) full.2)),
     )

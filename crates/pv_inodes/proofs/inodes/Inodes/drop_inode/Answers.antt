@@ -1,47 +1,44 @@
 use Rattle.std.proofs.Common.{◌≡◌, suc, length, sym, ap, ◌∙◌}
 use Rattle.pv_blocks.specs.BlockStore.{BlockStore}
-use Rattle.pv_model.specs.Effect.{resize}
-use Rattle.pv_inodes.specs.Files.{Files, bytes_at, with_bytes, without}
+use Rattle.pv_inodes.specs.Files.{Files, without}
 use Rattle.pv_inodes.specs.Layout.{size_at}
 use Rattle.pv_inodes.specs.Sound.{files_of, rekinded}
 use Rattle.pv_inodes.proofs.Bytes.{length-resize}
-use Rattle.pv_inodes.proofs.Edits.{used-with_bytes, bytes_at-with_bytes, without-with_bytes}
+use Rattle.pv_inodes.proofs.Edits.{used-left, bytes_at-left, without-left}
 use Rattle.pv_inodes.proofs.InUse.{InUse, in_use}
 use Rattle.pv_inodes.proofs.Making.{sound_dropped, files_of-dropped}
 use Rattle.pv_inodes.proofs.inodes.Inodes.drop_inode.Goals as goal
-use Rattle.pv_inodes.proofs.inodes.Inodes.drop_inode.Goals.{After-self, After-slot-slot, After-set_kind}
+use Rattle.pv_inodes.proofs.inodes.Inodes.drop_inode.Goals.{After-slot-slot, After-set_kind}
 
 pub slot-slot-requires : goal.slot-slot-requires
-slot-slot-requires c = rw c.shrink.ensures (used-with_bytes c.args.self.now c.args.inode (resize (bytes_at c.args.self.now c.args.inode) 0) c.requires)
+slot-slot-requires c = used-left _ _ _ _ c.requires c.shrink.ensures
 
-known : (c : After-slot-slot) → InUse c.self.inside.blocks c.self.inside.inodes c.shrink.new.self c.args.inode c.slot-slot.result
-known c = in_use _ _ _ _ _ c.self.invariant c.self.view_is (slot-slot-requires (goal.at.After-slot-slot c).After-self) c.slot-slot.ensures
+known : (c : After-slot-slot) → InUse c.self.inside.version c.self.inside.blocks c.self.inside.inodes c.shrink.new.self c.args.inode c.slot-slot.result
+known c = in_use c.self.inside.version _ _ _ _ _ c.self.invariant c.self.view_is (used-left _ _ _ _ c.requires c.shrink.ensures) c.slot-slot.ensures
 
 pub set_kind-requires : goal.set_kind-requires
 set_kind-requires c = (known (goal.at.set_kind-requires c).After-slot-slot).home_within
 
 -- no byte is left
-empty : (c : After-slot-slot) → size_at c.self.inside.blocks.blocks c.slot-slot.result ≡ 0
-empty c =
-    let k = known c in
-    k.size ∙ ap (λ (f : Files). length (bytes_at f c.args.inode)) c.shrink.ensures ∙ ap length (bytes_at-with_bytes c.args.self.now c.args.inode (resize (bytes_at c.args.self.now c.args.inode) 0) c.requires) ∙ length-resize (bytes_at c.args.self.now c.args.inode) 0
+empty : (c : After-slot-slot) → size_at c.self.inside.version c.self.inside.blocks.blocks c.slot-slot.result ≡ 0
+empty c = (known c).size ∙ ap length (bytes_at-left _ _ _ _ c.requires c.shrink.ensures) ∙ length-resize _ _
 
 -- the store has the inode's kind cleared
-dropped : (c : After-set_kind) → c.set_kind.new.blocks ≡ rekinded c.self.inside.blocks c.slot-slot.result 0
+dropped : (c : After-set_kind) → c.set_kind.new.blocks ≡ rekinded c.self.inside.version c.self.inside.blocks c.slot-slot.result 0
 unfolding rekinded
 dropped c = c.set_kind.ensures
 
 pub invariant_of-self : goal.invariant_of-self
 invariant_of-self c =
     let k = known (goal.at.invariant_of-self c).After-slot-slot in
-    rw (dropped c) (sound_dropped _ _ _ c.self.invariant k.below k.used (empty (goal.at.invariant_of-self c).After-slot-slot))
+    rw (dropped c) (sound_dropped c.self.inside.version _ _ _ c.self.invariant k.below k.used (empty (goal.at.invariant_of-self c).After-slot-slot))
 
 pub returns : goal.returns
 returns c =
     let k = known (goal.at.returns c).After-slot-slot in
-    let cleared = files_of-dropped _ _ _ c.self.invariant k.below k.used (empty (goal.at.returns c).After-slot-slot) in
-    ap (λ (st : BlockStore). files_of st c.self.inside.inodes) (dropped c)
+    let cleared = files_of-dropped c.self.inside.version _ _ _ c.self.invariant k.below k.used (empty (goal.at.returns c).After-slot-slot) in
+    ap (λ (st : BlockStore). files_of c.self.inside.version st c.self.inside.inodes) (dropped c)
     ∙ cleared
-    ∙ ap (λ (f : Files). without f (suc c.slot-slot.result)) (c.self.view_is ∙ c.shrink.ensures)
-    ∙ ap (without (with_bytes c.args.self.now c.args.inode (resize (bytes_at c.args.self.now c.args.inode) 0))) (sym k.number)
-    ∙ without-with_bytes c.args.self.now c.args.inode (resize (bytes_at c.args.self.now c.args.inode) 0) c.requires
+    ∙ ap (λ (f : Files). without f (suc c.slot-slot.result)) c.self.view_is
+    ∙ ap (without c.shrink.new.self) (sym k.number)
+    ∙ without-left _ _ _ _ c.requires c.shrink.ensures

@@ -3,29 +3,33 @@ use Rattle.pv_blocks.specs.BlockStore.{blocks_of, free_from}
 use Rattle.pv_inodes.specs.Files.{Files}
 use Rattle.pv_inodes.specs.Sound.{first_data}
 use Rattle.pv_inodes.proofs.Emptiness.{IsEmptyStore, sound_empty, files_of-empty}
+use Rattle.pv_inodes.proofs.Layouts.{first_data-is}
 use Rattle.pv_inodes.proofs.inodes.Inodes.empty.Goals as goal
 use Rattle.pv_inodes.proofs.inodes.Inodes.empty.Goals.{After-of_bytes}
 
 -- the store is one over zeros
-over_zeros : (c : After-of_bytes) → IsEmptyStore c.of_bytes.result c.args.zeros.items c.new.result c.args.inodes c.args.blocks
+over_zeros : (c : After-of_bytes) → IsEmptyStore c.args.version c.of_bytes.result c.args.zeros.items c.new.result c.args.inodes c.args.blocks
 over_zeros c =
     let count : c.args.zeros.len / 512 ≡ c.args.blocks = omega (arith, c.requires.whole) in
-    let first : c.div_ceil-first.result + 1 ≡ first_data c.args.inodes = omega (arith, c.div_ceil-first.ensures) in
+    let first : c.div_ceil.result + 1 ≡ first_data c.args.version c.args.inodes = omega (arith, rw c.layout.ensures.inode_length at c.div_ceil.ensures, first_data-is c.args.version c.args.inodes) in
     record {
       long = omega (arith, c.requires.whole);
       zeros = c.requires.zeros;
       none = c.new.ensures.empty;
-      fits = omega (arith, c.requires.some_blocks);
+      fits = omega (arith, c.requires.some_blocks, first_data-is c.args.version c.args.inodes);
       blocks = c.of_bytes.ensures.blocks ∙ ap (λ n. blocks_of n c.args.zeros.items) count;
-      free = c.of_bytes.ensures.free ∙ ap (λ n. free_from (c.div_ceil-first.result + 1) c.new.result n) count ∙ ap (λ n. free_from n c.new.result c.args.blocks) first;
+      free = c.of_bytes.ensures.free ∙ ap (λ n. free_from (c.div_ceil.result + 1) c.new.result n) count ∙ ap (λ n. free_from n c.new.result c.args.blocks) first;
       first = c.of_bytes.ensures.first ∙ first;
     }
 
 pub invariant_of-result : goal.invariant_of-result
-invariant_of-result c = sound_empty _ _ _ _ _ (over_zeros c)
+invariant_of-result c = sound_empty c.args.version _ _ _ _ _ (over_zeros c)
+
+pub returns-clause-version : goal.returns-clause-version
+returns-clause-version c = ap (λ (f : Files). f.version) (files_of-empty c.args.version _ _ _ _ _ (over_zeros c))
 
 pub returns-clause-nodes : goal.returns-clause-nodes
-returns-clause-nodes c = ap (λ (f : Files). f.nodes) (files_of-empty _ _ _ _ _ (over_zeros c))
+returns-clause-nodes c = ap (λ (f : Files). f.nodes) (files_of-empty c.args.version _ _ _ _ _ (over_zeros c))
 
 pub returns-clause-blocks : goal.returns-clause-blocks
-returns-clause-blocks c = omega (arith, ap (λ (f : Files). f.blocks) (files_of-empty _ _ _ _ _ (over_zeros c)), c.requires.some_blocks)
+returns-clause-blocks c = omega (arith, ap (λ (f : Files). f.blocks) (files_of-empty c.args.version _ _ _ _ _ (over_zeros c)), c.requires.some_blocks, first_data-is c.args.version c.args.inodes)

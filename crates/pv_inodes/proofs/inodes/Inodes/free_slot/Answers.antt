@@ -4,27 +4,31 @@ use Rattle.pv_inodes.specs.Files.{Files, held, new_number}
 use Rattle.pv_inodes.specs.Layout.{kind_at}
 use Rattle.pv_inodes.proofs.Becoming.{held-files_of}
 use Rattle.pv_inodes.proofs.Contents.{node_at-free}
+use Rattle.pv_inodes.proofs.Making.{home_within}
 use Rattle.pv_inodes.proofs.Reading.{new_number-found, new_number-none, length-files_of}
 use Rattle.pv_inodes.proofs.inodes.Inodes.free_slot.Goals as goal
 use Rattle.pv_inodes.proofs.inodes.Inodes.free_slot.Goals.{Then-kind_of-eq0}
 
+pub kind_of-requires : goal.kind_of-requires
+kind_of-requires c = home_within c.self.inside.version _ _ _ c.self.invariant c.loop-slot-test.true
+
 -- the inode is the least that is free
 found : (c : Then-kind_of-eq0) → new_number c.args.self.now ≡ suc c.loop-slot.slot
 found c =
-    let unused : kind_at c.self.inside.blocks.blocks c.loop-slot.slot ≡ 0 = sym c.kind_of.ensures ∙ c.if-kind_of-eq0.true in
-    ap new_number (sym c.self.view_is) ∙ new_number-found c.self.inside.blocks c.self.inside.inodes c.loop-slot.slot c.loop-slot-test.true unused c.loop-slot.invariant
+    let unused : kind_at c.self.inside.version c.self.inside.blocks.blocks c.loop-slot.slot ≡ 0 = sym c.kind_of.ensures ∙ c.if-kind_of-eq0.true in
+    ap new_number (sym c.self.view_is) ∙ new_number-found c.self.inside.version c.self.inside.blocks c.self.inside.inodes c.loop-slot.slot c.loop-slot-test.true unused c.loop-slot.invariant
 
 long : (c : Then-kind_of-eq0) → length c.args.self.now.nodes ≡ suc c.self.inside.inodes
-long c = ap (λ (f : Files). length f.nodes) (sym c.self.view_is) ∙ length-files_of c.self.inside.blocks c.self.inside.inodes
+long c = ap (λ (f : Files). length f.nodes) (sym c.self.view_is) ∙ length-files_of c.self.inside.version c.self.inside.blocks c.self.inside.inodes
 
 pub returns-then-kind_of-eq0-clause-least : goal.returns-then-kind_of-eq0-clause-least
 returns-then-kind_of-eq0-clause-least c = omega (arith, found c)
 
 pub returns-then-kind_of-eq0-clause-free : goal.returns-then-kind_of-eq0-clause-free
 returns-then-kind_of-eq0-clause-free c =
-    let unused : kind_at c.self.inside.blocks.blocks c.loop-slot.slot ≡ 0 = sym c.kind_of.ensures ∙ c.if-kind_of-eq0.true in
+    let unused : kind_at c.self.inside.version c.self.inside.blocks.blocks c.loop-slot.slot ≡ 0 = sym c.kind_of.ensures ∙ c.if-kind_of-eq0.true in
     let next : c.loop-slot.slot + 1 ≡ suc c.loop-slot.slot = omega arith in
-    rw next (ap (λ (f : Files). held f (suc c.loop-slot.slot)) (sym c.self.view_is) ∙ held-files_of c.self.inside.blocks c.self.inside.inodes c.loop-slot.slot c.loop-slot-test.true ∙ node_at-free c.self.inside.blocks.blocks c.loop-slot.slot unused)
+    rw next (ap (λ (f : Files). held f (suc c.loop-slot.slot)) (sym c.self.view_is) ∙ held-files_of c.self.inside.version c.self.inside.blocks c.self.inside.inodes c.loop-slot.slot c.loop-slot-test.true ∙ node_at-free c.self.inside.version c.self.inside.blocks.blocks c.loop-slot.slot unused)
 
 pub returns-then-kind_of-eq0-clause-within : goal.returns-then-kind_of-eq0-clause-within
 returns-then-kind_of-eq0-clause-within c = omega (arith, long c, c.loop-slot-test.true)
@@ -36,5 +40,5 @@ returns-then-kind_of-eq0-clause-full c =
 pub returns-clause-full : goal.returns-clause-full
 returns-clause-full c =
     let at_end : c.loop-slot.slot ≡ c.self.inside.inodes = omega arith in
-    let all = new_number-none c.self.inside.blocks c.self.inside.inodes (rw at_end at c.loop-slot.invariant) in
+    let all = new_number-none c.self.inside.version c.self.inside.blocks c.self.inside.inodes (rw at_end at c.loop-slot.invariant) in
     (λ _. ap new_number (sym c.self.view_is) ∙ all ∙ ap (λ (f : Files). length f.nodes) c.self.view_is, λ _. refl)

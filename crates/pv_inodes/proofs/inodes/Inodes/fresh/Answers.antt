@@ -11,41 +11,41 @@ use Rattle.pv_inodes.proofs.inodes.Inodes.fresh.Goals.{In_ok-slot, After-set_kin
 
 -- the inode is one of those that there are, and is free
 below : (c : In_ok-slot) → c.in_ok-slot.slot < c.self.inside.inodes
-below c = omega (arith, ap (λ (f : Files). length f.nodes) c.self.view_is, length-files_of c.self.inside.blocks c.self.inside.inodes, c.in_ok-slot.ensures.within)
+below c = omega (arith, ap (λ (f : Files). length f.nodes) c.self.view_is, length-files_of c.self.inside.version c.self.inside.blocks c.self.inside.inodes, c.in_ok-slot.ensures.within)
 
-unused : (c : In_ok-slot) → kind_at c.self.inside.blocks.blocks c.in_ok-slot.slot ≡ 0
+unused : (c : In_ok-slot) → kind_at c.self.inside.version c.self.inside.blocks.blocks c.in_ok-slot.slot ≡ 0
 unused c =
     let next : suc c.in_ok-slot.slot ≡ c.in_ok-slot.slot + 1 = omega arith in
-    node_none _ _ (sym (held-files_of c.self.inside.blocks c.self.inside.inodes c.in_ok-slot.slot (below c)) ∙ ap (λ (f : Files). held f (suc c.in_ok-slot.slot)) c.self.view_is ∙ ap (held c.args.self.now) next ∙ c.in_ok-slot.ensures.free)
+    node_none c.self.inside.version _ _ (sym (held-files_of c.self.inside.version c.self.inside.blocks c.self.inside.inodes c.in_ok-slot.slot (below c)) ∙ ap (λ (f : Files). held f (suc c.in_ok-slot.slot)) c.self.view_is ∙ ap (held c.args.self.now) next ∙ c.in_ok-slot.ensures.free)
 
 pub set_size-requires : goal.set_size-requires
-set_size-requires c = home_within _ _ _ c.self.invariant (below (goal.at.set_size-requires c).In_ok-slot)
+set_size-requires c = home_within c.self.inside.version _ _ _ c.self.invariant (below (goal.at.set_size-requires c).In_ok-slot)
 
 pub set_kind-requires : goal.set_kind-requires
 set_kind-requires c =
     let start = (goal.at.set_kind-requires c).In_ok-slot in
-    let long = ap (λ (st : BlockStore). length st.blocks) c.set_size.ensures ∙ total_sized c.self.inside.blocks c.self.inside.inodes c.in_ok-slot.slot c.self.invariant (below start) (unused start) 1 (omega arith) (omega arith) in
-    rw long (home_within _ _ _ c.self.invariant (below start))
+    let long = ap (λ (st : BlockStore). length st.blocks) c.set_size.ensures ∙ total_sized c.self.inside.version c.self.inside.blocks c.self.inside.inodes c.in_ok-slot.slot c.self.invariant (below start) (unused start) 1 (omega arith) (omega arith) in
+    rw long (home_within c.self.inside.version _ _ _ c.self.invariant (below start))
 
 pub overflow_add-result : goal.overflow_add-result
 overflow_add-result c = omega (arith, below (goal.at.overflow_add-result c).In_ok-slot)
 
 -- the store has the inode's length and kind written
-made : (c : After-set_kind) → c.set_kind.new.blocks ≡ rekinded (resized c.self.inside.blocks c.in_ok-slot.slot 0) c.in_ok-slot.slot c.number_of.result
+made : (c : After-set_kind) → c.set_kind.new.blocks ≡ rekinded c.self.inside.version (resized c.self.inside.version c.self.inside.blocks c.in_ok-slot.slot 0) c.in_ok-slot.slot c.number_of.result
 unfolding rekinded resized
-made c = c.set_kind.ensures ∙ ap (λ (st : BlockStore). record st { blocks = with_kind st.blocks c.in_ok-slot.slot c.number_of.result }) c.set_size.ensures
+made c = c.set_kind.ensures ∙ ap (λ (st : BlockStore). record st { blocks = with_kind c.self.inside.version st.blocks c.in_ok-slot.slot c.number_of.result }) c.set_size.ensures
 
 pub invariant_of-self : goal.invariant_of-self
 invariant_of-self c =
     let start = (goal.at.invariant_of-self c).In_ok-slot in
-    rw (made c) (sound_made _ _ _ c.self.invariant (below start) (unused start) c.number_of.result c.number_of.ensures.some c.number_of.ensures.few)
+    rw (made c) (sound_made c.self.inside.version _ _ _ c.self.invariant (below start) (unused start) c.number_of.result c.number_of.ensures.some c.number_of.ensures.few)
 
 pub returns-clause-after : goal.returns-clause-after
 returns-clause-after c =
     let start = (goal.at.returns-clause-after c).In_ok-slot in
     let next : suc c.in_ok-slot.slot ≡ c.in_ok-slot.slot + 1 = omega arith in
-    ap (λ (st : BlockStore). files_of st c.self.inside.inodes) (made c)
-    ∙ files_of-made _ _ _ c.self.invariant (below start) (unused start) c.number_of.result c.number_of.ensures.some c.number_of.ensures.few
+    ap (λ (st : BlockStore). files_of c.self.inside.version st c.self.inside.inodes) (made c)
+    ∙ files_of-made c.self.inside.version _ _ _ c.self.invariant (below start) (unused start) c.number_of.result c.number_of.ensures.some c.number_of.ensures.few
     ∙ ap (λ (f : Files). with_new f (suc c.in_ok-slot.slot) (sort_of c.number_of.result)) c.self.view_is
     ∙ ap (λ n. with_new c.args.self.now n (sort_of c.number_of.result)) next
     ∙ ap (with_new c.args.self.now (c.in_ok-slot.slot + 1)) c.number_of.ensures.back

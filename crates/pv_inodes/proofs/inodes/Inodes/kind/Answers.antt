@@ -4,11 +4,11 @@ use Rattle.pv_inodes.proofs.InUse.{InUse, in_use, sort_in_use}
 use Rattle.pv_inodes.proofs.inodes.Inodes.kind.Goals as goal
 use Rattle.pv_inodes.proofs.inodes.Inodes.kind.Goals.{After-self}
 
-known : (c : After-self) → InUse c.self.inside.blocks c.self.inside.inodes c.args.self.now c.args.inode c.slot-slot.result
-known c = in_use _ _ _ _ _ c.self.invariant c.self.view_is c.requires c.slot-slot.ensures
+known : (c : After-self) → InUse c.self.inside.version c.self.inside.blocks c.self.inside.inodes c.args.self.now c.args.inode c.slot-slot.result
+known c = in_use c.self.inside.version _ _ _ _ _ c.self.invariant c.self.view_is c.requires c.slot-slot.ensures
 
 pub kind_of-requires : goal.kind_of-requires
-kind_of-requires c = (known c).home_within
+kind_of-requires c = (known (goal.at.kind_of-requires c).After-self).home_within
 
 pub returns : goal.returns
-returns c = sort_in_use _ _ _ _ _ (known (goal.at.returns c).After-self) ∙ ap Some (ap sort_of (sym c.kind_of.ensures) ∙ sym c.sort_from.ensures)
+returns c = sort_in_use c.self.inside.version _ _ _ _ _ (known (goal.at.returns c).After-self) ∙ ap Some (ap sort_of (sym c.kind_of.ensures) ∙ sym c.sort_from.ensures)

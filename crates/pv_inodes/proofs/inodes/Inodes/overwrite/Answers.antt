@@ -1,6 +1,7 @@
 use Rattle.std.proofs.Common.{◌≡◌, ◌+◌, ◌-◌, ◌≤◌, length, drop, ap, sym, ◌∙◌, arith}
 use Rattle.std.proofs.lemmas.List.{length-take-le, length-drop}
 use Rattle.pv_inodes.specs.Files.{bytes_at, with_bytes}
+use Rattle.pv_inodes.proofs.Layouts.{greatest_length-small}
 use Rattle.pv_inodes.proofs.Edits.{with_bytes-itself, overwrite-nothing, used-written, length-written, written-more}
 use Rattle.pv_inodes.proofs.inodes.Inodes.overwrite.Goals as goal
 
@@ -13,10 +14,10 @@ loop-done-init c =
     }
 
 pub overflow_cast-from : goal.overflow_cast-from
-overflow_cast-from c = omega (arith, c.requires.allowed)
+overflow_cast-from c = omega (arith, c.requires.allowed, greatest_length-small c.args.self.now.version)
 
 pub overflow_add-from : goal.overflow_add-from
-overflow_add-from c = omega (arith, c.requires.allowed)
+overflow_add-from c = omega (arith, c.requires.allowed, greatest_length-small c.args.self.now.version)
 
 pub write_part-requires-clause-used : goal.write_part-requires-clause-used
 write_part-requires-clause-used c =

@@ -1,4 +1,5 @@
 use Rattle.std.proofs.Common.{◌≡◌, ◌-◌, ◌≤◌}
+use Rattle.pv_inodes.specs.Layout.{most_owned}
 use Rattle.pv_inodes.proofs.Growth.{Reduced}
 use Rattle.pv_inodes.proofs.inodes.Inodes.shrink.Given as goal
 
@@ -6,9 +7,10 @@ use Rattle.pv_inodes.proofs.inodes.Inodes.shrink.Given as goal
 abbrev pub invariant-loop-owned : goal.invariant-loop-owned
 invariant-loop-owned l = record {
   least : l.kept ≤ l.owned;
-  most : l.owned ≤ 267;
+  most : l.owned ≤ most_owned l.initial.self-inside.version;
   inodes : l.self-inside.inodes ≡ l.initial.self-inside.inodes;
-  reduced : Reduced l.initial.self-inside.blocks l.self-inside.blocks l.initial.self-inside.inodes l.slot l.owned;
+  version : l.self-inside.version ≡ l.initial.self-inside.version;
+  reduced : Reduced l.initial.self-inside.version l.initial.self-inside.blocks l.self-inside.blocks l.initial.self-inside.inodes l.slot l.owned;
 }
 
 abbrev pub decreases-loop-owned : goal.decreases-loop-owned

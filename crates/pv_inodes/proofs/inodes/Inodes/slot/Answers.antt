@@ -5,7 +5,7 @@ use Rattle.pv_inodes.proofs.inodes.Inodes.slot.Goals as goal
 
 pub overflow_sub-result : goal.overflow_sub-result
 overflow_sub-result c =
-    (used_slot c.self.inside.blocks c.self.inside.inodes c.args.inode (subst (λ (f : Files). IsUsed f c.args.inode) (sym c.self.view_is) c.requires)).above
+    (used_slot c.self.inside.version c.self.inside.blocks c.self.inside.inodes c.args.inode (subst (λ (f : Files). IsUsed f c.args.inode) (sym c.self.view_is) c.requires)).above
 
 pub returns : goal.returns
 returns c =

@@ -1,6 +1,7 @@
 use Rattle.std.proofs.Common.{◌≡◌, ◌+◌, ◌<◌, max, length, refl, sym, ap, ◌∙◌, arith}
 use Rattle.std.proofs.lemmas.Bool.{eqb-false}
 use Rattle.pv_model.specs.Effect.{resize}
+use Rattle.pv_model.specs.Room.{greatest_length}
 use Rattle.pv_inodes.specs.Files.{Files, bytes_at}
 use Rattle.pv_inodes.proofs.Bytes.{length-resize}
 use Rattle.pv_inodes.proofs.Edits.{used-with_bytes, bytes_at-with_bytes, lacks_room-written, has_room-written, written-lengthened}
@@ -19,7 +20,7 @@ size_is c = c.max-length.ensures ∙ ap (λ n. max n (c.args.at + length c.args.
 pub returns-then-not-has_room-clause-full : goal.returns-then-not-has_room-clause-full
 returns-then-not-has_room-clause-full c =
     let before = (goal.at.returns-then-not-has_room-clause-full c).After-max-length in
-    (λ _. (some before, omega arith, lacks_room-written _ _ _ _ _ c.requires (some before) (size_is before) (c.has_room.ensures.wanting c.if-not-has_room.true)), λ _. refl)
+    (λ _. (some before, omega (arith, ap greatest_length c.version.ensures), lacks_room-written _ _ _ _ _ c.requires (some before) (size_is before) (c.has_room.ensures.wanting c.if-not-has_room.true)), λ _. refl)
 
 pub overwrite-requires-clause-used : goal.overwrite-requires-clause-used
 overwrite-requires-clause-used c = rw c.grow.ensures (used-with_bytes c.args.self.now c.args.inode (resize (bytes_at c.args.self.now c.args.inode) c.max-length.result) c.requires)

@@ -1,8 +1,53 @@
-use Rattle.std.proofs.Common.{length, ap, sym, ◌∙◌}
-use Rattle.pv_tree.proofs.Parents.{contains-all}
+use Rattle.std.proofs.Common.{◌≡◌, ℕ, suc, ◌+◌, ◌-◌, ◌<◌, ap, sym, subst, ◌∙◌, arith}
+use Rattle.pv_model.specs.Tree.{IsWellFormed}
+use Rattle.pv_tree.proofs.Parents.{is_among, above-directory, among-all, among-itself, among-above, among-top, among-removed}
 use Rattle.pv_tree.proofs.tree.Tree.contains.Goals as goal
+
+-- so many steps are left, and one of them is this one
+left : (inodes top step : ℕ) → top ≡ inodes → step < top + 1 → inodes + 1 - step ≡ suc (inodes - step)
+left inodes top step same within = omega arith
+
+pub loop-step-init : goal.loop-step-init
+loop-step-init c =
+    let w = subst IsWellFormed (ap (λ h. h.tree) c.self.view_is) c.self.invariant.counted.well_formed in
+    let all : c.args.self.now.tree.inodes + 1 - 0 ≡ c.args.self.now.tree.inodes + 1 = omega arith in
+    (c.requires, ap (λ k. is_among c.args.self.now.tree c.args.node k c.args.directory) all ∙ among-all c.args.self.now.tree c.args.self.now.tree.inodes w.numbers c.args.node c.args.directory)
+
+pub returns-then-reached-node : goal.returns-then-reached-node
+returns-then-reached-node c =
+    let steps = left c.args.self.now.tree.inodes c.inodes-step-end.result c.loop-step._step (c.inodes-step-end.ensures.value ∙ ap (λ h. h.tree.inodes) c.self.view_is) c.loop-step-test.true in
+    sym (among-itself c.args.self.now.tree c.args.node (c.args.self.now.tree.inodes - c.loop-step._step) c.loop-step.reached c.if-reached-node.true)
+    ∙ ap (λ k. is_among c.args.self.now.tree c.args.node k c.loop-step.reached) (sym steps) ∙ c.loop-step.invariant.1
+
+pub returns-then-reached-eq-ROOT : goal.returns-then-reached-eq-ROOT
+returns-then-reached-eq-ROOT c =
+    let steps = left c.args.self.now.tree.inodes c.inodes-step-end.result c.loop-step._step (c.inodes-step-end.ensures.value ∙ ap (λ h. h.tree.inodes) c.self.view_is) c.loop-step-test.true in
+    sym (among-top c.args.self.now.tree c.args.node (c.args.self.now.tree.inodes - c.loop-step._step) c.loop-step.reached c.if-reached-node.false c.if-reached-eq-ROOT.true)
+    ∙ ap (λ k. is_among c.args.self.now.tree c.args.node k c.loop-step.reached) (sym steps) ∙ c.loop-step.invariant.1
+
+pub parent-requires : goal.parent-requires
+parent-requires c = c.loop-step.invariant.0
+
+pub returns-in_default : goal.returns-in_default
+returns-in_default c =
+    let steps = left c.args.self.now.tree.inodes c.inodes-step-end.result c.loop-step._step (c.inodes-step-end.ensures.value ∙ ap (λ h. h.tree.inodes) c.self.view_is) c.loop-step-test.true in
+    sym (among-removed c.args.self.now.tree c.args.node (c.args.self.now.tree.inodes - c.loop-step._step) c.loop-step.reached c.if-reached-node.false c.if-reached-eq-ROOT.false (sym c.parent.ensures ∙ c.in_default.is))
+    ∙ ap (λ k. is_among c.args.self.now.tree c.args.node k c.loop-step.reached) (sym steps) ∙ c.loop-step.invariant.1
+
+pub loop-step-preserved : goal.loop-step-preserved
+loop-step-preserved c =
+    let w = subst IsWellFormed (ap (λ h. h.tree) c.self.view_is) c.self.invariant.counted.well_formed in
+    let steps = left c.args.self.now.tree.inodes c.inodes-step-end.result c.loop-step._step (c.inodes-step-end.ensures.value ∙ ap (λ h. h.tree.inodes) c.self.view_is) c.loop-step-test.true in
+    let next : c.args.self.now.tree.inodes + 1 - (c.loop-step._step + 1) ≡ c.args.self.now.tree.inodes - c.loop-step._step = omega arith in
+    let up = sym c.parent.ensures ∙ c.in-Some.is in (
+      above-directory c.args.self.now.tree w c.loop-step.reached c.if-reached-eq-ROOT.false c.in-Some.above up,
+      ap (λ k. is_among c.args.self.now.tree c.args.node k c.in-Some.above) next
+          ∙ sym (among-above c.args.self.now.tree c.args.node (c.args.self.now.tree.inodes - c.loop-step._step) c.loop-step.reached c.in-Some.above c.if-reached-node.false c.if-reached-eq-ROOT.false up)
+          ∙ ap (λ k. is_among c.args.self.now.tree c.args.node k c.loop-step.reached) (sym steps) ∙ c.loop-step.invariant.1,
+    )
 
 pub returns : goal.returns
 returns c =
-    c.contains_within.ensures
-    ∙ contains-all c.args.self.now.tree c.inodes-steps.result (sym (ap (λ h. length h.tree.nodes) c.self.view_is) ∙ c.inodes-steps.ensures.numbers) c.args.node c.args.directory
+    let same = c.inodes-step-end.ensures.value ∙ ap (λ h. h.tree.inodes) c.self.view_is in
+    let none : c.args.self.now.tree.inodes + 1 - c.loop-step._step ≡ 0 = omega (arith, same, c.loop-step-test.false) in
+    ap (λ k. is_among c.args.self.now.tree c.args.node k c.loop-step.reached) (sym none) ∙ c.loop-step.invariant.1

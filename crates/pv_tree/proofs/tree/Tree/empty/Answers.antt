@@ -1,7 +1,6 @@
 use Rattle.std.proofs.Common.{◌≡◌, ◌+◌, ◌-◌, is_some, ap, ◌∙◌, arith}
-use Rattle.pv_model.specs.declared.version.Version.TheVariants.{V1}
 use Rattle.pv_model.specs.Image.{inode_blocks}
-use Rattle.pv_model.specs.Manifest.{empty_tree}
+use Rattle.pv_tree.specs.Changes.{root_alone}
 use Rattle.pv_tree.proofs.Beginning.{empty-tied, first-number, first-below, rooted-is}
 use Rattle.pv_tree.proofs.tree.Tree.empty.Goals as goal
 
@@ -15,14 +14,14 @@ unreachable-requires c =
 pub returns-clause-tree : goal.returns-clause-tree
 returns-clause-tree c =
     c.in-Some.ensures.after
-    ∙ rooted-is c.empty-directories.result c.in-Some._root (c.args.blocks - (inode_blocks V1 c.args.inodes + 1)) c.args.inodes c.empty-directories.ensures.nodes (omega (arith, c.empty-directories.ensures.blocks))
+    ∙ rooted-is c.args.version c.empty-directories.result c.in-Some._root (c.args.blocks - (inode_blocks c.args.version c.args.inodes + 1)) c.args.inodes c.empty-directories.ensures.nodes (omega (arith, c.empty-directories.ensures.blocks))
     c.empty-directories.ensures.inodes c.empty-directories.ensures.version c.requires.some_inodes c.in-Some.ensures.least
 
 pub invariant_of-result : goal.invariant_of-result
 invariant_of-result c =
-    let rooted : c.fresh.new.self ≡ empty_tree (c.args.blocks - (inode_blocks V1 c.args.inodes + 1)) c.args.inodes =
+    let rooted : c.fresh.new.self ≡ root_alone c.args.version (c.args.blocks - (inode_blocks c.args.version c.args.inodes + 1)) c.args.inodes =
     c.in-Some.ensures.after
-    ∙ rooted-is c.empty-directories.result c.in-Some._root (c.args.blocks - (inode_blocks V1 c.args.inodes + 1)) c.args.inodes c.empty-directories.ensures.nodes
+    ∙ rooted-is c.args.version c.empty-directories.result c.in-Some._root (c.args.blocks - (inode_blocks c.args.version c.args.inodes + 1)) c.args.inodes c.empty-directories.ensures.nodes
     (omega (arith, c.empty-directories.ensures.blocks)) c.empty-directories.ensures.inodes c.empty-directories.ensures.version c.requires.some_inodes c.in-Some.ensures.least in
     rw (rooted, c.root_above_itself.ensures, c.no_names.ensures, c.no_holds.ensures)
-    (empty-tied (c.args.blocks - (inode_blocks V1 c.args.inodes + 1)) c.args.inodes c.requires.some_inodes c.requires.few_inodes)
+    (empty-tied c.args.version (c.args.blocks - (inode_blocks c.args.version c.args.inodes + 1)) c.args.inodes c.requires.some_inodes c.requires.few_inodes)

@@ -1,8 +1,9 @@
 use Rattle.std.proofs.Common.{◌≡◌, ◌+◌, is_some, ap, subst, sym, ◌∙◌, arith}
 use Rattle.std.specs.Prelude.{slice_index, slice_set}
-use Rattle.pv_laws.specs.Tree.{Stands}
+use Rattle.pv_tree_laws.specs.Tree.{Stands}
 use Rattle.pv_model.specs.Tree.{Tree, node_at, find_entry, is_directory_at, is_name}
 use Rattle.pv_tree.specs.Standing.{IsTied}
+use Rattle.pv_tree_laws.proofs.Spelled.{bytes-all}
 use Rattle.pv_tree.proofs.Counting.{below-seen}
 use Rattle.pv_tree.proofs.Linking.{count-fits, linked-tied}
 use Rattle.pv_tree.proofs.Rooms.{shaped}
@@ -27,7 +28,8 @@ invariant_of-self-2 c =
     (linked-tied c.self.inside.directories c.self.inside.parents c.self.inside.names c.self.inside.holds c.self.invariant c.args.directory c.args.name.now c.args.node
     (subst (λ (t : Tree). Stands t c.args.directory) (sym view) c.requires.directory)
     (ap (λ (t : Tree). find_entry t c.args.directory c.args.name.now) view ∙ c.requires.absent)
-    (ap (λ v. is_name v c.args.name.now) c.self.invariant.counted.version ∙ c.requires.name)
+    (ap (λ (t : Tree). is_name t.version c.args.name.now) view ∙ c.requires.name)
+    (bytes-all c.args.name.now (λ i. (c.type_inv.name i).fits))
     (ap (λ (t : Tree). is_some (node_at t c.args.node)) view ∙ c.requires.node)
     (ap (λ (t : Tree). is_directory_at t c.args.node) view ∙ c.requires.other)
     c.in_ok-enter.ensures.allowed)

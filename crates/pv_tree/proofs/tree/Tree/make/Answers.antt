@@ -1,8 +1,10 @@
 use Rattle.std.proofs.Common.{◌≡◌, ◌<◌, length, ap, subst, sym, ◌∙◌}
 use Rattle.std.specs.Prelude.{slice_set}
-use Rattle.pv_model.specs.Tree.{Tree, find_entry, is_name, new_number}
-use Rattle.pv_laws.specs.Tree.{Stands}
+use Rattle.pv_model.specs.Tree.{Tree, find_entry, is_name, is_node, new_number}
+use Rattle.pv_tree_laws.specs.Tree.{Stands}
+use Rattle.pv_tree.specs.Changes.{new_node}
 use Rattle.pv_tree.specs.Standing.{IsTied}
+use Rattle.pv_tree_laws.proofs.Spelled.{bytes-all}
 use Rattle.pv_tree.proofs.Made.{made-tied}
 use Rattle.pv_tree.proofs.tree.Tree.make.Goals as goal
 
@@ -15,7 +17,7 @@ invariant_of-self-2 c =
     (made-tied c.self.inside.directories c.self.inside.parents c.self.inside.names c.self.inside.holds c.self.invariant c.args.directory c.args.name.now c.args.kind
     (subst (λ (t : Tree). Stands t c.args.directory) (sym view) c.requires.directory)
     (ap (λ (t : Tree). find_entry t c.args.directory c.args.name.now) view ∙ c.requires.absent)
-    (ap (λ v. is_name v c.args.name.now) c.self.invariant.counted.version ∙ c.requires.name)
-    c.requires.text
+    (ap (λ (t : Tree). is_name t.version c.args.name.now) view ∙ c.requires.name)
+    (ap (λ (t : Tree). is_node t.version (new_node c.args.kind)) view ∙ c.requires.text) (bytes-all c.args.name.now (λ i. (c.type_inv.name i).fits)) c.in_ok-node.ensures.bytes
     (subst (λ n. n < length c.self.inside.directories.nodes) c.in_ok-node.ensures.number c.in_ok-node.ensures.within)
     c.in_ok-node.ensures.allowed))

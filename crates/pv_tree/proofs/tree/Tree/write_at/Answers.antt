@@ -4,6 +4,7 @@ use Rattle.pv_model.specs.Sealed.{is_file}
 use Rattle.pv_model.specs.Tree.{Tree, node_at}
 use Rattle.pv_tree.specs.Changes.{overwritten}
 use Rattle.pv_tree.specs.Rooms.{refusal}
+use Rattle.pv_tree_laws.proofs.Spelled.{bytes-all}
 use Rattle.pv_tree.proofs.Contents.{IsAnswer, file-of, write-answer}
 use Rattle.pv_tree.proofs.tree.Tree.write_at.Goals as goal
 use Rattle.pv_tree.proofs.tree.Tree.write_at.Goals.{After-write_at}
@@ -13,7 +14,7 @@ answer : (c : After-write_at) → IsAnswer c.self.inside.directories c.write_at.
 answer c =
     let file = file-of (node_at c.self.inside.directories c.args.node) (ap (λ h. is_file (node_at h.tree c.args.node)) c.self.view_is ∙ c.requires) in
     write-answer c.self.inside.directories c.write_at.new.self c.self.inside.parents c.self.inside.names c.self.inside.holds c.self.invariant c.args.node file.0 file.1 file.2 c.write_at.result
-    c.args.at c.args.bytes.now c.write_at.ensures.ok c.write_at.ensures.err c.write_at.ensures.too_big c.write_at.ensures.full
+    c.args.at c.args.bytes.now (bytes-all c.args.bytes.now (λ i. (c.type_inv.bytes i).fits)) c.write_at.ensures.ok c.write_at.ensures.err c.write_at.ensures.too_big c.write_at.ensures.full
 
 pub invariant_of-self : goal.invariant_of-self
 invariant_of-self c = (answer c).tied

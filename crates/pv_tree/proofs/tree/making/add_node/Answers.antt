@@ -1,23 +1,26 @@
 use Rattle.std.proofs.Common.{◌<◌, is_some, length, ap, sym, subst, ◌∙◌, arith}
+use Rattle.pv_model.specs.Room.{greatest_entries}
 use Rattle.pv_model.specs.Tree.{Tree, node_at, entries_at, is_directory_at, find_entry}
 use Rattle.pv_dirs.specs.Trees.{new_node as empty_node, without_node}
-use Rattle.pv_laws.proofs.Changes.{node_at-same}
+use Rattle.pv_tree_laws.proofs.Changes.{node_at-same}
 use Rattle.pv_tree.specs.Changes.{sort_of}
 use Rattle.pv_tree.specs.Rooms.{refusal}
 use Rattle.pv_tree.specs.Standing.{IsShaped}
 use Rattle.pv_tree.proofs.Making.{fresh-is, furnished-is, entered-is, taken_away, size-entries, directory-one, absent-one, few-one, refused-long, refused-crowded, shaped-one}
 use Rattle.pv_tree.proofs.tree.making.add_node.Goals as goal
 
-pub returns-then-size-ge-MOST_ENTRIES-clause-refused : goal.returns-then-size-ge-MOST_ENTRIES-clause-refused
-returns-then-size-ge-MOST_ENTRIES-clause-refused c =
+pub returns-then-size-most-clause-refused : goal.returns-then-size-most-clause-refused
+returns-then-size-most-clause-refused c =
     let count = size-entries c.args.directories.now c.args.directory c.size.result c.requires.directory c.size.ensures.value in
-    refused-long c.args.directories.now c.requires.well_formed c.requires.version c.requires.short c.args.directory c.args.name.now c.args.kind c.requires.directory c.requires.absent c.requires.text
+    let most = c.layout-most.ensures.greatest_entries ∙ ap greatest_entries c.version.ensures in
+    refused-long c.args.directories.now c.requires.well_formed c.requires.short c.args.directory c.args.name.now c.args.kind c.requires.directory c.requires.absent c.requires.text
     (omega arith)
 
 pub returns-in_default-clause-refused : goal.returns-in_default-clause-refused
 returns-in_default-clause-refused c =
     let count = size-entries c.args.directories.now c.args.directory c.size.result c.requires.directory c.size.ensures.value in
-    refused-crowded c.args.directories.now c.requires.well_formed c.requires.version c.requires.short c.args.directory c.args.name.now c.args.kind c.requires.directory c.requires.absent c.requires.text
+    let most = c.layout-most.ensures.greatest_entries ∙ ap greatest_entries c.version.ensures in
+    refused-crowded c.args.directories.now c.requires.well_formed c.requires.short c.args.directory c.args.name.now c.args.kind c.requires.directory c.requires.absent c.requires.text
     (omega arith) (c.fresh.ensures.full.0 (ap is_some c.in_default.is))
 
 pub furnish-requires-clause-fresh : goal.furnish-requires-clause-fresh
@@ -28,24 +31,25 @@ furnish-requires-clause-fresh c =
 pub furnish-requires-clause-shaped : goal.furnish-requires-clause-shaped
 furnish-requires-clause-shaped c =
     subst IsShaped (sym (furnished-is c.args.directories.now c.fresh.new.self c.in-Some.node c.args.kind c.sort_of.result c.in-Some.ensures.after c.sort_of.ensures c.in-Some.ensures.within c.in-Some.ensures.least))
-    (shaped-one c.args.directories.now c.requires.well_formed c.requires.version c.requires.short c.args.directory c.args.name.now c.args.kind c.requires.directory c.requires.absent c.requires.text
+    (shaped-one c.args.directories.now c.requires.well_formed c.requires.short c.args.directory c.args.name.now c.args.kind c.requires.directory c.requires.absent c.requires.text
     (subst (λ n. n < length c.args.directories.now.nodes) c.in-Some.ensures.least c.in-Some.ensures.within))
 
 pub furnish-requires-clause-directory : goal.furnish-requires-clause-directory
 furnish-requires-clause-directory c =
     ap (λ (t : Tree). is_directory_at t c.args.directory) (furnished-is c.args.directories.now c.fresh.new.self c.in-Some.node c.args.kind c.sort_of.result c.in-Some.ensures.after c.sort_of.ensures c.in-Some.ensures.within c.in-Some.ensures.least)
-    ∙ directory-one c.args.directories.now c.requires.well_formed c.requires.version c.requires.short c.args.directory c.args.name.now c.args.kind c.requires.directory c.requires.absent c.requires.text
+    ∙ directory-one c.args.directories.now c.requires.well_formed c.requires.short c.args.directory c.args.name.now c.args.kind c.requires.directory c.requires.absent c.requires.text
 
 pub furnish-requires-clause-absent : goal.furnish-requires-clause-absent
 furnish-requires-clause-absent c =
     ap (λ (t : Tree). find_entry t c.args.directory c.args.name.now) (furnished-is c.args.directories.now c.fresh.new.self c.in-Some.node c.args.kind c.sort_of.result c.in-Some.ensures.after c.sort_of.ensures c.in-Some.ensures.within c.in-Some.ensures.least)
-    ∙ absent-one c.args.directories.now c.requires.well_formed c.requires.version c.requires.short c.args.directory c.args.name.now c.args.kind c.requires.directory c.requires.absent c.requires.text
+    ∙ absent-one c.args.directories.now c.requires.well_formed c.requires.short c.args.directory c.args.name.now c.args.kind c.requires.directory c.requires.absent c.requires.text
 
 pub furnish-requires-clause-few : goal.furnish-requires-clause-few
 furnish-requires-clause-few c =
     let count = size-entries c.args.directories.now c.args.directory c.size.result c.requires.directory c.size.ensures.value in
-    subst (λ (t : Tree). length (entries_at t c.args.directory) < 2128) (sym (furnished-is c.args.directories.now c.fresh.new.self c.in-Some.node c.args.kind c.sort_of.result c.in-Some.ensures.after c.sort_of.ensures c.in-Some.ensures.within c.in-Some.ensures.least))
-    (few-one c.args.directories.now c.requires.well_formed c.requires.version c.requires.short c.args.directory c.args.name.now c.args.kind c.requires.directory c.requires.absent c.requires.text
+    let most = c.layout-most.ensures.greatest_entries ∙ ap greatest_entries c.version.ensures in
+    subst (λ (t : Tree). length (entries_at t c.args.directory) < greatest_entries t.version) (sym (furnished-is c.args.directories.now c.fresh.new.self c.in-Some.node c.args.kind c.sort_of.result c.in-Some.ensures.after c.sort_of.ensures c.in-Some.ensures.within c.in-Some.ensures.least))
+    (few-one c.args.directories.now c.requires.well_formed c.requires.short c.args.directory c.args.name.now c.args.kind c.requires.directory c.requires.absent c.requires.text
     (omega arith))
 
 pub returns-in-Err-clause-err : goal.returns-in-Err-clause-err

@@ -1,5 +1,5 @@
 use Rattle.std.proofs.Common.{ap, sym, subst, ◌∙◌}
-use Rattle.pv_model.specs.Tree.{Tree, find_entry, is_directory_at, with_entry}
+use Rattle.pv_model.specs.Tree.{Tree, find_entry, is_directory_at, is_name, with_entry}
 use Rattle.pv_tree.specs.Rooms.{refusal}
 use Rattle.pv_tree.specs.Standing.{IsShaped}
 use Rattle.pv_tree.proofs.Moving.{between-shaped, between-directory, between-from, between-absent, between-free, name-good, back-is, back-allowed, done}
@@ -22,7 +22,9 @@ pub enter-requires-in-Err-clause-directory : goal.enter-requires-in-Err-clause-d
 enter-requires-in-Err-clause-directory c = ap (λ (t : Tree). is_directory_at t c.args.from) (c.in-Err.ensures.err ∙ c.remove.ensures) ∙ between-from c.args.directories.now c.requires.well_formed c.requires.shaped c.requires.fits c.args.from c.args.name.now c.args.to c.args.other.now c.args.node c.requires.present c.requires.to
 
 pub enter-requires-in-Err-clause-name : goal.enter-requires-in-Err-clause-name
-enter-requires-in-Err-clause-name c = name-good c.args.directories.now c.requires.well_formed c.requires.shaped c.requires.fits c.args.from c.args.name.now c.args.to c.args.other.now c.args.node c.requires.present c.requires.to
+enter-requires-in-Err-clause-name c =
+    ap (λ (t : Tree). is_name t.version c.args.name.now) (c.in-Err.ensures.err ∙ c.remove.ensures)
+    ∙ name-good c.args.directories.now c.requires.well_formed c.requires.shaped c.requires.fits c.args.from c.args.name.now c.args.to c.args.other.now c.args.node c.requires.present c.requires.to
 
 pub enter-requires-in-Err-clause-absent : goal.enter-requires-in-Err-clause-absent
 enter-requires-in-Err-clause-absent c = ap (λ (t : Tree). find_entry t c.args.from c.args.name.now) (c.in-Err.ensures.err ∙ c.remove.ensures) ∙ between-absent c.args.directories.now c.requires.well_formed c.requires.shaped c.requires.fits c.args.from c.args.name.now c.args.to c.args.other.now c.args.node c.requires.present c.requires.to

@@ -1,0 +1,34 @@
+-- What is stored of a tree, carried to the tree after it.
+use Rattle.std.proofs.Common.{◌≡◌, ℕ, ◌+◌, ◌-◌, ◌<◌, ◌≤◌, true, List, ◌++◌, length, take, drop, replicate, None, is_some, refl, sym, ◌∙◌}
+use Rattle.std.specs.Prelude.{slice_index}
+use Rattle.pv_model.specs.Tree.{Tree, node_at, is_directory_at, names_of, parent}
+use Rattle.pv_tree_laws.specs.Spelled.{AllBytes}
+use Rattle.pv_tree_laws.specs.Tree.{IsSound}
+use Rattle.pv_tree_laws.proofs.Trees.{well_formed}
+use Rattle.pv_tree.specs.Rooms.{refusal}
+use Rattle.pv_tree.specs.Standing.{stored, IsCounted}
+use Rattle.pv_tree.proofs.Rooms.{refusal-none}
+
+-- another tree of the same image, with other numbers stored: what is new of them, and the rest of the tree that was
+pub carried : (t u : Tree) (parents names holds : List ℕ) → IsCounted t parents names holds → (new_parents new_names new_holds : List ℕ)
+    → IsSound u → u.inodes ≡ t.inodes → refusal u ≡ None → AllBytes u
+    → length new_parents ≡ length parents → length new_names ≡ length names → length new_holds ≡ length holds
+    → ((n : ℕ) → 0 < slice_index new_holds n → is_some (node_at u n) ≡ true)
+    → ((n : ℕ) → is_directory_at u n ≡ true → slice_index new_parents n ≡ stored (parent u n))
+    → ((n : ℕ) → slice_index new_names n ≡ length (names_of u n))
+    → IsCounted u new_parents new_names new_holds
+carried t u parents names holds c new_parents new_names new_holds sound inodes allowed bytes as_many_parents as_many_names as_many_holds held above named =
+    let room = refusal-none u allowed in
+    record {
+      well_formed = well_formed u sound;
+      few = Rattle.std.proofs.Common.subst (λ n. n ≤ 4096) (sym inodes) c.few;
+      fits = room.1;
+      short = room.0;
+      bytes = bytes;
+      held_are_nodes = held;
+      places_of_parents = as_many_parents ∙ c.places_of_parents;
+      places_of_names = as_many_names ∙ c.places_of_names;
+      places_of_holds = as_many_holds ∙ c.places_of_holds;
+      parents_stored = above;
+      names_counted = named;
+    }

@@ -1,0 +1,10 @@
+use Rattle.std.proofs.Common.{◌≡◌, ◌+◌, ◌-◌, true}
+use Rattle.pv_model.specs.Calls.Paths.{contains_directory}
+use Rattle.pv_model.specs.Tree.{is_directory_at}
+use Rattle.pv_tree.proofs.Parents.{is_among}
+use Rattle.pv_tree.proofs.tree.Tree.contains.Given as goal
+
+abbrev pub invariant-loop-step : goal.invariant-loop-step
+invariant-loop-step l =
+    (is_directory_at l.self.tree l.reached ≡ true)
+    × (is_among l.self.tree l.node (l.self.tree.inodes + 1 - l._step) l.reached ≡ contains_directory l.self.tree l.node l.directory)
