@@ -1,63 +1,34 @@
-//! `pvsim`: runs of the machine from the command line.
-//!
-//! `command` reads the command line, `fault` is what is told to a person and the exit status, and `files`
-//! has sources and sinks over what the system reads and writes.
+//! `pvsim`: the program of `pv_program` over the files and the streams of its system.
 #![tactic(auto)]
 
-mod command;
-mod fault;
 mod files;
 
-use command::{Command, LineFault, command_of};
-use fault::Fault;
-use files::{Input, Output};
-use pv_run::run_tree;
+use files::{HostFiles, Input, Output};
+use pv_program::{Fault, LineFault, System, run, tell};
 use std::process::ExitCode;
-use std::{env, fs, io};
+use std::{env, io};
 
-// Runs the bundle of a file, or of the standard input for `-`, and writes its trace to the standard output.
-fn run_bundle(rt: &HostRuntime, path: &str) -> Result<(), Fault> {
-    let mut trace = Output::new(io::writer(rt));
-    if path == "-" {
-        run_tree(rt.alloc(), &mut Input::new(rt.reader()), &mut trace)?;
-    } else {
-        let file = fs::open(rt, path).map_err(|_| Fault::Read)?;
-        run_tree(rt.alloc(), &mut Input::new(file), &mut trace)?;
-    }
-    Ok(())
-}
-
-// Does what the words of the command line ask for.
-fn run(rt: &HostRuntime, words: &[String]) -> Result<(), Fault> {
-    match command_of(rt.alloc(), words) {
-        Ok(Command::RunTree(path)) => run_bundle(rt, path),
-        Err(LineFault::Memory) => Err(Fault::Memory),
-        Err(LineFault::Parser(error)) => Err(Fault::CommandLine(error)),
-    }
-}
-
-// Tells a fault and answers the exit status.
-fn tell(rt: &HostRuntime, fault: &Fault) -> u8 {
-    let told = match fault {
-        Fault::CommandLine(error) => error.print(rt),
-        fault => rt.eprintln(fault),
+// The words of the command line, of which the first is the program's name.
+fn words_of(rt: &HostRuntime) -> Result<Vec<String>, Fault> {
+    let Ok(words) = env::args(rt) else {
+        return Err(Fault::Words);
     };
-    if told.is_err() && fault.status() == 0 {
-        return Fault::Write.status();
+    match words.collect(rt.alloc()) {
+        Ok(words) => Ok(words),
+        Err(_) => Err(Fault::Line(LineFault::Memory)),
     }
-    fault.status()
 }
 
 fn main(rt: HostRuntime) -> ExitCode {
-    let words: Vec<String> = match env::args(&rt) {
-        Ok(args) => match args.collect(rt.alloc()) {
-            Ok(words) => words,
-            Err(_) => return ExitCode::from(tell(&rt, &Fault::Memory)),
-        },
-        Err(_) => return ExitCode::from(tell(&rt, &Fault::Words)),
+    let mut system = System {
+        files: HostFiles::new(&rt),
+        input: Input::new(rt.reader()),
+        output: Output::new(io::writer(&rt)),
+        errors: Output::new(rt.stderr()),
     };
-    match run(&rt, &words) {
-        Ok(()) => ExitCode::SUCCESS,
-        Err(fault) => ExitCode::from(tell(&rt, &fault)),
-    }
+    let status = match words_of(&rt) {
+        Ok(words) => run(rt.alloc(), words.as_slice(), &mut system),
+        Err(fault) => tell(&fault, &mut system),
+    };
+    ExitCode::from(status)
 }

@@ -25,11 +25,12 @@ use Rattle.pv_model.proofs.TreesGrow.{at_new_number, at_number-other, directory_
 use Rattle.pv_run.specs.declared.reader.bundle.Bundle.{Bundle}
 use Rattle.pv_run.specs.declared.reader.bundle.Entry.{Entry}
 use Rattle.pv_run.specs.Made.{IsMade}
-use Rattle.pv_run.specs.Bundles.{entry_of_line, manifest_of, IsGrown, RefusesManifest}
-use Rattle.pv_run.specs.Reading.{pieces_behind}
+use Rattle.pv_image.specs.Reading.{RefusesManifest}
+use Rattle.pv_run.specs.Bundles.{entry_of_line, manifest_of, IsGrown}
+use Rattle.pv_text.specs.Pieces.{pieces_behind}
 use Rattle.pv_run.proofs.Grown.{IsGrown-empty}
-use Rattle.pv_run.proofs.Paths.{end_of_piece, rest_of, first_piece}
-use Rattle.pv_run.proofs.Manifests.{refuses_along}
+use Rattle.pv_run.proofs.Paths.{some_piece}
+use Rattle.pv_image.proofs.WholeManifests.{refuses_along}
 
 -- ---- the directory that is to contain an entry
 
@@ -86,8 +87,8 @@ module _ (t : Tree) (path : Bytes) (d : ℕ) (name behind : Bytes) (rest : Optio
 
   pub IsContained-refused : ((onward : ℕ → Option (ℕ × Bytes)) → enter_directory t onward (find_entry t d name) ≡ option_and_then onward None) → container t (pieces path) root ≡ None
   IsContained-refused refused =
-      let pieces-are = ap pieces_behind more ∙ first_piece behind in
-      sym kept.is ∙ ap (λ ps. container t (name ∷ ps) d) pieces-are ∙ refused (container t (take (end_of_piece behind) behind ∷ pieces_behind (rest_of (drop (end_of_piece behind) behind))))
+      let next = some_piece behind in
+      sym kept.is ∙ ap (λ ps. container t (name ∷ ps) d) (ap pieces_behind more ∙ next.2) ∙ refused (container t (next.0 ∷ next.1))
 
 short_name : (name : Bytes) → IsTrue (is_name V1 name) → length name ≤ 60
 short_name name h =

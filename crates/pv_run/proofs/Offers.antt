@@ -1,70 +1,61 @@
 -- What is offered is what lines and files spell.
-use Rattle.std.proofs.Common.{◌≡◌, ◌∙◌, ap, sym, ℕ, Bool, true, false, cond, if◌then◌else◌, refl, Option, Some, Result, Ok, Err, codes}
-use Rattle.std.specs.Prelude.{IsTrue, IfOk, bytes_eq}
-use Rattle.std.specs.Global.{Vec}
+use Rattle.std.proofs.Common.{◌≡◌, ◌∙◌, ap, sym, ℕ, suc, Bool, true, false, cond, refl, [], ◌∷◌, Option, None, Some, Result, Ok, Err}
+use Rattle.std.specs.Prelude.{IsTrue, ◌&&◌}
 use Rattle.std.specs.List.{list_all}
-use Rattle.std.proofs.lemmas.Slice.Eq.{bytes_eq-Decides}
 use Rattle.pv_model.specs.declared.fault.ParseFault.{ParseFault}
+use Rattle.pv_model.specs.declared.fault.ParseFault.TheVariants.{Line, Memory}
 use Rattle.pv_model.specs.declared.fault.What.{What}
-use Rattle.pv_model.specs.declared.fault.What.TheVariants.{Word, Argument}
 use Rattle.pv_model.specs.declared.instruction.Instruction.{Instruction}
 use Rattle.pv_model.specs.Bytes.{Bytes}
-use Rattle.pv_model.specs.Grammar.Instructions.{instruction_by, instruction_of}
-use Rattle.pv_model.specs.Grammar.Lines.{lines_of, word_of, behind_word}
 use Rattle.pv_model.specs.Grammar.Programs.{read_program, program_of}
 use Rattle.pv_model.specs.State.{Program}
-use Rattle.pv_run.specs.Offered.{is_offered_instruction, is_offered_word, only_offered, offered_by, offered_instruction, offered_program}
-use Rattle.pv_run.specs.Reading.{GivesProgram}
-use Rattle.pv_script.specs.Known.{known_by, known_instruction}
-use Rattle.pv_script.proofs.WholePrograms.{ReadsLess, program_read_less}
+use Rattle.pv_run.specs.Offered.{is_offered_instruction, wrong_in, first_other, unless_other, if_offered, offered_program}
+use Rattle.pv_script.specs.Reading.{RefusesProgram}
 
--- ---- lines
+-- ---- instructions
+others_after : (i : Instruction) (rest : Program) (n : ℕ) (t : Bool) → (first_other rest (suc n) ≡ None → IsTrue (list_all is_offered_instruction rest))
+    → cond t (first_other rest (suc n)) (Some (n, wrong_in i)) ≡ None → IsTrue (t && list_all is_offered_instruction rest)
+others_after i rest n true onward none = onward none
+others_after i rest n false onward none = absurd cc
 
-pub not_offered : (lines : ℕ) (line : Bytes) → is_offered_word (word_of line) ≡ false → offered_instruction lines line ≡ Err Word
-unfolding offered_by
-not_offered lines line other = rw other refl
-
-by_openat : (lines : ℕ) (word rest : Bytes) (t : Bool) → bytes_eq word (codes "openat") ≡ t → is_offered_word word ≡ true → cond t (Err Word) (instruction_by lines word rest) ≡ instruction_by lines word rest
-by_openat lines word rest true test offered =
-    let named : word ≡ codes "openat" = (bytes_eq-Decides word (codes "openat")).0 test in
-    let other : is_offered_word word ≡ false = ap is_offered_word named in
-    absurd cc
-by_openat lines word rest false test offered = refl
-
--- what is read behind an offered word is offered, or not
-pub offered_is_known : (lines : ℕ) (line : Bytes) → is_offered_word (word_of line) ≡ true → offered_instruction lines line ≡ only_offered (known_instruction lines line)
-unfolding offered_by known_by
-offered_is_known lines line offered =
-    rw offered (ap only_offered (sym (by_openat lines (word_of line) (behind_word line) (bytes_eq (word_of line) (codes "openat")) refl offered)))
+offered_where_none : (program : Program) (n : ℕ) → first_other program n ≡ None → IsTrue (list_all is_offered_instruction program)
+offered_where_none [] n none = refl
+offered_where_none (i ∷ rest) n none = others_after i rest n (is_offered_instruction i) (offered_where_none rest (suc n)) none
 
 -- ---- programs
 
-by_test : (b : Bool) (j i : Instruction) → is_offered_instruction j ≡ b → (if b then (let it : Result Instruction What = Ok j in it) else Err Argument) ≡ Ok i
-    → ((let it : Result Instruction What = Ok j in it) ≡ Ok i) × IsTrue (is_offered_instruction i)
-by_test true j i offered is = let same : j ≡ i = cc in (is, sym (ap is_offered_instruction same) ∙ offered)
-by_test false j i offered is = absurd cc
+module _ (bytes : Bytes) (program : Program) (read : read_program bytes ≡ Ok program) where
+  pub offered_where : None ≡ first_other program 1 → offered_program bytes ≡ Ok program
+  unfolding offered_program
+  offered_where none = ap if_offered read ∙ ap (unless_other program) (sym none)
 
-by_word : (b : Bool) (r : Result Instruction What) (i : Instruction) → (if b then only_offered r else Err Word) ≡ Ok i → (r ≡ Ok i) × IsTrue (is_offered_instruction i)
-by_word false r i is = absurd cc
-by_word true (Err what) i is = absurd cc
-by_word true (Ok j) i is = by_test (is_offered_instruction j) j i refl is
+  pub refused_where : (n : ℕ) (what : What) → Some (n, what) ≡ first_other program 1 → offered_program bytes ≡ Err (Line n what)
+  unfolding offered_program
+  refused_where n what other = ap if_offered read ∙ ap (unless_other program) (sym other)
 
-offered_reads_less : (lines : ℕ) → ReadsLess (offered_instruction lines) (instruction_of lines) is_offered_instruction
-unfolding offered_by
-offered_reads_less lines = record { reads = λ line i is. by_word (is_offered_word (word_of line)) (instruction_of lines line) i is }
+pub refused_as_read : (bytes : Bytes) (f e : ParseFault) → e ≡ f → RefusesProgram f (read_program bytes) → RefusesProgram e (offered_program bytes)
+unfolding offered_program
+refused_as_read bytes (Line n what) e is refused = rw is (ap if_offered refused)
+refused_as_read bytes Memory e is refused = rw is tt
 
 -- a program of offered instructions is the program that its bytes spell
 offered_is_read : (bytes : Bytes) (p : Program) → offered_program bytes ≡ Ok p → (read_program bytes ≡ Ok p) × IsTrue (list_all is_offered_instruction p)
-unfolding offered_program read_program
-offered_is_read bytes p is = program_read_less _ _ is_offered_instruction (offered_reads_less _) (lines_of bytes) 1 p is
+unfolding offered_program
+offered_is_read bytes p is = by_read (read_program bytes) is
+  where
+    by_other : (q : Program) (other : Option (ℕ × What)) → first_other q 1 ≡ other → unless_other q other ≡ Ok p
+        → ((let it : Result Program ParseFault = Ok q in it) ≡ Ok p) × IsTrue (list_all is_offered_instruction p)
+    by_other q None none e =
+        let same : q ≡ p = cc in
+        (e, ap (list_all is_offered_instruction) (sym same) ∙ offered_where_none q 1 none)
+    by_other q (Some o) other e = absurd cc
+
+    by_read : (r : Result Program ParseFault) → if_offered r ≡ Ok p → (r ≡ Ok p) × IsTrue (list_all is_offered_instruction p)
+    by_read (Ok q) e = by_other q (first_other q 1) refl e
+    by_read (Err fault) e = absurd cc
 
 pub program_of-offered : (bytes : Bytes) (p : Program) → offered_program bytes ≡ Ok p → program_of bytes ≡ Some p
 program_of-offered bytes p is = rw (offered_is_read bytes p is).0 refl
 
-pub offered_is_spelled : (bytes : Bytes) (r : Result (Vec Instruction) ParseFault) → GivesProgram r (offered_program bytes) → IfOk r (λ p. read_program bytes ≡ Ok p.items)
-offered_is_spelled bytes (Ok p) given = (offered_is_read bytes p.items given).0
-offered_is_spelled bytes (Err fault) given = tt
-
-pub offered_alone : (bytes : Bytes) (r : Result (Vec Instruction) ParseFault) → GivesProgram r (offered_program bytes) → IfOk r (λ p. IsTrue (list_all is_offered_instruction p.items))
-offered_alone bytes (Ok p) given = (offered_is_read bytes p.items given).1
-offered_alone bytes (Err fault) given = tt
+pub offered_alone : (bytes : Bytes) (p : Program) → offered_program bytes ≡ Ok p → IsTrue (list_all is_offered_instruction p)
+offered_alone bytes p is = (offered_is_read bytes p is).1

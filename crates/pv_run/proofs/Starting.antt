@@ -18,7 +18,7 @@ use Rattle.pv_model.specs.State.{Program, first_state}
 use Rattle.pv_model.specs.Step.{Schedule, boot, init_program}
 use Rattle.pv_model.specs.Tree.{Node, directory_node, file_node, link_node, Tree, root, node_at, find_entry}
 use Rattle.pv_run.specs.Offered.{offered_bundle, offered_program}
-use Rattle.pv_run.specs.Bundles.{RefusesManifest}
+use Rattle.pv_image.specs.Reading.{RefusesManifest}
 use Rattle.pv_script.specs.Reading.{RefusesSchedule}
 use Rattle.pv_run.specs.Run.{RefusesStart, IsStartFault, and_then, program_in, first_program, started, started_with}
 use Rattle.pv_run.proofs.Offers.{program_of-offered}

@@ -11,7 +11,7 @@ use Rattle.pv_model.specs.Grammar.Programs.{program_of}
 use Rattle.pv_model.specs.Program.{Next, calls_for, next}
 use Rattle.pv_model.specs.State.{Process, State, process_at}
 use Rattle.pv_model.specs.Step.{Stepped, step, step_of, step_by, step_by_call}
-use Rattle.pv_model.specs.Trace.{Line, buffer_of, call_lines, gone_lines, moved_texts}
+use Rattle.pv_model.specs.Trace.{Line, buffer_of, call_lines, gone_lines, moved_words}
 use Rattle.pv_run.specs.Offered.{is_offered_call}
 use Rattle.pv_run.specs.Running.{stepped}
 use Rattle.pv_trace.specs.Lines.{lines_by, moved_by}
@@ -27,7 +27,7 @@ step_gone s pid fetched = gone_of s pid (process_at s pid) fetched
 
 -- what is said of moved bytes, where the call is no write
 moved : (after : State) (pid : ℕ) (p : Process) (call : Call) (outcome : Outcome) → IsTrue (is_offered_call call)
-    → moved_texts after pid p call outcome ≡ moved_by (buffer_of (process_at after pid)) call outcome
+    → moved_words after pid p call outcome ≡ moved_by (buffer_of (process_at after pid)) call outcome
 moved after pid p call (Text taken) offered = refl
 moved after pid p (Write d n) (Value count) offered = cc
 moved after pid p _ (Value count) offered = refl

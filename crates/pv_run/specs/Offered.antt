@@ -1,10 +1,12 @@
 -- What a run takes so far: which instructions, calls and entries of manifests.
-use Rattle.std.specs.Prelude.{ℕ, Bool, true, false, not, ◌&&◌, if◌then◌else◌, min, List, [], ◌∷◌, length, codes, bytes_eq, Option, None, Some, Result, Ok, Err}
-use Rattle.std.specs.List.{list_all, list_any}
+use Rattle.std.specs.Prelude.{ℕ, suc, Bool, true, false, not, ◌&&◌, if◌then◌else◌, List, [], ◌∷◌, Option, None, Some, Result, Ok, Err}
+use Rattle.std.specs.List.{list_all}
 use Rattle.pv_model.specs.declared.call.Call.{Call}
 use Rattle.pv_model.specs.declared.call.Call.TheVariants.{Exit, GetPid, Pledge, Unveil, Open, Close, Read}
 use Rattle.pv_model.specs.declared.fault.ManifestFault.{ManifestFault}
+use Rattle.pv_model.specs.declared.fault.ManifestFault.TheVariants.{Form}
 use Rattle.pv_model.specs.declared.fault.ParseFault.{ParseFault}
+use Rattle.pv_model.specs.declared.fault.ParseFault.TheVariants.{Line}
 use Rattle.pv_model.specs.declared.fault.What.{What}
 use Rattle.pv_model.specs.declared.fault.What.TheVariants.{Word, Argument}
 use Rattle.pv_model.specs.declared.instruction.Instruction.{Instruction}
@@ -13,11 +15,11 @@ use Rattle.pv_model.specs.declared.open_flags.Mode.{Mode}
 use Rattle.pv_model.specs.declared.open_flags.Mode.TheVariants.{Read as ForReading}
 use Rattle.pv_model.specs.declared.open_flags.OpenFlags.{OpenFlags}
 use Rattle.pv_model.specs.Bytes.{Bytes}
-use Rattle.pv_model.specs.Grammar.Instructions.{instruction_by}
-use Rattle.pv_model.specs.Grammar.Lines.{lines_of, word_of, behind_word}
-use Rattle.pv_model.specs.Grammar.Manifests.{Taking, Manifest, entry_by, manifest_by}
-use Rattle.pv_model.specs.Grammar.Programs.{program_from}
+use Rattle.pv_model.specs.Grammar.Manifests.{Manifest, read_bundle}
+use Rattle.pv_model.specs.Grammar.Programs.{read_program}
+use Rattle.pv_model.specs.Manifest.{Entry, make, further_name}
 use Rattle.pv_model.specs.State.{Program}
+use Rattle.pv_model.specs.Tree.{directory_node, file_node, link_node}
 use Rattle.pv_model.specs.Walk.{pieces, is_absolute, is_dot, is_dot_dot}
 
 -- whether a piece is neither `.` nor `..`
@@ -65,45 +67,50 @@ is_offered_instruction (CloseLine d) = true
 is_offered_instruction (UnveilLine path letters) = is_plain_path_or_null path
 is_offered_instruction _ = false
 
--- the first words of the instructions that are offered
-abbrev pub offered_words : List Bytes
-offered_words = codes "pledge" ∷ codes "open" ∷ codes "read" ∷ codes "close" ∷ codes "getpid" ∷ codes "exit" ∷ codes "unveil" ∷ []
+-- what is wrong with an instruction that is not offered: its arguments, or its name
+abbrev pub wrong_in : Instruction → What
+wrong_in (OpenLine path flags) = Argument
+wrong_in (UnveilLine path letters) = Argument
+wrong_in _ = Word
 
-abbrev pub is_offered_word : Bytes → Bool
-is_offered_word word = list_any (bytes_eq word) offered_words
+-- the first instruction that is not offered, of those from line n on
+abbrev pub first_other : Program → ℕ → Option (ℕ × What)
+first_other [] n = None
+first_other (i ∷ rest) n = if is_offered_instruction i then first_other rest (suc n) else Some (n, wrong_in i)
 
-abbrev pub only_offered : Result Instruction What → Result Instruction What
-only_offered (Ok i) = if is_offered_instruction i then Ok i else Err Argument
-only_offered (Err what) = Err what
+abbrev pub unless_other : Program → Option (ℕ × What) → Result Program ParseFault
+unless_other program None = Ok program
+unless_other program (Some p) = Err (Line p.0 p.1)
 
--- the offered instruction that a word and what stands behind it spell
-unfoldable pub offered_by : ℕ → Bytes → Bytes → Result Instruction What
-offered_by lines word rest = if is_offered_word word then only_offered (instruction_by lines word rest) else Err Word
+abbrev pub if_offered : Result Program ParseFault → Result Program ParseFault
+if_offered (Ok program) = unless_other program (first_other program 1)
+if_offered (Err fault) = Err fault
 
--- the offered instruction that a line spells
-abbrev pub offered_instruction : ℕ → Bytes → Result Instruction What
-offered_instruction lines line = offered_by lines (word_of line) (behind_word line)
-
--- the program of offered instructions that lines spell
-abbrev pub offered_program_of_lines : List Bytes → Result Program ParseFault
-offered_program_of_lines lines = program_from (offered_instruction (min (length lines) 256)) lines 1
-
--- the program of offered instructions that bytes spell, or the first fault
+-- the program that bytes spell, of instructions that are offered: the least other one is a fault of its line
 unfoldable pub offered_program : Bytes → Result Program ParseFault
-offered_program bytes = offered_program_of_lines (lines_of bytes)
+offered_program bytes = if_offered (read_program bytes)
 
--- the first words of the lines of manifests that are offered
-abbrev pub offered_entry_words : List Bytes
-offered_entry_words = codes "dir" ∷ codes "bytes" ∷ codes "exec" ∷ []
+-- the entries of manifests that are offered: those of directories and files
+abbrev pub is_offered_entry : Entry → Bool
+is_offered_entry (make path (directory_node es)) = true
+is_offered_entry (make path (file_node executable bytes)) = true
+is_offered_entry (make path (link_node text)) = false
+is_offered_entry (further_name path source) = false
 
--- the offered entry that a word and what stands behind it spell, with the lines that follow
-unfoldable pub offered_entry_by : Bytes → Bytes → List Bytes → Option Taking
-offered_entry_by word rest lines = if list_any (bytes_eq word) offered_entry_words then entry_by word rest lines else None
+-- the line of the first entry that is not offered
+abbrev pub first_other_entry : List (ℕ × Entry) → Option ℕ
+first_other_entry [] = None
+first_other_entry (e ∷ es) = if is_offered_entry e.1 then first_other_entry es else Some e.0
 
--- the offered entry that a line spells, with the lines that follow
-abbrev pub offered_entry : Bytes → List Bytes → Option Taking
-offered_entry line lines = offered_entry_by (word_of line) (behind_word line) lines
+abbrev pub unless_other_entry : Manifest → Option ℕ → Result Manifest ManifestFault
+unless_other_entry m None = Ok m
+unless_other_entry m (Some line) = Err (Form line)
 
--- the manifest of a bundle of offered entries; behind it stand the lines of a schedule
+abbrev pub if_entries_offered : Result Manifest ManifestFault → Result Manifest ManifestFault
+if_entries_offered (Ok m) = unless_other_entry m (first_other_entry m.listed.entries)
+if_entries_offered (Err fault) = Err fault
+
+-- the manifest of a bundle, where each of its entries is offered; behind it stand the lines of a schedule. The least entry that is
+-- not offered is a fault of form, behind all faults of reading: the form of each line, and the sizes
 unfoldable pub offered_bundle : Bytes → Result Manifest ManifestFault
-offered_bundle bytes = manifest_by true offered_entry (lines_of bytes)
+offered_bundle bytes = if_entries_offered (read_bundle bytes)

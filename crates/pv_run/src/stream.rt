@@ -49,7 +49,8 @@ pub struct Gathered {
 impl Gathered {
     /// A sink that was given nothing yet.
     pub fn new(alloc: Global) -> Gathered
-        ensures { result.bytes.items ≡ [] }
+        ensures bytes { result.bytes.items ≡ [] }
+        ensures failures { result.failures ≡ 0 }
     {
         Gathered {
             bytes: Vec::new(alloc),
@@ -91,9 +92,13 @@ fn write_some<W: Sink>(sink: &mut W, bytes: &[u8]) -> Result<usize, Failed>
     }
 }
 
-// Writes all the bytes, in as many writes as it takes.
+/// Writes all the bytes, in as many writes as it takes.
+///
+/// # Errors
+///
+/// `Failed` where a write failed: the sink was told a beginning of the bytes.
 #[tactic(auto, using(crate::proofs::Streaming::told_more, crate::proofs::Streaming::tells_beginning))]
-pub(crate) fn write_whole<W: Sink>(sink: &mut W, bytes: &[u8]) -> Result<(), Failed>
+pub fn write_whole<W: Sink>(sink: &mut W, bytes: &[u8]) -> Result<(), Failed>
     ensures whole { OnOk result (W.told sink.new ≡ and_all (W.told sink.old) bytes.now) }
     ensures beginning { OnErr result (TellsBeginning bytes.now (W.told sink.old) (W.told sink.new)) }
     ensures failed { OnErr result (Rose (W.failures sink.old) (W.failures sink.new)) }

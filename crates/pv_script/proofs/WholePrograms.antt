@@ -1,7 +1,5 @@
 -- Programs, read line by line, however a line is read.
-use Rattle.std.proofs.Common.{◌≡◌, ◌∙◌, ap, ℕ, suc, ◌+◌, Bool, true, false, cond, eqb, List, [], ◌∷◌, ◌++◌, Result, Ok, Err, refl, sym, subst, arith, append_assoc}
-use Rattle.std.specs.Prelude.{IsTrue, ◌&&◌}
-use Rattle.std.specs.List.{list_all}
+use Rattle.std.proofs.Common.{◌≡◌, ◌∙◌, ap, ℕ, suc, ◌+◌, true, false, eqb, [], ◌∷◌, ◌++◌, Result, Ok, Err, refl, sym, arith, append_assoc}
 use Rattle.std.proofs.lemmas.Bool.{eq-eqb, ne_eqb}
 use Rattle.std.proofs.lemmas.List.{append-nil}
 use Rattle.pv_model.specs.declared.fault.ParseFault.{ParseFault}
@@ -68,68 +66,3 @@ module _ (read : Reader) (front : Program) (rest line behind : Bytes) (n : ℕ) 
 pub IsProgramSoFar-end : (read : Reader) (front : Program) (rest : Bytes) (n : ℕ) (whole : Result Program ParseFault) → lines_of rest ≡ [] → IsProgramSoFar read front rest n whole → whole ≡ Ok front
 IsProgramSoFar-end read front rest n whole none kept =
     sym kept.is ∙ ap (λ ls. behind_program front (program_from read ls n)) none ∙ ap (λ (p : Program). Ok p) (append-nil front)
-
--- ---- readers of which one reads less than another
-
-onto_ok : (i : Instruction) (rest : Result Program ParseFault) (p : Program) → onto_program i rest ≡ Ok p → (q : Program) × (rest ≡ Ok q) × (i ∷ q ≡ p)
-onto_ok i (Ok q) p e = (q, refl, cc)
-onto_ok i (Err fault) p e = absurd cc
-
-or_line_ok : (n : ℕ) (r : Result Instruction What) (rest : Result Program ParseFault) (p : Program) → or_line n r rest ≡ Ok p → (i : Instruction) × (q : Program) × (r ≡ Ok i) × (rest ≡ Ok q) × (i ∷ q ≡ p)
-or_line_ok n (Ok i) rest p e = let parts = onto_ok i rest p e in (i, parts.0, refl, parts.1, parts.2)
-or_line_ok n (Err what) rest p e = absurd cc
-
-module _ (less more : Reader) (keeps : Instruction → Bool) where
-  -- what the lesser one reads, the greater one reads too, and it is kept
-  pub record ReadsLess : Type 0 where
-    pub reads : (line : Bytes) (i : Instruction) → less line ≡ Ok i → (more line ≡ Ok i) × IsTrue (keeps i)
-
-  -- what the greater one reads and is kept, the lesser one reads too
-  pub record ReadsKept : Type 0 where
-    pub reads : (line : Bytes) (i : Instruction) → more line ≡ Ok i → IsTrue (keeps i) → less line ≡ Ok i
-
-  abbrev ReadLess : List Bytes → ℕ → Program → Type 0
-  ReadLess ls n p = (program_from more ls n ≡ Ok p) × IsTrue (list_all keeps p)
-
-  first_less : (n : ℕ) (line : Bytes) (ls : List Bytes) (i : Instruction) (q : Program) → (more line ≡ Ok i) × IsTrue (keeps i) → ReadLess ls (suc n) q
-      → (or_line n (more line) (program_from more ls (suc n)) ≡ Ok (i ∷ q)) × IsTrue (list_all keeps (i ∷ q))
-  first_less n line ls i q first rest = (rw (first.0, rest.0) refl, rw first.1 rest.1)
-
-  line_less : ReadsLess → (n : ℕ) (line : Bytes) (ls : List Bytes) (p : Program) (t : Bool) → ((q : Program) → program_from less ls (suc n) ≡ Ok q → ReadLess ls (suc n) q)
-      → cond t (Err (Line 257 TooMany)) (or_line n (less line) (program_from less ls (suc n))) ≡ Ok p
-      → (cond t (Err (Line 257 TooMany)) (or_line n (more line) (program_from more ls (suc n))) ≡ Ok p) × IsTrue (list_all keeps p)
-  line_less each n line ls p true others same = absurd cc
-  line_less each n line ls p false others same =
-      let parts = or_line_ok n (less line) (program_from less ls (suc n)) p same in
-      subst (λ v. (or_line n (more line) (program_from more ls (suc n)) ≡ Ok v) × IsTrue (list_all keeps v)) parts.4
-      (first_less n line ls parts.0 parts.1 (each.reads line parts.0 parts.2) (others parts.1 parts.3))
-
-  pub program_read_less : ReadsLess → (ls : List Bytes) (n : ℕ) (p : Program) → program_from less ls n ≡ Ok p → (program_from more ls n ≡ Ok p) × IsTrue (list_all keeps p)
-  program_read_less each [] n p e = let none : [] ≡ p = cc in subst (ReadLess [] n) none (refl, refl)
-  program_read_less each (line ∷ ls) n p e = line_less each n line ls p (eqb n 257) (λ q rest. program_read_less each ls (suc n) q rest) e
-
-  both_kept : (i : Instruction) (q : Program) → IsTrue (list_all keeps (i ∷ q)) → IsTrue (keeps i) × IsTrue (list_all keeps q)
-  both_kept i q all = by_first (keeps i) refl all
-    where
-      by_first : (t : Bool) → keeps i ≡ t → IsTrue (t && list_all keeps q) → IsTrue (keeps i) × IsTrue (list_all keeps q)
-      by_first true is rest = (is, rest)
-      by_first false is rest = absurd cc
-
-  first_kept : ReadsKept → (n : ℕ) (line : Bytes) (ls : List Bytes) (i : Instruction) (q : Program) → more line ≡ Ok i → IsTrue (list_all keeps (i ∷ q))
-      → (IsTrue (list_all keeps q) → program_from less ls (suc n) ≡ Ok q) → or_line n (less line) (program_from less ls (suc n)) ≡ Ok (i ∷ q)
-  first_kept each n line ls i q first all rest =
-      let kept = both_kept i q all in
-      rw (each.reads line i first kept.0, rest kept.1) refl
-
-  line_kept : ReadsKept → (n : ℕ) (line : Bytes) (ls : List Bytes) (p : Program) (t : Bool) → ((q : Program) → program_from more ls (suc n) ≡ Ok q → IsTrue (list_all keeps q) → program_from less ls (suc n) ≡ Ok q)
-      → cond t (Err (Line 257 TooMany)) (or_line n (more line) (program_from more ls (suc n))) ≡ Ok p → IsTrue (list_all keeps p)
-      → cond t (Err (Line 257 TooMany)) (or_line n (less line) (program_from less ls (suc n))) ≡ Ok p
-  line_kept each n line ls p true others same all = absurd cc
-  line_kept each n line ls p false others same all =
-      let parts = or_line_ok n (more line) (program_from more ls (suc n)) p same in
-      first_kept each n line ls parts.0 parts.1 parts.2 (subst (λ v. IsTrue (list_all keeps v)) (sym parts.4) all) (λ kept. others parts.1 parts.3 kept)
-      ∙ ap (λ (v : Program). Ok v) parts.4
-
-  pub program_read_kept : ReadsKept → (ls : List Bytes) (n : ℕ) (p : Program) → program_from more ls n ≡ Ok p → IsTrue (list_all keeps p) → program_from less ls n ≡ Ok p
-  program_read_kept each [] n p e all = e
-  program_read_kept each (line ∷ ls) n p e all = line_kept each n line ls p (eqb n 257) (λ q rest kept. program_read_kept each ls (suc n) q rest kept) e all

@@ -1,3 +1,2 @@
 pub mod Context
-pub mod Known
 pub mod Reading

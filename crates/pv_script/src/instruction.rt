@@ -1,19 +1,18 @@
 //! One line of a program: an instruction.
-ghost use Rattle.std.specs.Prelude.{◌≡◌, ℕ, Some, Result, Ok, Err, MatchResult, unwrap_or, codes, false, bytes_eq};
+ghost use Rattle.std.specs.Prelude.{◌≡◌, ℕ, Some, Result, Ok, Err, MatchResult, unwrap_or, bytes_eq};
 ghost use Rattle.pv_model.specs.declared.fault.What.TheVariants.{Argument};
 ghost use Rattle.pv_model.specs.declared.instruction.Instruction.{Instruction};
 ghost use Rattle.pv_model.specs.declared.instruction.Instruction.TheVariants.{JumpIfZero as JumpIfZeroLine, JumpIfNotZero as JumpIfNotZeroLine, JumpIfNegative as JumpIfNegativeLine};
 ghost use Rattle.pv_model.specs.Grammar.Arguments.{number_at, register_at, no_argument, one_argument, two_arguments};
-ghost use Rattle.pv_model.specs.Grammar.Instructions.{or_argument, line_within, peek_by, jump_by, jump_if_by, on_registers, on_processes, on_descriptors, on_paths};
-ghost use Rattle.pv_script.specs.Known.{known_by, known_instruction};
+ghost use Rattle.pv_model.specs.Grammar.Instructions.{or_argument, line_within, peek_by, jump_by, jump_if_by, on_registers, on_processes, on_descriptors, on_paths, instruction_by, instruction_of};
 
-use crate::arguments::{
-    no_argument, one_number, one_operand, one_text, register_and_number, text_and_flags,
-    two_operands, two_operands_and_whence, two_texts, two_texts_or_null,
-};
-use crate::lines::split_word;
 use pv_model::limits::BUFFER;
 use pv_model::{Instruction, Register, What};
+use pv_text::arguments::{
+    no_argument, one_number, one_operand, one_text, origin_text_and_flags, register_and_number,
+    text_and_flags, two_operands, two_operands_and_whence, two_texts, two_texts_or_null,
+};
+use pv_text::lines::split_word;
 
 // Whether a word is this name.
 fn is(word: &[u8], name: &[u8]) -> bool
@@ -179,13 +178,19 @@ fn process_call(word: &[u8], rest: &[u8]) -> Option<Result<Instruction, What>>
 
 // A call on descriptors, if the word is the name of one.
 fn descriptor_call(word: &[u8], rest: &[u8]) -> Option<Result<Instruction, What>>
-    requires { bytes_eq word.now (codes "openat") ≡ false }
     ensures { (other : Result Instruction What) → on_descriptors word.now rest.now other ≡ unwrap_or result other }
 {
     if is(word, b"open") {
         return or_argument(text_and_flags(rest).map(|(path, flags)| Instruction::Open(
             path, flags,
         )));
+    }
+    if is(word, b"openat") {
+        return or_argument(origin_text_and_flags(rest).map(|(
+            start,
+            path,
+            flags,
+        )| Instruction::OpenAt(start, path, flags)));
     }
     if is(word, b"close") {
         return or_argument(one_operand(rest).map(Instruction::Close));
@@ -260,13 +265,10 @@ fn path_call(word: &[u8], rest: &[u8]) -> Option<Result<Instruction, What>>
 }
 
 // The instruction that a word and what stands behind it spell.
-#[tactic(auto, unfolding(crate::specs::Known::known_by, pv_model::specs::Grammar::Instructions::instruction_by))]
+#[tactic(auto, unfolding(pv_model::specs::Grammar::Instructions::instruction_by))]
 fn by_word(lines: u16, word: &[u8], rest: &[u8]) -> Result<Instruction, What>
-    ensures { result ≡ known_by lines word.now rest.now }
+    ensures { result ≡ instruction_by lines word.now rest.now }
 {
-    if is(word, b"openat") {
-        return Err(What::Word);
-    }
     if let Some(instruction) = register_line(lines, word, rest) {
         return instruction;
     }
@@ -283,9 +285,9 @@ fn by_word(lines: u16, word: &[u8], rest: &[u8]) -> Result<Instruction, What>
 ///
 /// `Err(Word)` says that its first word is no name of an instruction, `Err(Argument)` that what stands
 /// behind it has not the form that the instruction wants, and `Err(Target)` that it is a jump to a line
-/// that the program has not. The name `openat` is none so far.
+/// that the program has not.
 pub fn instruction(lines: u16, line: &[u8]) -> Result<Instruction, What>
-    ensures { result ≡ known_instruction lines line.now }
+    ensures { result ≡ instruction_of lines line.now }
 {
     let (word, rest) = split_word(line);
     by_word(lines, word, rest)

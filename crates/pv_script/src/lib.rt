@@ -1,23 +1,18 @@
 //! Programs and schedules as their texts spell them, and the machine that runs a program's instructions.
 //!
-//! A text is read line by line: `lines` splits lines and words, `words` and `texts` read one argument,
-//! `arguments` a line's arguments, `instruction` a line of a program, `program` a program and `schedule`
-//! a schedule. The readers answer exactly what the functions of `pv_model`'s grammar give, but that
-//! `openat` is no word so far (`specs/Known.antt`). `machine` is the part of a process that its
-//! instructions change: the line that comes next, the registers and the buffer. Contracts see a program
-//! and a schedule as their lists, and a machine as a `Context`.
+//! A text is read line by line, over the words and arguments of `pv_text`: `instruction` reads a line of a
+//! program, `program` a program and `schedule` a schedule. The readers answer exactly what the functions of
+//! `pv_model`'s grammar give. `machine` is the part of a process that its instructions change: the line that
+//! comes next, the registers and the buffer. Contracts see a program and a schedule as their lists, and a
+//! machine as a `Context`.
 #![tactic(auto)]
 
-pub mod arguments;
 pub mod instruction;
-pub mod lines;
 pub mod machine;
 pub mod program;
 pub mod schedule;
 #[cfg(test)]
 mod tests;
-mod texts;
-mod words;
 
 pub use machine::{Machine, Next};
 pub use program::Program;

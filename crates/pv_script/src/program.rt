@@ -1,16 +1,12 @@
 //! Programs, line by line.
-ghost use Rattle.std.specs.Prelude.{◌≡◌, ℕ, ◌-◌, ◌≤◌, ◌↔◌, [], length, slice_get, IsTrue, IfOk, Ok};
-ghost use Rattle.std.specs.List.{list_all};
+ghost use Rattle.std.specs.Prelude.{◌≡◌, ◌-◌, ◌≤◌, ◌↔◌, [], length, slice_get, vec_len, IsTrue};
 ghost use Rattle.std.specs.Option.{option_copied};
-ghost use Rattle.pv_model.specs.Bytes.{Bytes};
 ghost use Rattle.pv_model.specs.Grammar.Programs.{read_program};
-ghost use Rattle.pv_model.specs.State.{Program as Instructions};
-ghost use Rattle.pv_script.specs.Known.{is_known, known_program};
 ghost use Rattle.pv_script.specs.Reading.{GivesProgram};
 
 use crate::instruction::instruction;
-use crate::lines::{count_lines, split_line};
 use pv_model::{Instruction, ParseFault, What};
+use pv_text::lines::{count_lines, split_line};
 use std::alloc::Global;
 use std::marker::Model;
 
@@ -47,7 +43,7 @@ impl Program {
     /// wrong with it; where the first 256 lines are instructions and there are more, it is
     /// `Line(257, TooMany)`. `Err(Memory)` says that memory was refused.
     pub fn parse(alloc: Global, bytes: &[u8]) -> Result<Program, ParseFault>
-        ensures exact { GivesProgram result (known_program bytes.now) }
+        ensures exact { GivesProgram result (read_program bytes.now) }
     {
         let line_count = count_lines(bytes, 256);
         let mut lines = Vec::new(alloc);
@@ -82,6 +78,14 @@ impl Program {
         self.lines.is_empty()
     }
 
+    /// Its lines, in a list, which takes no memory.
+    pub fn into_lines(self) -> Vec<Instruction>
+        ensures value { result.items ≡ self }
+        ensures few { vec_len result ≤ 256 }
+    {
+        self.lines
+    }
+
     /// The instruction of a line, counted from 1, of which there may be none. Line 0 is as line 1.
     pub fn at(&self, line: u16) -> Option<&Instruction>
         ensures { option_copied result ≡ slice_get self.now (line - 1) }
@@ -89,10 +93,3 @@ impl Program {
         self.lines.get(usize::from(line).saturating_sub(1))
     }
 }
-
-/// What is read is a program of the machine without `openat`, and each such program is read.
-pub fn known_programs_are_those_without_openat()
-    ensures read { (bytes : Bytes) (program : Instructions) → known_program bytes ≡ Ok program → read_program bytes ≡ Ok program }
-    ensures without { (bytes : Bytes) (program : Instructions) → known_program bytes ≡ Ok program → IsTrue (list_all is_known program) }
-    ensures all { (bytes : Bytes) (program : Instructions) → read_program bytes ≡ Ok program → IsTrue (list_all is_known program) → known_program bytes ≡ Ok program }
-{}

@@ -2,11 +2,12 @@
 ghost use Rattle.std.specs.Prelude.{◌≡◌, ◌<◌, ◌≤◌, ◌↔◌, [], length, slice_get, IsTrue, Some};
 ghost use Rattle.pv_model.specs.Grammar.Arguments.{word_at, one_argument};
 ghost use Rattle.pv_model.specs.Grammar.Schedules.{count_of, turn_of, read_schedule};
-ghost use Rattle.pv_script.specs.Reading.{Reads, GivesSchedule};
+ghost use Rattle.pv_script.specs.Reading.{GivesSchedule};
+ghost use Rattle.pv_text.specs.Reading.{Reads};
 
-use crate::lines::{behind_one_space, split_line, split_word};
-use crate::words::decimal;
 use pv_model::ScheduleFault;
+use pv_text::lines::{behind_one_space, split_line, split_word};
+use pv_text::words::decimal;
 use std::alloc::Global;
 use std::marker::Model;
 

@@ -1,5 +1,7 @@
 use crate::{Machine, Next, Program, Schedule};
-use pv_model::{Call, Instruction, Mode, Operand, ParseFault, ScheduleFault, What, Whence};
+use pv_model::{
+    Call, Instruction, Mode, Operand, Origin, ParseFault, ScheduleFault, Start, What, Whence,
+};
 use std::alloc::{AllocError, Global};
 use std::process::Abort;
 use std::test::Fail;
@@ -48,7 +50,9 @@ fn lines_that_are_no_instructions(rt: HostRuntime) {
     expect_fault(&rt, b"open \"/a\" r+trunc+append", 1, What::Argument);
     expect_fault(&rt, b"open \"/a\" wr", 1, What::Argument);
     expect_fault(&rt, b"lseek 0 0 here", 1, What::Argument);
-    expect_fault(&rt, b"openat cwd \"/a\" r", 1, What::Word);
+    expect_fault(&rt, b"openat \"/a\" r", 1, What::Argument);
+    expect_fault(&rt, b"openat cwd \"/a\"", 1, What::Argument);
+    expect_fault(&rt, b"openat r8 \"/a\" r", 1, What::Argument);
 }
 
 #[test]
@@ -66,20 +70,6 @@ fn more_lines_than_a_program_has(rt: HostRuntime) -> Result<(), Fail> {
     let mut last = repeated(alloc, b"wait\n", 255)?;
     last.extend_from_slice(b"jmp 256")?;
     assert_eq!(rt; Program::parse(alloc, &last)?.len(), 256);
-    Ok(())
-}
-
-#[test]
-fn texts_up_to_their_limit(rt: HostRuntime) -> Result<(), Fail> {
-    let alloc = rt.alloc();
-    let mut longest = b"put \"".to_vec(alloc)?;
-    longest.extend_from_slice(repeated(alloc, b"\\x61", 1_100)?.as_slice())?;
-    longest.extend_from_slice(b"\"")?;
-    assert_eq!(rt; Program::parse(alloc, &longest)?.len(), 1);
-    let mut longer = b"put \"".to_vec(alloc)?;
-    longer.extend_from_slice(repeated(alloc, b"a", 1_101)?.as_slice())?;
-    longer.extend_from_slice(b"\"")?;
-    expect_fault(&rt, &longer, 1, What::Argument);
     Ok(())
 }
 
@@ -240,6 +230,44 @@ fn flags_of_an_open(rt: HostRuntime) -> Result<(), Fail> {
         Some(Instruction::Open(_, flags)) => assert_eq!(rt; flags.mode, Mode::Read),
         _ => return Err("no flag".into()),
     }
+    Ok(())
+}
+
+#[test]
+fn starts_of_an_openat(rt: HostRuntime) -> Result<(), Fail> {
+    let bytes = b"openat cwd \"a\" r\nopenat 3 \"b\" w+create\nset r2 -7\nopenat r2 \"c\" rw\n";
+    let program = Program::parse(rt.alloc(), bytes)?;
+    assert_eq!(rt; program.len(), 4);
+    match program.at(1) {
+        Some(Instruction::OpenAt(Origin::WorkingDirectory, path, flags)) => {
+            assert_eq!(rt; path.as_slice(), b"a".as_slice());
+            assert_eq!(rt; flags.mode, Mode::Read);
+        }
+        _ => return Err("from the working directory".into()),
+    }
+    match program.at(2) {
+        Some(Instruction::OpenAt(Origin::Descriptor(Operand::Number(3)), path, flags)) => {
+            assert_eq!(rt; path.as_slice(), b"b".as_slice());
+            assert!(rt; flags.create);
+        }
+        _ => return Err("from a descriptor".into()),
+    }
+    let mut machine = Machine::new(rt.alloc())?;
+    assert!(rt;
+        matches!(
+            machine.next(&program),
+            Next::Call(Call::OpenAt(Start::WorkingDirectory, _, _))
+        )
+    );
+    machine.advance(&program);
+    machine.advance(&program);
+    assert!(rt;
+        matches!(
+            run_to_call(&mut machine, &program),
+            Some(Call::OpenAt(Start::Descriptor(-7), _, _))
+        )
+    );
+    assert_eq!(rt; program.into_lines().len(), 4);
     Ok(())
 }
 

@@ -4,8 +4,8 @@ use Rattle.std.specs.Prelude.{OnOk, min, map}
 use Rattle.std.proofs.lemmas.List.{length-take, length-map}
 use Rattle.pv_model.specs.declared.call.Call.{Call}
 use Rattle.pv_model.specs.declared.outcome.Outcome.{Outcome}
-use Rattle.pv_model.specs.Trace.{walked_paths, end_lines}
-use Rattle.pv_trace.specs.Lines.{path_line, call_lines_of, path_lines_of, promise_lines_of, unveil_lines_of, moved_lines_of, lines_by}
+use Rattle.pv_model.specs.Trace.{walked_paths}
+use Rattle.pv_trace.specs.Lines.{path_line, call_lines_of, path_lines_of, promise_lines_of, unveil_lines_of, moved_lines_of, end_lines_of, lines_by}
 
 -- the front of one element
 pub take_one : {X : Type 0} (n : ℕ) (x : X) → 0 < n → take n (x ∷ []) ≡ x ∷ []
@@ -30,12 +30,12 @@ behind_front (Err e) new mid old front text told is = told
 pub length_lines_by : (pid : ℕ) (front : List ℕ) (call : Call) (outcome : Outcome) (walks : ℕ)
     → length (lines_by pid front call outcome walks)
     ≡ 1 + min walks (length (walked_paths call)) + length (promise_lines_of pid call outcome) + length (unveil_lines_of pid call walks outcome)
-    + length (moved_lines_of pid front call outcome) + length (end_lines pid call outcome)
+    + length (moved_lines_of pid front call outcome) + length (end_lines_of pid call outcome)
 unfolding lines_by
 length_lines_by pid front call outcome walks =
     let paths : length (path_lines_of pid call walks) ≡ min walks (length (walked_paths call)) = length-map (take walks (walked_paths call)) (path_line pid) ∙ length-take walks (walked_paths call) in
-    length-append (call_lines_of pid call ++ path_lines_of pid call walks ++ promise_lines_of pid call outcome ++ unveil_lines_of pid call walks outcome ++ moved_lines_of pid front call outcome) (end_lines pid call outcome)
-    ∙ ap (λ n. n + length (end_lines pid call outcome)) (length-append (call_lines_of pid call ++ path_lines_of pid call walks ++ promise_lines_of pid call outcome ++ unveil_lines_of pid call walks outcome) (moved_lines_of pid front call outcome)
+    length-append (call_lines_of pid call ++ path_lines_of pid call walks ++ promise_lines_of pid call outcome ++ unveil_lines_of pid call walks outcome ++ moved_lines_of pid front call outcome) (end_lines_of pid call outcome)
+    ∙ ap (λ n. n + length (end_lines_of pid call outcome)) (length-append (call_lines_of pid call ++ path_lines_of pid call walks ++ promise_lines_of pid call outcome ++ unveil_lines_of pid call walks outcome) (moved_lines_of pid front call outcome)
     ∙ ap (λ n. n + length (moved_lines_of pid front call outcome)) (length-append (call_lines_of pid call ++ path_lines_of pid call walks ++ promise_lines_of pid call outcome) (unveil_lines_of pid call walks outcome)
     ∙ ap (λ n. n + length (unveil_lines_of pid call walks outcome)) (length-append (call_lines_of pid call ++ path_lines_of pid call walks) (promise_lines_of pid call outcome)
     ∙ ap (λ n. n + length (promise_lines_of pid call outcome)) (length-append (call_lines_of pid call) (path_lines_of pid call walks) ∙ ap (λ n. 1 + n) paths))))

@@ -1,8 +1,9 @@
 //! The lines of a step.
 ghost use Rattle.std.specs.Prelude.{◌≡◌, ◌++◌, ◌^◌, ◌<◌, ◌≤◌, ◌+◌, ℕ, List, [], ◌∷◌, length, take, map, codes, decimal, OnOk};
 ghost use Rattle.pv_model.specs.Perms.{read_letters};
-ghost use Rattle.pv_model.specs.Trace.{line, line_bytes, trace_bytes, walked_paths, promise_text, letters_or_none, asked_letters as letters_asked, bytes_text, return_text, end_lines, gone_lines};
-ghost use Rattle.pv_trace.specs.Lines.{call_lines_of, path_line, path_lines_of, promise_verdict, promise_lines_of, needed_text, unveil_lines_of, moved_lines_of, errno_text, lines_by};
+ghost use Rattle.pv_model.specs.Trace.{text_line, trace_bytes, walked_paths, promise_text, needed_by, asked_letters as letters_asked, bytes_text, return_text, gone_lines};
+ghost use Rattle.pv_model.specs.Walks.{letters_or_none, walks_of, walk_number};
+ghost use Rattle.pv_trace.specs.Lines.{call_lines_of, path_line, path_lines_of, promise_verdict, promise_lines_of, needed_text, unveil_lines_of, moved_lines_of, end_lines_of, alone, errno_text, lines_by};
 
 use crate::calls::{name, push_call};
 use crate::text::{
@@ -13,7 +14,7 @@ use pv_model::{Call, Cause, Errno, Outcome, Perms, Promise, Text};
 use std::alloc::AllocError;
 
 // The line of the call.
-#[tactic(auto, unfolding(pv_model::specs::Trace::line_bytes))]
+#[tactic(auto, unfolding(pv_model::specs::Trace::text_line))]
 fn push_call_line(out: &mut Vec<u8>, pid: u32, call: &Call) -> Result<(), AllocError>
     ensures { OnOk result (out.new.items ≡ out.old.items ++ trace_bytes (call_lines_of pid call.now)) }
 {
@@ -23,7 +24,7 @@ fn push_call_line(out: &mut Vec<u8>, pid: u32, call: &Call) -> Result<(), AllocE
 }
 
 // The line of a path that was walked.
-#[tactic(auto, unfolding(pv_model::specs::Trace::line_bytes))]
+#[tactic(auto, unfolding(pv_model::specs::Trace::text_line))]
 fn push_path_line(out: &mut Vec<u8>, pid: u32, path: &Text) -> Result<(), AllocError>
     ensures { OnOk result (out.new.items ≡ out.old.items ++ trace_bytes (path_line pid path.now ∷ [])) }
 {
@@ -67,7 +68,7 @@ fn push_path_lines(out: &mut Vec<u8>, pid: u32, call: &Call, walks: u8) -> Resul
     ensures { OnOk result (out.new.items ≡ out.old.items ++ trace_bytes (path_lines_of pid call.now walks)) }
 {
     match call {
-        Call::Unveil(Some(path), _)
+        Call::Unveil(Some(path), Some(_))
         | Call::Execve(path)
         | Call::Open(path, _)
         | Call::OpenAt(_, path, _)
@@ -103,7 +104,7 @@ fn push_promise(
 }
 
 // The line of a promise.
-#[tactic(auto, unfolding(pv_model::specs::Trace::line_bytes))]
+#[tactic(auto, unfolding(pv_model::specs::Trace::text_line))]
 fn push_promise_line(
     out: &mut Vec<u8>,
     pid: u32,
@@ -111,7 +112,7 @@ fn push_promise_line(
     promise: Promise,
     verdict: &[u8],
 ) -> Result<(), AllocError>
-    ensures { OnOk result (out.new.items ≡ out.old.items ++ line_bytes (line pid (codes "PLDG") (promise_text call.now promise verdict.now))) }
+    ensures { OnOk result (out.new.items ≡ out.old.items ++ text_line pid (codes "PLDG") (promise_text call.now promise verdict.now)) }
 {
     begin_line(out, pid, Word::Pldg)?;
     push_promise(out, call, promise, verdict)?;
@@ -158,13 +159,39 @@ fn letters_of(text: &Text) -> Perms
 fn asked_letters(call: &Call, walks: u8) -> Perms
     ensures { result ≡ letters_asked call.now walks }
 {
+    match walks {
+        1 => first_letters(call),
+        2 => second_letters(call),
+        _ => Perms::NONE,
+    }
+}
+
+// The letters that a call asks of the place of its first walk.
+fn first_letters(call: &Call) -> Perms
+    ensures { result ≡ needed_by (walk_number (walks_of call.now) 1) }
+{
     match call {
-        Call::Unveil(_, Some(text)) => letters_of(text),
+        Call::Unveil(Some(_), Some(text)) => letters_of(text),
         Call::Execve(_) => Perms::X,
         Call::Open(_, flags) | Call::OpenAt(_, _, flags) => flags.letters(),
-        Call::Chdir(_) | Call::Stat(_) | Call::Lstat(_) | Call::Readlink(_) => Perms::R,
-        Call::Link(_, _) => { if walks == 1 { Perms::R } else { Perms::C } }
-        _ => Perms::C,
+        Call::Chdir(_) | Call::Stat(_) | Call::Lstat(_) | Call::Readlink(_) | Call::Link(_, _) =>
+            Perms::R,
+        Call::Mkdir(_)
+        | Call::Symlink(_, _)
+        | Call::Unlink(_)
+        | Call::Rmdir(_)
+        | Call::Rename(_, _) => Perms::C,
+        _ => Perms::NONE,
+    }
+}
+
+// The letters that a call asks of the place of its second walk.
+fn second_letters(call: &Call) -> Perms
+    ensures { result ≡ needed_by (walk_number (walks_of call.now) 2) }
+{
+    match call {
+        Call::Link(_, _) | Call::Rename(_, _) => Perms::C,
+        _ => Perms::NONE,
     }
 }
 
@@ -193,7 +220,7 @@ fn push_needed(out: &mut Vec<u8>, entry: Option<u8>, letters: Perms) -> Result<(
 }
 
 // The line of an unveil table that decided.
-#[tactic(auto, unfolding(pv_model::specs::Trace::line_bytes, crate::specs::Lines::letters_bytes))]
+#[tactic(auto, unfolding(pv_model::specs::Trace::text_line, crate::specs::Lines::letters_bytes))]
 fn push_unveil_lines(
     out: &mut Vec<u8>,
     pid: u32,
@@ -230,10 +257,10 @@ fn push_bytes(out: &mut Vec<u8>, verb: &[u8], bytes: &[u8]) -> Result<(), AllocE
 }
 
 // The line of bytes that were moved.
-#[tactic(auto, unfolding(pv_model::specs::Trace::line_bytes))]
+#[tactic(auto, unfolding(pv_model::specs::Trace::text_line))]
 fn push_bytes_line(out: &mut Vec<u8>, pid: u32, verb: &[u8], bytes: &[u8]) -> Result<(), AllocError>
     requires { length bytes.now < 2 ^ 32 }
-    ensures { OnOk result (out.new.items ≡ out.old.items ++ trace_bytes (line pid (codes "GIO") (bytes_text verb.now bytes.now) ∷ [])) }
+    ensures { OnOk result (out.new.items ≡ out.old.items ++ alone pid (codes "GIO") (bytes_text verb.now bytes.now)) }
 {
     begin_line(out, pid, Word::Gio)?;
     push_bytes(out, verb, bytes)?;
@@ -272,9 +299,9 @@ fn push_value(out: &mut Vec<u8>, call: &Call, value: u32) -> Result<(), AllocErr
 }
 
 // The line of a call's answer.
-#[tactic(auto, unfolding(pv_model::specs::Trace::line_bytes))]
+#[tactic(auto, unfolding(pv_model::specs::Trace::text_line))]
 fn push_value_line(out: &mut Vec<u8>, pid: u32, call: &Call, value: u32) -> Result<(), AllocError>
-    ensures { OnOk result (out.new.items ≡ out.old.items ++ trace_bytes (line pid (codes "RET") (return_text call.now (decimal value)) ∷ [])) }
+    ensures { OnOk result (out.new.items ≡ out.old.items ++ alone pid (codes "RET") (return_text call.now (decimal value))) }
 {
     begin_line(out, pid, Word::Ret)?;
     push_value(out, call, value)?;
@@ -302,14 +329,14 @@ fn push_failure(out: &mut Vec<u8>, call: &Call, errno: Errno) -> Result<(), Allo
 }
 
 // The line of a call's failure.
-#[tactic(auto, unfolding(pv_model::specs::Trace::line_bytes))]
+#[tactic(auto, unfolding(pv_model::specs::Trace::text_line))]
 fn push_failure_line(
     out: &mut Vec<u8>,
     pid: u32,
     call: &Call,
     errno: Errno,
 ) -> Result<(), AllocError>
-    ensures { OnOk result (out.new.items ≡ out.old.items ++ trace_bytes (line pid (codes "RET") (return_text call.now (errno_text errno)) ∷ [])) }
+    ensures { OnOk result (out.new.items ≡ out.old.items ++ alone pid (codes "RET") (return_text call.now (errno_text errno))) }
 {
     begin_line(out, pid, Word::Ret)?;
     push_failure(out, call, errno)?;
@@ -324,7 +351,7 @@ fn push_end_lines(
     call: &Call,
     outcome: Outcome,
 ) -> Result<(), AllocError>
-    ensures { OnOk result (out.new.items ≡ out.old.items ++ trace_bytes (end_lines pid call.now outcome)) }
+    ensures { OnOk result (out.new.items ≡ out.old.items ++ trace_bytes (end_lines_of pid call.now outcome)) }
 {
     match outcome {
         Outcome::Value(value) => push_value_line(out, pid, call, value),
@@ -374,7 +401,7 @@ fn path_count(call: &Call) -> u8
     ensures few { result ≤ 2 }
 {
     match call {
-        Call::Unveil(Some(_), _)
+        Call::Unveil(Some(_), Some(_))
         | Call::Execve(_)
         | Call::Open(_, _)
         | Call::OpenAt(_, _, _)
@@ -422,7 +449,7 @@ fn moved_count(call: &Call, outcome: Outcome) -> u8
 }
 
 fn end_count(outcome: Outcome) -> u8
-    ensures count { (pid : ℕ) (call : Call) → result ≡ length (end_lines pid call outcome) }
+    ensures count { (pid : ℕ) (call : Call) → result ≡ length (end_lines_of pid call outcome) }
     ensures few { result ≤ 1 }
 {
     match outcome {

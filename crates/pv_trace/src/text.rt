@@ -1,7 +1,7 @@
 //! Numbers, texts and bytes as a trace spells them, and the front and end of a line.
 ghost use Rattle.std.specs.Prelude.{◌≡◌, ◌++◌, ◌<◌, ◌≤◌, replicate, [], ◌∷◌, length, take, codes, decimal, flat_map, OnOk};
 ghost use Rattle.std.specs.Fmt.{signed_decimal};
-ghost use Rattle.pv_model.specs.Trace.{quote, quote_byte, quote_or_null, hex, hex_byte, hex_digit, pad_left, pad_right, line, line_bytes};
+ghost use Rattle.pv_model.specs.Trace.{quote, quote_byte, quote_or_null, hex, hex_byte, hex_digit, pad_left, pad_right, text_line};
 ghost use Rattle.pv_trace.specs.Lines.{word_text, line_front, letters_bytes};
 
 use itoa::Buffer;
@@ -155,14 +155,14 @@ pub(crate) fn end_line(out: &mut Vec<u8>) -> Result<(), AllocError>
 }
 
 // A whole line.
-#[tactic(auto, unfolding(pv_model::specs::Trace::line_bytes))]
+#[tactic(auto, unfolding(pv_model::specs::Trace::text_line))]
 pub(crate) fn push_line(
     out: &mut Vec<u8>,
     pid: u32,
     word: Word,
     text: &[u8],
 ) -> Result<(), AllocError>
-    ensures { OnOk result (out.new.items ≡ out.old.items ++ line_bytes (line pid (word_text word) text.now)) }
+    ensures { OnOk result (out.new.items ≡ out.old.items ++ text_line pid (word_text word) text.now) }
 {
     begin_line(out, pid, word)?;
     out.extend_from_slice(text)?;

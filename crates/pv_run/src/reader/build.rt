@@ -5,11 +5,12 @@ ghost use Rattle.pv_model.specs.Grammar.Manifests.{is_manifest_path, enter_direc
 ghost use Rattle.pv_model.specs.Tree.{root, find_entry, is_directory_at};
 ghost use Rattle.pv_model.specs.Walk.{pieces};
 ghost use Rattle.pv_run.specs.Made.{IsMade};
-ghost use Rattle.pv_run.specs.Bundles.{entry_of_line, manifest_of, IsGrown, RefusesManifest, GivesTree};
+ghost use Rattle.pv_run.specs.Bundles.{entry_of_line, manifest_of, IsGrown, GivesTree};
+ghost use Rattle.pv_image.specs.Reading.{RefusesManifest};
 
 use super::bundle::{Bundle, Entry};
-use super::paths::split_piece;
 use pv_model::{ManifestFault, Name, PlainTree};
+use pv_text::pieces::split_piece;
 use std::alloc::Global;
 
 // The directory under a name of a directory.

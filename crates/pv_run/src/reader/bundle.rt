@@ -22,13 +22,3 @@ pub struct Bundle<'a> {
     pub behind: &'a [u8],
     pub ghost sized: { IsTrue (are_sizes blocks inodes) },
 }
-
-/// What a line of a manifest makes, how many of the lines behind it belong to it, and the text behind those.
-#[derive(Drop)]
-pub struct Taken<'a> {
-    pub path: Vec<u8>,
-    pub node: PlainNode,
-    pub lines: u32,
-    pub rest: &'a [u8],
-    pub ghost named: { IsTrue (is_manifest_path path.items) },
-}

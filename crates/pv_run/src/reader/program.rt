@@ -1,28 +1,14 @@
-//! The program that bytes spell, each line an instruction that is offered.
-ghost use Rattle.std.specs.Prelude.{◌≡◌, IsTrue, IfOk, Ok};
+//! The program that bytes spell, of instructions that are offered.
+ghost use Rattle.std.specs.Prelude.{◌≡◌, ◌≤◌, length, IsTrue, IfOk, Ok};
 ghost use Rattle.std.specs.List.{list_all};
 ghost use Rattle.pv_model.specs.Grammar.Programs.{read_program};
-ghost use Rattle.pv_run.specs.Offered.{is_offered_instruction, is_offered_word, is_plain_path_or_null, is_plain_reading, only_offered, offered_instruction, offered_program};
+ghost use Rattle.pv_run.specs.Offered.{is_offered_instruction, is_plain_path_or_null, is_plain_reading, first_other, wrong_in, offered_program};
 ghost use Rattle.pv_run.specs.Reading.{GivesProgram};
 
 use super::paths::is_plain_path;
 use pv_model::{Instruction, Mode, OpenFlags, ParseFault, Text, What};
-use pv_script::instruction::instruction;
-use pv_script::lines::{count_lines, split_line, split_word};
+use pv_script::Program;
 use std::alloc::Global;
-
-// Whether a word is the name of an instruction that is offered.
-fn is_offered_word(word: &[u8]) -> bool
-    ensures { result ≡ is_offered_word word.now }
-{
-    word == b"pledge".as_slice()
-        || word == b"open".as_slice()
-        || word == b"read".as_slice()
-        || word == b"close".as_slice()
-        || word == b"getpid".as_slice()
-        || word == b"exit".as_slice()
-        || word == b"unveil".as_slice()
-}
 
 // Whether flags are `r` alone.
 fn is_reading_alone(flags: OpenFlags) -> bool
@@ -69,60 +55,36 @@ fn is_offered(instruction: &Instruction) -> bool
     }
 }
 
-// What was read, if it is offered.
-fn only_offered(read: Result<Instruction, What>) -> Result<Instruction, What>
-    ensures { result ≡ only_offered read }
+// What is wrong with an instruction that is not offered: its arguments, or its name.
+fn wrong_in(instruction: &Instruction) -> What
+    ensures { result ≡ wrong_in instruction.now }
 {
-    match read {
-        Ok(instruction) => {
-            if is_offered(&instruction) {
-                Ok(instruction)
-            } else {
-                Err(What::Argument)
-            }
-        }
-        Err(what) => Err(what),
+    match instruction {
+        Instruction::Open(_, _) | Instruction::Unveil(_, _) => What::Argument,
+        _ => What::Word,
     }
 }
 
-// The offered instruction that a line spells, in a program of so many lines.
-#[tactic(auto, using(crate::proofs::Offers::not_offered, crate::proofs::Offers::offered_is_known))]
-fn offered_line(line_count: u16, line: &[u8]) -> Result<Instruction, What>
-    ensures { result ≡ offered_instruction line_count line.now }
+// The first line of a program that is not offered, and what is wrong with it.
+fn first_other(program: &[Instruction]) -> Option<(u16, What)>
+    requires { length program.now ≤ 256 }
+    ensures { result ≡ first_other program.now 1 }
 {
-    let (word, _) = split_word(line);
-    if !is_offered_word(word) {
-        return Err(What::Word);
+    let mut line: u16 = 1;
+    for instruction in program {
+        if !is_offered(instruction) {
+            return Some((line, wrong_in(instruction)));
+        }
+        line += 1;
     }
-    only_offered(instruction(line_count, line))
+    None
 }
 
-// The program that bytes spell, each line an offered instruction.
-fn offered(alloc: Global, bytes: &[u8]) -> Result<Vec<Instruction>, ParseFault>
-    ensures { GivesProgram result (offered_program bytes.now) }
-{
-    let line_count = count_lines(bytes, 256);
-    let mut program = Vec::new(alloc);
-    let mut rest = bytes;
-    let mut line_number: u16 = 1;
-    while let Some((line, behind)) = split_line(rest) {
-        if line_number == 257 {
-            return Err(ParseFault::Line(257, What::TooMany));
-        }
-        match offered_line(line_count, line) {
-            Ok(instruction) => program.push(instruction)?,
-            Err(what) => return Err(ParseFault::Line(line_number, what)),
-        }
-        line_number += 1;
-        rest = behind;
-    }
-    Ok(program)
-}
-
-/// The program that bytes spell, each line an offered instruction.
+/// The program that bytes spell, where each of its instructions is offered.
 ///
-/// `Err(Line(n, what))` names the least line that is none, counted from 1, and the 257th where there
-/// are more than 256; `Err(Memory)` says that memory was refused.
+/// `Err(Line(n, what))` names the least line that is no instruction, counted from 1, and the 257th where there
+/// are more than 256; in a program it names the least that is not offered. `Err(Memory)` says that memory was
+/// refused.
 pub fn program(alloc: Global, bytes: &[u8]) -> Result<Vec<Instruction>, ParseFault>
     // What is read, or which line is none.
     ensures exact { GivesProgram result (offered_program bytes.now) }
@@ -130,5 +92,9 @@ pub fn program(alloc: Global, bytes: &[u8]) -> Result<Vec<Instruction>, ParseFau
     ensures spelled { IfOk result (λ p. read_program bytes.now ≡ Ok p.items) }
     ensures offered { IfOk result (λ p. IsTrue (list_all is_offered_instruction p.items)) }
 {
-    offered(alloc, bytes)
+    let program = Program::parse(alloc, bytes)?.into_lines();
+    match first_other(&program) {
+        Some((line, what)) => Err(ParseFault::Line(line, what)),
+        None => Ok(program),
+    }
 }

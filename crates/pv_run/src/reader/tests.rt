@@ -61,34 +61,8 @@ fn bundle_of_one_program(rt: HostRuntime) -> Result<(), Fail> {
 }
 
 #[test]
-fn form_of_a_bundle(rt: HostRuntime) {
+fn entries_that_are_not_offered(rt: HostRuntime) {
     let alloc = rt.alloc();
-    assert_eq!(rt; fault_of(alloc, b""), Some(ManifestFault::Form(1)));
-    assert_eq!(rt;
-        fault_of(alloc, b"schedule\n"),
-        Some(ManifestFault::Form(1))
-    );
-    assert_eq!(rt;
-        fault_of(alloc, b"image 16\nschedule\n"),
-        Some(ManifestFault::Form(1))
-    );
-    assert_eq!(rt;
-        fault_of(alloc, b"image 16 016\nschedule\n"),
-        Some(ManifestFault::Form(1))
-    );
-    assert_eq!(rt;
-        fault_of(alloc, b"image 16 16 \nschedule\n"),
-        Some(ManifestFault::Form(1))
-    );
-    assert_eq!(rt;
-        fault_of(alloc, b"image 16 16\n"),
-        Some(ManifestFault::Form(2))
-    );
-    assert_eq!(rt; fault_of(alloc, b"image 16 16\nschedule"), None);
-    assert_eq!(rt;
-        fault_of(alloc, b"image 16 16\n\nschedule\n"),
-        Some(ManifestFault::Form(2))
-    );
     assert_eq!(rt;
         fault_of(
             alloc,
@@ -97,93 +71,22 @@ fn form_of_a_bundle(rt: HostRuntime) {
         Some(ManifestFault::Form(3))
     );
     assert_eq!(rt;
-        fault_of(alloc, b"image 0 0\ndir \"/a\"\nimage 16 16\nschedule\n"),
+        fault_of(
+            alloc,
+            b"image 16 16\nbytes \"/a\" \"\"\nname \"/b\" \"/a\"\nschedule\n"
+        ),
         Some(ManifestFault::Form(3))
     );
-}
-
-#[test]
-fn paths_of_a_bundle(rt: HostRuntime) {
-    let alloc = rt.alloc();
-    assert_eq!(rt;
-        fault_of(alloc, b"image 16 16\ndir \"/\"\nschedule\n"),
-        Some(ManifestFault::Form(2))
-    );
-    assert_eq!(rt;
-        fault_of(alloc, b"image 16 16\ndir \"a\"\nschedule\n"),
-        Some(ManifestFault::Form(2))
-    );
-    assert_eq!(rt;
-        fault_of(alloc, b"image 16 16\ndir \"/a/\"\nschedule\n"),
-        Some(ManifestFault::Form(2))
-    );
-    assert_eq!(rt;
-        fault_of(alloc, b"image 16 16\ndir \"//a\"\nschedule\n"),
-        Some(ManifestFault::Form(2))
-    );
-    assert_eq!(rt;
-        fault_of(alloc, b"image 16 16\ndir \"/..\"\nschedule\n"),
-        Some(ManifestFault::Form(2))
-    );
-    assert_eq!(rt;
-        fault_of(alloc, b"image 16 16\ndir \"/...\"\nschedule\n"),
-        None
-    );
-}
-
-#[test]
-fn lines_of_an_executable(rt: HostRuntime) {
-    let alloc = rt.alloc();
-    // Lines that belong to a program are no lines of the manifest.
+    // A line without form comes before them, and so do sizes.
     assert_eq!(rt;
         fault_of(
             alloc,
-            b"image 16 16\nexec \"/p\" 2\nschedule\nx\nschedule\n"
+            b"image 16 16\nlink \"/l\" \"a\"\ndir \"/\"\nschedule\n"
         ),
-        None
-    );
-    assert_eq!(rt;
-        fault_of(alloc, b"image 16 16\nexec \"/p\" 0\ny\nschedule\n"),
         Some(ManifestFault::Form(3))
     );
     assert_eq!(rt;
-        fault_of(alloc, b"image 16 16\nexec \"/p\" 2\nx\nschedule\n"),
-        Some(ManifestFault::Form(5))
-    );
-    assert_eq!(rt;
-        fault_of(alloc, b"image 16 16\nexec \"/p\" 3\nx\nschedule\n"),
-        Some(ManifestFault::Form(2))
-    );
-    assert_eq!(rt;
-        fault_of(alloc, b"image 16 16\nexec \"/p\" 10000\nx\nschedule\n"),
-        Some(ManifestFault::Form(2))
-    );
-}
-
-#[test]
-fn sizes_of_an_image(rt: HostRuntime) {
-    let alloc = rt.alloc();
-    assert_eq!(rt;
-        fault_of(alloc, b"image 16 0\nschedule\n"),
-        Some(ManifestFault::Size)
-    );
-    assert_eq!(rt; fault_of(alloc, b"image 8192 4096\nschedule\n"), None);
-    assert_eq!(rt;
-        fault_of(alloc, b"image 8193 4096\nschedule\n"),
-        Some(ManifestFault::Size)
-    );
-    assert_eq!(rt;
-        fault_of(alloc, b"image 8192 4097\nschedule\n"),
-        Some(ManifestFault::Size)
-    );
-    // Two blocks of 16 inodes each, and the first.
-    assert_eq!(rt; fault_of(alloc, b"image 3 32\nschedule\n"), None);
-    assert_eq!(rt;
-        fault_of(alloc, b"image 2 32\nschedule\n"),
-        Some(ManifestFault::Size)
-    );
-    assert_eq!(rt;
-        fault_of(alloc, b"image 18446744073709551632 16\nschedule\n"),
+        fault_of(alloc, b"image 16 0\nlink \"/l\" \"a\"\nschedule\n"),
         Some(ManifestFault::Size)
     );
 }
@@ -306,7 +209,20 @@ fn lines_that_are_not_offered(rt: HostRuntime) -> Result<(), Fail> {
     );
     assert_eq!(rt;
         program(alloc, b"fork x").err(),
+        Some(ParseFault::Line(1, What::Argument))
+    );
+    assert_eq!(rt;
+        program(alloc, b"openat cwd \"/a\" r").err(),
         Some(ParseFault::Line(1, What::Word))
+    );
+    assert_eq!(rt;
+        program(alloc, b"openat \"/a\" r").err(),
+        Some(ParseFault::Line(1, What::Argument))
+    );
+    // A line that is no instruction comes before one that is not offered.
+    assert_eq!(rt;
+        program(alloc, b"fork\nexit").err(),
+        Some(ParseFault::Line(2, What::Argument))
     );
     assert_eq!(rt;
         program(alloc, b"unveil \"/a/..\" \"r\"\n").err(),

@@ -1,5 +1,5 @@
 use Rattle.std.specs.Option.{option_copied}
-use Rattle.pv_run.specs.Reading.{left_in}
+use Rattle.pv_text.specs.Pieces.{left_in}
 use Rattle.pv_run.proofs.Building.{IsContained}
 use Rattle.pv_run.proofs.reader.build.container.Given as goal
 

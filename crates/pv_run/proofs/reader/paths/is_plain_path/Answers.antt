@@ -2,7 +2,7 @@ use Rattle.std.proofs.Common.{rules, true, false, sym, ◌∙◌, ap}
 use Rattle.std.specs.List.{list_all}
 use Rattle.std.specs.Option.{option_copied}
 use Rattle.pv_run.specs.Offered.{is_no_dot}
-use Rattle.pv_run.specs.Reading.{pieces_behind}
+use Rattle.pv_text.specs.Pieces.{pieces_behind}
 use Rattle.pv_run.proofs.Paths.{plain_is, dots_among}
 use Rattle.pv_run.proofs.reader.paths.is_plain_path.Goals as goal
 

@@ -2,7 +2,7 @@ use Rattle.std.proofs.Common.{◌≡◌}
 use Rattle.std.specs.List.{list_all}
 use Rattle.std.specs.Option.{option_copied}
 use Rattle.pv_model.specs.Walk.{split_slashes}
-use Rattle.pv_run.specs.Reading.{pieces_behind, left_in}
+use Rattle.pv_text.specs.Pieces.{pieces_behind, left_in}
 use Rattle.pv_run.specs.Offered.{is_no_dot}
 use Rattle.pv_run.proofs.reader.paths.is_plain_path.Given as goal
 

@@ -1,10 +1,10 @@
 use Rattle.std.proofs.Common.{refl, arith}
-use Rattle.pv_script.specs.Known.{known_program}
+use Rattle.pv_model.specs.Grammar.Programs.{read_program}
 use Rattle.pv_script.proofs.WholePrograms.{IsProgramSoFar-start}
 use Rattle.pv_script.proofs.program.Program.parse.Goals as goal
 
 pub loop-line-init : goal.loop-line-init
-unfolding known_program
+unfolding read_program
 loop-line-init c = record {
   number = omega arith;
   count = rw c.new-lines.ensures.items refl;

@@ -1,5 +1,6 @@
 use Rattle.std.proofs.Common.{◌≡◌, ◌≤◌, ◌+◌, length}
-use Rattle.pv_script.specs.Known.{known_instruction, known_program}
+use Rattle.pv_model.specs.Grammar.Instructions.{instruction_of}
+use Rattle.pv_model.specs.Grammar.Programs.{read_program}
 use Rattle.pv_script.proofs.WholePrograms.{IsProgramSoFar}
 use Rattle.pv_script.proofs.program.Program.parse.Given as goal
 
@@ -7,7 +8,7 @@ abbrev pub invariant-loop-line : goal.invariant-loop-line
 invariant-loop-line l = record {
   number : l.line_number ≤ 257;
   count : length l.lines.items + 1 ≡ l.line_number;
-  so_far : IsProgramSoFar (known_instruction l.line_count) l.lines.items l.rest l.line_number (known_program l.bytes);
+  so_far : IsProgramSoFar (instruction_of l.line_count) l.lines.items l.rest l.line_number (read_program l.bytes);
 }
 
 abbrev pub decreases-loop-line : goal.decreases-loop-line

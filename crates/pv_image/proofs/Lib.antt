@@ -1,0 +1,5 @@
+pub mod BodyLines
+pub mod Ends
+pub mod FirstWords
+pub mod ListedEntries
+pub mod WholeManifests

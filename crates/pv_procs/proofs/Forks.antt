@@ -1,0 +1,177 @@
+-- A child, on the places; and what holds of the places, as clauses see it.
+use Rattle.std.proofs.Common.{◌≡◌, ◌≢◌, ℕ, suc, ◌+◌, ◌<◌, ◌≤◌, Bool, true, false, cond, ◌&&◌, ◌||◌, ◌==◌, nat_lt, nat_le, List, [], ◌∷◌, ◌++◌, length, count_by, Some, refl, sym, ap, ap₂, ◌∙◌, ⊎_elim, arith}
+use Rattle.std.specs.FinMap.Entries.{by_order, put, is_sorted, below_all}
+use Rattle.std.specs.List.{list_all}
+use Rattle.std.specs.Ordering.{nat_cmp, is_lt}
+use Rattle.std.specs.declared.cmp.Ordering.TheVariants.{Less, Equal, Greater}
+use Rattle.std.proofs.Math.ListN.{length-map}
+use Rattle.std.proofs.lemmas.Bool.{and_parts, and_from, or_left, or_right, cases_eq, eq-eqb, ne_eqb, leb-true, lt-ltb, le-ltb, le-leb, lt-leb}
+use Rattle.std.proofs.lemmas.List.Folds.{list_all-append}
+use Rattle.std.proofs.lemmas.List.Sums.{count_by-le-length}
+use Rattle.pv_model.specs.declared.errno.Errno.TheVariants.{EAGAIN}
+use Rattle.pv_model.specs.Attempt.{◌>>◌, refuse, refuse_if}
+use Rattle.pv_model.specs.Calls.Processes.{fork, child}
+use Rattle.pv_model.specs.Effect.{answers}
+use Rattle.pv_model.specs.Numbered.{Numbered}
+use Rattle.pv_model.specs.State.{OpenFile, Process, Record, live, State, with_process}
+use Rattle.pv_model.specs.Tree.{Tree}
+use Rattle.pv_procs.specs.declared.place.Place.{Place}
+use Rattle.pv_procs.specs.declared.shared.Shared.{Shared}
+use Rattle.pv_procs.specs.Children.{child_place}
+use Rattle.pv_procs.specs.Places.{IsKept, IsRoomy, process_of, entry_of, entries_of, is_above, ascends, is_numbered, uses, users_at, program_at, table_of}
+use Rattle.pv_procs.specs.ProcessTable.{ProcessTable, IsProcessTable, state_with, process_in}
+use Rattle.pv_procs.proofs.Finding.{IsAt}
+use Rattle.pv_procs.proofs.Keeping.{bit, count_by-cons, list_all-at}
+use Rattle.pv_procs.proofs.Ends.{same-entries}
+
+-- ---- what clauses see
+
+less-is : (x y : ℕ) → is_lt (nat_cmp x y) ≡ nat_lt x y
+less-is x y =
+    elim (nat_lt x y) as (λ b. is_lt (cond b Less (cond (x == y) Equal Greater)) ≡ b) [
+      | true ↦ refl
+      | false ↦ elim (x == y) as (λ b. is_lt (cond b Equal Greater) ≡ false) [ true ↦ refl | false ↦ refl ]
+    ]
+
+below-is : (programs : List Shared) (n : ℕ) (places : List Place) → below_all nat_cmp n (entries_of programs places) ≡ list_all (is_above n) places
+below-is programs n [] = refl
+below-is programs n (p ∷ ps) = ap₂ (λ a b. a && b) (less-is n p.number) (below-is programs n ps)
+
+sorted-is : (programs : List Shared) (places : List Place) → is_sorted nat_cmp (entries_of programs places) ≡ ascends places
+sorted-is programs [] = refl
+sorted-is programs (p ∷ ps) = ap₂ (λ a b. a && b) (below-is programs p.number ps) (sorted-is programs ps)
+
+numbers-are : (programs : List Shared) (last : ℕ) (places : List Place) → list_all (λ (r : ℕ × Record). nat_le 1 r.0 && nat_le r.0 last) (entries_of programs places) ≡ list_all (is_numbered last) places
+numbers-are programs last [] = refl
+numbers-are programs last (p ∷ ps) = ap (λ b. is_numbered last p && b) (numbers-are programs last ps)
+
+pub length-entries : (programs : List Shared) (places : List Place) → length (entries_of programs places) ≡ length places
+length-entries programs places = length-map places (λ p. (p.number, entry_of programs p))
+
+pub told : (places spare : List Place) (programs : List Shared) (last capacity spare_capacity : ℕ) → IsKept places programs last
+    → IsRoomy (length places) (length spare) capacity spare_capacity → IsProcessTable (table_of places programs last)
+told places spare programs last capacity spare_capacity kept roomy = record {
+  ascending = sorted-is programs places ∙ kept.ascending;
+  numbers = numbers-are programs last places ∙ kept.numbers;
+  count = omega (arith, length-entries programs places, roomy.full);
+  last = kept.last;
+}
+
+-- ---- a greater number at the end
+
+at-most : (last : ℕ) (p : Place) → is_numbered last p ≡ true → p.number ≤ last
+at-most last p is = leb-true p.number last (and_parts (nat_le 1 p.number) (nat_le p.number last) is).1
+
+ascends-append : (places : List Place) (new : Place) (last : ℕ) → ascends places ≡ true → list_all (is_numbered last) places ≡ true → last < new.number → ascends (places ++ new ∷ []) ≡ true
+ascends-append [] new last asc numbers more = refl
+ascends-append (p ∷ ps) new last asc numbers more =
+    let parts = and_parts (list_all (is_above p.number) ps) (ascends ps) asc in
+    let low = and_parts (is_numbered last p) (list_all (is_numbered last) ps) numbers in
+    let few = at-most last p low.0 in
+    and_from _ _
+    (list_all-append (is_above p.number) ps (new ∷ []) ∙ and_from _ _ parts.0 (and_from _ _ (lt-ltb p.number new.number (omega arith)) refl))
+    (ascends-append ps new last parts.1 low.1 more)
+
+numbered-more : (places : List Place) (last : ℕ) → list_all (is_numbered last) places ≡ true → list_all (is_numbered (suc last)) places ≡ true
+numbered-more [] last numbers = refl
+numbered-more (p ∷ ps) last numbers =
+    let low = and_parts (is_numbered last p) (list_all (is_numbered last) ps) numbers in
+    let few = at-most last p low.0 in
+    and_from _ _ (and_from _ _ (and_parts (nat_le 1 p.number) (nat_le p.number last) low.0).0 (le-leb p.number (suc last) (omega arith))) (numbered-more ps last low.1)
+
+count-append : {X : Type 0} (p : X → Bool) (xs : List X) (y : X) → count_by p (xs ++ y ∷ []) ≡ count_by p xs + bit (p y)
+count-append p [] y = let one = count_by-cons p y [] in let e : count_by p (y ∷ []) ≡ count_by p [] + bit (p y) = omega (arith, one) in e
+count-append p (x ∷ xs) y =
+    let rest = count-append p xs y in
+    let after = count_by-cons p x (xs ++ y ∷ []) in
+    let before = count_by-cons p x xs in
+    let e : count_by p (x ∷ xs ++ y ∷ []) ≡ count_by p (x ∷ xs) + bit (p y) = omega (arith, rest, after, before) in e
+
+greater : (q n : ℕ) → n < q → nat_cmp q n ≡ Greater
+greater q n more = ap₂ (λ a b. cond a Less (cond b Equal Greater)) (le-ltb q n (omega arith)) (ne_eqb q n (λ same. absurd (omega arith)))
+
+put-append : (programs : List Shared) (places : List Place) (new : Place) (last : ℕ) → list_all (is_numbered last) places ≡ true → last < new.number
+    → entries_of programs (places ++ new ∷ []) ≡ put nat_cmp new.number (entry_of programs new) (entries_of programs places)
+put-append programs [] new last numbers more = refl
+put-append programs (p ∷ ps) new last numbers more =
+    let low = and_parts (is_numbered last p) (list_all (is_numbered last) ps) numbers in
+    let few = at-most last p low.0 in
+    ap (λ es. (p.number, entry_of programs p) ∷ es) (put-append programs ps new last low.1 more)
+    ∙ sym (ap (λ o. by_order o ((new.number, entry_of programs new) ∷ entries_of programs (p ∷ ps)) ((p.number, entry_of programs new) ∷ entries_of programs ps)
+    ((p.number, entry_of programs p) ∷ put nat_cmp new.number (entry_of programs new) (entries_of programs ps))) (greater new.number p.number (omega arith)))
+
+-- ---- fork
+
+module _ (places : List Place) (programs : List Shared) (last : ℕ) (kept : IsKept places programs last) where
+  pub users-few : (k : ℕ) → length places < 32 → users_at programs k < 32
+  users-few k few = omega (arith, kept.users k, count_by-le-length (uses k) places)
+
+  module _ (pid k : ℕ) (place : Place) (at : IsAt places pid k place) (other : List Shared) (long : length other ≡ length programs)
+      (more : users_at other place.program ≡ users_at programs place.program + 1) (rest : (j : ℕ) → j ≢ place.program → users_at other j ≡ users_at programs j) where
+    abbrev new : Place
+    new = child_place (suc last) place
+
+    users-new : (j : ℕ) → users_at other j ≡ count_by (uses j) (places ++ new ∷ [])
+    users-new j =
+        let count = count-append (uses j) places new in
+        let was = kept.users j in
+        ⊎_elim
+        (λ (same : j ≡ place.program).
+        let here : bit (uses j new) ≡ 1 = ap bit (eq-eqb place.program j (sym same)) in
+        let one : users_at other j ≡ users_at programs j + 1 = ap (users_at other) same ∙ more ∙ ap (λ i. users_at programs i + 1) (sym same) in
+        let e : users_at other j ≡ count_by (uses j) (places ++ new ∷ []) = omega (arith, count, here, one, was) in e)
+        (λ (different : j ≢ place.program).
+        let none : bit (uses j new) ≡ 0 = ap bit (ne_eqb place.program j (λ same. different (sym same))) in
+        let stays = rest j different in
+        let e : users_at other j ≡ count_by (uses j) (places ++ new ∷ []) = omega (arith, count, none, stays, was) in e)
+        (cases_eq j place.program)
+
+    pub kept-new : last < 99999 → IsKept (places ++ new ∷ []) other (suc last)
+    kept-new few = record {
+      ascending = ascends-append places new last kept.ascending kept.numbers (omega arith);
+      numbers = list_all-append (is_numbered (suc last)) places (new ∷ [])
+          ∙ and_from _ _ (numbered-more places last kept.numbers) (and_from _ _ (and_from _ _ (le-leb 1 (suc last) (omega arith)) (le-leb (suc last) (suc last) (omega arith))) refl);
+      last = omega arith;
+      table = long ∙ kept.table;
+      within = list_all-append (λ (p : Place). nat_lt p.program 32) places (new ∷ [])
+          ∙ and_from _ _ kept.within (and_from _ _ (list_all-at (λ (p : Place). nat_lt p.program 32) places k place kept.within at.within at.is) refl);
+      users = users-new;
+    }
+
+    module _ (same : (j : ℕ) → program_at other j ≡ program_at programs j) (t : Tree) (files : Numbered OpenFile) (me : Process) (mine : me ≡ process_of (program_at programs place.program) place) where
+      abbrev before : State
+      before = state_with t files (table_of places programs last)
+
+      child-is : entry_of other new ≡ live (child before pid me)
+      child-is =
+          ap (λ program. live (process_of program new)) (same place.program)
+          ∙ ap (λ n. live (record (process_of (program_at programs place.program) new) { parent = n })) at.number
+          ∙ ap (λ (p : Process). live (child before pid p)) (sym mine)
+
+      abbrev forked : State
+      forked = record (with_process before (suc last) (child before pid me)) { last_process = suc last }
+
+      forked-is : state_with t files (table_of (places ++ new ∷ []) other (suc last)) ≡ forked
+      forked-is =
+          ap (λ es. record { tree = t; files = files; processes = es; last_process = suc last })
+          (put-append other places new last kept.numbers (omega arith) ∙ ap₂ (λ r es. put nat_cmp (suc last) r es) child-is (same-entries programs other same places))
+
+      pub fork-is : length places < 32 → last < 99999 → fork before pid me ≡ answers (state_with t files (table_of (places ++ new ∷ []) other (suc last))) (suc last)
+      fork-is few low =
+          let count : nat_le 32 (length before.processes) ≡ false = lt-leb 32 (length before.processes) (omega (arith, length-entries programs places)) in
+          let number : nat_lt 99999 (suc last) ≡ false = le-ltb 99999 (suc last) (omega arith) in
+          ap₂ (λ a b. refuse_if EAGAIN (a || b) >> answers forked (suc last)) count number ∙ ap (λ s. answers s (suc last)) (sym forked-is)
+
+-- the two reasons to refuse
+pub fork-full : (s : State) (pid : ℕ) (me : Process) → length s.processes ≡ 32 → fork s pid me ≡ refuse EAGAIN
+fork-full s pid me full =
+    ap (λ b. refuse_if EAGAIN b >> answers (record (with_process s (suc s.last_process) (child s pid me)) { last_process = suc s.last_process }) (suc s.last_process))
+    (or_left _ _ (le-leb 32 (length s.processes) (omega arith)))
+
+pub fork-last : (s : State) (pid : ℕ) (me : Process) → s.last_process ≡ 99999 → fork s pid me ≡ refuse EAGAIN
+fork-last s pid me last =
+    ap (λ b. refuse_if EAGAIN b >> answers (record (with_process s (suc s.last_process) (child s pid me)) { last_process = suc s.last_process }) (suc s.last_process))
+    (or_right (nat_le 32 (length s.processes)) _ (lt-ltb 99999 (suc s.last_process) (omega arith)))
+
+pub mine-is : (ps : ProcessTable) (pid : ℕ) (p me : Process) → process_in ps pid ≡ Some p → process_in ps pid ≡ Some me → me ≡ p
+mine-is ps pid p me one other = let both : Some me ≡ Some p = sym other ∙ one in cc both

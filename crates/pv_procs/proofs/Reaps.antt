@@ -1,0 +1,223 @@
+-- A child that is waited for, on the places.
+use Rattle.std.proofs.Common.{◌≡◌, ℕ, zero, suc, ◌+◌, ◌<◌, ◌≤◌, Bool, true, false, cond, not, ◌&&◌, ◌||◌, ◌==◌, nat_lt, List, [], ◌∷◌, filter, length, count_by, position, Option, None, Some, is_none, is_some, refl, sym, ap, ap₂, ◌∙◌, arith}
+use Rattle.std.specs.FinMap.Entries.{where_key}
+use Rattle.std.specs.List.{list_all, list_any, remove, position_or_len, prefix_len}
+use Rattle.std.specs.Ordering.{nat_cmp}
+use Rattle.std.proofs.Math.ListN.{get_or}
+use Rattle.std.proofs.lemmas.Bool.{and_parts, and_from, eq-eqb, ne_eqb, ltb-true}
+use Rattle.std.proofs.lemmas.Bool.Decides.{nat_tests}
+use Rattle.std.proofs.lemmas.List.Quantifiers.{position-Some}
+use Rattle.std.proofs.lemmas.List.Sums.{prefix_len-le-length}
+use Rattle.pv_model.specs.declared.errno.Errno.TheVariants.{ECHILD}
+use Rattle.pv_model.specs.Attempt.{Attempt, ◌>>◌, refuse_if}
+use Rattle.pv_model.specs.Bytes.{is_empty, little_endian}
+use Rattle.pv_model.specs.Calls.Processes.{parent_of, statuses, reap, wait}
+use Rattle.pv_model.specs.Effect.{Effect, answers_bytes}
+use Rattle.pv_model.specs.Numbered.{Numbered}
+use Rattle.pv_model.specs.State.{OpenFile, Process, Record, State}
+use Rattle.pv_model.specs.Tree.{Tree}
+use Rattle.pv_procs.specs.declared.place.Place.{Place}
+use Rattle.pv_procs.specs.declared.shared.Shared.{Shared}
+use Rattle.pv_procs.specs.declared.processes.Reap.TheVariants.{Child, Blocked, NoChild}
+use Rattle.pv_procs.specs.Places.{IsKept, entry_by, entry_of, entries_of, is_above, ascends, is_numbered, is_ended_child, uses, users_at, program_at, table_of}
+use Rattle.pv_procs.specs.ProcessTable.{state_with}
+use Rattle.pv_procs.specs.Reaping.{waited}
+use Rattle.pv_procs.proofs.Finding.{parent-entry, above_at}
+use Rattle.pv_procs.proofs.Keeping.{bit, count_by-cons}
+
+past : (n m : ℕ) → n ≤ m → cond (nat_lt n m) (Some n) None ≡ None → n ≡ m
+past n m within none = grind (arith, nat_tests)
+
+-- ---- children
+
+module _ (programs : List Shared) (pid : ℕ) where
+  abbrev is_child : ℕ × Record → Bool
+  is_child r = parent_of r.1 == pid
+
+  abbrev pub children_in : List Place → List (ℕ × Record)
+  children_in places = filter is_child (entries_of programs places)
+
+  -- the first place, by its parent and its status
+  abbrev first_by : Place → List (ℕ × Record) → Bool → Option ℕ → List (ℕ × ℕ)
+  first_by p rest b status = statuses (cond b ((p.number, entry_by p (program_at programs p.program) status) ∷ rest) rest)
+
+  first-is : (p : Place) (ps : List Place) (b : Bool) → (p.parent == pid) ≡ b → (status : Option ℕ) → p.status ≡ status
+      → statuses (children_in (p ∷ ps)) ≡ first_by p (children_in ps) b status
+  first-is p ps b is status has =
+      ap (λ t. statuses (cond t ((p.number, entry_of programs p) ∷ children_in ps) (children_in ps))) (ap (λ n. n == pid) (parent-entry p (program_at programs p.program) p.status) ∙ is)
+      ∙ ap (first_by p (children_in ps) b) has
+
+  test-is : (p : Place) (b : Bool) → (p.parent == pid) ≡ b → (status : Option ℕ) → p.status ≡ status → is_ended_child pid p ≡ (b && is_some status)
+  test-is p b is status has = ap₂ (λ a s. a && is_some s) is has
+
+  -- where no child has ended
+  none-ended : (places : List Place) → position_or_len (λ (p : Place). is_ended_child pid p) places ≡ length places → statuses (children_in places) ≡ []
+  none-ended [] is = refl
+  none-ended (p ∷ ps) is =
+      by (λ test.
+      let counts = ap (λ b. cond (not b) (1 + prefix_len (λ (q : Place). not (is_ended_child pid q)) ps) 0) (sym test) ∙ is in none-ended ps (omega (arith, counts)))
+      (p.parent == pid) refl p.status refl
+    where
+      by : (is_ended_child pid p ≡ false → statuses (children_in ps) ≡ []) → (b : Bool) → (p.parent == pid) ≡ b → (status : Option ℕ) → p.status ≡ status → statuses (children_in (p ∷ ps)) ≡ []
+      by behind false same status has = first-is p ps false same status has ∙ behind (test-is p false same status has)
+      by behind true same None has = first-is p ps true same None has ∙ behind (test-is p true same None has)
+      by behind true same (Some n) has =
+          let counts = ap (λ b. cond (not b) (1 + prefix_len (λ (q : Place). not (is_ended_child pid q)) ps) 0) (sym (test-is p true same (Some n) has)) ∙ is in
+          absurd (omega (arith, counts))
+
+  pub nobody-ended : (places : List Place) → position (λ (p : Place). is_ended_child pid p) places ≡ None → statuses (children_in places) ≡ []
+  nobody-ended places none =
+      none-ended places
+      (past (position_or_len (λ (p : Place). is_ended_child pid p) places) (length places) (prefix_len-le-length (λ (p : Place). not (is_ended_child pid p)) places) none)
+
+  -- the first that has
+  first-ended : (places : List Place) (k : ℕ) (place : Place) (status : ℕ) → k < length places → place ≡ get_or places k place → is_ended_child pid place ≡ true → place.status ≡ Some status
+      → ((j : ℕ) → j < k → is_ended_child pid (get_or places j place) ≡ false) → (rest : List (ℕ × ℕ)) × (statuses (children_in places) ≡ (place.number, status) ∷ rest)
+  first-ended [] k place status within is test has before = absurd (omega arith)
+  first-ended (p ∷ ps) zero place status within is test has before =
+      let same : (p.parent == pid) ≡ true = ap (λ (q : Place). q.parent == pid) (sym is) ∙ (and_parts (place.parent == pid) (is_some place.status) test).0 in
+      let ended : p.status ≡ Some status = ap (λ (q : Place). q.status) (sym is) ∙ has in
+      (statuses (children_in ps), first-is p ps true same (Some status) ended ∙ ap (λ (q : Place). (q.number, status) ∷ statuses (children_in ps)) (sym is))
+  first-ended (p ∷ ps) (suc k) place status within is test has before =
+      by (first-ended ps k place status (omega arith) is test has (λ j less. before (suc j) (omega arith))) (p.parent == pid) refl p.status refl
+    where
+      by : (rest : List (ℕ × ℕ)) × (statuses (children_in ps) ≡ (place.number, status) ∷ rest) → (b : Bool) → (p.parent == pid) ≡ b → (s : Option ℕ) → p.status ≡ s → (rest : List (ℕ × ℕ)) × (statuses (children_in (p ∷ ps)) ≡ (place.number, status) ∷ rest)
+      by more false same s ended = (more.0, first-is p ps false same s ended ∙ more.1)
+      by more true same None ended = (more.0, first-is p ps true same None ended ∙ more.1)
+      by more true same (Some n) ended = let no = sym (test-is p true same (Some n) ended) ∙ before 0 (omega arith) in cc
+
+  -- whether there is one
+  pub any-child : (places : List Place) → list_any (λ (p : Place). p.parent == pid) places ≡ not (is_empty (children_in places))
+  any-child [] = refl
+  any-child (p ∷ ps) = by (any-child ps) (p.parent == pid) refl
+    where
+      by : list_any (λ (q : Place). q.parent == pid) ps ≡ not (is_empty (children_in ps)) → (b : Bool) → (p.parent == pid) ≡ b → list_any (λ (p : Place). p.parent == pid) (p ∷ ps) ≡ not (is_empty (children_in (p ∷ ps)))
+      by rest b same =
+          ap (λ t. t || list_any (λ (q : Place). q.parent == pid) ps) same
+          ∙ elim b as (λ t. (t || list_any (λ (q : Place). q.parent == pid) ps) ≡ not (is_empty (cond t ((p.number, entry_of programs p) ∷ children_in ps) (children_in ps)))) [ true ↦ refl | false ↦ rest ]
+          ∙ sym (ap (λ t. not (is_empty (cond t ((p.number, entry_of programs p) ∷ children_in ps) (children_in ps)))) (ap (λ n. n == pid) (parent-entry p (program_at programs p.program) p.status) ∙ same))
+
+-- ---- a place is taken out
+
+module _ {X : Type 0} where
+  pub list_all-remove : (test : X → Bool) (xs : List X) (k : ℕ) → list_all test xs ≡ true → list_all test (remove xs k) ≡ true
+  list_all-remove test [] zero all = refl
+  list_all-remove test [] (suc k) all = refl
+  list_all-remove test (x ∷ xs) zero all = (and_parts (test x) (list_all test xs) all).1
+  list_all-remove test (x ∷ xs) (suc k) all = let parts = and_parts (test x) (list_all test xs) all in and_from _ _ parts.0 (list_all-remove test xs k parts.1)
+
+  count-remove : (p : X → Bool) (xs : List X) (k : ℕ) (x : X) → k < length xs → x ≡ get_or xs k x → count_by p (remove xs k) + bit (p x) ≡ count_by p xs
+  count-remove p [] k x within is = absurd (omega arith)
+  count-remove p (y ∷ ys) zero x within is =
+      let same : bit (p x) ≡ bit (p y) = ap (λ v. bit (p v)) is in
+      let all = count_by-cons p y ys in
+      let e : count_by p ys + bit (p x) ≡ count_by p (y ∷ ys) = omega (arith, same, all) in e
+  count-remove p (y ∷ ys) (suc k) x within is =
+      let rest = count-remove p ys k x (omega arith) is in
+      let after = count_by-cons p y (remove ys k) in
+      let before = count_by-cons p y ys in
+      let e : count_by p (y ∷ remove ys k) + bit (p x) ≡ count_by p (y ∷ ys) = omega (arith, rest, after, before) in e
+
+ascends-remove : (places : List Place) (k : ℕ) → ascends places ≡ true → ascends (remove places k) ≡ true
+ascends-remove [] zero asc = refl
+ascends-remove [] (suc k) asc = refl
+ascends-remove (p ∷ ps) zero asc = (and_parts (list_all (is_above p.number) ps) (ascends ps) asc).1
+ascends-remove (p ∷ ps) (suc k) asc =
+    let parts = and_parts (list_all (is_above p.number) ps) (ascends ps) asc in and_from _ _ (list_all-remove (is_above p.number) ps k parts.0) (ascends-remove ps k parts.1)
+
+pub kept-remove : (places : List Place) (programs : List Shared) (last : ℕ) → IsKept places programs last → (k : ℕ) (place : Place) (status : ℕ) → k < length places → place ≡ get_or places k place
+    → place.status ≡ Some status → IsKept (remove places k) programs last
+kept-remove places programs last kept k place status within is ended = record {
+  ascending = ascends-remove places k kept.ascending;
+  numbers = list_all-remove (is_numbered last) places k kept.numbers;
+  last = kept.last;
+  table = kept.table;
+  within = list_all-remove (λ (p : Place). nat_lt p.program 32) places k kept.within;
+  users = λ j.
+      let count = count-remove (uses j) places k place within is in
+      let none : bit (uses j place) ≡ 0 = ap (λ s. bit (is_none s && (place.program == j))) ended in
+      let was = kept.users j in
+      let e : users_at programs j ≡ count_by (uses j) (remove places k) = omega (arith, count, none, was) in e;
+}
+
+abbrev others : ℕ → ℕ → Bool
+others number n = not (n == number)
+
+all-others : (programs : List Shared) (number : ℕ) (places : List Place) → list_all (is_above number) places ≡ true → where_key nat_cmp (others number) (entries_of programs places) ≡ entries_of programs places
+all-others programs number [] all = refl
+all-others programs number (p ∷ ps) all =
+    let parts = and_parts (is_above number p) (list_all (is_above number) ps) all in
+    let more = ltb-true number p.number parts.0 in
+    ap (λ b. cond (not b) ((p.number, entry_of programs p) ∷ where_key nat_cmp (others number) (entries_of programs ps)) (where_key nat_cmp (others number) (entries_of programs ps)))
+    (ne_eqb p.number number (λ same. absurd (omega arith)))
+    ∙ ap (λ es. (p.number, entry_of programs p) ∷ es) (all-others programs number ps parts.1)
+
+pub remove-at : (programs : List Shared) (places : List Place) (k : ℕ) (place : Place) → ascends places ≡ true → k < length places → place ≡ get_or places k place
+    → where_key nat_cmp (others place.number) (entries_of programs places) ≡ entries_of programs (remove places k)
+remove-at programs [] k place asc within is = absurd (omega arith)
+remove-at programs (p ∷ ps) zero place asc within is =
+    let same : p.number ≡ place.number = ap (λ (q : Place). q.number) (sym is) in
+    ap (λ b. cond (not b) ((p.number, entry_of programs p) ∷ where_key nat_cmp (others place.number) (entries_of programs ps)) (where_key nat_cmp (others place.number) (entries_of programs ps)))
+    (eq-eqb p.number place.number same)
+    ∙ ap (λ n. where_key nat_cmp (others n) (entries_of programs ps)) (sym same)
+    ∙ all-others programs p.number ps (and_parts (list_all (is_above p.number) ps) (ascends ps) asc).0
+remove-at programs (p ∷ ps) (suc k) place asc within is =
+    let parts = and_parts (list_all (is_above p.number) ps) (ascends ps) asc in
+    let more = above_at p.number ps k place parts.0 (omega arith) is in
+    ap (λ b. cond (not b) ((p.number, entry_of programs p) ∷ where_key nat_cmp (others place.number) (entries_of programs ps)) (where_key nat_cmp (others place.number) (entries_of programs ps)))
+    (ne_eqb p.number place.number (λ same. absurd (omega arith)))
+    ∙ ap (λ es. (p.number, entry_of programs p) ∷ es) (remove-at programs ps k place parts.1 (omega arith) is)
+
+-- ---- wait
+
+module _ (places : List Place) (programs : List Shared) (last pid : ℕ) (t : Tree) (files : Numbered OpenFile) (me : Process) where
+  abbrev before : State
+  before = state_with t files (table_of places programs last)
+
+  abbrev wait_by : Bool → List (ℕ × ℕ) → Attempt Effect
+  wait_by childless ended = refuse_if ECHILD childless >> reap before pid me ended
+
+  pub childless : list_any (λ (p : Place). p.parent == pid) places ≡ false → wait before pid me ≡ waited NoChild before
+  childless none =
+      let empty : is_empty (children_in programs pid places) ≡ true = by (is_empty (children_in programs pid places)) refl in
+      ap (λ b. wait_by b (statuses (children_in programs pid places))) empty
+    where
+      by : (b : Bool) → is_empty (children_in programs pid places) ≡ b → is_empty (children_in programs pid places) ≡ true
+      by true is = is
+      by false is = let no = sym none ∙ any-child programs pid places ∙ ap not is in cc
+
+  pub blocked : list_any (λ (p : Place). p.parent == pid) places ≡ true → position (λ (p : Place). is_ended_child pid p) places ≡ None → wait before pid me ≡ waited Blocked before
+  blocked some none =
+      let full : is_empty (children_in programs pid places) ≡ false = by (is_empty (children_in programs pid places)) refl in
+      ap₂ wait_by full (nobody-ended programs pid places none)
+    where
+      by : (b : Bool) → is_empty (children_in programs pid places) ≡ b → is_empty (children_in programs pid places) ≡ false
+      by false is = is
+      by true is = let no = sym some ∙ any-child programs pid places ∙ ap not is in cc
+
+  -- what has ended is no empty list
+  not-empty : (rs : List (ℕ × Record)) (one : ℕ × ℕ) (rest : List (ℕ × ℕ)) → statuses rs ≡ one ∷ rest → is_empty rs ≡ false
+  not-empty [] one rest is = cc
+  not-empty (r ∷ rs) one rest is = refl
+
+  pub reaped : ascends places ≡ true → (k : ℕ) (place : Place) (status : ℕ) → position (λ (p : Place). is_ended_child pid p) places ≡ Some k → place ≡ get_or places k place
+      → place.status ≡ Some status → wait before pid me ≡ waited (Child place.number status) (state_with t files (table_of (remove places k) programs last))
+  reaped asc k place status found is ended =
+      let at = position-Some (λ (p : Place). is_ended_child pid p) places k place found in
+      let test : is_ended_child pid place ≡ true = ap (is_ended_child pid) is ∙ at.1 in
+      let first = first-ended programs pid places k place status at.0 is test ended at.2 in
+      ap₂ wait_by (not-empty (children_in programs pid places) (place.number, status) first.0 first.1) first.1
+      ∙ ap (λ es. answers_bytes (record { tree = t; files = files; processes = es; last_process = last }) place.number (little_endian 4 status)) (remove-at programs places k place asc at.0 is)
+
+-- it is there, and has ended
+pub ended-within : (pid : ℕ) (places : List Place) (k : ℕ) (place : Place) → position (λ (p : Place). is_ended_child pid p) places ≡ Some k → k < length places
+ended-within pid places k place found = (position-Some (λ (p : Place). is_ended_child pid p) places k place found).0
+
+pub ended-status : (pid : ℕ) (places : List Place) (k : ℕ) (place : Place) → position (λ (p : Place). is_ended_child pid p) places ≡ Some k → place ≡ get_or places k place → is_some place.status ≡ true
+ended-status pid places k place found is =
+    let at = position-Some (λ (p : Place). is_ended_child pid p) places k place found in
+    (and_parts (place.parent == pid) (is_some place.status) (ap (is_ended_child pid) is ∙ at.1)).1
+
+pub status-is : (status : Option ℕ) (n : ℕ) → is_some status ≡ true → Rattle.std.specs.Prelude.unwrap_or status 0 ≡ n → status ≡ Some n
+status-is None n some is = cc
+status-is (Some m) n some is = ap Some is

@@ -1,0 +1,17 @@
+use Rattle.std.proofs.Common.{◌∙◌, ap, []}
+use Rattle.pv_model.specs.State.{Process, first_process}
+use Rattle.pv_script.specs.Context.{Context}
+use Rattle.pv_procs.specs.declared.record.Record.{Record}
+use Rattle.pv_procs.specs.Children.{child_place}
+use Rattle.pv_procs.proofs.place.make_child.Goals as goal
+
+-- the context of a process
+abbrev context_of : Process → Context
+context_of p = record { line = p.line; registers = p.registers; buffer = p.buffer }
+
+pub returns : goal.returns
+returns c =
+    let told = ap context_of (c.tell.ensures [] (first_process [])) in
+    let made = λ (r : Record) (m : Context). record (child_place c.args.number c.args.parent.now) { «record» = record r { machine = m } } in
+    ap (made c.copy_from.new.self) told
+    ∙ ap (λ (r : Record). made r (record r.machine { registers = Rattle.std.specs.Prelude.slice_set (Rattle.std.specs.Prelude.slice_set r.machine.registers 0 (Rattle.std.specs.Prelude.pos 0)) 1 (Rattle.std.specs.Prelude.pos 0) })) c.copy_from.ensures

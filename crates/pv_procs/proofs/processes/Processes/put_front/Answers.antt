@@ -1,0 +1,33 @@
+use Rattle.std.proofs.Common.{refl}
+use Rattle.pv_model.specs.Answer.{with_front}
+use Rattle.pv_procs.specs.Places.{process_of, program_at}
+use Rattle.pv_procs.proofs.Finding.{found-at, live-place, status-at}
+use Rattle.pv_procs.proofs.Keeping.{kept-set, roomy-set}
+use Rattle.pv_procs.proofs.Turning.{machine-changed}
+use Rattle.pv_procs.proofs.processes.Processes.put_front.Goals as goal
+
+pub live_index-k-requires : goal.live_index-k-requires
+live_index-k-requires c =
+    let i = c.self.inside in
+    rw c.deref.ensures.value (live-place i.places.items i.programs.items i.last c.args.self.now c.self.view_is c.args.pid c.requires.live)
+
+pub invariant_of-self : goal.invariant_of-self
+invariant_of-self c =
+    let i = c.self.inside in
+    let k = c.live_index-k.result in
+    let place = c.index_mut-place.result.now in
+    let found = rw c.deref.ensures.value at c.live_index-k.ensures in
+    let at = found-at i.places.items c.args.pid k place found c.index_mut-place.ensures.value in
+    let lives = status-at i.places.items i.programs.items i.last c.args.self.now c.self.view_is c.args.pid c.self.invariant.0.ascending k place at c.requires.live in
+    (kept-set i.places.items i.programs.items i.last c.self.invariant.0 c.args.pid k place at _ at.number refl refl, roomy-set i.places.items i.spare.items k _ _ _ c.self.invariant.1)
+
+pub returns : goal.returns
+returns c =
+    let i = c.self.inside in
+    let k = c.live_index-k.result in
+    let place = c.index_mut-place.result.now in
+    let found = rw c.deref.ensures.value at c.live_index-k.ensures in
+    let at = found-at i.places.items c.args.pid k place found c.index_mut-place.ensures.value in
+    let lives = status-at i.places.items i.programs.items i.last c.args.self.now c.self.view_is c.args.pid c.self.invariant.0.ascending k place at c.requires.live in
+    machine-changed i.places.items i.programs.items i.last c.args.self.now c.self.view_is c.args.pid c.self.invariant.0.ascending k place at c.requires.live c.put_front.new.self (with_front c.args.bytes.now)
+    (c.put_front.ensures (program_at i.programs.items place.program) (process_of (program_at i.programs.items place.program) place))

@@ -1,0 +1,10 @@
+use Rattle.std.proofs.Common.{◌≡◌, ◌∷◌, [], replicate}
+use Rattle.pv_procs.specs.declared.shared.Shared.{Shared}
+use Rattle.pv_procs.proofs.shared.first_programs.Given as goal
+
+abbrev unused : Shared
+unused = record { program = []; users = 0 }
+
+-- the first program, and so many places with none
+abbrev pub invariant-loop-place : goal.invariant-loop-place
+invariant-loop-place l = l.programs.items ≡ (record { program = l.fn.program; users = 1 }) ∷ replicate l._place unused

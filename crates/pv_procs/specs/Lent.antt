@@ -1,0 +1,12 @@
+-- What becomes of the processes when a record was lent.
+use Rattle.std.specs.Prelude.{ℕ}
+use Rattle.std.specs.Borrow.{Lends, MutBor, Fml}
+use Rattle.pv_procs.specs.declared.record.Record.{Record}
+use Rattle.pv_procs.specs.contracts.record.Record.{the_row as record_row}
+use Rattle.pv_procs.specs.contracts.processes.Processes.{the_row}
+use Rattle.pv_procs.specs.Parts.{with_record}
+use Rattle.pv_procs.specs.ProcessTable.{ProcessTable, update}
+
+-- the process with that number ends with the last value behind the result as its record
+abbrev pub LendsRecord : MutBor ProcessTable → ℕ → MutBor Record → Fml
+LendsRecord ps pid r = Lends the_row record_row ps r (λ w. update ps.now pid (λ p. with_record p w))

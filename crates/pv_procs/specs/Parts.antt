@@ -1,0 +1,45 @@
+-- What a live process owns, as a part of the definitions' process.
+use Rattle.std.specs.Prelude.{is_some, ◌&&◌, if◌then◌else◌, [], map, None}
+use Rattle.pv_model.specs.Calls.Processes.{descriptor_after_exec}
+use Rattle.pv_model.specs.State.{Process, first_process, no_registers, no_bytes}
+use Rattle.pv_procs.specs.declared.record.Record.{Record}
+
+abbrev pub record_of : Process → Record
+record_of p = record {
+  pledge = record { promises = p.promises; execpromises = p.execpromises };
+  unveiled = record { table = p.table; locked = p.locked };
+  directory = p.directory;
+  descriptors = p.descriptors;
+  machine = record { line = p.line; registers = p.registers; buffer = p.buffer };
+}
+
+-- a process with another record
+abbrev pub with_record : Process → Record → Process
+with_record p r = record p {
+  promises = r.pledge.promises;
+  execpromises = r.pledge.execpromises;
+  table = r.unveiled.table;
+  locked = r.unveiled.locked;
+  directory = r.directory;
+  descriptors = r.descriptors;
+  line = r.machine.line;
+  registers = r.machine.registers;
+  buffer = r.machine.buffer;
+}
+
+-- that of a process before its first step
+abbrev pub first_record : Record
+first_record = record_of (first_process [])
+
+-- what execve leaves of it
+abbrev pub after_exec : Record → Record
+after_exec r = record {
+  pledge = record { promises = r.pledge.execpromises; execpromises = r.pledge.execpromises };
+  unveiled = record {
+    table = if is_some r.pledge.execpromises then r.unveiled.table else None;
+    locked = is_some r.pledge.execpromises && r.unveiled.locked;
+  };
+  directory = r.directory;
+  descriptors = map descriptor_after_exec r.descriptors;
+  machine = record { line = 1; registers = no_registers; buffer = no_bytes };
+}

@@ -1,0 +1,50 @@
+-- The processes, as clauses see them.
+use Rattle.std.specs.Prelude.{◌≡◌, ℕ, ◌≤◌, ◌&&◌, true, List, [], ◌∷◌, length, nat_le, Option, None, Some}
+use Rattle.std.specs.FinMap.Entries.{find, put, is_sorted}
+use Rattle.std.specs.List.{list_all}
+use Rattle.std.specs.Ordering.{nat_cmp}
+use Rattle.pv_model.specs.Numbered.{Numbered}
+use Rattle.pv_model.specs.Program.{Next, inside}
+use Rattle.pv_model.specs.State.{OpenFile, Program, Process, Record, live, State, live_process, first_process}
+use Rattle.pv_model.specs.Tree.{Tree}
+
+-- the processes by their numbers, and the last number given: these parts of the definitions' state
+pub record ProcessTable : Type 0 where
+  pub processes : List (ℕ × Record)
+  pub last_process : ℕ
+
+-- the state with these processes
+abbrev pub state_with : Tree → Numbered OpenFile → ProcessTable → State
+state_with t files ps = record { tree = t; files = files; processes = ps.processes; last_process = ps.last_process }
+
+-- the process with a number, if it is live
+abbrev pub process_in : ProcessTable → ℕ → Option Process
+process_in ps pid = live_process (find nat_cmp pid ps.processes)
+
+-- with another live process under a number
+abbrev pub with_process : ProcessTable → ℕ → Process → ProcessTable
+with_process ps pid p = record ps { processes = put nat_cmp pid (live p) ps.processes }
+
+abbrev pub update_live : ProcessTable → ℕ → (Process → Process) → Option Process → ProcessTable
+update_live ps pid f None = ps
+update_live ps pid f (Some p) = with_process ps pid (f p)
+
+-- with a live process changed
+abbrev pub update : ProcessTable → ℕ → (Process → Process) → ProcessTable
+update ps pid f = update_live ps pid f (process_in ps pid)
+
+-- process 1 alone, with this program
+abbrev pub first_processes : Program → ProcessTable
+first_processes program = record { processes = (1, live (first_process program)) ∷ []; last_process = 1 }
+
+-- what holds of them at any time
+pub record IsProcessTable (ps : ProcessTable) : Type 0 where
+  pub ascending : is_sorted nat_cmp ps.processes ≡ true
+  pub numbers : list_all (λ r. nat_le 1 r.0 && nat_le r.0 ps.last_process) ps.processes ≡ true
+  pub count : length ps.processes ≤ 32
+  pub last : ps.last_process ≤ 99999
+
+-- a process where an instruction inside it comes next, behind that
+abbrev pub after_inside : Process → Next → Process
+after_inside p (inside after) = after
+after_inside p _ = p

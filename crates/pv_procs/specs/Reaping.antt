@@ -1,0 +1,14 @@
+-- What wait(2) finds.
+use Rattle.pv_model.specs.declared.errno.Errno.TheVariants.{ECHILD}
+use Rattle.pv_model.specs.Attempt.{Attempt, give, refuse}
+use Rattle.pv_model.specs.Bytes.{little_endian}
+use Rattle.pv_model.specs.Effect.{Effect, waits, answers_bytes}
+use Rattle.pv_model.specs.State.{State}
+use Rattle.pv_procs.specs.declared.processes.Reap.{Reap}
+use Rattle.pv_procs.specs.declared.processes.Reap.TheVariants.{Child, Blocked, NoChild}
+
+-- what a wait is that finds this, and leaves the state
+abbrev pub waited : Reap → State → Attempt Effect
+waited (Child number status) after = answers_bytes after number (little_endian 4 status)
+waited Blocked after = give (after, waits)
+waited NoChild after = refuse ECHILD

@@ -1,0 +1,19 @@
+//! Processes: fork(2), exit(3), wait(2), and the part of execve(2) that is a process's own.
+//!
+//! There are 32 places for processes that are live, or have ended and are not waited for, and a table of 32
+//! programs, which live processes share, each with the count of its users. Memory is asked for once, by
+//! `Processes::new`. Clauses see the processes as the definitions' list of records by number, beside the last
+//! number given (`ProcessTable`), and what a live process owns as a `Record`. `processes` has what callers use,
+//! `place` a place for a process and `shared` one for a program.
+#![tactic(auto)]
+
+mod ending;
+mod place;
+pub mod processes;
+pub mod record;
+mod shared;
+#[cfg(test)]
+mod tests;
+
+pub use processes::{Processes, Reap};
+pub use record::Record;

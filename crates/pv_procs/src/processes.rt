@@ -1,0 +1,290 @@
+//! The processes of the system.
+ghost use Rattle.std.specs.Prelude.{◌≡◌, ◌↔◌, ◌<◌, ◌≤◌, ◌-◌, pos, length, is_some, IfOk, IsTrue, IsSome, Some, IfErr, OnErr, option_map, slice_set, position};
+ghost use Rattle.std.specs.FinMap.Entries.{find};
+ghost use Rattle.std.specs.Borrow.{sem};
+ghost use Rattle.std.specs.Ordering.{nat_cmp};
+ghost use Rattle.pv_model.specs.declared.errno.Errno.TheVariants.{EAGAIN};
+ghost use Rattle.pv_model.specs.Answer.{at_next_line, with_front};
+ghost use Rattle.pv_model.specs.Attempt.{refuse};
+ghost use Rattle.pv_model.specs.Calls.Processes.{parent_of, with_result, end_process, fork, wait, with_program};
+ghost use Rattle.pv_model.specs.Effect.{answers};
+ghost use Rattle.pv_model.specs.Numbered.{Numbered};
+ghost use Rattle.pv_model.specs.Program.{next, calls_for};
+ghost use Rattle.pv_model.specs.State.{OpenFile, Process, State};
+ghost use Rattle.pv_model.specs.Tree.{Tree};
+
+use crate::Record;
+use crate::ending::settle;
+use crate::place::{
+    Place, adopter, blank, ended_child_of, has_child, index_of, live_index, make_child,
+    spare_places,
+};
+use crate::shared::{Shared, first_programs, free_program, let_go, take_up};
+use pv_model::Errno;
+use pv_model::limits::{LAST_PROCESS, PROCESSES};
+use pv_script::{Next, Program};
+use std::alloc::{AllocError, Global};
+use std::marker::Model;
+
+/// What wait(2) finds.
+#[derive(Clone, Copy, Debug, PartialEq, Eq)]
+pub enum Reap {
+    /// The number of the ended child that was waited for, and the status that it ended with.
+    Child(u32, u32),
+    /// There are children, and all are live.
+    Blocked,
+    /// There is no child.
+    NoChild,
+}
+
+/// The processes by their numbers: 32 places, the programs that they share, and the last number given.
+#[derive(Drop)]
+pub struct Processes {
+    // Those that are used, in the order of their numbers.
+    places: Vec<Place>,
+    spare: Vec<Place>,
+    programs: Vec<Shared>,
+    last: u32,
+}
+
+impl Model for Processes {
+    ghost use Rattle.pv_procs.specs.ProcessTable.{ProcessTable};
+
+    ghost Value = { ProcessTable };
+
+    ghost use Rattle.std.specs.Prelude.{length, vec_capacity};
+    ghost use Rattle.pv_procs.specs.Places.{table_of, IsKept, IsRoomy};
+
+    ghost view = { λ t. table_of t.places.items t.programs.items t.last };
+
+    ghost invariant = { λ t. IsKept t.places.items t.programs.items t.last
+        × IsRoomy (length t.places.items) (length t.spare.items) (vec_capacity t.places) (vec_capacity t.spare) };
+}
+
+impl Processes {
+    ghost use Rattle.pv_procs.specs.Lent.{LendsRecord};
+    ghost use Rattle.pv_procs.specs.Parts.{record_of};
+    ghost use Rattle.pv_procs.specs.ProcessTable.{IsProcessTable, state_with, process_in, with_process, update, first_processes, after_inside};
+    ghost use Rattle.pv_procs.specs.Reaping.{waited};
+    ghost use Rattle.pv_procs.specs.Turns.{context_of, Performs};
+    ghost use Rattle.pv_script.specs.Context.{IsNext, is_inside};
+
+    /// Process 1 alone, with its program, before its first step.
+    ///
+    /// # Errors
+    ///
+    /// Where there is no memory for the places. No other call of `Processes` asks for any.
+    pub fn new(alloc: Global, program: Program) -> Result<Processes, AllocError>
+        ensures { IfOk result (λ processes. processes ≡ first_processes program) }
+    {
+        let programs = first_programs(alloc, program)?;
+        let mut places = Vec::with_capacity(alloc, PROCESSES)?;
+        places.push_reserved(blank(alloc, 1)?);
+        let spare = spare_places(alloc)?;
+        Ok(Processes {
+            places,
+            spare,
+            programs,
+            last: 1,
+        })
+    }
+
+    /// Does nothing: its contract tells what holds of the processes at any time.
+    pub fn facts(&self)
+        ensures { IsProcessTable self.now }
+    {
+        let _ = &self.places;
+    }
+
+    /// Whether a process is live.
+    pub fn live(&self, pid: u32) -> bool
+        ensures { result ≡ is_some (process_in self.now pid) }
+    {
+        match index_of(&self.places, pid) {
+            Some(k) => self.places[k].status.is_none(),
+            None => false,
+        }
+    }
+
+    /// The parent of a process that is live, or has ended and is not waited for: 0 is none.
+    pub fn parent_of(&self, pid: u32) -> Option<u32>
+        ensures { result ≡ option_map parent_of (find nat_cmp pid self.now.processes) }
+    {
+        match index_of(&self.places, pid) {
+            Some(k) => Some(self.places[k].parent),
+            None => None,
+        }
+    }
+
+    /// What a live process owns.
+    pub fn record(&self, pid: u32) -> &Record
+        requires { IsSome (process_in self.now pid) }
+        ensures { option_map record_of (process_in self.now pid) ≡ Some result.now }
+    {
+        let k = live_index(&self.places, pid);
+        &self.places[k].record
+    }
+
+    /// What a live process owns, to be changed.
+    pub fn record_mut(&mut self, pid: u32) -> &mut Record
+        requires { IsSome (process_in self.old pid) }
+        ensures* writes_back { sem 𝓛 (LendsRecord self.entry pid result) }
+        ensures value { option_map record_of (process_in self.old pid) ≡ Some result.now }
+    {
+        let k = live_index(&self.places, pid);
+        &mut self.places[k].record
+    }
+
+    /// The child that fork(2) makes of a live process: its number is the answer. It has a copy of what its parent
+    /// owns, shares its program, and is answered 0. Of each open file that the parent's descriptors name, the
+    /// caller counts another user, and of each node that it holds another holder.
+    ///
+    /// # Errors
+    ///
+    /// `EAGAIN` where 32 processes are live or have ended and are not waited for, or where the last number given
+    /// was 99,999, and only there; nothing has then changed.
+    pub fn fork(&mut self, pid: u32) -> Result<u32, Errno>
+        requires { IsSome (process_in self.old pid) }
+        ensures forked { IfOk result (λ n. (t : Tree) (files : Numbered OpenFile) (me : Process) → process_in self.old pid ≡ Some me
+            → fork (state_with t files self.old) pid me ≡ answers (state_with t files self.new) n) }
+        ensures refused { IfErr result (λ e. (t : Tree) (files : Numbered OpenFile) (me : Process)
+            → fork (state_with t files self.old) pid me ≡ refuse e) }
+        ensures unchanged { OnErr result (self.new ≡ self.old) }
+    {
+        if self.last == LAST_PROCESS {
+            return Err(Errno::EAGAIN);
+        }
+        let Some(mut place) = self.spare.pop() else {
+            return Err(Errno::EAGAIN);
+        };
+        let k = live_index(&self.places, pid);
+        let number = self.last + 1;
+        make_child(&mut place, number, &self.places[k]);
+        take_up(&mut self.programs, place.program);
+        self.places.push_reserved(place);
+        self.last = number;
+        Ok(number)
+    }
+
+    /// Waits for a child that has ended, wait(2): the one with the least number is told, and is gone.
+    pub fn reap(&mut self, pid: u32) -> Reap
+        ensures waited { (t : Tree) (files : Numbered OpenFile) (me : Process)
+            → wait (state_with t files self.old) pid me ≡ waited result (state_with t files self.new) }
+        ensures unchanged { result ≡ Reap.NoChild → self.new ≡ self.old }
+    {
+        let Some(k) = ended_child_of(&self.places, pid) else {
+            if has_child(&self.places, pid) {
+                return Reap::Blocked;
+            }
+            return Reap::NoChild;
+        };
+        let place = self.places.remove(k);
+        let child = Reap::Child(place.number, place.status.unwrap_or(0));
+        self.spare.push_reserved(place);
+        child
+    }
+
+    /// Gives a live process another program, execve(2): its promises become its execpromises, without these its
+    /// table and lock go, the descriptors that execve closes go, and it is before its first step. What it lets go
+    /// its caller reads before, by `record`.
+    pub fn load(&mut self, pid: u32, program: Program)
+        requires { IsSome (process_in self.old pid) }
+        ensures { (s : State) → self.new ≡ update self.old pid (λ me. with_program s pid me program) }
+    {
+        let k = live_index(&self.places, pid);
+        let place = &mut self.places[k];
+        let_go(&mut self.programs, place.program);
+        let Some(free) = free_program(&self.programs) else {
+            unreachable!()
+        };
+        self.programs[free] = Shared { program, users: 1 };
+        place.program = free;
+        place.record.after_exec();
+    }
+
+    /// Ends a live process, with the status that a parent's wait(2) tells.
+    ///
+    /// What is left is its parent and its status. Its children become those of process 1, or nobody's once
+    /// process 1 has ended; what has ended and is nobody's child is gone. What the process held, its caller
+    /// reads before, by `record`.
+    pub fn end(&mut self, pid: u32, status: u32)
+        requires { IsSome (process_in self.old pid) }
+        ensures { (t : Tree) (files : Numbered OpenFile) (me : Process) → process_in self.old pid ≡ Some me
+            → state_with t files self.new ≡ end_process (state_with t files self.old) pid me status }
+    {
+        let k = live_index(&self.places, pid);
+        let place = &mut self.places[k];
+        place.status = Some(status);
+        let program = place.program;
+        let_go(&mut self.programs, program);
+        let heir = adopter(&self.places);
+        settle(&mut self.places, &mut self.spare, pid, heir);
+    }
+
+    /// The program of a live process.
+    pub fn program(&self, pid: u32) -> &Program
+        requires { IsSome (process_in self.now pid) }
+        ensures { option_map (λ me. me.program) (process_in self.now pid) ≡ Some result.now }
+    {
+        let k = live_index(&self.places, pid);
+        let place = &self.places[k];
+        &self.programs[place.program].program
+    }
+
+    /// What comes next in a live process: past the last line, an exit.
+    pub fn next(&self, pid: u32) -> Next
+        requires { IsSome (process_in self.now pid) }
+        ensures { (me : Process) → process_in self.now pid ≡ Some me → IsNext me.program (context_of me) result }
+    {
+        let k = live_index(&self.places, pid);
+        let place = &self.places[k];
+        place
+            .record
+            .machine
+            .next(&self.programs[place.program].program)
+    }
+
+    /// Makes the instruction on registers, or the jump, that comes next in a live process.
+    pub fn register(&mut self, pid: u32)
+        requires live { IsSome (process_in self.old pid) }
+        requires inside { (me : Process) → process_in self.old pid ≡ Some me → IsTrue (is_inside me.program (context_of me)) }
+        ensures { (me : Process) → process_in self.old pid ≡ Some me → Performs pid me self.old self.new }
+    {
+        let k = live_index(&self.places, pid);
+        let place = &mut self.places[k];
+        let shared = &self.programs[place.program];
+        place.record.machine.register(&shared.program);
+    }
+
+    /// A live process goes on to its next line, at most to the one behind the last.
+    pub fn advance(&mut self, pid: u32)
+        requires { IsSome (process_in self.old pid) }
+        ensures { self.new ≡ update self.old pid at_next_line }
+    {
+        let k = live_index(&self.places, pid);
+        let place = &mut self.places[k];
+        let shared = &self.programs[place.program];
+        place.record.machine.advance(&shared.program);
+    }
+
+    /// Tells a live process what a call came to: r0 has the value, and r1 the error, 0 where there is none.
+    pub fn tell(&mut self, pid: u32, value: i32, error: u16)
+        requires { IsSome (process_in self.old pid) }
+        ensures { self.new ≡ update self.old pid (λ p. with_result p value error) }
+    {
+        let k = live_index(&self.places, pid);
+        let place = &mut self.places[k];
+        place.record.machine.tell(value, error);
+    }
+
+    /// Puts bytes, at most 4,096, to the front of a live process's buffer.
+    pub fn put_front(&mut self, pid: u32, bytes: &[u8])
+        requires live { IsSome (process_in self.old pid) }
+        requires size { length bytes.now ≤ 4096 }
+        ensures { self.new ≡ update self.old pid (with_front bytes.now) }
+    {
+        let k = live_index(&self.places, pid);
+        let place = &mut self.places[k];
+        place.record.machine.put_front(bytes);
+    }
+}

@@ -1,0 +1,65 @@
+//! What a live process owns.
+ghost use Rattle.std.specs.Prelude.{◌≡◌, IfOk};
+
+use pv_files::Descriptors;
+use pv_model::limits::ROOT;
+use pv_promises::Pledge;
+use pv_script::Machine;
+use pv_unveil::Table;
+use std::alloc::{AllocError, Global};
+
+/// What a live process owns. Its program, which it may share, and its parent stand beside it.
+#[derive(Drop)]
+pub struct Record {
+    /// What it has promised, pledge(2).
+    pub pledge: Pledge,
+    /// What it has unveiled, unveil(2).
+    pub unveiled: Table,
+    /// The number of its working directory's node.
+    pub directory: u16,
+    /// Its descriptors.
+    pub descriptors: Descriptors,
+    /// The line that comes next, the registers and the buffer.
+    pub machine: Machine,
+}
+
+impl Record {
+    ghost use Rattle.pv_procs.specs.Parts.{first_record, after_exec};
+
+    // That of a process before its first step.
+    #[tactic(auto, unfolding(pv_script::specs::Context::first_context))]
+    pub(crate) fn new(alloc: Global) -> Result<Record, AllocError>
+        ensures { IfOk result (λ r. r ≡ first_record) }
+    {
+        Ok(Record {
+            pledge: Pledge::new(),
+            unveiled: Table::new(),
+            directory: ROOT,
+            descriptors: Descriptors::new(),
+            machine: Machine::new(alloc)?,
+        })
+    }
+
+    // Becomes as another, as fork(2) makes a child's.
+    pub(crate) fn copy_from(&mut self, other: &Record)
+        ensures { self.new ≡ other.now }
+    {
+        self.pledge = other.pledge;
+        self.unveiled = other.unveiled.copy();
+        self.directory = other.directory;
+        self.descriptors = other.descriptors;
+        self.machine.copy_from(&other.machine);
+    }
+
+    // Becomes what execve(2) leaves.
+    #[tactic(auto, unfolding(pv_script::specs::Context::first_context))]
+    pub(crate) fn after_exec(&mut self)
+        ensures { self.new ≡ after_exec self.old }
+    {
+        let keeps = self.pledge.execpromises().is_some();
+        self.pledge.after_exec();
+        self.unveiled.after_exec(keeps);
+        self.descriptors.after_exec();
+        self.machine.reset();
+    }
+}

@@ -1,0 +1,58 @@
+//! Programs that processes share.
+ghost use Rattle.std.specs.Prelude.{◌≡◌, ◌≢◌, ℕ, ◌+◌, ◌<◌, ◌==◌, [], ◌∷◌, replicate, length, position, slice_get, slice_set, vec_len, IfOk};
+ghost use Rattle.pv_procs.specs.Places.{users_at, program_at};
+
+use pv_model::limits::PROCESSES;
+use pv_script::Program;
+use std::alloc::{AllocError, Global};
+
+/// A place for a program that live processes share, with the count of them. A program that has no user stays
+/// until another one takes its place.
+#[derive(Drop)]
+pub(crate) struct Shared {
+    pub(crate) program: Program,
+    pub(crate) users: u32,
+}
+
+/// All places, the first with a program that has one user.
+pub(crate) fn first_programs(alloc: Global, program: Program) -> Result<Vec<Shared>, AllocError>
+    ensures { IfOk result (λ programs. programs.items
+        ≡ (record { program = program; users = 1 }) ∷ replicate 31 (record { program = []; users = 0 })) }
+{
+    let mut programs = Vec::with_capacity(alloc, PROCESSES)?;
+    programs.push(Shared { program, users: 1 })?;
+    for _place in 0..PROCESSES - 1 {
+        let program = Program::empty(alloc);
+        programs.push(Shared { program, users: 0 })?;
+    }
+    Ok(programs)
+}
+
+/// A user of the program at a place lets it go.
+pub(crate) fn let_go(programs: &mut [Shared], k: usize)
+    requires within { k < length programs.old }
+    requires used { 0 < users_at programs.old k }
+    ensures users { users_at programs.new k + 1 ≡ users_at programs.old k }
+    ensures other_users { (j : ℕ) → j ≢ k → users_at programs.new j ≡ users_at programs.old j }
+    ensures programs { (j : ℕ) → program_at programs.new j ≡ program_at programs.old j }
+{
+    programs[k].users -= 1;
+}
+
+/// The program at a place has another user.
+pub(crate) fn take_up(programs: &mut [Shared], k: usize)
+    requires within { k < length programs.old }
+    requires few { users_at programs.old k < 32 }
+    ensures users { users_at programs.new k ≡ users_at programs.old k + 1 }
+    ensures other_users { (j : ℕ) → j ≢ k → users_at programs.new j ≡ users_at programs.old j }
+    ensures programs { (j : ℕ) → program_at programs.new j ≡ program_at programs.old j }
+{
+    programs[k].users += 1;
+}
+
+/// A place whose program nobody uses.
+pub(crate) fn free_program(programs: &[Shared]) -> Option<usize>
+    ensures { result ≡ position (λ shared. shared.users == 0) programs.now }
+{
+    programs.iter().position(|shared| shared.users == 0)
+}

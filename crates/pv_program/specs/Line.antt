@@ -1,0 +1,81 @@
+-- What the words of a command line ask for.
+use Rattle.std.specs.Prelude.{◌≡◌, ◌≢◌, ◌⊎◌, ⊤, ◌<◌, ℕ, true, false, List, [], ◌∷◌, length, codes, Option, None, Some, IsSomeAnd}
+use Rattle.clap.specs.Words.{App, Row, Rule, Text, IsAmong, app_of, fault_of, first_of, is_broken, kind_of, new_app, new_rule, subcommand_of, takes, with_rule, with_subcommand}
+use Rattle.clap.specs.declared.builder.ArgAction.TheVariants.{Set}
+use Rattle.clap.specs.declared.builder.command.Command.{Command as Parser}
+use Rattle.clap.specs.declared.builder.command.Command.TheViews.{out-Command}
+use Rattle.clap.specs.declared.error.Error.{Error}
+use Rattle.clap.specs.declared.error.kind.ErrorKind.{ErrorKind}
+use Rattle.clap.specs.declared.error.kind.ErrorKind.TheVariants.{OutOfMemory, MissingSubcommand}
+use Rattle.pv_program.specs.declared.command.Command.{Command}
+use Rattle.pv_program.specs.declared.command.Command.TheVariants.{RunTree}
+use Rattle.pv_program.specs.declared.command.LineFault.{LineFault}
+use Rattle.pv_program.specs.declared.command.LineFault.TheVariants as line
+
+-- ---- what the parser is told of the program
+
+-- FILE: one text, and it must be there
+abbrev pub file_rule : Rule
+file_rule = record (new_rule (codes "FILE")) { required = true; action = Some Set }
+
+-- `run-tree FILE`
+abbrev pub run_tree_app : App
+run_tree_app = with_rule (new_app (codes "run-tree")) file_rule
+
+-- the program's own: it has a version, and wants a command
+abbrev pub bare_app : App
+bare_app = record (new_app (codes "pvsim")) {
+  top = record (new_app (codes "pvsim")).top { has_version = true; subcommand_required = true };
+}
+
+abbrev pub pvsim_app : App
+pvsim_app = with_subcommand bare_app run_tree_app.top
+
+-- a parser that reads just this
+pub record IsParserOf (app : App) (parser : Parser) : Type 0 where
+  pub app_is : app_of parser ≡ app
+  pub no_globals : (out-Command parser).has_globals ≡ false
+
+-- ---- the command that words ask for
+
+-- the command and its texts stand in the matches of a subcommand
+abbrev pub IsCommandIn : Option (Text × List Row) → Command → Type 0
+IsCommandIn entered (RunTree file) =
+    IsSomeAnd entered (λ p. (p.0 ≡ codes "run-tree") × (first_of (codes "FILE") p.1 ≡ Some file.now))
+
+-- with no words: the bundle on the standard input
+abbrev pub IsWithoutWords : Command → Type 0
+IsWithoutWords (RunTree file) = file.now ≡ codes "-"
+
+-- the words, of which the first is the program's name, ask for this command
+abbrev pub IsAsked : List Text → Command → Type 0
+IsAsked [] command = IsWithoutWords command
+IsAsked (program ∷ []) command = IsWithoutWords command
+IsAsked (program ∷ word ∷ words) command = IsCommandIn (subcommand_of pvsim_app (program ∷ word ∷ words)) command
+
+-- ---- refusals
+
+-- memory refused inside the parser is want of memory
+abbrev pub of_kind : ErrorKind → Error → LineFault
+of_kind OutOfMemory error = line.Memory
+of_kind kind error = line.Parser error
+
+abbrev pub of_parser : Error → LineFault
+of_parser error = of_kind (kind_of error) error
+
+-- the parser does not take the words, or no command stands in its matches; the error has a kind that the words have
+pub record IsRefused (words : List Text) (error : Error) : Type 0 where
+  pub kind : kind_of error ≢ OutOfMemory
+  pub is_among : IsAmong (kind_of error) (fault_of pvsim_app words) ⊎ (kind_of error ≡ MissingSubcommand)
+  pub none : takes pvsim_app words ≡ true → (command : Command) → IsCommandIn (subcommand_of pvsim_app words) command → ⊥
+
+-- a refusal of words behind the program's name
+abbrev pub RefusesWords : List Text → LineFault → Type 0
+RefusesWords words (line.Parser error) = IsRefused words error
+RefusesWords words line.Number = ⊥
+RefusesWords words line.Memory = ⊤
+
+-- a refusal of a line: without words only memory may be wanting
+abbrev pub RefusesLine : List Text → LineFault → Type 0
+RefusesLine words line.Memory = ⊤
+RefusesLine words fault = (1 < length words) × RefusesWords words fault

@@ -1,0 +1,50 @@
+-- The exit status: 0 done, 1 refused input, 2 the command line, 3 memory, 4 a failed read or write.
+use Rattle.std.specs.Prelude.{◌≡◌, ◌⊎◌, ℕ, Result, Ok, Err}
+use Rattle.clap.specs.Words.{kind_of}
+use Rattle.clap.specs.declared.error.kind.ErrorKind.{ErrorKind}
+use Rattle.clap.specs.declared.error.kind.ErrorKind.TheVariants.{DisplayHelp, DisplayVersion}
+use Rattle.pv_model.specs.declared.fault.ImageFault.TheVariants.{Memory as ImageMemory}
+use Rattle.pv_model.specs.declared.fault.ManifestFault.TheVariants.{Memory as ManifestMemory}
+use Rattle.pv_model.specs.declared.run_fault.RunFault.{RunFault}
+use Rattle.pv_model.specs.declared.run_fault.RunFault.TheVariants.{Read, Image, Manifest, Schedule, Init, Memory, WriteTrace, WriteImage}
+use Rattle.pv_program.specs.declared.command.LineFault.{LineFault}
+use Rattle.pv_program.specs.declared.command.LineFault.TheVariants as line
+use Rattle.pv_program.specs.declared.fault.Fault.{Fault}
+use Rattle.pv_program.specs.declared.fault.Fault.TheVariants.{Run, Line, Words}
+
+abbrev pub run_status_of : RunFault → ℕ
+run_status_of (Image ImageMemory) = 3
+run_status_of (Image fault) = 1
+run_status_of (Manifest ManifestMemory) = 3
+run_status_of (Manifest fault) = 1
+run_status_of (Schedule n) = 1
+run_status_of (Init n) = 1
+run_status_of Memory = 3
+run_status_of Read = 4
+run_status_of WriteTrace = 4
+run_status_of WriteImage = 4
+
+-- help and the version are what was asked for; else the words are wrong
+abbrev pub kind_status : ErrorKind → ℕ
+kind_status DisplayHelp = 0
+kind_status DisplayVersion = 0
+kind_status kind = 2
+
+abbrev pub line_status : LineFault → ℕ
+line_status (line.Parser error) = kind_status (kind_of error)
+line_status line.Number = 2
+line_status line.Memory = 3
+
+abbrev pub status_of : Fault → ℕ
+status_of (Run fault) = run_status_of fault
+status_of (Line fault) = line_status fault
+status_of Words = 2
+
+-- what a run ends with
+abbrev pub status_of_result : Result (Unit {0}) Fault → ℕ
+status_of_result (Ok done) = 0
+status_of_result (Err fault) = status_of fault
+
+-- that status, or 4 where what was asked for could not be written
+abbrev pub IsStatusOf : Result (Unit {0}) Fault → ℕ → Type 0
+IsStatusOf result status = (status ≡ status_of_result result) ⊎ ((status_of_result result ≡ 0) × (status ≡ 4))

@@ -1,0 +1,3 @@
+pub mod FirstPieces
+pub mod TextLines
+pub mod WordsAndTexts

@@ -1,0 +1,153 @@
+-- Arguments, as their readers meet them.
+use Rattle.std.proofs.Common.{◌≡◌, ◌∙◌, ap, ℕ, ◌+◌, ◌-◌, ◌*◌, ◌≤◌, ◌<◌, Bool, true, false, not, cond, eqb, leb, min, [], ◌∷◌, ◌++◌, length, get_or, take, drop, Option, None, Some, refl, sym, inl, inr, arith, append_assoc, negsuc}
+use Rattle.std.specs.Prelude.{◌==◌, ◌&&◌, ◌||◌, option_map}
+use Rattle.std.specs.List.{list_all}
+use Rattle.std.proofs.lemmas.Bool.{cases_lt, lt-leb, le-leb, ne_eqb, eq-eqb}
+use Rattle.std.proofs.lemmas.List.{length-append, append-nil, drop_more, drop_all, take_all}
+use Rattle.std.proofs.lemmas.Bool.Decides.{eqb_tells}
+use Rattle.std.specs.Cmp.Lexicographic.{pointwise}
+use Rattle.pv_model.specs.declared.open_flags.OpenFlags.{OpenFlags}
+use Rattle.pv_model.specs.Bytes.{Bytes, is_empty}
+use Rattle.pv_model.specs.Grammar.Arguments.{Parsed, outside, behind_backslash, behind_x, hex_value, first_digit, onto_text, if_short, text_rest, in_range, negative_of, number_of, without_front, if_nothing_left}
+use Rattle.pv_model.specs.Grammar.Lines.{value_from, is_digit, is_decimal, decimal_of, has_leading_zero}
+use Rattle.pv_text.specs.Reading.{text_end, up_to_greatest}
+
+no_first_digit : (o : Option ℕ) → first_digit (text_rest []) o ≡ None
+no_first_digit None = refl
+no_first_digit (Some high) = refl
+
+-- what is too short for an escape is none
+pub short_escape : (bs : Bytes) → length bs < 3 → text_rest bs behind_backslash ≡ None
+short_escape [] short = refl
+short_escape (a ∷ []) short = elim (a == 120) as (λ t. cond t (text_rest [] behind_x) None ≡ None) [ true ↦ refl | false ↦ refl ]
+short_escape (a ∷ b ∷ []) short = elim (a == 120) as (λ t. cond t (text_rest (b ∷ []) behind_x) None ≡ None) [ true ↦ no_first_digit (hex_value b) | false ↦ refl ]
+short_escape (a ∷ b ∷ c ∷ bs) short = absurd (omega arith)
+
+-- a text whose front was read before
+abbrev pub onto_front : Bytes → Parsed Bytes → Parsed Bytes
+onto_front front None = None
+onto_front front (Some p) = Some (front ++ p.0, p.1)
+
+onto_more : (front : Bytes) (b : ℕ) (parsed : Parsed Bytes) → onto_front front (onto_text b parsed) ≡ onto_front (front ++ b ∷ []) parsed
+onto_more front b None = refl
+onto_more front b (Some p) = ap (λ (text : Bytes). Some (text, p.1)) (sym (append_assoc front (b ∷ []) p.0))
+
+-- what a loop over a text keeps
+abbrev pub IsFront : Bytes → Bytes → Bytes → Type 0
+IsFront front rest bytes = onto_front front (text_rest rest outside) ≡ text_rest bytes outside
+
+pub IsFront-start : (bytes : Bytes) → IsFront [] bytes bytes
+IsFront-start bytes = whole (text_rest bytes outside)
+  where
+    whole : (parsed : Parsed Bytes) → onto_front [] parsed ≡ parsed
+    whole None = refl
+    whole (Some p) = refl
+
+pub IsFront-step : (front rest bytes after : Bytes) (b : ℕ) → text_rest rest outside ≡ onto_text b (text_rest after outside) → IsFront front rest bytes → IsFront (front ++ b ∷ []) after bytes
+IsFront-step front rest bytes after b read kept = sym (onto_more front b (text_rest after outside)) ∙ ap (onto_front front) (sym read) ∙ kept
+
+past_limit : (front : Bytes) (b : ℕ) (parsed : Parsed Bytes) → length front ≡ 1100 → if_short (onto_front front (onto_text b parsed)) ≡ None
+past_limit front b None full = refl
+past_limit front b (Some p) full =
+    let t : leb (length (front ++ b ∷ p.0)) 1100 ≡ false = lt-leb _ _ (omega (arith, length-append front (b ∷ p.0))) in rw t refl
+
+-- a text that is read past its limit is none
+pub IsFront-full : (front rest bytes after : Bytes) (b : ℕ) → text_rest rest outside ≡ onto_text b (text_rest after outside) → length front ≡ 1100 → IsFront front rest bytes → if_short (text_rest bytes outside) ≡ None
+IsFront-full front rest bytes after b read full kept = ap if_short (sym kept ∙ ap (onto_front front) read) ∙ past_limit front b (text_rest after outside) full
+
+pub IsFront-ended : (front rest bytes behind : Bytes) → text_rest rest outside ≡ text_end rest → text_end rest ≡ Some ([], behind) → length front ≤ 1100 → IsFront front rest bytes → if_short (text_rest bytes outside) ≡ Some (front, behind)
+IsFront-ended front rest bytes behind read ended short kept =
+    let t : leb (length front) 1100 ≡ true = le-leb _ _ short in
+    ap if_short (sym kept ∙ ap (onto_front front) (read ∙ ended) ∙ ap (λ (text : Bytes). Some (text, behind)) (append-nil front)) ∙ rw t refl
+
+pub IsFront-none : (front rest bytes : Bytes) → text_rest rest outside ≡ text_end rest → text_end rest ≡ None → IsFront front rest bytes → if_short (text_rest bytes outside) ≡ None
+IsFront-none front rest bytes read none kept = ap if_short (sym kept ∙ ap (onto_front front) (read ∙ none))
+
+-- ---- decimals
+
+value_grows : (n : ℕ) (bs : Bytes) → n ≤ value_from n bs
+value_grows n [] = omega arith
+value_grows n (b ∷ bs) = let more = value_grows (10 * n + (b - 48)) bs in omega (arith, more)
+
+-- a number that is held at the greatest stays there
+held_at_greatest : (n : ℕ) (bs : Bytes) → up_to_greatest (value_from (up_to_greatest n) bs) ≡ up_to_greatest (value_from n bs)
+held_at_greatest n bs =
+    elim (cases_lt 4294967295 n) [
+      | inl above ↦
+          let held : up_to_greatest n ≡ 4294967295 = omega arith in
+          rw held (omega (arith, value_grows 4294967295 bs, value_grows n bs))
+      | inr within ↦ let held : up_to_greatest n ≡ n = omega arith in rw held refl
+    ]
+
+pub value_step : (v next d : ℕ) (bs : Bytes) → next ≡ min (min (v * 10) 4294967295 + (d - 48)) 4294967295
+    → up_to_greatest (value_from next bs) ≡ up_to_greatest (value_from v (d ∷ bs))
+value_step v next d bs is =
+    let same : next ≡ up_to_greatest (10 * v + (d - 48)) = omega arith in
+    rw same (held_at_greatest (10 * v + (d - 48)) bs)
+
+pub decimal_step : (digits : Bytes) (i v next total : ℕ) → i < length digits → next ≡ min (min (v * 10) 4294967295 + (get_or digits i 0 - 48)) 4294967295
+    → up_to_greatest (value_from v (drop i digits)) ≡ total → up_to_greatest (value_from next (drop (i + 1) digits)) ≡ total
+decimal_step digits i v next total within is kept =
+    value_step v next (get_or digits i 0) (drop (i + 1) digits) is ∙ ap (λ (ds : Bytes). up_to_greatest (value_from v ds)) (sym (drop_more digits i 0 within)) ∙ kept
+
+and_rest : (a b : Bool) → a ≡ true → (a && b) ≡ b
+and_rest true b e = refl
+and_rest false b e = absurd cc
+
+pub digits_step : (digits : Bytes) (i : ℕ) (all : Bool) → i < length digits → is_digit (get_or digits i 0) ≡ true
+    → list_all is_digit (drop i digits) ≡ all → list_all is_digit (drop (i + 1) digits) ≡ all
+digits_step digits i all within is kept =
+    sym (ap (list_all is_digit) (drop_more digits i 0 within) ∙ and_rest (is_digit (get_or digits i 0)) (list_all is_digit (drop (i + 1) digits)) is) ∙ kept
+
+both_hold : (none all padded : Bool) → (none || padded) ≡ false → true ≡ all → (not none && all && not padded) ≡ true
+both_hold false true false e f = refl
+both_hold false false false e f = absurd cc
+both_hold false all true e f = absurd cc
+both_hold true all padded e f = absurd cc
+
+-- what a decimal spells, when all its digits have been read
+pub decimal_is : (digits : Bytes) (v i : ℕ) → length digits ≤ i → (is_empty digits || has_leading_zero digits) ≡ false
+    → list_all is_digit (drop i digits) ≡ list_all is_digit digits → up_to_greatest (value_from v (drop i digits)) ≡ up_to_greatest (value_from 0 digits) → v ≤ 4294967295
+    → option_map up_to_greatest (decimal_of digits) ≡ Some v
+decimal_is digits v i past plain all value within =
+    let none : drop i digits ≡ [] = drop_all i digits past in
+    let t : is_decimal digits ≡ true = both_hold (is_empty digits) (list_all is_digit digits) (has_leading_zero digits) plain (ap (list_all is_digit) (sym none) ∙ all) in
+    let v-is : v ≡ up_to_greatest (value_from 0 digits) = sym (min_is v within) ∙ ap (λ (ds : Bytes). up_to_greatest (value_from v ds)) (sym none) ∙ value in
+    rw t (ap (λ n. Some n) (sym v-is))
+  where
+    min_is : (n : ℕ) → n ≤ 4294967295 → up_to_greatest n ≡ n
+    min_is n le = omega arith
+
+negative_by : (n : ℕ) (o : Option ℕ) → Some n ≡ option_map up_to_greatest o → (n ≡ 0 → ⊥) → n ≤ 2147483648 → negative_of (in_range 2147483648 o) ≡ Some (negsuc (n - 1))
+negative_by n None is some within = absurd cc
+negative_by n (Some m) is some within =
+    let least : n ≡ min m 4294967295 = cc in
+    let same : m ≡ n = omega arith in
+    let fits : leb m 2147483648 ≡ true = le-leb _ _ (omega arith) in
+    let other : eqb m 0 ≡ false = ne_eqb m 0 (λ e. some (omega arith)) in
+    rw (fits, other, same) refl
+
+-- a word that is a minus and a decimal
+pub negative_is : (word : Bytes) (n : ℕ) → get_or word 0 0 ≡ 45 → Some n ≡ option_map up_to_greatest (decimal_of (take (length word - 1) (drop 1 word)))
+    → (n ≡ 0 → ⊥) → n ≤ 2147483648 → number_of word ≡ Some (negsuc (n - 1))
+negative_is [] n minus is some within = absurd (omega arith)
+negative_is (b ∷ bs) n minus is some within =
+    let t : eqb b 45 ≡ true = eq-eqb b 45 minus in
+    let rest : take (length (b ∷ bs) - 1) bs ≡ bs = take_all (length (b ∷ bs) - 1) bs (omega arith) in
+    rw t (negative_by n (decimal_of bs) (is ∙ ap (λ (ds : Bytes). option_map up_to_greatest (decimal_of ds)) rest) some within)
+
+-- ---- flags
+
+-- what stands behind a front, by one comparison
+pub front_is : (front bs : Bytes) → without_front front bs ≡ cond (pointwise eqb (take (length front) bs) front) (Some (drop (length front) bs)) None
+front_is [] bs = refl
+front_is (a ∷ front) [] = refl
+front_is (a ∷ front) (b ∷ bs) =
+    elim (eqb_tells a b) [
+      | inl same ↦ let t : eqb b a ≡ true = eq-eqb b a (sym same.1) in rw (same.0, t) (front_is front bs)
+      | inr other ↦ let t : eqb b a ≡ false = ne_eqb b a (λ e. other.1 (sym e)) in rw (other.0, t) refl
+    ]
+
+pub something_left : (bs : Bytes) (flags : OpenFlags) → 1 ≤ length bs → if_nothing_left bs flags ≡ None
+something_left [] flags some = absurd (omega arith)
+something_left (b ∷ bs) flags some = refl

@@ -1,0 +1,24 @@
+-- What a reader that was given bytes answers, by what the bytes spell.
+use Rattle.std.specs.Prelude.{◌≡◌, ℕ, if◌then◌else◌, ◌==◌, min, [], ◌∷◌, option_map, Option, None, Some}
+use Rattle.std.specs.Borrow.{Bor}
+use Rattle.pv_model.specs.Bytes.{Bytes}
+use Rattle.pv_model.specs.Grammar.Arguments.{Parsed}
+use Rattle.pv_model.specs.Grammar.Lines.{decimal_of}
+
+-- a value and the bytes behind it are what was to be read, or nothing was to be read
+abbrev pub Reads : {A : Type 0} → Option (A × Bor Bytes) → Parsed A → Type 0
+Reads None parsed = parsed ≡ None
+Reads (Some p) parsed = parsed ≡ Some (p.0, p.1.now)
+
+-- the end of a text: its quotation mark
+abbrev pub text_end : Bytes → Parsed Bytes
+text_end [] = None
+text_end (b ∷ bs) = if b == 34 then Some ([], bs) else None
+
+-- a number, or the greatest of 32 bits where it is above that
+abbrev pub up_to_greatest : ℕ → ℕ
+up_to_greatest n = min n 4294967295
+
+-- the number that a decimal spells, held at the greatest of 32 bits
+abbrev pub held_of : Bytes → Option ℕ
+held_of word = option_map up_to_greatest (decimal_of word)

@@ -1,0 +1,176 @@
+//! The arguments of a line: each stands behind a space, and nothing stands behind the last.
+ghost use Rattle.std.specs.Prelude.{◌≡◌};
+ghost use Rattle.pv_model.specs.Grammar.Arguments.{text_at, text_or_null_at, operand_at, register_at, number_at, whence_at, origin_at, flags_at, word_at, no_argument, one_argument, two_arguments, three_arguments};
+ghost use Rattle.pv_text.specs.Reading.{held_of};
+
+use crate::lines::behind_one_space;
+use crate::texts::{text, text_or_null};
+use crate::words::{flags, number, operand, origin, register, size, whence};
+use pv_model::{OpenFlags, Operand, Origin, Register, Text, Whence};
+
+/// No argument: nothing stands there.
+pub fn no_argument(bytes: &[u8]) -> Option<()>
+    ensures { result ≡ no_argument bytes.now }
+{
+    if bytes.is_empty() { Some(()) } else { None }
+}
+
+/// One argument, a number or a register.
+pub fn one_operand(bytes: &[u8]) -> Option<Operand>
+    ensures { result ≡ one_argument operand_at bytes.now }
+{
+    let Some((operand, rest)) = operand(behind_one_space(bytes)?) else {
+        return None;
+    };
+    if rest.is_empty() { Some(operand) } else { None }
+}
+
+/// Two arguments, numbers or registers.
+pub fn two_operands(bytes: &[u8]) -> Option<(Operand, Operand)>
+    ensures { result ≡ two_arguments operand_at operand_at bytes.now }
+{
+    let Some((first, rest)) = operand(behind_one_space(bytes)?) else {
+        return None;
+    };
+    let second = one_operand(rest)?;
+    Some((first, second))
+}
+
+/// One argument, a number.
+pub fn one_number(bytes: &[u8]) -> Option<i32>
+    ensures { result ≡ one_argument number_at bytes.now }
+{
+    let (number, rest) = number(behind_one_space(bytes)?)?;
+    if rest.is_empty() { Some(number) } else { None }
+}
+
+/// Two arguments, a register and a number.
+pub fn register_and_number(bytes: &[u8]) -> Option<(Register, i32)>
+    ensures { result ≡ two_arguments register_at number_at bytes.now }
+{
+    let Some((first, rest)) = register(behind_one_space(bytes)?) else {
+        return None;
+    };
+    let second = one_number(rest)?;
+    Some((first, second))
+}
+
+// One argument, from where lseek counts.
+fn one_whence(bytes: &[u8]) -> Option<Whence>
+    ensures { result ≡ one_argument whence_at bytes.now }
+{
+    let (first, rest) = whence(behind_one_space(bytes)?)?;
+    if rest.is_empty() { Some(first) } else { None }
+}
+
+// Two arguments, a number or register, and from where lseek counts.
+fn operand_and_whence(bytes: &[u8]) -> Option<(Operand, Whence)>
+    ensures { result ≡ two_arguments operand_at whence_at bytes.now }
+{
+    let Some((first, rest)) = operand(behind_one_space(bytes)?) else {
+        return None;
+    };
+    let second = one_whence(rest)?;
+    Some((first, second))
+}
+
+/// Three arguments: two numbers or registers, and from where lseek counts.
+pub fn two_operands_and_whence(bytes: &[u8]) -> Option<(Operand, Operand, Whence)>
+    ensures { result ≡ three_arguments operand_at operand_at whence_at bytes.now }
+{
+    let Some((first, rest)) = operand(behind_one_space(bytes)?) else {
+        return None;
+    };
+    let (second, third) = operand_and_whence(rest)?;
+    Some((first, second, third))
+}
+
+/// One argument, a text: None where the bytes are not a space and a text.
+pub fn one_text(bytes: &[u8]) -> Option<Text>
+    ensures { result ≡ one_argument text_at bytes.now }
+{
+    let (text, rest) = text(behind_one_space(bytes)?)?;
+    if rest.is_empty() { Some(text) } else { None }
+}
+
+/// Two arguments, texts: None where the bytes are not that.
+pub fn two_texts(bytes: &[u8]) -> Option<(Text, Text)>
+    ensures { result ≡ two_arguments text_at text_at bytes.now }
+{
+    let (first, rest) = text(behind_one_space(bytes)?)?;
+    let second = one_text(rest)?;
+    Some((first, second))
+}
+
+// One argument, a text or nothing.
+fn one_text_or_null(bytes: &[u8]) -> Option<Option<Text>>
+    ensures { result ≡ one_argument text_or_null_at bytes.now }
+{
+    let (first, rest) = text_or_null(behind_one_space(bytes)?)?;
+    if rest.is_empty() { Some(first) } else { None }
+}
+
+/// Two arguments, each a text or nothing.
+pub fn two_texts_or_null(bytes: &[u8]) -> Option<(Option<Text>, Option<Text>)>
+    ensures { result ≡ two_arguments text_or_null_at text_or_null_at bytes.now }
+{
+    let (first, rest) = text_or_null(behind_one_space(bytes)?)?;
+    let second = one_text_or_null(rest)?;
+    Some((first, second))
+}
+
+// One argument, the flags of an open.
+fn one_flags(bytes: &[u8]) -> Option<OpenFlags>
+    ensures { result ≡ one_argument flags_at bytes.now }
+{
+    let (first, rest) = flags(behind_one_space(bytes)?)?;
+    if rest.is_empty() { Some(first) } else { None }
+}
+
+/// Two arguments, a text and the flags of an open.
+pub fn text_and_flags(bytes: &[u8]) -> Option<(Text, OpenFlags)>
+    ensures { result ≡ two_arguments text_at flags_at bytes.now }
+{
+    let (first, rest) = text(behind_one_space(bytes)?)?;
+    let second = one_flags(rest)?;
+    Some((first, second))
+}
+
+/// Three arguments: where an openat starts, a text, and the flags of an open.
+pub fn origin_text_and_flags(bytes: &[u8]) -> Option<(Origin, Text, OpenFlags)>
+    ensures { result ≡ three_arguments origin_at text_at flags_at bytes.now }
+{
+    let Some((first, rest)) = origin(behind_one_space(bytes)?) else {
+        return None;
+    };
+    let (second, third) = text_and_flags(rest)?;
+    Some((first, second, third))
+}
+
+// One argument, a decimal number.
+fn one_size(bytes: &[u8]) -> Option<u32>
+    ensures { result ≡ one_argument (word_at held_of) bytes.now }
+{
+    let (first, rest) = size(behind_one_space(bytes)?)?;
+    if rest.is_empty() { Some(first) } else { None }
+}
+
+/// Two arguments, decimal numbers without leading zeros: None where the bytes are not that. A number above
+/// 4,294,967,295 is read as that.
+pub fn two_sizes(bytes: &[u8]) -> Option<(u32, u32)>
+    ensures { result ≡ two_arguments (word_at held_of) (word_at held_of) bytes.now }
+{
+    let (first, rest) = size(behind_one_space(bytes)?)?;
+    let second = one_size(rest)?;
+    Some((first, second))
+}
+
+/// Two arguments, a text and a decimal number without leading zeros: None where the bytes are not that. A
+/// number above 4,294,967,295 is read as that.
+pub fn text_and_size(bytes: &[u8]) -> Option<(Text, u32)>
+    ensures { result ≡ two_arguments text_at (word_at held_of) bytes.now }
+{
+    let (text, rest) = text(behind_one_space(bytes)?)?;
+    let size = one_size(rest)?;
+    Some((text, size))
+}

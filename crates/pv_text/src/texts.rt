@@ -1,0 +1,100 @@
+//! Texts in quotation marks.
+ghost use Rattle.std.specs.Prelude.{◌≡◌, ◌<◌, length, None, MatchOption, IfSome};
+ghost use Rattle.pv_model.specs.Grammar.Arguments.{text_at, text_or_null_at, hex_value, text_rest, if_short, onto_text, outside, behind_backslash};
+ghost use Rattle.pv_text.specs.Reading.{Reads, text_end};
+
+use crate::lines::split_word;
+use pv_model::Text;
+use pv_model::limits::TEXT;
+
+// The value of a lower-case hexadecimal digit.
+fn hex_digit(byte: u8) -> Option<u8>
+    ensures value { result ≡ hex_value byte }
+    ensures below { IfSome result (λ n. n < 16) }
+{
+    match byte {
+        b'0'..=b'9' => Some(byte - b'0'),
+        b'a'..=b'f' => Some(byte - b'a' + 10),
+        _ => None,
+    }
+}
+
+// The byte of an escape behind its backslash, and what follows it.
+fn escape(bytes: &[u8]) -> Option<(u8, &[u8])>
+    ensures read { MatchOption result (text_rest bytes.now behind_backslash ≡ None) (λ p. text_rest bytes.now behind_backslash ≡ onto_text p.0 (text_rest p.1.now outside)) }
+    ensures shorter { IfSome result (λ p. length p.1.now < length bytes.now) }
+{
+    let [first, high, low, rest @ ..] = bytes else {
+        return None;
+    };
+    if *first != b'x' {
+        return None;
+    }
+    let byte = 16 * hex_digit(*high)? + hex_digit(*low)?;
+    if byte == 0 {
+        return None;
+    }
+    Some((byte, rest))
+}
+
+// A character of a text, and what follows it; nothing at the text's end, and where there is none.
+fn character(bytes: &[u8]) -> Option<(u8, &[u8])>
+    ensures read { MatchOption result (text_rest bytes.now outside ≡ text_end bytes.now) (λ p. text_rest bytes.now outside ≡ onto_text p.0 (text_rest p.1.now outside)) }
+    ensures shorter { IfSome result (λ p. length p.1.now < length bytes.now) }
+{
+    match bytes {
+        [] => None,
+        [first, rest @ ..] => match *first {
+            b'"' => None,
+            b'\\' => escape(rest),
+            b' '..=b'~' => Some((*first, rest)),
+            _ => None,
+        },
+    }
+}
+
+// The rest of a text behind its quotation mark, up to the one that ends it.
+fn text_behind(bytes: &[u8]) -> Option<(Text, &[u8])>
+    ensures { Reads result (if_short (text_rest bytes.now outside)) }
+{
+    let mut text = Text::empty();
+    let mut rest = bytes;
+    while let Some((byte, behind)) = character(rest) {
+        if text.len() == TEXT {
+            return None;
+        }
+        text.push(byte);
+        rest = behind;
+    }
+    match rest {
+        [b'"', behind @ ..] => Some((text, behind)),
+        _ => None,
+    }
+}
+
+/// The text in quotation marks with which the bytes begin, of at most 1,100 bytes.
+#[tactic(auto, unfolding(pv_model::specs::Grammar::Arguments::text_at))]
+pub fn text(bytes: &[u8]) -> Option<(Text, &[u8])>
+    ensures { Reads result (text_at bytes.now) }
+{
+    match bytes {
+        [b'"', rest @ ..] => text_behind(rest),
+        _ => None,
+    }
+}
+
+/// A text, or nothing where the word `null` stands.
+pub fn text_or_null(bytes: &[u8]) -> Option<(Option<Text>, &[u8])>
+    ensures { Reads result (text_or_null_at bytes.now) }
+{
+    if let [b'"', ..] = bytes {
+        let (text, rest) = text(bytes)?;
+        return Some((Some(text), rest));
+    }
+    let (word, rest) = split_word(bytes);
+    if word == b"null".as_slice() {
+        Some((None, rest))
+    } else {
+        None
+    }
+}

@@ -1,0 +1,218 @@
+//! Arguments that are one word: numbers, registers, and the flags of an open.
+ghost use Rattle.std.specs.Prelude.{◌≡◌, ◌||◌};
+ghost use Rattle.pv_model.specs.Grammar.Arguments.{register_of, register_at, number_of, number_at, operand_of, operand_at, whence_of, whence_at, origin_of, origin_at, flags_of, flags_at, flag_or_none, without_front, mode_at, word_at};
+ghost use Rattle.pv_model.specs.Grammar.Lines.{has_leading_zero};
+ghost use Rattle.pv_model.specs.Bytes.{is_empty};
+ghost use Rattle.pv_text.specs.Reading.{Reads, held_of};
+
+use crate::lines::split_word;
+use pv_model::{Mode, OpenFlags, Operand, Origin, Register, Whence};
+
+// Whether digits begin with a zero that stands before others, or are none.
+fn is_padded(digits: &[u8]) -> bool
+    ensures { result ≡ (is_empty digits.now || has_leading_zero digits.now) }
+{
+    matches!(digits, [] | [b'0', _, ..])
+}
+
+/// The number that a decimal without leading zeros spells; one above 4,294,967,295 is read as that.
+pub fn decimal(digits: &[u8]) -> Option<u32>
+    ensures { result ≡ held_of digits.now }
+{
+    if is_padded(digits) {
+        return None;
+    }
+    let mut value: u32 = 0;
+    for digit in digits {
+        if !digit.is_ascii_digit() {
+            return None;
+        }
+        value = value
+            .saturating_mul(10)
+            .saturating_add((*digit - b'0') as u32);
+    }
+    Some(value)
+}
+
+// The number of 32 bits that a word spells.
+fn number_of_word(word: &[u8]) -> Option<i32>
+    ensures { result ≡ number_of word.now }
+{
+    match word {
+        [b'-', digits @ ..] => {
+            let size = decimal(digits)?;
+            if size == 0 || size > 2_147_483_648 {
+                return None;
+            }
+            Some(-1 - (size - 1) as i32)
+        }
+        _ => {
+            let size = decimal(word)?;
+            if size > 2_147_483_647 {
+                return None;
+            }
+            Some(size as i32)
+        }
+    }
+}
+
+// The register that a word names.
+fn register_of_word(word: &[u8]) -> Option<Register>
+    ensures { result ≡ register_of word.now }
+{
+    match word {
+        [b'r', digit @ b'0'..=b'7'] => Register::new(*digit - b'0'),
+        _ => None,
+    }
+}
+
+/// A number, from -2,147,483,648 to 2,147,483,647.
+pub fn number(bytes: &[u8]) -> Option<(i32, &[u8])>
+    ensures { Reads result (number_at bytes.now) }
+{
+    let (word, rest) = split_word(bytes);
+    let number = number_of_word(word)?;
+    Some((number, rest))
+}
+
+/// A register, `r0` to `r7`.
+pub fn register(bytes: &[u8]) -> Option<(Register, &[u8])>
+    ensures { Reads result (register_at bytes.now) }
+{
+    let (word, rest) = split_word(bytes);
+    let register = register_of_word(word)?;
+    Some((register, rest))
+}
+
+// The number or the register that a word spells.
+fn operand_of_word(word: &[u8]) -> Option<Operand>
+    ensures { result ≡ operand_of word.now }
+{
+    if let Some(register) = register_of_word(word) {
+        return Some(Operand::Register(register));
+    }
+    let number = number_of_word(word)?;
+    Some(Operand::Number(number))
+}
+
+/// A number or a register.
+pub fn operand(bytes: &[u8]) -> Option<(Operand, &[u8])>
+    ensures { Reads result (operand_at bytes.now) }
+{
+    let (word, rest) = split_word(bytes);
+    let operand = operand_of_word(word)?;
+    Some((operand, rest))
+}
+
+// Where an openat starts, as a word tells it.
+fn origin_of_word(word: &[u8]) -> Option<Origin>
+    ensures { result ≡ origin_of word.now }
+{
+    if word == b"cwd".as_slice() {
+        return Some(Origin::WorkingDirectory);
+    }
+    let descriptor = operand_of_word(word)?;
+    Some(Origin::Descriptor(descriptor))
+}
+
+/// Where an openat starts: `cwd`, or the number of a descriptor or its register.
+pub fn origin(bytes: &[u8]) -> Option<(Origin, &[u8])>
+    ensures { Reads result (origin_at bytes.now) }
+{
+    let (word, rest) = split_word(bytes);
+    let origin = origin_of_word(word)?;
+    Some((origin, rest))
+}
+
+// Whether a flag, with its `+`, stands at the front of a word, and what follows it.
+fn flag<'a>(name: &[u8], word: &'a [u8]) -> (bool, &'a [u8])
+    ensures flag { result.0 ≡ (flag_or_none word.now (without_front name.now word.now)).0 }
+    ensures rest { result.1.now ≡ (flag_or_none word.now (without_front name.now word.now)).1 }
+{
+    match word.strip_prefix(name) {
+        Some(rest) => (true, rest),
+        None => (false, word),
+    }
+}
+
+// The mode with which a word begins, and what follows it.
+fn mode(word: &[u8]) -> Option<(Mode, &[u8])>
+    ensures { Reads result (mode_at word.now) }
+{
+    match word {
+        [b'r', b'w', rest @ ..] => Some((Mode::ReadWrite, rest)),
+        [b'r', rest @ ..] => Some((Mode::Read, rest)),
+        [b'w', rest @ ..] => Some((Mode::Write, rest)),
+        _ => None,
+    }
+}
+
+// The flags that a word spells.
+#[tactic(auto, unfolding(pv_model::specs::Grammar::Arguments::flags_of))]
+fn flags_of_word(word: &[u8]) -> Option<OpenFlags>
+    ensures { result ≡ flags_of word.now }
+{
+    let (mode, rest) = mode(word)?;
+    let (append, rest) = flag(b"+append", rest);
+    let (create, rest) = flag(b"+create", rest);
+    let (truncate, rest) = flag(b"+trunc", rest);
+    let (exclusive, rest) = flag(b"+excl", rest);
+    let (no_follow, rest) = flag(b"+nofollow", rest);
+    let (directory, rest) = flag(b"+dir", rest);
+    let (close_on_exec, rest) = flag(b"+cloexec", rest);
+    match rest {
+        [] => Some(OpenFlags {
+            mode,
+            append,
+            create,
+            truncate,
+            exclusive,
+            no_follow,
+            directory,
+            close_on_exec,
+        }),
+        _ => None,
+    }
+}
+
+/// The flags of an open.
+pub fn flags(bytes: &[u8]) -> Option<(OpenFlags, &[u8])>
+    ensures { Reads result (flags_at bytes.now) }
+{
+    let (word, rest) = split_word(bytes);
+    let flags = flags_of_word(word)?;
+    Some((flags, rest))
+}
+
+// From where lseek counts, as a word tells it.
+fn whence_of_word(word: &[u8]) -> Option<Whence>
+    ensures { result ≡ whence_of word.now }
+{
+    if word == b"set".as_slice() {
+        Some(Whence::Set)
+    } else if word == b"cur".as_slice() {
+        Some(Whence::Current)
+    } else if word == b"end".as_slice() {
+        Some(Whence::End)
+    } else {
+        None
+    }
+}
+
+/// From where lseek counts: `set`, `cur` or `end`.
+pub fn whence(bytes: &[u8]) -> Option<(Whence, &[u8])>
+    ensures { Reads result (whence_at bytes.now) }
+{
+    let (word, rest) = split_word(bytes);
+    let whence = whence_of_word(word)?;
+    Some((whence, rest))
+}
+
+/// A decimal number, held at 4,294,967,295.
+pub fn size(bytes: &[u8]) -> Option<(u32, &[u8])>
+    ensures { Reads result (word_at held_of bytes.now) }
+{
+    let (word, rest) = split_word(bytes);
+    let size = decimal(word)?;
+    Some((size, rest))
+}
