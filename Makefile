@@ -2,6 +2,8 @@
 #
 #   make          the proved program at bin/pvsim
 #   make demo     the main job at once, before any proof
+#   make try FILE=examples/held.bundle   any bundle, before any proof
+#   make examples every bundle of examples/, its trace compared, before any proof
 #   make test     the gate: every proof from nothing, the wrong bodies, the tests, the program
 #   make check    every crate, over what earlier checks kept
 #   make bench    proves and runs the benchmark, and prints times
@@ -9,11 +11,13 @@
 
 PREFIX ?= /usr/local
 
-.PHONY: all demo test check bench install clean
+.PHONY: all demo try examples test check bench install clean
 
 all: bin/pvsim
 
-bin/pvsim:
+SOURCES := crates.txt $(shell find crates -path '*/out' -prune -o \( -name '*.rt' -o -name '*.antt' \) -print)
+
+bin/pvsim: $(SOURCES)
 	cd crates/pv_cli && rt run < stdin > /dev/null
 	mkdir -p bin
 	cp crates/pv_cli/out/pv_cli bin/pvsim
@@ -23,8 +27,16 @@ demo:
 	@echo '--- its trace:'
 	@cd crates/pv_cli && rt try < ../../examples/motd.bundle
 
+try:
+	@test -n "$(FILE)" || { echo 'usage: make try FILE=bundle'; exit 2; }
+	@test -r "$(FILE)" || { echo 'no file $(FILE)'; exit 2; }
+	@cd crates/pv_cli && rt try < "$(abspath $(FILE))"
+
+examples:
+	@tools/examples
+
 test:
-	rt ci
+	tools/gate
 
 check:
 	rt all check
