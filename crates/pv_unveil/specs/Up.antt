@@ -1,7 +1,23 @@
--- The way up from a directory.
-use Rattle.std.specs.Prelude.{ℕ, Option, None, if◌then◌else◌, ◌==◌}
-use Rattle.pv_model.specs.Tree.{Tree, root, parent}
+-- The way up from a directory, and from which one a place's rights come.
+use Rattle.std.specs.Prelude.{◌≡◌, ℕ, IsTrue, Option, None, Ok, if◌then◌else◌, ◌==◌}
+use Rattle.pv_model.specs.declared.follow.Follow.{Follow}
+use Rattle.pv_model.specs.declared.place.Place.{Place}
+use Rattle.pv_model.specs.declared.place.Place.TheVariants.{At, Node as Unnamed}
+use Rattle.pv_model.specs.Bytes.{Bytes}
+use Rattle.pv_model.specs.Tree.{Tree, root, is_directory_at, parent, IsWellFormed}
+use Rattle.pv_model.specs.Walk.{resolve}
 
 -- the directory above, which neither the root nor a removed directory has
 abbrev pub up : Tree → ℕ → Option ℕ
 up t d = if d == root then None else parent t d
+
+-- the directory of a place: the one in which its name stands, or the node itself where it has no name
+abbrev pub directory_of : Place → ℕ
+directory_of (Unnamed d) = d
+directory_of (At d name n) = d
+
+-- a path leads from a directory to a place of a directory
+abbrev pub LeadsToDirectory : Type 0
+LeadsToDirectory =
+    (t : Tree) → IsWellFormed t → (follow : Follow) (start : ℕ) (path : Bytes) (place : Place) → IsTrue (is_directory_at t start)
+    → resolve t follow start path ≡ Ok place → IsTrue (is_directory_at t (directory_of place))

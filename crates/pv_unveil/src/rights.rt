@@ -1,17 +1,20 @@
 //! The entry that governs a place, and what it says.
-ghost use Rattle.std.specs.Prelude.{◌≡◌, ◌≤◌, length};
+ghost use Rattle.std.specs.Prelude.{◌≡◌, ◌≤◌, length, IsTrue};
+ghost use Rattle.pv_model.specs.Tree.{is_directory_at};
 ghost use Rattle.pv_model.specs.Unveil.{directory_rights, governing_entry, judge_entry, judgement};
-ghost use Rattle.pv_unveil.specs.Up.{up};
+ghost use Rattle.pv_unveil.specs.Up.{up, directory_of};
 ghost use Rattle.pv_unveil.specs.Unveiled.{in_force};
 
 use crate::entries::{entry_for_directory, entry_for_name, letters_at};
 use pv_model::limits::ROOT;
-use pv_model::{Judgement, Perms, Place, PlainTree, Target};
+use pv_model::{Judgement, Perms, Place, Target};
+use pv_tree::Tree;
 
 // The directory from which a directory has its rights where it has no entry: none for the root, and none
 // for a removed one.
-fn above(tree: &PlainTree, directory: u16) -> Option<u16>
-    ensures { result ≡ up tree.now directory }
+fn above(tree: &Tree, directory: u16) -> Option<u16>
+    requires { IsTrue (is_directory_at tree.now.tree directory) }
+    ensures { result ≡ up tree.now.tree directory }
 {
     if directory == ROOT {
         None
@@ -21,12 +24,13 @@ fn above(tree: &PlainTree, directory: u16) -> Option<u16>
 }
 
 // The entry that governs a directory: its own, or else that of the nearest directory above.
-fn directory_rights(entries: &[(Target, Perms)], tree: &PlainTree, directory: u16) -> Option<u8>
-    requires { length entries.now ≤ 64 }
-    ensures { result ≡ directory_rights tree.now entries.now directory }
+fn directory_rights(entries: &[(Target, Perms)], tree: &Tree, directory: u16) -> Option<u8>
+    requires few { length entries.now ≤ 64 }
+    requires directory { IsTrue (is_directory_at tree.now.tree directory) }
+    ensures { result ≡ directory_rights tree.now.tree entries.now directory }
 {
     let mut at = directory;
-    for _climbed in 0..tree.numbers() + 1 {
+    for _climbed in 0..tree.sizes().inodes + 2 {
         if let Some(k) = entry_for_directory(entries, at) {
             return Some(k);
         }
@@ -38,9 +42,10 @@ fn directory_rights(entries: &[(Target, Perms)], tree: &PlainTree, directory: u1
 // The entry that governs a place: of a directory the one that governs it, and of a name its own, or else
 // the one that governs the directory in which it stands.
 #[tactic(auto, unfolding(pv_model::specs::Unveil::governing_entry))]
-fn governing_entry(entries: &[(Target, Perms)], tree: &PlainTree, place: &Place) -> Option<u8>
-    requires { length entries.now ≤ 64 }
-    ensures { result ≡ governing_entry tree.now entries.now place.now }
+fn governing_entry(entries: &[(Target, Perms)], tree: &Tree, place: &Place) -> Option<u8>
+    requires few { length entries.now ≤ 64 }
+    requires directory { IsTrue (is_directory_at tree.now.tree (directory_of place.now)) }
+    ensures { result ≡ governing_entry tree.now.tree entries.now place.now }
 {
     match place {
         Place::Node(node) => directory_rights(entries, tree, *node),
@@ -58,8 +63,8 @@ fn governing_entry(entries: &[(Target, Perms)], tree: &PlainTree, place: &Place)
     }
 }
 
-// What an entry says, where one governs.
-fn judge_entry(entries: &[(Target, Perms)], governing: Option<u8>, needed: Perms) -> Judgement
+/// What an entry says, where one governs.
+pub(crate) fn judge_entry(entries: &[(Target, Perms)], governing: Option<u8>, needed: Perms) -> Judgement
     ensures { result ≡ judge_entry entries.now needed governing }
 {
     match governing {
@@ -78,12 +83,13 @@ fn judge_entry(entries: &[(Target, Perms)], governing: Option<u8>, needed: Perms
 #[tactic(auto, unfolding(pv_model::specs::Unveil::judgement))]
 pub(crate) fn judge_in(
     entries: &[(Target, Perms)],
-    tree: &PlainTree,
+    tree: &Tree,
     place: &Place,
     needed: Perms,
 ) -> Judgement
-    requires { length entries.now ≤ 64 }
-    ensures { result ≡ judgement tree.now (in_force entries.now) place.now needed }
+    requires few { length entries.now ≤ 64 }
+    requires directory { IsTrue (is_directory_at tree.now.tree (directory_of place.now)) }
+    ensures { result ≡ judgement tree.now.tree (in_force entries.now) place.now needed }
 {
     match entries {
         [] => Judgement::Allowed,

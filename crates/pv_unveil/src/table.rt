@@ -5,10 +5,11 @@ ghost use Rattle.pv_model.specs.Unveil.{entry_for, letters_at};
 ghost use Rattle.pv_unveil.specs.Added.{refusal, put_in};
 
 use crate::entries::{entry_for, letters_at};
-use crate::rights::judge_in;
+use crate::{plain, rights};
 use arrayvec::ArrayVec;
 use pv_model::limits::UNVEILS;
 use pv_model::{Judgement, Perms, Place, PlainTree, Target};
+use pv_tree::Tree;
 use std::marker::Model;
 
 /// Why an entry cannot be added, unveil(2): the first of these that applies.
@@ -81,8 +82,10 @@ fn put(
 impl Table {
     ghost use Rattle.std.specs.Option.{IsSomeAnd};
     ghost use Rattle.pv_model.specs.Calls.Restraints.{entries_of_table};
+    ghost use Rattle.pv_model.specs.Tree.{is_directory_at};
     ghost use Rattle.pv_model.specs.Unveil.{judgement};
     ghost use Rattle.pv_unveil.specs.Judged.{IsJudged};
+    ghost use Rattle.pv_unveil.specs.Up.{directory_of};
     ghost use Rattle.pv_unveil.specs.Added.{add_to};
 
     /// No table, and no lock.
@@ -190,14 +193,24 @@ impl Table {
         }
     }
 
-    /// What the table says of a place, for the letters that a call needs.
+    /// What the table says of a place, for the letters that a call needs, unveil(2).
     ///
     /// Where there is no entry, each place is allowed. Else it is judged by the entry that governs it: a place
-    /// that none governs is hidden, and one whose entry lacks a letter is denied.
-    pub fn judge(&self, tree: &PlainTree, place: &Place, needed: Perms) -> Judgement
+    /// that none governs is hidden, and one whose entry lacks a letter is denied. The place's name stands in a
+    /// directory of the tree, or its node is one: so it is with each place that a path leads to.
+    pub fn judge(&self, tree: &Tree, place: &Place, needed: Perms) -> Judgement
+        requires { IsTrue (is_directory_at tree.now.tree (directory_of place.now)) }
+        ensures value { result ≡ judgement tree.now.tree self.now.table place.now needed }
+        ensures by_entry { IsJudged tree.now.tree self.now.table place.now needed result }
+    {
+        rights::judge_in(self.entries.as_slice(), tree, place, needed)
+    }
+
+    /// The same of a place of a plain tree.
+    pub fn judge_plain(&self, tree: &PlainTree, place: &Place, needed: Perms) -> Judgement
         ensures value { result ≡ judgement tree.now self.now.table place.now needed }
         ensures by_entry { IsJudged tree.now self.now.table place.now needed result }
     {
-        judge_in(self.entries.as_slice(), tree, place, needed)
+        plain::judge_in(self.entries.as_slice(), tree, place, needed)
     }
 }

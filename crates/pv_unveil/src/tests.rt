@@ -1,7 +1,12 @@
 //! Small tables, and what they say of the places of a small tree.
+ghost use Rattle.std.specs.Prelude.{◌≤◌, IsTrue};
+ghost use Rattle.pv_model.specs.declared.version.Version.{Version};
+ghost use Rattle.pv_model.specs.Tree.{is_node};
+ghost use Rattle.pv_tree.specs.Changes.{new_node};
 
 use crate::{AddFault, Table};
-use pv_model::{Judgement, Name, Perms, Place, PlainNode, PlainTree, Target};
+use pv_model::{Judgement, Kind, Name, Perms, Place, PlainNode, PlainTree, Target, Version, is_name};
+use pv_tree::{Space, Store, Tree};
 use std::alloc::{AllocError, Global};
 use std::process::Abort;
 use std::test::Fail;
@@ -20,14 +25,173 @@ const RW: Perms = Perms {
     c: false,
 };
 
-fn name(rt: &impl Abort, text: &str) -> Name {
-    Name::new(text.as_bytes()).expect(rt, "a short name")
+fn name(rt: &impl Abort, text: &[u8]) -> Name {
+    Name::new(text).expect(rt, "a short name")
+}
+
+fn make(
+    rt: &impl Abort,
+    tree: &mut Tree,
+    directory: u16,
+    name: &[u8],
+    kind: Kind,
+) -> Result<u16, Space>
+    requires { (v : Version) → IsTrue (is_node v (new_node kind)) }
+{
+    assert!(rt; tree.is_directory(directory));
+    assert!(rt; tree.parent(directory).is_some());
+    assert!(rt; tree.find(directory, name).is_none());
+    assert!(rt; is_name(tree.sizes().version, name));
+    tree.make(directory, name, kind)
+}
+
+// Takes the name of a directory without entries away, which is held from then on.
+fn remove(rt: &impl Abort, tree: &mut Tree, directory: u16, name: &[u8]) {
+    assert!(rt; tree.is_directory(directory));
+    let node = tree.find(directory, name).expect(rt, "the name is there");
+    assert!(rt; tree.is_used(node));
+    assert!(rt; tree.holds(node) == 0);
+    tree.hold(node);
+    assert!(rt; tree.is_directory(directory));
+    assert_eq!(rt; tree.find(directory, name), Some(node));
+    assert!(rt; tree.is_directory(node));
+    assert!(rt; tree.is_empty(node));
+    tree.unlink(directory, name);
+}
+
+// A tree of the root alone, in an image of so many blocks and 16 inodes.
+fn empty_tree(alloc: Global, blocks: u16) -> Result<Tree, AllocError>
+    requires some { 8 ≤ blocks }
+    requires few { blocks ≤ 100 }
+{
+    let zeros = vec![in alloc; 0; 512 * blocks as usize]?;
+    Ok(Store::empty(zeros, blocks, 16, Version::V1).into_tree())
+}
+
+// The directories /a (2) and /a/b (3), the files /f (4), /a/x (5) and /a/b/x (6), and a directory (7) that
+// was /a/b/r and is removed.
+fn small_tree(rt: &impl Abort, alloc: Global) -> Result<Tree, AllocError> {
+    let mut tree = empty_tree(alloc, 10)?;
+    assert_eq!(rt; make(rt, &mut tree, 1, b"a", Kind::Directory), Ok(2));
+    assert_eq!(rt; make(rt, &mut tree, 2, b"b", Kind::Directory), Ok(3));
+    assert_eq!(rt; make(rt, &mut tree, 1, b"f", Kind::File), Ok(4));
+    assert_eq!(rt; make(rt, &mut tree, 2, b"x", Kind::File), Ok(5));
+    assert_eq!(rt; make(rt, &mut tree, 3, b"x", Kind::File), Ok(6));
+    assert_eq!(rt; make(rt, &mut tree, 3, b"r", Kind::Directory), Ok(7));
+    remove(rt, &mut tree, 3, b"r");
+    Ok(tree)
+}
+
+// What is said of a name in a directory, with what is there under it.
+fn judge_name(
+    rt: &impl Abort,
+    table: &Table,
+    tree: &Tree,
+    dir: u16,
+    text: &[u8],
+    needed: Perms,
+) -> Judgement {
+    assert!(rt; tree.is_directory(dir));
+    let place = Place::At {
+        dir,
+        name: name(rt, text),
+        node: tree.find(dir, text),
+    };
+    table.judge(tree, &place, needed)
+}
+
+// What is said of a directory without a name.
+fn judge_node(
+    rt: &impl Abort,
+    table: &Table,
+    tree: &Tree,
+    directory: u16,
+    needed: Perms,
+) -> Judgement {
+    assert!(rt; tree.is_directory(directory));
+    table.judge(tree, &Place::Node(directory), needed)
+}
+
+#[test]
+fn without_entries_all_is_allowed(rt: HostRuntime) -> Result<(), Fail> {
+    let tree = small_tree(&rt, rt.alloc())?;
+    let table = Table::new();
+    assert_eq!(rt; judge_name(&rt, &table, &tree, 1, b"f", RW), Judgement::Allowed);
+    assert_eq!(rt; judge_name(&rt, &table, &tree, 3, b"new", RW), Judgement::Allowed);
+    assert_eq!(rt; judge_node(&rt, &table, &tree, 7, RW), Judgement::Allowed);
+    Ok(())
+}
+
+#[test]
+fn judges_by_the_nearest_entry(rt: HostRuntime) -> Result<(), Fail> {
+    let tree = small_tree(&rt, rt.alloc())?;
+    let mut table = Table::new();
+    assert_eq!(rt; table.add(Target::Directory(2), R), Ok(0));
+    assert_eq!(rt; judge_name(&rt, &table, &tree, 3, b"x", R), Judgement::Allowed);
+    assert_eq!(rt; table.add(Target::Directory(3), Perms::NONE), Ok(1));
+    assert_eq!(rt; judge_name(&rt, &table, &tree, 2, b"x", R), Judgement::Allowed);
+    assert_eq!(rt; judge_name(&rt, &table, &tree, 2, b"x", RW), Judgement::Denied(0));
+    assert_eq!(rt; judge_name(&rt, &table, &tree, 2, b"new", RW), Judgement::Denied(0));
+    assert_eq!(rt; judge_name(&rt, &table, &tree, 3, b"x", R), Judgement::Denied(1));
+    assert_eq!(rt; judge_name(&rt, &table, &tree, 2, b"b", R), Judgement::Denied(1));
+    assert_eq!(rt; judge_name(&rt, &table, &tree, 1, b"a", R), Judgement::Allowed);
+    assert_eq!(rt; judge_node(&rt, &table, &tree, 2, R), Judgement::Allowed);
+    Ok(())
+}
+
+#[test]
+fn hides_what_no_entry_governs(rt: HostRuntime) -> Result<(), Fail> {
+    let tree = small_tree(&rt, rt.alloc())?;
+    let mut table = Table::new();
+    assert_eq!(rt; table.add(Target::Directory(2), RW), Ok(0));
+    assert_eq!(rt; judge_name(&rt, &table, &tree, 1, b"f", R), Judgement::Hidden);
+    assert_eq!(rt; judge_name(&rt, &table, &tree, 1, b"new", R), Judgement::Hidden);
+    assert_eq!(rt; judge_node(&rt, &table, &tree, 1, R), Judgement::Hidden);
+    Ok(())
+}
+
+#[test]
+fn a_removed_directory_has_nothing_from_above(rt: HostRuntime) -> Result<(), Fail> {
+    let tree = small_tree(&rt, rt.alloc())?;
+    let mut table = Table::new();
+    assert_eq!(rt; table.add(Target::Directory(1), RW), Ok(0));
+    assert_eq!(rt; judge_node(&rt, &table, &tree, 3, R), Judgement::Allowed);
+    assert_eq!(rt; judge_node(&rt, &table, &tree, 7, R), Judgement::Hidden);
+    assert_eq!(rt; table.add(Target::Directory(7), R), Ok(1));
+    assert_eq!(rt; judge_node(&rt, &table, &tree, 7, R), Judgement::Allowed);
+    assert_eq!(rt; judge_node(&rt, &table, &tree, 7, RW), Judgement::Denied(1));
+    Ok(())
+}
+
+#[test]
+fn judges_by_a_name(rt: HostRuntime) -> Result<(), Fail> {
+    let mut tree = small_tree(&rt, rt.alloc())?;
+    let mut table = Table::new();
+    let file = Target::Name {
+        dir: 1,
+        name: name(&rt, b"f"),
+    };
+    let new = Target::Name {
+        dir: 2,
+        name: name(&rt, b"new"),
+    };
+    assert_eq!(rt; table.add(file, R), Ok(0));
+    assert_eq!(rt; table.add(new, RW), Ok(1));
+    assert_eq!(rt; judge_name(&rt, &table, &tree, 1, b"f", R), Judgement::Allowed);
+    assert_eq!(rt; judge_name(&rt, &table, &tree, 1, b"f", RW), Judgement::Denied(0));
+    assert_eq!(rt; judge_name(&rt, &table, &tree, 1, b"foo", R), Judgement::Hidden);
+    assert_eq!(rt; judge_name(&rt, &table, &tree, 2, b"f", R), Judgement::Hidden);
+    // The name is not there yet; once a directory is, it goes by what is above it.
+    assert_eq!(rt; judge_name(&rt, &table, &tree, 2, b"new", RW), Judgement::Allowed);
+    assert_eq!(rt; make(&rt, &mut tree, 2, b"new", Kind::Directory), Ok(8));
+    assert_eq!(rt; judge_name(&rt, &table, &tree, 2, b"new", R), Judgement::Hidden);
+    Ok(())
 }
 
 fn directory(
     rt: &impl Abort,
     alloc: Global,
-    entries: &[(&str, u16)],
+    entries: &[(&[u8], u16)],
 ) -> Result<Option<PlainNode>, AllocError> {
     let mut kept = Vec::new(alloc);
     for entry in entries {
@@ -36,81 +200,27 @@ fn directory(
     Ok(Some(PlainNode::Directory(kept)))
 }
 
-fn file(alloc: Global) -> Option<PlainNode> {
-    Some(PlainNode::File {
-        executable: false,
-        bytes: Vec::new(alloc),
-    })
-}
-
-// The directories /a (2) and /a/b (3), the files /f (4), /a/x (5) and /a/b/x (6), and a removed directory (7).
-fn small_tree(rt: &impl Abort, alloc: Global) -> Result<PlainTree, AllocError> {
+#[test]
+fn judges_places_of_a_plain_tree(rt: HostRuntime) -> Result<(), Fail> {
+    let alloc = rt.alloc();
     let nodes = vec![in alloc;
         None,
-        directory(rt, alloc, &[("a", 2), ("f", 4)])?,
-        directory(rt, alloc, &[("b", 3), ("x", 5)])?,
-        directory(rt, alloc, &[("x", 6)])?,
-        file(alloc),
-        file(alloc),
-        file(alloc),
-        directory(rt, alloc, &[])?,
+        directory(&rt, alloc, &[(b"a", 2)])?,
+        directory(&rt, alloc, &[])?,
+        directory(&rt, alloc, &[])?,
     ]?;
-    Ok(PlainTree::of_nodes(nodes, 16, 7))
-}
-
-fn at(rt: &impl Abort, dir: u16, text: &str, node: Option<u16>) -> Place {
-    Place::At {
-        dir,
-        name: name(rt, text),
-        node,
-    }
-}
-
-#[test]
-fn judges_by_the_nearest_entry(rt: HostRuntime) -> Result<(), Fail> {
-    let tree = small_tree(&rt, rt.alloc())?;
+    let tree = PlainTree::of_nodes(nodes, 16, 3);
     let mut table = Table::new();
-    let x = at(&rt, 2, "x", Some(5));
-    let below = at(&rt, 3, "x", Some(6));
-    let above = at(&rt, 1, "f", Some(4));
-    assert_eq!(rt; table.judge(&tree, &above, RW), Judgement::Allowed);
-    assert_eq!(rt; table.add(Target::Directory(2), R), Ok(0));
-    assert_eq!(rt; table.add(Target::Directory(3), Perms::NONE), Ok(1));
-    assert_eq!(rt; table.judge(&tree, &x, R), Judgement::Allowed);
-    assert_eq!(rt; table.judge(&tree, &x, RW), Judgement::Denied(0));
-    assert_eq!(rt; table.judge(&tree, &below, R), Judgement::Denied(1));
-    assert_eq!(rt; table.judge(&tree, &above, R), Judgement::Hidden);
-    assert_eq!(rt; table.judge(&tree, &Place::Node(1), R), Judgement::Hidden);
-    assert_eq!(rt; table.judge(&tree, &Place::Node(2), R), Judgement::Allowed);
-    assert_eq!(rt; table.judge(&tree, &Place::Node(7), R), Judgement::Hidden);
-    Ok(())
-}
-
-#[test]
-fn judges_by_a_name(rt: HostRuntime) -> Result<(), Fail> {
-    let tree = small_tree(&rt, rt.alloc())?;
-    let mut table = Table::new();
-    let file = Target::Name {
-        dir: 1,
-        name: name(&rt, "f"),
+    let new = Place::At {
+        dir: 2,
+        name: name(&rt, b"new"),
+        node: None,
     };
-    assert_eq!(rt; table.add(file, R), Ok(0));
-    assert_eq!(rt;
-        table.judge(&tree, &at(&rt, 1, "f", Some(4)), R),
-        Judgement::Allowed
-    );
-    assert_eq!(rt;
-        table.judge(&tree, &at(&rt, 1, "f", None), RW),
-        Judgement::Denied(0)
-    );
-    assert_eq!(rt;
-        table.judge(&tree, &at(&rt, 1, "foo", None), R),
-        Judgement::Hidden
-    );
-    assert_eq!(rt;
-        table.judge(&tree, &at(&rt, 2, "f", None), R),
-        Judgement::Hidden
-    );
+    assert_eq!(rt; table.add(Target::Directory(2), R), Ok(0));
+    assert_eq!(rt; table.judge_plain(&tree, &new, R), Judgement::Allowed);
+    assert_eq!(rt; table.judge_plain(&tree, &new, RW), Judgement::Denied(0));
+    assert_eq!(rt; table.judge_plain(&tree, &Place::Node(1), R), Judgement::Hidden);
+    assert_eq!(rt; table.judge_plain(&tree, &Place::Node(3), R), Judgement::Hidden);
     Ok(())
 }
 
@@ -136,7 +246,7 @@ fn goes_or_stays_at_execve(rt: HostRuntime) {
     let mut table = Table::new();
     let named = Target::Name {
         dir: 1,
-        name: name(&rt, "f"),
+        name: name(&rt, b"f"),
     };
     assert_eq!(rt; table.add(Target::Directory(2), RW), Ok(0));
     assert_eq!(rt; table.add(named, R), Ok(1));

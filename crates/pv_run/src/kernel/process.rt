@@ -208,7 +208,7 @@ impl Process {
     pub(crate) fn judge(&self, tree: &PlainTree, place: &Place, needed: Perms) -> Judgement
         ensures { result ≡ judgement tree.now self.now.process.table place.now needed }
     {
-        self.unveiled.judge(tree, place, needed)
+        self.unveiled.judge_plain(tree, place, needed)
     }
 
     /// The least number that is free for a descriptor and its open file, if there is one.

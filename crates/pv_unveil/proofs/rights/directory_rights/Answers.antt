@@ -1,33 +1,41 @@
-use Rattle.std.proofs.Common.{◌-◌, ℕ, suc, sym, ◌∙◌, arith}
-use Rattle.pv_unveil.proofs.Climbing.{climb-own, climb-above, climb-top, directory_rights-climb}
+use Rattle.std.proofs.Common.{◌+◌, ◌-◌, ℕ, suc, sym, ◌∙◌, arith}
+use Rattle.pv_unveil.proofs.Climbing.{climb-own, climb-above, climb-top, directory_rights-inodes, up-directory}
 use Rattle.pv_unveil.proofs.rights.directory_rights.Goals as goal
 
 pub returns-in-Some : goal.returns-in-Some
 returns-in-Some c =
-    let t = c.args.tree.now in
+    let t = c.args.tree.now.tree in
     let table = c.args.entries.now in
-    let left : ℕ = c.numbers-climbed-end.result - c.loop-climbed._climbed in
+    let inodes = c.sizes-climbed-end.result.inodes in
+    let left : ℕ = inodes + 1 - c.loop-climbed._climbed in
     let own = climb-own t table left c.loop-climbed.at c.in-Some.k (sym c.entry_for_directory.ensures.value ∙ c.in-Some.is) in
-    let so_far = c.loop-climbed.invariant (suc left) (omega arith) in
-    let all = directory_rights-climb t table c.numbers-climbed-end.result c.args.directory c.numbers-climbed-end.ensures.value in
+    let so_far = c.loop-climbed.invariant.1 (suc left) (omega (arith, c.loop-climbed-test.true)) in
+    let all = directory_rights-inodes t table inodes c.args.directory c.sizes-climbed-end.ensures.standing.well_formed.numbers c.sizes-climbed-end.ensures.inodes in
     sym own ∙ so_far ∙ sym all
 
 pub returns-in_err-at : goal.returns-in_err-at
 returns-in_err-at c =
-    let t = c.args.tree.now in
+    let t = c.args.tree.now.tree in
     let table = c.args.entries.now in
-    let left : ℕ = c.numbers-climbed-end.result - c.loop-climbed._climbed in
+    let inodes = c.sizes-climbed-end.result.inodes in
+    let left : ℕ = inodes + 1 - c.loop-climbed._climbed in
     let top = climb-top t table left c.loop-climbed.at (sym c.entry_for_directory.ensures.value ∙ c.in_default.is) (sym c.above.ensures ∙ c.in_err-at.was) in
-    let so_far = c.loop-climbed.invariant (suc left) (omega arith) in
-    let all = directory_rights-climb t table c.numbers-climbed-end.result c.args.directory c.numbers-climbed-end.ensures.value in
+    let so_far = c.loop-climbed.invariant.1 (suc left) (omega (arith, c.loop-climbed-test.true)) in
+    let all = directory_rights-inodes t table inodes c.args.directory c.sizes-climbed-end.ensures.standing.well_formed.numbers c.sizes-climbed-end.ensures.inodes in
     c.from_residual.ensures ∙ sym top ∙ so_far ∙ sym all
 
 pub loop-climbed-preserved : goal.loop-climbed-preserved
-loop-climbed-preserved c = λ left total.
-    let above = climb-above c.args.tree.now c.args.entries.now left c.loop-climbed.at c.in_ok-at.at (sym c.entry_for_directory.ensures.value ∙ c.in_default.is) (sym c.above.ensures ∙ c.in_ok-at.was) in
-    sym above ∙ c.loop-climbed.invariant (suc left) (omega arith)
+loop-climbed-preserved c =
+    let t = c.args.tree.now.tree in
+    let up = sym c.above.ensures ∙ c.in_ok-at.was in (
+      up-directory t c.sizes-climbed-end.ensures.standing.well_formed c.loop-climbed.at c.in_ok-at.at up,
+      λ left total.
+      let above = climb-above t c.args.entries.now left c.loop-climbed.at c.in_ok-at.at (sym c.entry_for_directory.ensures.value ∙ c.in_default.is) up in
+      sym above ∙ c.loop-climbed.invariant.1 (suc left) (omega (arith, total)),
+    )
 
 pub returns : goal.returns
 returns c =
-    let all = directory_rights-climb c.args.tree.now c.args.entries.now c.numbers-climbed-end.result c.args.directory c.numbers-climbed-end.ensures.value in
-    c.loop-climbed.invariant 0 (omega arith) ∙ sym all
+    let inodes = c.sizes-climbed-end.result.inodes in
+    let all = directory_rights-inodes c.args.tree.now.tree c.args.entries.now inodes c.args.directory c.sizes-climbed-end.ensures.standing.well_formed.numbers c.sizes-climbed-end.ensures.inodes in
+    c.loop-climbed.invariant.1 0 (omega (arith, c.loop-climbed.auto._climbed-end, c.loop-climbed-test.false)) ∙ sym all

@@ -8,7 +8,7 @@ use Rattle.pv_unveil.proofs.table.Table.judge.Goals as goal
 
 pub returns-clause-by_entry : goal.returns-clause-by_entry
 returns-clause-by_entry c =
-    let t = c.args.tree.now in
+    let t = c.args.tree.now.tree in
     let table = c.args.self.now.table in
     let place = c.args.place.now in
     let needed = c.args.needed in

@@ -1,0 +1,5 @@
+use Rattle.pv_unveil.proofs.Climbing.{resolve-directory}
+use Rattle.pv_unveil.proofs.law.leads_to_directory.Goals as goal
+
+pub returns : goal.returns
+returns c = resolve-directory
