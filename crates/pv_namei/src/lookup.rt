@@ -1,7 +1,7 @@
 //! How a walk finds the entries of directories.
 ghost use Rattle.std.specs.Prelude.{◌≡◌, ℕ, List, Option, IsTrue};
 ghost use Rattle.pv_model.specs.Tree.{is_directory_at, find_entry};
-ghost use Rattle.pv_namei.specs.Lookup.{AlikeBut};
+ghost use Rattle.pv_tree_laws.specs.Found.{Alike, AlikeBut};
 
 use pv_tree::Tree;
 
@@ -26,7 +26,7 @@ pub trait Lookup {
         ensures { (map other : ℕ → List ℕ → Option ℕ) → agrees self.old map → AlikeBut directory name.now map other → agrees self.new other };
 
     /// It agrees with a map that answers as another does with which it agrees.
-    ghost same_answers: { (lookup : Self) → (map other : ℕ → List ℕ → Option ℕ) → agrees lookup map → ((d : ℕ) → (n : List ℕ) → other d n ≡ map d n) → agrees lookup other };
+    ghost same_answers: { (lookup : Self) → (map other : ℕ → List ℕ → Option ℕ) → agrees lookup map → Alike map other → agrees lookup other };
 }
 
 /// A lookup that keeps nothing: it asks the tree each time.

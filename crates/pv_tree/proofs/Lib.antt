@@ -10,5 +10,6 @@ pub mod Rooms
 pub mod Making
 pub mod Made
 pub mod Moving
+pub mod Elsewhere
 pub mod Beginning
 pub mod Contents

@@ -25,7 +25,7 @@ no_entry t d name n empty found = let none : find_entry t d name ≡ None = ap (
 -- ---- another node without entries in a place
 
 -- where the node's entries stay, all entries do
-same_entries : (t : Tree) (m : ℕ) (node : Node) → m < length t.nodes → entries_of (Some node) ≡ entries_at t m → (d : ℕ) → entries_at (with_node t m node) d ≡ entries_at t d
+pub same_entries : (t : Tree) (m : ℕ) (node : Node) → m < length t.nodes → entries_of (Some node) ≡ entries_at t m → (d : ℕ) → entries_at (with_node t m node) d ≡ entries_at t d
 same_entries t m node below same d =
     ⊎_elim (λ here. ap (entries_at (with_node t m node)) here ∙ ap entries_of (node_at-same t m node below) ∙ same ∙ ap (entries_at t) (sym here))
     (λ away. entries-beside t m node d below away) (cases_eq d m)

@@ -11,3 +11,4 @@ pub mod Walks
 pub mod Places
 pub mod Empty
 pub mod NewNodes
+pub mod Found

@@ -1,10 +1,10 @@
 -- A new node under a new name: what was named stays so.
-use Rattle.std.proofs.Common.{◌≡◌, ◌≢◌, ℕ, ◌≤◌, true, false, List, [], length, drop, Option, None, Some, is_some, refl, ap, ap₂, sym, ◌∙◌, inl, inr, ◌⊎◌, ⊎_elim, arith}
+use Rattle.std.proofs.Common.{◌≡◌, ◌≢◌, ℕ, ◌≤◌, true, false, [], length, Option, None, Some, is_some, refl, ap, ap₂, sym, ◌∙◌, inl, inr, ◌⊎◌, ⊎_elim}
 use Rattle.std.specs.FinMap.Entries.{find, put}
 use Rattle.std.proofs.lemmas.Bool.{cases_eq}
 use Rattle.pv_model.specs.Bytes.{Bytes}
 use Rattle.pv_model.specs.Held.{among}
-use Rattle.pv_model.specs.Tree.{Node, directory_node, Tree, root, node_at, entries_of, entries_at, is_directory, is_directory_at, find_entry, named_numbers, with_node, new_number, with_new_node, with_entry}
+use Rattle.pv_model.specs.Tree.{Node, directory_node, Tree, node_at, entries_of, entries_at, is_directory, is_directory_at, find_entry, named_numbers, with_node, new_number, with_new_node, with_entry}
 use Rattle.pv_tree_laws.specs.Kept.{EachIsNamed}
 use Rattle.pv_tree_laws.proofs.Changes.{node_at-other, directory-below, found-with, with_entry-stays, still-there}
 use Rattle.pv_tree_laws.proofs.Edits.{new_number-free}
@@ -58,7 +58,7 @@ module _ (t : Tree) (d : ℕ) (name : Bytes) (node : Node) (dir : is_directory_a
   new-other : (n : ℕ) → n ≢ m0 → node_at t1 n ≡ node_at t n
   new-other n other = with_number-other_within t.nodes m0 node n within other
 
-  entries-new : (e : ℕ) → entries_at t1 e ≡ entries_at t e
+  pub entries-new : (e : ℕ) → entries_at t1 e ≡ entries_at t e
   entries-new e =
       ⊎_elim (λ eq. ap (entries_at t1) eq ∙ ap entries_of new-same ∙ bare ∙ sym (ap entries_of (new_number-free t)) ∙ ap (entries_at t) (sym eq))
       (λ other. ap entries_of (new-other e other)) (cases_eq e m0)

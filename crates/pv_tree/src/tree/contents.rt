@@ -1,7 +1,8 @@
 //! The bytes of files.
 ghost use Rattle.std.specs.Prelude.{◌≡◌, IsTrue, None, Some, IfErr, OnOk, OnErr};
 ghost use Rattle.pv_model.specs.Sealed.{is_file};
-ghost use Rattle.pv_model.specs.Tree.{node_at};
+ghost use Rattle.pv_model.specs.Tree.{node_at, find_entry};
+ghost use Rattle.pv_tree_laws.specs.Found.{Alike};
 ghost use Rattle.pv_tree.specs.Changes.{overwritten, resized};
 ghost use Rattle.pv_tree.specs.Holding.{with_tree};
 ghost use Rattle.pv_tree.specs.Rooms.{refusal};
@@ -19,6 +20,7 @@ impl Tree {
         ensures err { OnErr result (self.new ≡ self.old) }
         ensures allowed { OnOk result (refusal (overwritten self.old.tree node at bytes.now) ≡ None) }
         ensures refused { IfErr result (λ why. refusal (overwritten self.old.tree node at bytes.now) ≡ Some why) }
+        ensures found { Alike (find_entry self.old.tree) (find_entry self.new.tree) }
     {
         self.directories.write_at(node, at, bytes)
     }
@@ -32,6 +34,7 @@ impl Tree {
         ensures err { OnErr result (self.new ≡ self.old) }
         ensures allowed { OnOk result (refusal (resized self.old.tree node size) ≡ None) }
         ensures refused { IfErr result (λ why. refusal (resized self.old.tree node size) ≡ Some why) }
+        ensures found { Alike (find_entry self.old.tree) (find_entry self.new.tree) }
     {
         self.directories.cut(node, size)
     }

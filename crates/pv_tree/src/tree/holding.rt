@@ -1,6 +1,7 @@
 //! Who holds what.
 ghost use Rattle.std.specs.Prelude.{◌≡◌, ◌≢◌, ◌<◌, suc, ◌+◌, ◌-◌, ℕ, IsSome};
-ghost use Rattle.pv_model.specs.Tree.{node_at};
+ghost use Rattle.pv_model.specs.Tree.{node_at, find_entry};
+ghost use Rattle.pv_tree_laws.specs.Found.{Alike};
 ghost use Rattle.pv_tree.specs.Changes.{settled};
 ghost use Rattle.pv_tree.specs.Holding.{HeldTree, holds_at, held_more, held_less, trimmed};
 
@@ -38,6 +39,7 @@ impl Tree {
         ensures holds { self.new.holds ≡ held_less self.old.holds node }
         ensures less { holds_at self.new node + 1 ≡ holds_at self.old node }
         ensures others { (other : ℕ) → other ≢ node → holds_at self.new other ≡ holds_at self.old other }
+        ensures found { Alike (find_entry self.old.tree) (find_entry self.new.tree) }
     {
         let at = node as usize;
         self.holds[at] -= 1;

@@ -3,6 +3,7 @@ ghost use Rattle.std.specs.Prelude.{◌≡◌, ◌≢◌, [], IsTrue, IsFalse, f
 ghost use Rattle.pv_model.specs.Calls.Paths.{contains_directory, entries_there};
 ghost use Rattle.pv_model.specs.Room.{fits};
 ghost use Rattle.pv_model.specs.Tree.{node_at, find_entry, is_directory_at, is_name, with_entry, without_entry, IsWellFormed};
+ghost use Rattle.pv_tree_laws.specs.Found.{AlikeBut, AlikeButTwo};
 ghost use Rattle.pv_tree_laws.specs.Tree.{Stands};
 ghost use Rattle.pv_tree.specs.Changes.{moved};
 ghost use Rattle.pv_tree.specs.Holding.{with_tree, after, trimmed};
@@ -82,6 +83,7 @@ impl Tree {
         ensures err { OnErr result (self.new ≡ self.old) }
         ensures allowed { OnOk result (refusal (with_entry self.old.tree directory name.now node) ≡ None) }
         ensures refused { IfErr result (λ why. refusal (with_entry self.old.tree directory name.now node) ≡ Some why) }
+        ensures elsewhere { AlikeBut directory name.now (find_entry self.old.tree) (find_entry self.new.tree) }
     {
         enter(&mut self.directories, directory, name, node)?;
         self.names[node as usize] += 1;
@@ -94,7 +96,8 @@ impl Tree {
         requires directory { IsTrue (is_directory_at self.old.tree directory) }
         requires present { IsSome (find_entry self.old.tree directory name.now) }
         requires empty { entries_there self.old.tree (find_entry self.old.tree directory name.now) ≡ [] }
-        ensures { self.new ≡ after self.old (without_entry self.old.tree directory name.now) }
+        ensures tree { self.new ≡ after self.old (without_entry self.old.tree directory name.now) }
+        ensures elsewhere { AlikeBut directory name.now (find_entry self.old.tree) (find_entry self.new.tree) }
     {
         let Some(node) = self.directories.find(directory, name) else {
             unreachable!()
@@ -122,6 +125,7 @@ impl Tree {
         ensures err { OnErr result (self.new ≡ self.old) }
         ensures allowed { OnOk result (refusal (trimmed (moved self.old.tree from name.now to other.now) self.old.holds) ≡ None) }
         ensures refused { IfErr result (λ why. refusal (trimmed (moved self.old.tree from name.now to other.now) self.old.holds) ≡ Some why) }
+        ensures elsewhere { AlikeButTwo from name.now to other.now (find_entry self.old.tree) (find_entry self.new.tree) }
     {
         let Some(node) = self.directories.find(from, name) else {
             unreachable!()

@@ -1,10 +1,11 @@
-use Rattle.std.proofs.Common.{◌≡◌, None, Some, ap, subst, ◌∙◌}
+use Rattle.std.proofs.Common.{◌≡◌, None, Some, refl, ap, subst, ◌∙◌}
 use Rattle.std.specs.Prelude.{OnOk, IfErr}
 use Rattle.pv_model.specs.Sealed.{is_file}
 use Rattle.pv_model.specs.Tree.{Tree, node_at}
 use Rattle.pv_tree.specs.Changes.{resized}
 use Rattle.pv_tree.specs.Rooms.{refusal}
 use Rattle.pv_tree.proofs.Contents.{IsAnswer, file-of, resize-answer}
+use Rattle.pv_tree.proofs.Elsewhere.{alike-along, alike-answered, alike-resized}
 use Rattle.pv_tree.proofs.tree.Tree.cut.Goals as goal
 use Rattle.pv_tree.proofs.tree.Tree.cut.Goals.{After-cut}
 
@@ -25,3 +26,9 @@ returns-clause-allowed c =
 pub returns-clause-refused : goal.returns-clause-refused
 returns-clause-refused c =
     subst (λ (t : Tree). IfErr c.cut.result (λ why. refusal (resized t c.args.node c.args.size) ≡ Some why)) (ap (λ h. h.tree) c.self.view_is) (answer c).refused
+
+pub returns-clause-found : goal.returns-clause-found
+returns-clause-found c =
+    let t = c.self.inside.directories in
+    alike-along t c.args.self.now.tree c.cut.new.self c.cut.new.self (ap (λ h. h.tree) c.self.view_is) refl
+    (alike-answered t c.cut.new.self (resized t c.args.node c.args.size) c.cut.result (answer c).ok c.cut.ensures.err (alike-resized t c.args.node c.args.size))

@@ -1,9 +1,11 @@
 use Rattle.std.proofs.Common.{◌≡◌, ◌<◌, subst, ap, sym, ◌∙◌}
 use Rattle.std.specs.Prelude.{slice_index}
 use Rattle.pv_model.specs.Tree.{Tree}
-use Rattle.pv_tree.specs.Holding.{held_less, trimmed}
+use Rattle.pv_tree.specs.Holding.{held_less, held_numbers, trimmed}
 use Rattle.pv_tree.specs.Standing.{IsTied}
 use Rattle.pv_tree.proofs.Counting.{settled-less, counted-less, trimmed-tied}
+use Rattle.pv_tree_laws.proofs.Found.{alike-kept}
+use Rattle.pv_tree.proofs.Elsewhere.{alike-along}
 use Rattle.pv_tree.proofs.tree.Tree.let_go.Goals as goal
 use Rattle.pv_tree.proofs.tree.Tree.let_go.Goals.{After-settle}
 
@@ -21,3 +23,10 @@ invariant_of-self c =
 
 pub returns-clause-tree : goal.returns-clause-tree
 returns-clause-tree c = gone c ∙ ap (λ h. trimmed h.tree (held_less h.holds c.args.node)) c.self.view_is
+
+pub returns-clause-found : goal.returns-clause-found
+returns-clause-found c =
+    let t = c.self.inside.directories in
+    let holds = held_less c.self.inside.holds c.args.node in
+    alike-along t c.args.self.now.tree (trimmed t holds) c.settle.new.directories (ap (λ h. h.tree) c.self.view_is) (gone c)
+    (alike-kept t c.self.invariant.counted.well_formed (held_numbers holds))

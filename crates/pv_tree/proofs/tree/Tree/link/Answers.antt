@@ -1,10 +1,12 @@
 use Rattle.std.proofs.Common.{◌≡◌, ◌+◌, is_some, ap, subst, sym, ◌∙◌, arith}
 use Rattle.std.specs.Prelude.{slice_index, slice_set}
 use Rattle.pv_tree_laws.specs.Tree.{Stands}
-use Rattle.pv_model.specs.Tree.{Tree, node_at, find_entry, is_directory_at, is_name}
+use Rattle.pv_model.specs.Tree.{Tree, node_at, find_entry, is_directory_at, is_name, with_entry}
 use Rattle.pv_tree.specs.Standing.{IsTied}
 use Rattle.pv_tree_laws.proofs.Spelled.{bytes-all}
+use Rattle.pv_tree_laws.proofs.Found.{alike-with}
 use Rattle.pv_tree.proofs.Counting.{below-seen}
+use Rattle.pv_tree.proofs.Elsewhere.{but-along}
 use Rattle.pv_tree.proofs.Linking.{count-fits, linked-tied}
 use Rattle.pv_tree.proofs.Rooms.{shaped}
 use Rattle.pv_tree.proofs.tree.Tree.link.Goals as goal
@@ -37,3 +39,9 @@ invariant_of-self-2 c =
 pub overflow_add-self : goal.overflow_add-self
 overflow_add-self c =
     let fits = count-fits c.self.inside.directories c.self.inside.parents c.self.inside.names c.self.inside.holds c.self.invariant c.args.node in omega arith
+
+pub returns-clause-elsewhere : goal.returns-clause-elsewhere
+returns-clause-elsewhere c =
+    let t = c.self.inside.directories in
+    but-along c.args.directory c.args.name.now t c.args.self.now.tree (with_entry t c.args.directory c.args.name.now c.args.node) c.enter.new.directories (ap (λ h. h.tree) c.self.view_is) c.in_ok-enter.ensures.ok
+    (alike-with t c.args.directory c.args.name.now c.args.node (ap (λ h. is_directory_at h.tree c.args.directory) c.self.view_is ∙ c.requires.directory.0))

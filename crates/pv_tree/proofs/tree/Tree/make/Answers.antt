@@ -1,10 +1,11 @@
 use Rattle.std.proofs.Common.{◌≡◌, ◌<◌, length, ap, subst, sym, ◌∙◌}
 use Rattle.std.specs.Prelude.{slice_set}
-use Rattle.pv_model.specs.Tree.{Tree, find_entry, is_name, is_node, new_number}
+use Rattle.pv_model.specs.Tree.{Tree, find_entry, is_directory_at, is_name, is_node, new_number, with_new_node}
 use Rattle.pv_tree_laws.specs.Tree.{Stands}
 use Rattle.pv_tree.specs.Changes.{new_node}
 use Rattle.pv_tree.specs.Standing.{IsTied}
 use Rattle.pv_tree_laws.proofs.Spelled.{bytes-all}
+use Rattle.pv_tree.proofs.Elsewhere.{but-along, alike-made}
 use Rattle.pv_tree.proofs.Made.{made-tied}
 use Rattle.pv_tree.proofs.tree.Tree.make.Goals as goal
 
@@ -21,3 +22,11 @@ invariant_of-self-2 c =
     (ap (λ (t : Tree). is_node t.version (new_node c.args.kind)) view ∙ c.requires.text) (bytes-all c.args.name.now (λ i. (c.type_inv.name i).fits)) c.in_ok-node.ensures.bytes
     (subst (λ n. n < length c.self.inside.directories.nodes) c.in_ok-node.ensures.number c.in_ok-node.ensures.within)
     c.in_ok-node.ensures.allowed))
+
+pub returns-clause-elsewhere : goal.returns-clause-elsewhere
+returns-clause-elsewhere c =
+    let t = c.self.inside.directories in
+    let view : t ≡ c.args.self.now.tree = ap (λ h. h.tree) c.self.view_is in
+    but-along c.args.directory c.args.name.now t c.args.self.now.tree (with_new_node t c.args.directory c.args.name.now (new_node c.args.kind)) c.add_node.new.directories view c.in_ok-node.ensures.ok
+    (alike-made t c.args.directory c.args.name.now c.args.kind (ap (λ (u : Tree). is_directory_at u c.args.directory) view ∙ c.requires.directory.0)
+    (ap (λ (u : Tree). find_entry u c.args.directory c.args.name.now) view ∙ c.requires.absent) (subst (λ n. n < length t.nodes) c.in_ok-node.ensures.number c.in_ok-node.ensures.within))

@@ -1,13 +1,15 @@
-use Rattle.std.proofs.Common.{◌-◌, ap, sym, subst, ◌∙◌, arith}
+use Rattle.std.proofs.Common.{◌≡◌, ◌-◌, ap, sym, subst, ◌∙◌, arith}
 use Rattle.std.specs.Prelude.{slice_index, slice_set, is_some}
 use Rattle.std.proofs.lemmas.Result.{err_from_is_err_and}
-use Rattle.pv_model.specs.Tree.{Tree, node_at, with_entry, without_entry}
+use Rattle.pv_model.specs.Tree.{Tree, node_at, is_directory_at, with_entry, without_entry}
 use Rattle.pv_tree.specs.Changes.{moved, settled}
 use Rattle.pv_tree.specs.Holding.{trimmed}
 use Rattle.pv_tree.specs.Rooms.{refusal}
 use Rattle.pv_tree.specs.Standing.{IsTied}
+use Rattle.pv_tree_laws.proofs.Found.{alike-moved}
 use Rattle.pv_tree_laws.proofs.Spelled.{bytes-all}
 use Rattle.pv_tree.proofs.Counting.{trimmed-tied}
+use Rattle.pv_tree.proofs.Elsewhere.{two-along, alike-refused, alike-renamed}
 use Rattle.pv_tree.proofs.Linking.{found-place}
 use Rattle.pv_tree.proofs.Moving.{is-move, moved-is, moved-tied, moved-trimmed, moved-allowed, gone-there, gone-named, replaced-counted, settled-replaced}
 use Rattle.pv_tree.proofs.Rooms.{shaped, trimmed-allowed}
@@ -105,3 +107,29 @@ returns-clause-allowed c =
     let seen = ap (λ (t : Tree). trimmed t c.self.inside.holds) (moved-is c.self.inside.directories c.args.self.now.tree (ap (λ h. h.tree) c.self.view_is) c.args.from c.args.name.now c.args.to c.args.other.now c.in-Some.node (sym c.find.ensures ∙ c.in-Some.is)) ∙ ap (λ holds. trimmed (moved c.args.self.now.tree c.args.from c.args.name.now c.args.to c.args.other.now) holds) (ap (λ h. h.holds) c.self.view_is) in
     ap refusal (sym seen) ∙ trimmed-allowed (with_entry (without_entry c.self.inside.directories c.args.from c.args.name.now) c.args.to c.args.other.now c.in-Some.node) c.self.inside.holds (moved-allowed c.self.inside.directories c.self.inside.parents c.self.inside.names c.self.inside.holds c.self.invariant c.args.from c.args.name.now c.args.to c.args.other.now c.in-Some.node
     (is-move c.self.inside.directories c.args.self.now.tree (ap (λ h. h.tree) c.self.view_is) c.args.from c.args.name.now c.args.to c.args.other.now c.in-Some.node (sym c.find.ensures ∙ c.in-Some.is) c.requires.to c.requires.name (bytes-all c.args.other.now (λ i. (c.type_inv.other i).fits)) c.requires.clear c.requires.apart c.requires.empty) c.in-Some-find.gone (sym c.find-2.ensures ∙ c.in-Some-find.is))
+
+pub returns-in_err-move_to-clause-elsewhere : goal.returns-in_err-move_to-clause-elsewhere
+returns-in_err-move_to-clause-elsewhere c =
+    alike-refused c.args.from c.args.name.now c.args.to c.args.other.now c.move_to.new.directories c.args.self.now.tree (c.in_err-move_to.ensures.err ∙ ap (λ h. h.tree) c.self.view_is)
+
+pub returns-in_default-find-clause-elsewhere : goal.returns-in_default-find-clause-elsewhere
+returns-in_default-find-clause-elsewhere c =
+    let t = c.self.inside.directories in
+    let view : t ≡ c.args.self.now.tree = ap (λ h. h.tree) c.self.view_is in
+    two-along c.args.from c.args.name.now c.args.to c.args.other.now t c.args.self.now.tree (with_entry (without_entry t c.args.from c.args.name.now) c.args.to c.args.other.now c.in-Some.node) c.move_to.new.directories view c.in_ok-move_to.ensures.ok
+    (alike-moved t c.self.invariant.counted.well_formed c.args.from c.args.name.now c.args.to c.args.other.now c.in-Some.node
+    (ap (λ (u : Tree). is_directory_at u c.args.from) view ∙ c.requires.from) (ap (λ (u : Tree). is_directory_at u c.args.to) view ∙ c.requires.to.0))
+
+pub returns-clause-elsewhere : goal.returns-clause-elsewhere
+returns-clause-elsewhere c =
+    let t = c.self.inside.directories in
+    let view : t ≡ c.args.self.now.tree = ap (λ h. h.tree) c.self.view_is in
+    let gone = c.settle.ensures
+    ∙ ap (λ (u : Tree). settled u c.in-Some-find.gone (slice_index (slice_set c.self.inside.names c.in-Some-find.gone (slice_index c.self.inside.names c.in-Some-find.gone - 1)) c.in-Some-find.gone) (slice_index c.self.inside.holds c.in-Some-find.gone)) c.move_over.ensures
+    ∙ settled-replaced c.self.inside.directories c.self.inside.parents c.self.inside.names c.self.inside.holds c.self.invariant c.args.from c.args.name.now c.args.to c.args.other.now c.in-Some.node
+    (is-move c.self.inside.directories c.args.self.now.tree (ap (λ h. h.tree) c.self.view_is) c.args.from c.args.name.now c.args.to c.args.other.now c.in-Some.node (sym c.find.ensures ∙ c.in-Some.is) c.requires.to c.requires.name (bytes-all c.args.other.now (λ i. (c.type_inv.other i).fits)) c.requires.clear c.requires.apart c.requires.empty) c.in-Some-find.gone (sym c.find-2.ensures ∙ c.in-Some-find.is) in
+    two-along c.args.from c.args.name.now c.args.to c.args.other.now t c.args.self.now.tree (trimmed (with_entry (without_entry t c.args.from c.args.name.now) c.args.to c.args.other.now c.in-Some.node) c.self.inside.holds) c.settle.new.directories view gone
+    (alike-renamed t c.self.invariant.counted.well_formed c.args.from c.args.name.now c.args.to c.args.other.now c.in-Some.node c.self.inside.holds
+    (ap (λ (u : Tree). is_directory_at u c.args.from) view ∙ c.requires.from) (ap (λ (u : Tree). is_directory_at u c.args.to) view ∙ c.requires.to.0)
+    (replaced-counted c.self.inside.directories c.self.inside.parents c.self.inside.names c.self.inside.holds c.self.invariant c.args.from c.args.name.now c.args.to c.args.other.now c.in-Some.node
+    (is-move c.self.inside.directories c.args.self.now.tree (ap (λ h. h.tree) c.self.view_is) c.args.from c.args.name.now c.args.to c.args.other.now c.in-Some.node (sym c.find.ensures ∙ c.in-Some.is) c.requires.to c.requires.name (bytes-all c.args.other.now (λ i. (c.type_inv.other i).fits)) c.requires.clear c.requires.apart c.requires.empty) c.in-Some-find.gone (sym c.find-2.ensures ∙ c.in-Some-find.is)).well_formed)

@@ -1,10 +1,11 @@
 use Rattle.std.proofs.Common.{◌≡◌, ◌-◌, [], Some, ap, subst, sym, ◌∙◌, arith}
 use Rattle.std.specs.Prelude.{slice_index, slice_set, is_some}
-use Rattle.pv_model.specs.Tree.{Tree, node_at, entries_at, find_entry, without_entry}
+use Rattle.pv_model.specs.Tree.{Tree, node_at, entries_at, find_entry, is_directory_at, without_entry}
 use Rattle.pv_tree.specs.Changes.{settled}
 use Rattle.pv_tree.specs.Holding.{after, trimmed}
 use Rattle.pv_tree.specs.Standing.{IsTied}
 use Rattle.pv_tree.proofs.Counting.{trimmed-tied}
+use Rattle.pv_tree.proofs.Elsewhere.{but-along, alike-unlinked}
 use Rattle.pv_tree.proofs.Linking.{found-place, emptied, has-name, still-there, unlinked-counted, settled-unlinked}
 use Rattle.pv_tree.proofs.tree.Tree.unlink.Goals as goal
 use Rattle.pv_tree.proofs.tree.Tree.unlink.Goals.{After-remove, After-settle}
@@ -54,7 +55,7 @@ settled-there c =
 
 gone : (c : After-settle) → c.settle.new.directories ≡ trimmed (without_entry c.self.inside.directories c.args.directory c.args.name.now) c.self.inside.holds
 gone c =
-    let w = (goal.at.returns c).After-remove in
+    let w = (goal.at.returns-clause-tree c).After-remove in
     c.settle.ensures
     ∙ ap (λ (t : Tree). settled t c.in-Some.node (slice_index (slice_set c.self.inside.names c.in-Some.node (slice_index c.self.inside.names c.in-Some.node - 1)) c.in-Some.node)
     (slice_index c.self.inside.holds c.in-Some.node)) c.remove.ensures
@@ -68,5 +69,14 @@ invariant_of-self c =
     (trimmed-tied (without_entry c.self.inside.directories c.args.directory c.args.name.now) _ _ c.self.inside.holds
     (unlinked-counted c.self.inside.directories c.self.inside.parents c.self.inside.names c.self.inside.holds c.self.invariant c.args.directory c.args.name.now c.in-Some.node (found w) (empty w)))
 
-pub returns : goal.returns
-returns c = ap (λ (t : Tree). record { tree = t; holds = c.self.inside.holds }) (gone c) ∙ ap (λ h. after h (without_entry h.tree c.args.directory c.args.name.now)) c.self.view_is
+pub returns-clause-tree : goal.returns-clause-tree
+returns-clause-tree c = ap (λ (t : Tree). record { tree = t; holds = c.self.inside.holds }) (gone c) ∙ ap (λ h. after h (without_entry h.tree c.args.directory c.args.name.now)) c.self.view_is
+
+pub returns-clause-elsewhere : goal.returns-clause-elsewhere
+returns-clause-elsewhere c =
+    let w = (goal.at.returns-clause-elsewhere c).After-remove in
+    but-along c.args.directory c.args.name.now c.self.inside.directories c.args.self.now.tree (trimmed (without_entry c.self.inside.directories c.args.directory c.args.name.now) c.self.inside.holds)
+    c.settle.new.directories (ap (λ h. h.tree) c.self.view_is) (gone ((goal.at.returns-clause-elsewhere c).After-settle))
+    (alike-unlinked c.self.inside.directories c.args.directory c.args.name.now c.self.inside.holds
+    (ap (λ h. is_directory_at h.tree c.args.directory) c.self.view_is ∙ c.requires.directory)
+    (unlinked-counted c.self.inside.directories c.self.inside.parents c.self.inside.names c.self.inside.holds c.self.invariant c.args.directory c.args.name.now c.in-Some.node (found w) (empty w)).well_formed)

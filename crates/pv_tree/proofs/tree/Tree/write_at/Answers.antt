@@ -1,4 +1,4 @@
-use Rattle.std.proofs.Common.{◌≡◌, None, Some, ap, subst, ◌∙◌}
+use Rattle.std.proofs.Common.{◌≡◌, None, Some, refl, ap, subst, ◌∙◌}
 use Rattle.std.specs.Prelude.{OnOk, IfErr}
 use Rattle.pv_model.specs.Sealed.{is_file}
 use Rattle.pv_model.specs.Tree.{Tree, node_at}
@@ -6,6 +6,7 @@ use Rattle.pv_tree.specs.Changes.{overwritten}
 use Rattle.pv_tree.specs.Rooms.{refusal}
 use Rattle.pv_tree_laws.proofs.Spelled.{bytes-all}
 use Rattle.pv_tree.proofs.Contents.{IsAnswer, file-of, write-answer}
+use Rattle.pv_tree.proofs.Elsewhere.{alike-along, alike-answered, alike-overwritten}
 use Rattle.pv_tree.proofs.tree.Tree.write_at.Goals as goal
 use Rattle.pv_tree.proofs.tree.Tree.write_at.Goals.{After-write_at}
 
@@ -26,3 +27,9 @@ returns-clause-allowed c =
 pub returns-clause-refused : goal.returns-clause-refused
 returns-clause-refused c =
     subst (λ (t : Tree). IfErr c.write_at.result (λ why. refusal (overwritten t c.args.node c.args.at c.args.bytes.now) ≡ Some why)) (ap (λ h. h.tree) c.self.view_is) (answer c).refused
+
+pub returns-clause-found : goal.returns-clause-found
+returns-clause-found c =
+    let t = c.self.inside.directories in
+    alike-along t c.args.self.now.tree c.write_at.new.self c.write_at.new.self (ap (λ h. h.tree) c.self.view_is) refl
+    (alike-answered t c.write_at.new.self (overwritten t c.args.node c.args.at c.args.bytes.now) c.write_at.result (answer c).ok c.write_at.ensures.err (alike-overwritten t c.args.node c.args.at c.args.bytes.now))
