@@ -70,10 +70,10 @@ module _ (s : State) (pid : ℕ) (me : Process) (call : Call) (order : IsInOrder
   caller _ _ (cuts f bytes has) = itself (returns 0)
   caller _ _ (writes_bytes f bytes k old new n has there node mode) = itself (returns n)
   caller _ _ (makes place p node change none bare) = itself (returns 0)
-  caller _ _ (links place p n change) = itself (returns 0)
+  caller _ _ (links place p old n change from_old is fine) = itself (returns 0)
   caller _ _ (unlinks place p change) = itself (returns 0)
-  caller _ _ (renames place p there q n from into) = itself (returns 0)
-  caller _ _ (opens flags place n m flagged allowed is) = becomes s _ (returns m) (no_more-same me _ refl refl refl refl)
+  caller _ _ (renames place p there q n from into is) = itself (returns 0)
+  caller _ _ (opens flags place n m flagged allowed is fine) = becomes s _ (returns m) (no_more-same me _ refl refl refl refl)
   caller _ _ (creates flags place p m flagged allowed create named none fine) = becomes s _ (returns m) (no_more-same me _ refl refl refl refl)
 
   -- each other live process stays as it is
@@ -89,10 +89,10 @@ module _ (s : State) (pid : ℕ) (me : Process) (call : Call) (order : IsInOrder
   other k p apart there _ _ (cuts f bytes has) = there
   other k p apart there _ _ (writes_bytes f bytes j old new n has is node mode) = there
   other k p apart there _ _ (makes place q node change none bare) = there
-  other k p apart there _ _ (links place q n change) = there
+  other k p apart there _ _ (links place q old n change from_old is fine) = there
   other k p apart there _ _ (unlinks place q change) = there
-  other k p apart there _ _ (renames place q next r n from into) = there
-  other k p apart there _ _ (opens flags place n m flagged allowed is) = process_at-other s pid _ k apart ∙ there
+  other k p apart there _ _ (renames place q next r n from into is) = there
+  other k p apart there _ _ (opens flags place n m flagged allowed is fine) = process_at-other s pid _ k apart ∙ there
   other k p apart there _ _ (creates flags place q m flagged allowed create named none fine) = process_at-other s pid _ k apart ∙ there
 
 -- ---- calls

@@ -54,7 +54,7 @@ use Rattle.pv_model.specs.Walks.{Walk, follow_of, open_walk, walks_of}
 -- ---- lists
 
 -- what passes for every live process passes for one
-live-passes : (test : Process → Bool) (pid : ℕ) (p : Process) (rs : List (ℕ × Record)) → find nat_cmp pid rs ≡ Some (live p)
+pub live-passes : (test : Process → Bool) (pid : ℕ) (p : Process) (rs : List (ℕ × Record)) → find nat_cmp pid rs ≡ Some (live p)
     → list_all (λ (e : ℕ × Process). test e.1) (live_processes rs) ≡ true → test p ≡ true
 live-passes test pid p [] is all = cc
 live-passes test pid p ((k, live q) ∷ rs) is all =
@@ -229,7 +229,7 @@ found-ok (Err e) place is = cc is
 
 -- ---- letters and promises
 
-allowed-by : (table : Table) (needed : Perms) (o : Option ℕ) → judge_entry table needed o ≡ Allowed → (k : ℕ) × (o ≡ Some k) × (covers (letters_at table k) needed ≡ true)
+pub allowed-by : (table : Table) (needed : Perms) (o : Option ℕ) → judge_entry table needed o ≡ Allowed → (k : ℕ) × (o ≡ Some k) × (covers (letters_at table k) needed ≡ true)
 allowed-by table needed None is = cc is
 allowed-by table needed (Some k) is =
     elim (covers (letters_at table k) needed) as (λ b. covers (letters_at table k) needed ≡ b → cond b Allowed (Denied k) ≡ Allowed → (j : ℕ) × (◌≡◌ {A = Option ℕ} (Some k) (Some j)) × (covers (letters_at table j) needed ≡ true)) [
@@ -237,10 +237,10 @@ allowed-by table needed (Some k) is =
       | false ↦ λ hasnt bad. cc bad
     ] refl is
 
-abbrev opening_letters : Perms → Bool
+abbrev pub opening_letters : Perms → Bool
 opening_letters letters = letters.r || letters.x || letters.c
 
-covers-x : (l : Perms) → covers l letter_x ≡ true → opening_letters l ≡ true
+pub covers-x : (l : Perms) → covers l letter_x ≡ true → opening_letters l ≡ true
 covers-x l is = all l.r l.w l.x l.c is
   where
     all : (r w x c : Bool) → covers (record { r = r; w = w; x = x; c = c }) letter_x ≡ true → (r || x || c) ≡ true
@@ -252,7 +252,7 @@ covers-x l is = all l.r l.w l.x l.c is
     all false false false true is = cc is
     all false false false false is = cc is
 
-covers-r : (l : Perms) (m : Mode) (c : Perms) → reads m ≡ true → covers l (join_letters (letters_of_mode m) c) ≡ true → opening_letters l ≡ true
+pub covers-r : (l : Perms) (m : Mode) (c : Perms) → reads m ≡ true → covers l (join_letters (letters_of_mode m) c) ≡ true → opening_letters l ≡ true
 covers-r l WriteMode c is has = cc is
 covers-r l ReadMode c is has = at l.r has
   where
@@ -268,17 +268,17 @@ covers-r l ReadWrite c is has = at l.r has
 w-part : (l b : Perms) → covers l b ≡ true → (l.w || not b.w) ≡ true
 w-part l b is = (and_parts (l.r || not b.r) (l.w || not b.w) (and_parts ((l.r || not b.r) && (l.w || not b.w)) (l.x || not b.x) (and_parts (((l.r || not b.r) && (l.w || not b.w)) && (l.x || not b.x)) (l.c || not b.c) is).0).0).1
 
-or_one : (b : Bool) → (b || false) ≡ true → b ≡ true
+pub or_one : (b : Bool) → (b || false) ≡ true → b ≡ true
 or_one true is = refl
 or_one false is = cc is
 
-covers-w : (l : Perms) (m : Mode) (c : Perms) → writes m ≡ true → covers l (join_letters (letters_of_mode m) c) ≡ true → l.w ≡ true
+pub covers-w : (l : Perms) (m : Mode) (c : Perms) → writes m ≡ true → covers l (join_letters (letters_of_mode m) c) ≡ true → l.w ≡ true
 covers-w l ReadMode c is has = cc is
 covers-w l WriteMode c is has = or_one l.w (w-part l (join_letters (letters_of_mode WriteMode) c) has)
 covers-w l ReadWrite c is has = or_one l.w (w-part l (join_letters (letters_of_mode ReadWrite) c) has)
 
 -- a promise that is not held is missed
-lacking : (held : Promises) (q : Promise) (rest : List Need) → contains held q ≡ false → missing_promise (Some held) ((q ∷ []) ∷ rest) ≡ None → ⊥
+pub lacking : (held : Promises) (q : Promise) (rest : List Need) → contains held q ≡ false → missing_promise (Some held) ((q ∷ []) ∷ rest) ≡ None → ⊥
 lacking held q rest hasnt is =
     let bad : ◌≡◌ {A = Option Promise} (Some q) None = ap (λ b. if (b || false) then missing_promise (Some held) rest else Some q) (sym hasnt) ∙ is in cc bad
 
@@ -517,7 +517,7 @@ module _ (s : State) (whole : IsWhole s) (p : Process) (f : ℕ) (file : is_dire
       (λ locked. no-w (letters_of_open flags) (λ l. covers-w l flags.mode made writing) p.table locked n.0 n.1 n.3 judged) k.restraints)
       (by_mode c k pid at flags.mode)
 
-file-plain : (o : Option Node) → Sealed.is_file o ≡ true → is_directory o ≡ false
+pub file-plain : (o : Option Node) → Sealed.is_file o ≡ true → is_directory o ≡ false
 file-plain None is = cc is
 file-plain (Some (directory_node es)) is = cc is
 file-plain (Some (file_node executable bytes)) is = refl

@@ -20,7 +20,7 @@ use Rattle.pv_model.specs.Calls.Processes.{child, with_program}
 use Rattle.pv_model.specs.Effect.{Effect, Reply, returns, returns_bytes, ends, waits, walk_from, judgement_or_refusal, judge_for, node_of, name_of, descriptor_at, open_file, with_file}
 use Rattle.pv_model.specs.Needs.{needs, needs_cpath, letters_of_open}
 use Rattle.pv_model.specs.Numbered.{at_number, with_number, without_number}
-use Rattle.pv_model.specs.Perms.{letter_c}
+use Rattle.pv_model.specs.Perms.{letter_r, letter_c}
 use Rattle.pv_model.specs.State.{OpenFile, Descriptor, Program, Process, ended_record, State, writes, process_at, with_process, with_tree}
 use Rattle.pv_model.specs.Touch.{flags_of, IsAllowed, HasDescriptor}
 use Rattle.pv_model.specs.Tree.{Node, file_node, entries_of, new_number, with_new_node, with_entry, without_entry}
@@ -74,12 +74,13 @@ module _ (s : State) (pid : ℕ) (me : Process) (call : Call) where
     -- an entry comes, goes, or moves
     makes : (place : Place) (p : ℕ × Bytes) (node : Node) → MayChange place p → node_of place ≡ None → entries_of (Some node) ≡ []
         → Does (with_tree s (with_new_node s.tree p.0 p.1 node)) (returns 0)
-    links : (place : Place) (p : ℕ × Bytes) (n : ℕ) → MayChange place p → Does (with_tree s (with_entry s.tree p.0 p.1 n)) (returns 0)
+    links : (place : Place) (p : ℕ × Bytes) (old : Place) (n : ℕ) → MayChange place p → IsAllowed s me call letter_r old → node_of old ≡ Some n → IsFine old
+        → Does (with_tree s (with_entry s.tree p.0 p.1 n)) (returns 0)
     unlinks : (place : Place) (p : ℕ × Bytes) → MayChange place p → Does (with_tree s (without_entry s.tree p.0 p.1)) (returns 0)
-    renames : (place : Place) (p : ℕ × Bytes) (there : Place) (q : ℕ × Bytes) (n : ℕ) → MayChange place p → MayChange there q
+    renames : (place : Place) (p : ℕ × Bytes) (there : Place) (q : ℕ × Bytes) (n : ℕ) → MayChange place p → MayChange there q → node_of place ≡ Some n
         → Does (with_tree s (with_entry (without_entry s.tree p.0 p.1) q.0 q.1 n)) (returns 0)
     -- a file or a directory is opened, or a file is made and opened
-    opens : (flags : OpenFlags) (place : Place) (n m : ℕ) → flags_of call ≡ Some flags → IsAllowed s me call (letters_of_open flags) place → node_of place ≡ Some n
+    opens : (flags : OpenFlags) (place : Place) (n m : ℕ) → flags_of call ≡ Some flags → IsAllowed s me call (letters_of_open flags) place → node_of place ≡ Some n → IsFine place
         → Does (with_open_file s pid me flags n (if flags.truncate then with_content s.tree n [] else s.tree)) (returns m)
     creates : (flags : OpenFlags) (place : Place) (p : ℕ × Bytes) (m : ℕ) → flags_of call ≡ Some flags → IsAllowed s me call (letters_of_open flags) place → flags.create ≡ true
         → name_of place ≡ Some p → node_of place ≡ None → IsFine place
@@ -101,10 +102,10 @@ module _ (s : State) (pid : ℕ) (me : Process) (call : Call) where
   ends-stays _ _ status (cuts f bytes has) is = cc
   ends-stays _ _ status (writes_bytes f bytes k old new n has found node mode) is = cc
   ends-stays _ _ status (makes place p node change free bare) is = cc
-  ends-stays _ _ status (links place p n change) is = cc
+  ends-stays _ _ status (links place p old n change from_old node fine) is = cc
   ends-stays _ _ status (unlinks place p change) is = cc
-  ends-stays _ _ status (renames place p there q n from into) is = cc
-  ends-stays _ _ status (opens flags place n m flagged allowed found) is = cc
+  ends-stays _ _ status (renames place p there q n from into node) is = cc
+  ends-stays _ _ status (opens flags place n m flagged allowed found fine) is = cc
   ends-stays _ _ status (creates flags place p m flagged allowed create named free fine) is = cc
 
 -- ---- places of walks

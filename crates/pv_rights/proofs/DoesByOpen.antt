@@ -39,7 +39,7 @@ module _ (s : State) (pid : ℕ) (me : Process) (call : Call) (path : Bytes) (f 
   does-node place allowed fine made name (Some n) named is =
       let t : Tree = if f.truncate then with_content s.tree n [] else s.tree in
       leads-after_walks D 0 (Rests.open_7 s pid me (with_open_file s pid me f n t))
-      (leads-room D (with_open_file s pid me f n t) (λ roomy. answers roomy (least_free me.descriptors)) (λ short fit. opens f place n (least_free me.descriptors) flagged allowed is))
+      (leads-room D (with_open_file s pid me f n t) (λ roomy. answers roomy (least_free me.descriptors)) (λ short fit. opens f place n (least_free me.descriptors) flagged allowed is fine))
   does-node place allowed fine made (Some p) None named is =
       let t : Tree = with_new_node s.tree p.0 p.1 (file_node false []) in
       leads-after_walks D 0 (Rests.open_7 s pid me (with_open_file s pid me f (new_number s.tree) t))

@@ -22,7 +22,7 @@ use Rattle.pv_model.specs.Tree.{Node, directory_node, link_node, entries_of, nod
 use Rattle.pv_model.specs.Unveil.{judgement}
 use Rattle.pv_model.specs.Walk.{resolve}
 use Rattle.pv_laws.specs.States.{is_text, is_call}
-use Rattle.pv_laws.proofs.Attempts.{Leads, leads-then, leads-refuse_if, leads-demand, leads-place, leads-room}
+use Rattle.pv_laws.proofs.Attempts.{Leads, leads-then, leads-refuse_if, leads-demand, leads-room}
 use Rattle.pv_laws.proofs.ByFile.{open_file-at}
 use Rattle.pv_laws.proofs.ByTree.{fine-place}
 use Rattle.pv_laws.proofs.Rests
@@ -101,16 +101,18 @@ module _ (s : State) (pid : ℕ) (me : Process) where
   pub does-link : (path new : Bytes) → Leads (D (TheCall.Link path new)) (link s pid me path new)
   does-link path new =
       let C : Call = TheCall.Link path new in
-      leads-place (D C) s me me.directory Last path letter_r (Rests.link_1 s pid me new) (λ old_place old_found.
+      leads-judged (D C) s me me.directory Last path letter_r (Rests.link_1 s pid me new) (λ old_place old_found old_allowed.
       leads-judged (D C) s me me.directory Keep new letter_c (Rests.link_2 s pid me old_place) (λ new_place new_found allowed.
       leads-demand (D C) ENOENT (node_of old_place) (Rests.link_3 s pid me new_place) (λ n is.
       leads-then (D C) (refuse_if EPERM (is_directory_at s.tree n)) (Rests.link_4 s pid me new_place n) (
       leads-then (D C) (refuse_if EEXIST (is_some (node_of new_place))) (Rests.link_5 s pid me new_place n) (
       leads-demand (D C) EEXIST (name_of new_place) (Rests.link_6 s pid me n) (λ p named.
       leads-room (D C) (with_tree s (with_entry s.tree p.0 p.1 n)) (λ after. answers after 0) (λ short fit.
-      links new_place p n
+      links new_place p old_place n
       (changing C Keep new new_place p (second-place ends (linked_walk path) (new_link_walk new) [] old_place new_place (ap place_found old_found) (ap place_found new_found))
-      (λ texts. (and_parts (is_text path) (is_text new) texts).1) new_found allowed named (link-needs path new)))))))))
+      (λ texts. (and_parts (is_text path) (is_text new) texts).1) new_found allowed named (link-needs path new))
+      (first-place ends (linked_walk path) (new_link_walk new ∷ []) old_place (ap place_found old_found), old_allowed) is
+      (λ whole at texts. fine-place s pid me whole at Last path old_place (and_parts (is_text path) (is_text new) texts).0 old_found))))))))
 
   pub does-unlink : (path : Bytes) → Leads (D (TheCall.Unlink path)) (unlink s pid me path)
   does-unlink path =
@@ -132,14 +134,14 @@ module _ (s : State) (pid : ℕ) (me : Process) where
       leads-then (D C) (refuse_if ENOTEMPTY (not (is_empty (entries_at s.tree n)))) (Rests.less_3 s pid me p)
       (unlinks place p (changing C Keep path place p (first-place ends (rmdir_walk path) [] place (ap place_found found)) (λ text. text) found allowed named (rmdir-needs path))))))))
 
-  does-move : (call : Call) (old_place new_place : Place) (n : ℕ) (p q : ℕ × Bytes) (there : Option ℕ) → MayChange s pid me call old_place p → MayChange s pid me call new_place q
+  does-move : (call : Call) (old_place new_place : Place) (n : ℕ) (p q : ℕ × Bytes) (there : Option ℕ) → MayChange s pid me call old_place p → MayChange s pid me call new_place q → node_of old_place ≡ Some n
       → Leads (D call) (move_entry s pid me n p.0 p.1 q.0 q.1 there)
-  does-move call old_place new_place n p q there from into =
+  does-move call old_place new_place n p q there from into is =
       leads-then (D call) (refuse_if EINVAL (contains_directory s.tree n q.0)) (Rests.move_2 s pid me n p.0 p.1 q.0 q.1 there) (
       leads-then (D call) (refuse_if EISDIR (is_directory_there s.tree there && not (is_directory_at s.tree n))) (Rests.move_3 s pid me n p.0 p.1 q.0 q.1 there) (
       leads-then (D call) (refuse_if ENOTDIR (is_directory_at s.tree n && is_some there && not (is_directory_there s.tree there))) (Rests.move_4 s pid me n p.0 p.1 q.0 q.1 there) (
       leads-then (D call) (refuse_if ENOTEMPTY (not (is_empty (entries_there s.tree there)))) (Rests.move_5 s pid me n p.0 p.1 q.0 q.1) (
-      leads-room (D call) (with_tree s (with_entry (without_entry s.tree p.0 p.1) q.0 q.1 n)) (λ after. answers after 0) (λ short fit. renames old_place p new_place q n from into)))))
+      leads-room (D call) (with_tree s (with_entry (without_entry s.tree p.0 p.1) q.0 q.1 n)) (λ after. answers after 0) (λ short fit. renames old_place p new_place q n from into is)))))
 
   pub does-rename : (path new : Bytes) → Leads (D (TheCall.Rename path new)) (rename s pid me path new)
   does-rename path new =
@@ -156,7 +158,7 @@ module _ (s : State) (pid : ℕ) (me : Process) where
             (changing C Keep path old_place p (first-place ends (rename_walk path) (rename_walk new ∷ []) old_place (ap place_found old_found))
             (λ texts. (and_parts (is_text path) (is_text new) texts).0) old_found old_allowed old_named (rename-needs path new))
             (changing C Keep new new_place q (second-place ends (rename_walk path) (rename_walk new) [] old_place new_place (ap place_found old_found) (ap place_found new_found))
-            (λ texts. (and_parts (is_text path) (is_text new) texts).1) new_found new_allowed new_named (rename-needs path new))
+            (λ texts. (and_parts (is_text path) (is_text new) texts).1) new_found new_allowed new_named (rename-needs path new)) is
       ]))))))
 
   -- ---- bytes

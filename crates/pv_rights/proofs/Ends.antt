@@ -72,13 +72,13 @@ in_order-call s pid me order at = record {
 -- ---- the end of a process
 
 module _ (s : State) (pid : ℕ) (me : Process) (status : ℕ) where
-  abbrev put_away : List (ℕ × Record)
+  abbrev pub put_away : List (ℕ × Record)
   put_away = put nat_cmp pid (ended_record me.parent status) s.processes
 
-  abbrev heir : ℕ
+  abbrev pub heir : ℕ
   heir = adopter (record s { processes = put_away })
 
-  abbrev claimed : ℕ × Record → Bool
+  abbrev pub claimed : ℕ × Record → Bool
   claimed r = not (is_unclaimed r.1)
 
   -- it is not live

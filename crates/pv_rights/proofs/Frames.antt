@@ -70,10 +70,10 @@ left-does s pid me call k file there _ _ (moves j old new r is node mode goes) =
 left-does s pid me call k file there _ _ (cuts f bytes has) = left-as_was s.files k file there
 left-does s pid me call k file there _ _ (writes_bytes f bytes j old new n has is node mode) = left-moved s.files j old new k file is node mode there
 left-does s pid me call k file there _ _ (makes place q node change none bare) = left-as_was s.files k file there
-left-does s pid me call k file there _ _ (links place q n change) = left-as_was s.files k file there
+left-does s pid me call k file there _ _ (links place q old n change from_old is fine) = left-as_was s.files k file there
 left-does s pid me call k file there _ _ (unlinks place q change) = left-as_was s.files k file there
-left-does s pid me call k file there _ _ (renames place q next r n from into) = left-as_was s.files k file there
-left-does s pid me call k file there _ _ (opens flags place n m flagged allowed is) = left-beside s.files _ k file there
+left-does s pid me call k file there _ _ (renames place q next r n from into is) = left-as_was s.files k file there
+left-does s pid me call k file there _ _ (opens flags place n m flagged allowed is fine) = left-beside s.files _ k file there
 left-does s pid me call k file there _ _ (creates flags place q m flagged allowed create named none fine) = left-beside s.files _ k file there
 
 -- what a live process uses is kept

@@ -12,18 +12,20 @@ use Rattle.pv_model.specs.Answer.{at_next_line, update}
 use Rattle.pv_model.specs.Bytes.{Bytes}
 use Rattle.pv_model.specs.Calls.Descriptors.{with_content}
 use Rattle.pv_model.specs.Calls.Processes.{end_process}
-use Rattle.pv_model.specs.Effect.{Reply, node_of, bytes_of}
+use Rattle.pv_model.specs.Effect.{Reply, node_of, name_of, bytes_of}
 use Rattle.pv_model.specs.Held.{trim}
 use Rattle.pv_model.specs.Needs.{needs, needs_cpath, needs_of_mode, letters_of_mode, letters_of_open}
 use Rattle.pv_model.specs.Perms.{no_letters, join_letters, covers, letter_c}
-use Rattle.pv_model.specs.Promises.{Need}
+use Rattle.pv_model.specs.Program.{calls_for, next}
+use Rattle.pv_model.specs.Promises.{Need, missing_promise}
 use Rattle.pv_model.specs.Sealed.{is_file}
 use Rattle.pv_model.specs.State.{Program, Process, State, process_at}
-use Rattle.pv_model.specs.Touch.{Touch, change_file, change_entry, file_bytes, flags_of, Touches, Justifies, change_by_descriptor, change_by_open, entry_by_place}
+use Rattle.pv_model.specs.Touch.{Touch, change_file, change_entry, file_bytes, flags_of, IsAllowed, Touches, Justifies, change_by_descriptor, change_by_open, entry_by_place}
 use Rattle.pv_model.specs.Tree.{Node, file_node, Tree, node_at, entries_of, is_directory_at, find_entry, with_entry, without_entry, with_new_node}
 use Rattle.pv_model.specs.Unveil.{Table, letters_at, judge_entry, governing_entry, judgement}
 use Rattle.pv_laws.specs.States.{is_call, IsTree, IsWhole}
 use Rattle.pv_laws.proofs.ByTree.{FineName, named-place}
+use Rattle.pv_laws.proofs.Standing.{IsFinePlace}
 use Rattle.pv_tree_laws.proofs.Changes.{shape-without_entry}
 use Rattle.pv_laws.proofs.Ending.{tree-end}
 use Rattle.pv_tree_laws.proofs.Entries.{by_name}
@@ -34,7 +36,7 @@ use Rattle.pv_rights.specs.Justice.{IsExplained}
 use Rattle.pv_rights.proofs.Changed.{cases_entry, content-other, entries-content, file-beside, entry-with_other, entry-without_other, new-within, entry-new_other, file-new, entry-trim, file-trim}
 use Rattle.pv_rights.proofs.Does
 use Rattle.pv_rights.proofs.Narrowing.{covers-along}
-use Rattle.pv_rights.proofs.Touched.{touched, back}
+use Rattle.pv_rights.proofs.Touched.{touched, back, allowed-back}
 
 -- ---- fewer letters
 
@@ -89,21 +91,29 @@ needs-open call flags is = cc is
 abbrev pub AsksCpath : Call → Type 0
 AsksCpath call = (others : List Need) × (needs call ≡ others ++ needs_cpath)
 
+-- a place of the call's at an entry, which calls may use, and which is allowed for c
+pub record IsEdited (s : State) (me : Process) (call : Call) (d : ℕ) (name : Bytes) : Type 0 where
+  pub place : Place
+  pub allowed : IsAllowed s me call letter_c place
+  pub named : name_of place ≡ Some (d, name)
+  pub fine : IsFinePlace s.tree place
+  pub asks : AsksCpath call
+
 module _ (s : State) (pid : ℕ) (me : Process) (call : Call) (whole : IsWhole s) (at : process_at s pid ≡ Some me) (is_good : is_call call ≡ true) where
-  abbrev Change : Place → ℕ × Bytes → Type 0
+  abbrev pub Change : Place → ℕ × Bytes → Type 0
   Change = Does.MayChange s pid me call
 
   abbrev J : Touch → Type 0
   J = Justifies s me call
 
-  fine-name : (place : Place) (p : ℕ × Bytes) → Change place p → FineName s.tree p (node_of place)
+  pub fine-name : (place : Place) (p : ℕ × Bytes) → Change place p → FineName s.tree p (node_of place)
   fine-name place p change = named-place s.tree place p (change.fine whole at is_good) change.name
 
-  many : (u : Tree) → IsTree u → u.inodes ≡ s.tree.inodes → length u.nodes ≡ length s.tree.nodes
+  pub many : (u : Tree) → IsTree u → u.inodes ≡ s.tree.inodes → length u.nodes ≡ length s.tree.nodes
   many u tree same = tree.well_formed.numbers ∙ ap suc same ∙ sym whole.tree.well_formed.numbers
 
   -- a directory stays one beside a change of entries
-  between-directory : (p : ℕ × Bytes) → is_directory_at s.tree p.0 ≡ true → (q : ℕ) → is_directory_at s.tree q ≡ true → is_directory_at (without_entry s.tree p.0 p.1) q ≡ true
+  pub between-directory : (p : ℕ × Bytes) → is_directory_at s.tree p.0 ≡ true → (q : ℕ) → is_directory_at s.tree q ≡ true → is_directory_at (without_entry s.tree p.0 p.1) q ≡ true
   between-directory p dir q into = (shape-without_entry s.tree p.0 p.1 dir whole.tree.well_formed.each_node).directory q ∙ into
 
   -- ---- entries
@@ -115,13 +125,18 @@ module _ (s : State) (pid : ℕ) (me : Process) (call : Call) (whole : IsWhole s
     named-so : (p : ℕ × Bytes) → (d ≡ p.0) → (name ≡ p.1) → ◌≡◌ {A = Option (ℕ × Bytes)} (Some p) (Some (d, name))
     named-so p here same = λ i. Some (sym here i, sym same i)
 
-    -- the touch is justified, by a call that needs cpath
+    -- the entry is edited by a call that needs cpath
     abbrev E : Type 0
-    E = J (change_entry d name) × AsksCpath call
+    E = IsEdited s me call d name
 
     at_place : (place : Place) (p : ℕ × Bytes) → Change place p → (d ≡ p.0) → (name ≡ p.1) → E
-    at_place place p change here same =
-        (entry_by_place place d name change.allowed (change.name ∙ named-so p here same), ([], change.need))
+    at_place place p change here same = record {
+      place = place;
+      allowed = change.allowed;
+      named = change.name ∙ named-so p here same;
+      fine = change.fine whole at is_good;
+      asks = ([], change.need);
+    }
 
     made : (p : ℕ × Bytes) (node : Node) (u : Tree) → u ≡ with_new_node s.tree p.0 p.1 node → IsTree u → is_directory_at s.tree p.0 ≡ true → entries_of (Some node) ≡ [] → Differs u
         → ((d ≡ p.0) → (name ≡ p.1) → E) → E
@@ -142,20 +157,20 @@ module _ (s : State) (pid : ℕ) (me : Process) (call : Call) (whole : IsWhole s
     entries-by _ _ (Does.cuts f bytes has) tree differs = absurd (differs (ap (find by_name name) (entries-content s.tree f bytes d)))
     entries-by _ _ (Does.writes_bytes f bytes k old new n has there node mode) tree differs = absurd (differs (ap (find by_name name) (entries-content s.tree f bytes d)))
     entries-by _ _ (Does.makes place p node change free bare) tree differs = made p node _ refl tree (fine-name place p change).directory bare differs (λ here same. at_place place p change here same)
-    entries-by _ _ (Does.links place p n change) tree differs =
+    entries-by _ _ (Does.links place p old n change from_old is fine) tree differs =
         ⊎_elim (λ here. at_place place p change here.0 here.1)
         (λ other. absurd (differs (entry-with_other s.tree p.0 p.1 n (fine-name place p change).directory d name other))) (cases_entry d p.0 name p.1)
     entries-by _ _ (Does.unlinks place p change) tree differs =
         ⊎_elim (λ here. at_place place p change here.0 here.1)
         (λ other. absurd (differs (entry-without_other s.tree p.0 p.1 (fine-name place p change).directory d name other))) (cases_entry d p.0 name p.1)
-    entries-by _ _ (Does.renames place p there q n from into) tree differs =
+    entries-by _ _ (Does.renames place p there q n from into is) tree differs =
         let dir = (fine-name place p from).directory in
         ⊎_elim (λ here. at_place place p from here.0 here.1)
         (λ other. ⊎_elim (λ here. at_place there q into here.0 here.1)
         (λ apart. absurd (differs
         (entry-with_other (without_entry s.tree p.0 p.1) q.0 q.1 n (between-directory p dir q.0 (fine-name there q into).directory) d name apart
         ∙ entry-without_other s.tree p.0 p.1 dir d name other))) (cases_entry d q.0 name q.1)) (cases_entry d p.0 name p.1)
-    entries-by _ _ (Does.opens flags place n m flagged allowed is) tree differs =
+    entries-by _ _ (Does.opens flags place n m flagged allowed is fine) tree differs =
         absurd (differs (by flags.truncate))
       where
         by : (b : Bool) → find_entry (if b then with_content s.tree n [] else s.tree) d name ≡ find_entry s.tree d name
@@ -163,11 +178,13 @@ module _ (s : State) (pid : ℕ) (me : Process) (call : Call) (whole : IsWhole s
         by false = refl
     entries-by _ _ (Does.creates flags place p m flagged allowed create named free fine) tree differs =
         let fine_name = named-place s.tree place p (fine whole at is_good) named in
-        made p (file_node false []) _ refl tree fine_name.directory refl differs (λ here same. (
-          entry_by_place place d name (allowed.0, judged-fewer s.tree me.table place (letters_of_open flags) letter_c (making flags create) allowed.1)
-              (named ∙ named-so p here same),
-          (needs_of_mode flags.mode, needs-open call flags flagged ∙ ap (λ b. needs_of_mode flags.mode ++ (if b then needs_cpath else [])) create),
-        ))
+        made p (file_node false []) _ refl tree fine_name.directory refl differs (λ here same. record {
+          place = place;
+          allowed = (allowed.0, judged-fewer s.tree me.table place (letters_of_open flags) letter_c (making flags create) allowed.1);
+          named = named ∙ named-so p here same;
+          fine = fine whole at is_good;
+          asks = (needs_of_mode flags.mode, needs-open call flags flagged ∙ ap (λ b. needs_of_mode flags.mode ++ (if b then needs_cpath else [])) create);
+        })
 
   -- ---- files
 
@@ -199,13 +216,13 @@ module _ (s : State) (pid : ℕ) (me : Process) (call : Call) (whole : IsWhole s
     files-by _ _ (Does.cuts g bytes has) tree changes = cut-by g bytes (change_by_descriptor g has) changes
     files-by _ _ (Does.writes_bytes g bytes k old new n has there node mode) tree changes = cut-by g bytes (change_by_descriptor g has) changes
     files-by _ _ (Does.makes place p node change free bare) tree changes = made-file p node _ refl tree (fine-name place p change).directory bare changes
-    files-by _ _ (Does.links place p n change) tree changes = stays-same (with_entry s.tree p.0 p.1 n) (file-beside s.tree p.0 _ f (fine-name place p change).directory file) changes
+    files-by _ _ (Does.links place p old n change from_old is fine) tree changes = stays-same (with_entry s.tree p.0 p.1 n) (file-beside s.tree p.0 _ f (fine-name place p change).directory file) changes
     files-by _ _ (Does.unlinks place p change) tree changes = stays-same (without_entry s.tree p.0 p.1) (file-beside s.tree p.0 _ f (fine-name place p change).directory file) changes
-    files-by _ _ (Does.renames place p there q n from into) tree changes =
+    files-by _ _ (Does.renames place p there q n from into is) tree changes =
         let dir = (fine-name place p from).directory in
         let first = file-beside s.tree p.0 _ f dir file in
         stays-same (with_entry (without_entry s.tree p.0 p.1) q.0 q.1 n) (file-beside (without_entry s.tree p.0 p.1) q.0 _ f (between-directory p dir q.0 (fine-name there q into).directory) (ap is_file first ∙ file) ∙ first) changes
-    files-by _ _ (Does.opens flags place n m flagged allowed is) tree changes = by flags.truncate refl changes
+    files-by _ _ (Does.opens flags place n m flagged allowed is fine) tree changes = by flags.truncate refl changes
       where
         by : (b : Bool) → flags.truncate ≡ b → Changes (if b then with_content s.tree n [] else s.tree) → J (change_file f)
         by true cut changes = cut-by n [] (change_by_open flags place n flagged cut allowed is) changes
@@ -215,14 +232,22 @@ module _ (s : State) (pid : ℕ) (me : Process) (call : Call) (whole : IsWhole s
 
 -- ---- the laws
 
-pub entries-explained : (program_of : Bytes → Option Program) (s : State) (pid : ℕ) (d : ℕ) (name : Bytes) → IsWhole s → Touches program_of s pid (change_entry d name)
-    → (e : IsExplained s pid (change_entry d name)) × AsksCpath e.1
-entries-explained program_of s pid d name whole changes =
+-- the call that edits an entry, with its promises held
+pub record IsEditedBy (s : State) (pid : ℕ) (d : ℕ) (name : Bytes) : Type 0 where
+  pub me : Process
+  pub call : Call
+  pub at : process_at s pid ≡ Some me
+  pub next_is : next me ≡ calls_for call
+  pub held : missing_promise me.promises (needs call) ≡ None
+  pub edited : IsEdited s me call d name
+
+pub entries-edited : (program_of : Bytes → Option Program) (s : State) (pid : ℕ) (d : ℕ) (name : Bytes) → IsWhole s → Touches program_of s pid (change_entry d name) → IsEditedBy s pid d name
+entries-edited program_of s pid d name whole changes =
     let T : State → Type 0 = λ y. find_entry y.tree d name ≢ find_entry s.tree d name in
     let t = touched program_of s pid whole T
     (λ differs. differs refl)
     (λ p q at same differs. differs refl)
-    (λ y me status tree ascending differs.
+    (λ y me status tree ascending others differs.
     differs (entry-trim (end_process y pid me status) (subst IsTree (sym (tree-end y pid me status ∙ tree)) whole.tree) d name ∙ ap (λ (u : Tree). find_entry u d name) (tree-end y pid me status ∙ tree)))
     changes in
     let same : find_entry (trim (update t.after pid t.told)).tree d name ≡ find_entry t.after.tree d name =
@@ -230,7 +255,20 @@ entries-explained program_of s pid d name whole changes =
     let by =
     entries-by (at_call s pid t.me) pid (at_next_line t.me) t.call (whole-at_call s pid t.me whole t.at) (process_at-same s pid (at_next_line t.me)) t.is d name t.after t.reply t.does t.tree
     (λ eq. t.touch (same ∙ eq)) in
-    ((t.me, t.call, t.at, t.next_is, t.held, back s pid t.me t.call (change_entry d name) by.0), by.1)
+    record {
+      me = t.me;
+      call = t.call;
+      at = t.at;
+      next_is = t.next_is;
+      held = t.held;
+      edited = record { place = by.place; allowed = allowed-back s pid t.me t.call letter_c by.place by.allowed; named = by.named; fine = by.fine; asks = by.asks };
+    }
+
+pub entries-explained : (program_of : Bytes → Option Program) (s : State) (pid : ℕ) (d : ℕ) (name : Bytes) → IsWhole s → Touches program_of s pid (change_entry d name)
+    → (e : IsExplained s pid (change_entry d name)) × AsksCpath e.1
+entries-explained program_of s pid d name whole changes =
+    let e = entries-edited program_of s pid d name whole changes in
+    ((e.me, e.call, e.at, e.next_is, e.held, entry_by_place e.edited.place d name e.edited.allowed e.edited.named), e.edited.asks)
 
 pub entries-justified : (program_of : Bytes → Option Program) (s : State) (pid : ℕ) (d : ℕ) (name : Bytes) → IsWhole s → Touches program_of s pid (change_entry d name) → IsExplained s pid (change_entry d name)
 entries-justified program_of s pid d name whole changes = (entries-explained program_of s pid d name whole changes).0
@@ -241,7 +279,7 @@ files-justified program_of s pid f whole changes =
     let t = touched program_of s pid whole T
     (λ differs. differs.1 refl)
     (λ p q at same differs. differs.1 refl)
-    (λ y me status tree ascending differs.
+    (λ y me status tree ascending others differs.
     differs.1 (ap bytes_of (file-trim (end_process y pid me status) f differs.0 ∙ ap (λ (u : Tree). node_at u f) (tree-end y pid me status ∙ tree))))
     (changes.1, changes.2) in
     let same : node_at (trim (update t.after pid t.told)).tree f ≡ node_at t.after.tree f =

@@ -1,5 +1,5 @@
 -- What justifies new descriptors.
-use Rattle.std.proofs.Common.{◌≡◌, ℕ, zero, suc, ℤ, pos, negsuc, false, not, ◌==◌, [], ◌∷◌, Option, None, Some, option_map, refl, ap, sym, subst, ◌∙◌, ⊎_elim, ◌⊎◌, inl, inr}
+use Rattle.std.proofs.Common.{◌≡◌, ℕ, zero, suc, ℤ, pos, negsuc, true, false, not, ◌==◌, [], ◌∷◌, Option, None, Some, option_map, refl, ap, sym, subst, ◌∙◌, ⊎_elim, ◌⊎◌, inl, inr}
 use Rattle.std.proofs.lemmas.Bool.{cases_eq}
 use Rattle.std.specs.FinMap.Entries.{where_key}
 use Rattle.std.specs.Ordering.{nat_cmp}
@@ -13,13 +13,15 @@ use Rattle.pv_model.specs.Calls.Descriptors.{new_open_file}
 use Rattle.pv_model.specs.Calls.Processes.{child, end_process}
 use Rattle.pv_model.specs.Effect.{Reply, node_of, descriptor_at, open_file, open_file_of}
 use Rattle.pv_model.specs.Held.{among, trim}
-use Rattle.pv_model.specs.Needs.{letters_of_open}
+use Rattle.pv_model.specs.Needs.{needs, letters_of_open}
 use Rattle.pv_model.specs.Numbered.{Numbered, at_number, with_number, without_number, least_free}
+use Rattle.pv_model.specs.Program.{calls_for, next}
+use Rattle.pv_model.specs.Promises.{missing_promise}
 use Rattle.pv_model.specs.State.{OpenFile, Descriptor, Program, Process, State, process_at, with_process}
 use Rattle.pv_model.specs.Touch.{gain_descriptor, flags_of, HasOpen, Touches, IsAllowed, Justifies, gain_by_open}
 use Rattle.pv_model.specs.Tree.{new_number}
 use Rattle.pv_laws.specs.Held.{used}
-use Rattle.pv_laws.specs.States.{IsWhole}
+use Rattle.pv_laws.specs.States.{is_call, IsWhole}
 use Rattle.pv_laws.proofs.ByProcess.{kept_descriptor}
 use Rattle.pv_tree_laws.proofs.Numbered.{at_number-below, with_number-same, with_number-other, without_number-same, without_number-other, least_free-free, keep-some}
 use Rattle.pv_laws.proofs.Outcomes.{at_call}
@@ -65,7 +67,7 @@ has-opens s pid n mode has p at =
     let same : has.0 ≡ p = cc is in
     subst (λ (q : Process). Opens s.files q.descriptors n mode) same (open-opens s has.0 n mode has.1 has.2 has.3 has.5 has.6 has.7)
 
-opens-has : (s : State) (pid n : ℕ) (mode : Mode) (p : Process) → process_at s pid ≡ Some p → Opens s.files p.descriptors n mode → HasOpen s pid n mode
+pub opens-has : (s : State) (pid n : ℕ) (mode : Mode) (p : Process) → process_at s pid ≡ Some p → Opens s.files p.descriptors n mode → HasOpen s pid n mode
 opens-has s pid n mode p at is =
     (p, pos is.number, is.descriptor.file, is.file, at, ap (open_file_of s) is.there ∙ ap (option_map {U = ℕ × OpenFile} (λ f. (is.descriptor.file, f))) is.opened, is.node, is.mode_is)
 
@@ -78,10 +80,23 @@ with_number-was (x ∷ xs) zero v (suc m) y is = inr is
 with_number-was (x ∷ xs) (suc n) v zero y is = inr is
 with_number-was (x ∷ xs) (suc n) v (suc m) y is = with_number-was xs n v m y is
 
+-- an open with a mode, whose place is allowed for its letters and is one that calls may use
+pub record IsOpened (s : State) (pid : ℕ) (me : Process) (call : Call) (n : ℕ) (mode : Mode) : Type 0 where
+  pub flags : OpenFlags
+  pub place : Place
+  pub flagged : flags_of call ≡ Some flags
+  pub moded : flags.mode ≡ mode
+  pub allowed : IsAllowed s me call (letters_of_open flags) place
+  pub which : (node_of place ≡ Some n) ⊎ ((node_of place ≡ None) × (n ≡ new_number s.tree))
+  pub fine : Does.IsFine s pid me call place
+
+opened-justifies : (s : State) (pid : ℕ) (me : Process) (call : Call) (n : ℕ) (mode : Mode) → IsOpened s pid me call n mode → Justifies s me call (gain_descriptor n mode)
+opened-justifies s pid me call n mode is = gain_by_open is.flags is.place n mode is.flagged is.moded is.allowed is.which
+
 module _ (s : State) (pid : ℕ) (me : Process) (call : Call) (order : IsInOrder s) (at : process_at s pid ≡ Some me) (n : ℕ) (mode : Mode)
     (not_open : Opens s.files me.descriptors n mode → ⊥) where
   abbrev J : Type 0
-  J = Justifies s me call (gain_descriptor n mode)
+  J = IsOpened s pid me call n mode
 
   abbrev NowOpens : Numbered OpenFile → Numbered Descriptor → Type 0
   NowOpens files ds = Opens files ds n mode
@@ -130,16 +145,16 @@ module _ (s : State) (pid : ℕ) (me : Process) (call : Call) (order : IsInOrder
       (cases_eq opens.descriptor.file k)
 
   -- the new open file is justified, and no other is new
-  newly : (flags : OpenFlags) (place : Place) (m : ℕ) → flags_of call ≡ Some flags → IsAllowed s me call (letters_of_open flags) place
+  newly : (flags : OpenFlags) (place : Place) (m : ℕ) → flags_of call ≡ Some flags → IsAllowed s me call (letters_of_open flags) place → Does.IsFine s pid me call place
       → ((node_of place ≡ Some m) ⊎ ((node_of place ≡ None) × (m ≡ new_number s.tree)))
       → NowOpens (with_number s.files (least_free s.files) (new_open_file flags m))
       (with_number me.descriptors (least_free me.descriptors) (record { file = least_free s.files; close_on_exec = flags.close_on_exec })) → J
-  newly flags place m flagged allowed which opens =
+  newly flags place m flagged allowed fine which opens =
       let new : Descriptor = record { file = least_free s.files; close_on_exec = flags.close_on_exec } in
       ⊎_elim
       (λ is.
-      subst (λ k. Justifies s me call (gain_descriptor k mode)) (ap (λ (f : OpenFile). f.node) is ∙ opens.node)
-      (gain_by_open flags place m mode flagged (ap (λ (f : OpenFile). f.mode) is ∙ opens.mode_is) allowed which))
+      subst (λ k. IsOpened s pid me call k mode) (ap (λ (f : OpenFile). f.node) is ∙ opens.node)
+      (record { flags = flags; place = place; flagged = flagged; moded = ap (λ (f : OpenFile). f.mode) is ∙ opens.mode_is; allowed = allowed; which = which; fine = fine }))
       (λ old. ⊎_elim
       (λ is. let none : at_number s.files opens.descriptor.file ≡ None = ap (λ (d : Descriptor). at_number s.files d.file) (sym is) ∙ least_free-free s.files in absurd (cc))
       (λ there. absurd (not_open (record { number = opens.number; descriptor = opens.descriptor; file = opens.file; there = there; opened = old; node = opens.node; mode_is = opens.mode_is })))
@@ -174,19 +189,29 @@ module _ (s : State) (pid : ℕ) (me : Process) (call : Call) (order : IsInOrder
   gains-by _ _ (Does.writes_bytes f bytes k old new m has was node mode_is) q there opens =
       let is : Some q ≡ Some me = sym there ∙ at in let same : q ≡ me = cc is in absurd (moved k old new was node mode_is (subst (λ (p : Process). NowOpens (with_number s.files k new) p.descriptors) same opens))
   gains-by _ _ (Does.makes place p node change free bare) q there opens = by_same q there opens
-  gains-by _ _ (Does.links place p m change) q there opens = by_same q there opens
+  gains-by _ _ (Does.links place p old m change from_old is fine) q there opens = by_same q there opens
   gains-by _ _ (Does.unlinks place p change) q there opens = by_same q there opens
-  gains-by _ _ (Does.renames place p next r m from into) q there opens = by_same q there opens
-  gains-by _ _ (Does.opens flags place m k flagged allowed is) q there opens = newly flags place m flagged allowed (inl is) (by_change s _ q there _ opens)
-  gains-by _ _ (Does.creates flags place p k flagged allowed create named free fine) q there opens = newly flags place (new_number s.tree) flagged allowed (inr (free, refl)) (by_change s _ q there _ opens)
+  gains-by _ _ (Does.renames place p next r m from into is) q there opens = by_same q there opens
+  gains-by _ _ (Does.opens flags place m k flagged allowed is fine) q there opens = newly flags place m flagged allowed fine (inl is) (by_change s _ q there _ opens)
+  gains-by _ _ (Does.creates flags place p k flagged allowed create named free fine) q there opens = newly flags place (new_number s.tree) flagged allowed fine (inr (free, refl)) (by_change s _ q there _ opens)
 
-pub gains-justified : (program_of : Bytes → Option Program) (s : State) (pid n : ℕ) (mode : Mode) → IsWhole s → Touches program_of s pid (gain_descriptor n mode) → IsExplained s pid (gain_descriptor n mode)
-gains-justified program_of s pid n mode whole gains =
+-- the call that opens, with its promises held
+pub record IsOpenedBy (s : State) (pid n : ℕ) (mode : Mode) : Type 0 where
+  pub me : Process
+  pub call : Call
+  pub at : process_at s pid ≡ Some me
+  pub next_is : next me ≡ calls_for call
+  pub held : missing_promise me.promises (needs call) ≡ None
+  pub is : is_call call ≡ true
+  pub opened : IsOpened (at_call s pid me) pid (at_next_line me) call n mode
+
+pub gains-opened : (program_of : Bytes → Option Program) (s : State) (pid n : ℕ) (mode : Mode) → IsWhole s → Touches program_of s pid (gain_descriptor n mode) → IsOpenedBy s pid n mode
+gains-opened program_of s pid n mode whole gains =
     let T : State → Type 0 = λ y. HasOpen y pid n mode × (HasOpen s pid n mode → ⊥) in
     let t = touched program_of s pid whole T
     (λ both. both.1 both.0)
     (λ p q at same both. both.1 (opens-has s pid n mode p at (subst (λ ds. Opens s.files ds n mode) same (has-opens (with_process s pid q) pid n mode both.0 q (process_at-same s pid q)))))
-    (λ y me status tree ascending both.
+    (λ y me status tree ascending others both.
     ended-not_live y pid me status ascending both.0.0 (sym (process_at-trim (end_process y pid me status) pid) ∙ both.0.4))
     gains in
     let x : State = at_call s pid t.me in
@@ -206,12 +231,25 @@ gains-justified program_of s pid n mode whole gains =
       opened = ap (λ fs. at_number fs opens.descriptor.file) (sym (files-update t.after pid t.told)) ∙ kept.1;
       node = opens.node;
       mode_is = opens.mode_is;
-    } in (
-      t.me,
-      t.call,
-      t.at,
-      t.next_is,
-      t.held,
-      back s pid t.me t.call (gain_descriptor n mode)
-          (gains-by x pid now t.call order x_at n mode (λ old. t.touch.1 (opens-has s pid n mode t.me t.at old)) t.after t.reply t.does left.0 left.1 was),
+    } in
+    record {
+      me = t.me;
+      call = t.call;
+      at = t.at;
+      next_is = t.next_is;
+      held = t.held;
+      is = t.is;
+      opened = gains-by x pid now t.call order x_at n mode (λ old. t.touch.1 (opens-has s pid n mode t.me t.at old)) t.after t.reply t.does left.0 left.1 was;
+    }
+
+pub gains-justified : (program_of : Bytes → Option Program) (s : State) (pid n : ℕ) (mode : Mode) → IsWhole s → Touches program_of s pid (gain_descriptor n mode) → IsExplained s pid (gain_descriptor n mode)
+gains-justified program_of s pid n mode whole gains =
+    let e = gains-opened program_of s pid n mode whole gains in
+    (
+      e.me,
+      e.call,
+      e.at,
+      e.next_is,
+      e.held,
+      back s pid e.me e.call (gain_descriptor n mode) (opened-justifies (at_call s pid e.me) pid (at_next_line e.me) e.call n mode e.opened),
     )

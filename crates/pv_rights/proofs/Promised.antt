@@ -54,7 +54,7 @@ no-wpath o ReadWrite rest writing none met = missed o Wpath rest none (met-behin
 
 -- ---- the laws
 
-equal-or_not : (a b : Option ℕ) → (a ≡ b) ⊎ (a ≢ b)
+pub equal-or_not : (a b : Option ℕ) → (a ≡ b) ⊎ (a ≢ b)
 equal-or_not None None = inl refl
 equal-or_not None (Some n) = inr (λ is. cc is)
 equal-or_not (Some m) None = inr (λ is. cc is)

@@ -1,5 +1,5 @@
 -- A touch that only a call's effect can make is made by one.
-use Rattle.std.proofs.Common.{◌≡◌, ℕ, pos, negsuc, true, Option, None, Some, refl, ap, sym, subst, ◌∙◌}
+use Rattle.std.proofs.Common.{◌≡◌, ◌≢◌, ℕ, pos, negsuc, true, Option, None, Some, refl, ap, sym, subst, ◌∙◌}
 use Rattle.std.specs.FinMap.Entries.{is_sorted}
 use Rattle.std.specs.Ordering.{nat_cmp}
 use Rattle.pv_model.specs.declared.call.Call.{Call}
@@ -25,7 +25,7 @@ use Rattle.pv_laws.specs.States.{is_call, SpellsPrograms, IsTree, IsWhole}
 use Rattle.pv_laws.proofs.Attempts.{Leads}
 use Rattle.pv_laws.proofs.BySteps.{IsGoodNext, good-effect, good-next}
 use Rattle.pv_laws.proofs.Outcomes.{at_call, by_answer}
-use Rattle.pv_laws.proofs.Processes.{process_at-same, update-with}
+use Rattle.pv_laws.proofs.Processes.{process_at-same, process_at-other, update-with}
 use Rattle.pv_laws.proofs.Replies.{IsEffect, whole-at_call}
 use Rattle.pv_laws.proofs.Whole.{sorted-put_number}
 use Rattle.pv_rights.proofs.Does.{goes_on, Does, Did, ends-stays}
@@ -79,7 +79,8 @@ pub record IsTouched (s : State) (pid : ℕ) (T : State → Type 0) : Type 0 whe
 module _ (program_of : Bytes → Option Program) (s : State) (pid : ℕ) (whole : IsWhole s) (T : State → Type 0)
     (none : T s → ⊥)
     (own : (p q : Process) → process_at s pid ≡ Some p → q.descriptors ≡ p.descriptors → T (with_process s pid q) → ⊥)
-    (over : (y : State) (me : Process) (status : ℕ) → y.tree ≡ s.tree → is_sorted nat_cmp y.processes ≡ true → T (trim (end_process y pid me status)) → ⊥) where
+    (over : (y : State) (me : Process) (status : ℕ) → y.tree ≡ s.tree → is_sorted nat_cmp y.processes ≡ true
+    → ((j : ℕ) → j ≢ pid → process_at y j ≡ process_at s j) → T (trim (end_process y pid me status)) → ⊥) where
   module _ (me : Process) (at : process_at s pid ≡ Some me) (call : Call) (next_is : next me ≡ calls_for call) where
     abbrev x : State
     x = at_call s pid me
@@ -99,7 +100,7 @@ module _ (program_of : Bytes → Option Program) (s : State) (pid : ℕ) (whole 
 
     ending : (after : State) (status : ℕ) → Does x pid now call after (ends status) → T (trim (end_process after pid now status)) → ⊥
     ending after status does touch =
-        over x now status refl ascending (subst (λ (y : State). T (trim (end_process y pid now status))) (ends-stays x pid now call after (ends status) status does refl) touch)
+        over x now status refl ascending (λ j other. process_at-other s pid now j other) (subst (λ (y : State). T (trim (end_process y pid now status))) (ends-stays x pid now call after (ends status) status does refl) touch)
 
     by_attempt : missing_promise me.promises (needs call) ≡ None → (a : Attempt Effect) → Leads (Did x pid now call) a → Leads LeavesTree a → T (answer_by_attempt s x pid now a).after → IsTouched s pid T
     by_attempt held (done walks (after, returns n)) does tree touch = record {
@@ -148,7 +149,7 @@ module _ (program_of : Bytes → Option Program) (s : State) (pid : ℕ) (whole 
         (λ p lacks found missing lenient touch.
         let same : p ≡ me = cc in
         absurd (refusal ENOSYS (subst (λ (y : Process). T (update (at_call s pid y) pid (λ q. with_result q (negsuc 0) (errno_number ENOSYS)))) same touch)))
-        (λ p lacks found missing lenient touch. absurd (over s (at_next_line p) 6 refl whole.processes.ascending touch))
+        (λ p lacks found missing lenient touch. absurd (over s (at_next_line p) 6 refl whole.processes.ascending (λ j other. refl) touch))
 
   by_next : (me : Process) → process_at s pid ≡ Some me → (n : Next) → next me ≡ n → IsSameNext me n → T (step_by program_of s pid me n).after → IsTouched s pid T
   by_next me at (inside q) is same touch = absurd (own me q at same.0.descriptors touch)

@@ -43,7 +43,7 @@ lacked p q held is l =
     let same : l.0 ≡ held = let both : Some l.0 ≡ Some held = sym l.1 ∙ is in cc both in
     ap (λ (h : Promises). not (contains h q)) (sym same) ∙ ap not l.2
 
-one : (p : Process) (a : Promise) → (Sealed.is_pledged_without (a ∷ []) p ≡ true) ↔ Closed.Lacks p a
+pub one : (p : Process) (a : Promise) → (Sealed.is_pledged_without (a ∷ []) p ≡ true) ↔ Closed.Lacks p a
 one p a = (by p.promises refl, λ l. from p.promises refl l)
   where
     by : (o : Option Promises) → p.promises ≡ o → Sealed.has_none_of (a ∷ []) o ≡ true → Closed.Lacks p a
@@ -141,7 +141,7 @@ module _ (s : State) (p : Process) (f : ℕ) (w : IsWellFormed s.tree) where
   governs-found table d name _ (Closed.by_name k is) = ap (λ o. option_or o (directory_rights s.tree table d)) is
   governs-found table d name _ (Closed.by_directory k is above) = ap (λ o. option_or o (directory_rights s.tree table d)) is ∙ directory_rights-Governs s.tree table d k above
 
-  found-governs : (table : Table) (d : ℕ) (name : Bytes) (k : ℕ) → Sealed.governs_name s p f table (d, name) ≡ Some k → Closed.GovernsName s.tree table d name k
+  pub found-governs : (table : Table) (d : ℕ) (name : Bytes) (k : ℕ) → Sealed.governs_name s p f table (d, name) ≡ Some k → Closed.GovernsName s.tree table d name k
   found-governs table d name k is = by (entry_for table (Name d name)) refl is
     where
       by : (o : Option ℕ) → entry_for table (Name d name) ≡ o → option_or o (directory_rights s.tree table d) ≡ Some k → Closed.GovernsName s.tree table d name k
