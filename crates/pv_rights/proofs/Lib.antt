@@ -17,7 +17,6 @@ pub mod NearCalls
 pub mod JustReads
 pub mod Happens
 pub mod Closed
-pub mod SealedRuns
 pub mod Frames
 pub mod Members
 pub mod Verdicts

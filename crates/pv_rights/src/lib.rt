@@ -6,7 +6,7 @@
 //! - `growth`: in one program image restraints never loosen; what other processes, fork and execve do to them.
 //! - `justice`: what a step touches is justified by the promises held, and by a place that the table allows or a descriptor.
 //! - `means`: what lacking `cpath`, `wpath` or `rpath` means for what a step changes and gains.
-//! - `secrets`: no step reads a sealed file, and none changes a frozen one; runs beside one another.
+//! - `secrets`: no step reads a sealed file, and none changes a frozen one.
 //! - `reasons`: what closed and frozen mean, and why a process is not closed.
 //! - `examples`: a run whose steps make a touch of each sort.
 //!

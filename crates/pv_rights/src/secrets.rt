@@ -1,6 +1,6 @@
 //! Laws of sealed and frozen files.
 
-ghost use Rattle.pv_rights.specs.Secrets.{SealedIsNotRead, SealedAnswersAlike, SealedRunsAlike, FrozenIsNotChanged};
+ghost use Rattle.pv_rights.specs.Secrets.{SealedIsNotRead, SealedAnswersAlike, FrozenIsNotChanged};
 
 /// Where a file is sealed, what a step answers and leaves, whichever process makes it, does not depend on the file's bytes:
 /// they could be any others, as many.
@@ -12,12 +12,6 @@ pub fn sealed_is_not_read()
 /// it leaves differs in the bytes of that file alone, which are as many again.
 pub fn sealed_answers_alike()
     ensures { SealedAnswersAlike }
-{}
-
-/// Along every run in whose states a file stays sealed, other bytes in it, as many, change no line: both runs tell the same
-/// text, byte for byte, and the states at their ends differ in these bytes alone.
-pub fn sealed_runs_alike()
-    ensures { SealedRunsAlike }
 {}
 
 /// Where a file is frozen, no step changes its bytes, whichever process makes it.

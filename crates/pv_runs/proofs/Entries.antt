@@ -1,19 +1,19 @@
 -- What the lines of a manifest list.
-use Rattle.std.proofs.Common.{◌≡◌, ℕ, ◌+◌, ◌≤◌, Bool, true, false, not, ◌&&◌, ◌==◌, nat_le, List, [], ◌∷◌, ◌++◌, length, filter, flat_map, Some, refl, ap, sym, subst, ◌∙◌, ⊎_elim, arith, cond}
+use Rattle.std.proofs.Common.{◌≡◌, ℕ, ◌+◌, ◌≤◌, Bool, true, false, not, ◌&&◌, ◌==◌, nat_le, List, [], ◌∷◌, ◌++◌, length, filter, Some, refl, ap, sym, subst, ◌∙◌, ⊎_elim, arith, cond}
 use Rattle.std.specs.List.{list_all}
 use Rattle.std.proofs.lemmas.Bool.{and_parts, and_from, le-leb}
 use Rattle.std.proofs.lemmas.List.Folds.{list_all-append}
 use Rattle.pv_model.specs.declared.version.Version.TheVariants.{V1}
 use Rattle.pv_model.specs.Bytes.{Bytes, is_empty, onto_first}
-use Rattle.pv_model.specs.Grammar.Entries.{IsEntryPath, SpellsPath, SpellsEntry, of_directory, of_file, of_program, of_link, of_name, Lists, at_end, at_schedule, entry}
+use Rattle.pv_model.specs.Grammar.Entries.{SpellsPath, SpellsEntry, of_directory, of_file, of_program, of_link, of_name, Lists, at_end, at_schedule, entry}
 use Rattle.pv_model.specs.Grammar.Manifests.{is_manifest_path, with_line_end, Listed}
 use Rattle.pv_model.specs.Grammar.Spelling.{SpellsText}
 use Rattle.pv_model.specs.Grammar.Texts.{HasLines, ended}
 use Rattle.pv_model.specs.Manifest.{Entry, make, further_name}
-use Rattle.pv_model.specs.Tree.{Node, directory_node, file_node, link_node, entries_of, is_name, is_node, is_link_text}
+use Rattle.pv_model.specs.Tree.{Node, link_node, entries_of, is_name, is_node}
 use Rattle.pv_model.specs.Walk.{split_slashes, pieces}
 use Rattle.pv_grammar.proofs.EntryPaths.{is_manifest_path-IsEntryPath}
-use Rattle.pv_laws.specs.States.{is_byte, are_bytes, is_text_byte, is_text, has_bytes}
+use Rattle.pv_laws.specs.States.{is_byte, are_bytes, is_text_byte, has_bytes}
 use Rattle.pv_tree_laws.proofs.Entries.{list_all-filter}
 use Rattle.pv_runs.proofs.Ranges.{text-spelled}
 

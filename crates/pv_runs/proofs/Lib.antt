@@ -2,3 +2,4 @@ mod Ranges
 mod Entries
 mod Trees
 mod Starting
+pub mod Secrets

@@ -9,14 +9,14 @@ use Rattle.pv_model.specs.declared.instruction.Operand.TheVariants.{Number, Regi
 use Rattle.pv_model.specs.declared.instruction.Origin.{Origin}
 use Rattle.pv_model.specs.declared.instruction.Origin.TheVariants.{WorkingDirectory, Descriptor}
 use Rattle.pv_model.specs.Bytes.{Bytes}
-use Rattle.pv_model.specs.Grammar.Forms.{Argument, operand, register, number, line, place, text, text_or_null, flags, whence, origin, form_of, Spells, SpellsArguments, SpellsLine}
+use Rattle.pv_model.specs.Grammar.Forms.{Argument, operand, register, number, line, place, text, text_or_null, flags, whence, origin, form_of, Spells, SpellsArguments}
 use Rattle.pv_model.specs.Grammar.Programs.{program_of}
 use Rattle.pv_model.specs.Grammar.Spelling.{IsNumber, SpellsOperand, SpellsOrigin, SpellsText, SpellsTextOrNull, SpellsBytes, nothing, plain, escaped}
 use Rattle.pv_model.specs.Grammar.Texts.{SpellLines, SpellsProgram}
 use Rattle.pv_model.specs.State.{Program}
 use Rattle.pv_model.specs.Trace.{is_plain}
 use Rattle.pv_grammar.proofs.WholePrograms.{SpellsProgram-program_of}
-use Rattle.pv_laws.specs.States.{is_word, is_byte, are_bytes, is_text_byte, is_text, is_text_or_none, is_operand, is_origin, is_target_line, is_instruction, is_program, SpellsPrograms}
+use Rattle.pv_laws.specs.States.{is_word, is_byte, is_text_byte, is_text, is_text_or_none, is_operand, is_origin, is_target_line, is_instruction, is_program, SpellsPrograms}
 
 -- ---- arguments
 

@@ -1,12 +1,11 @@
 -- The state in which a machine starts is whole, and so is each that a run reaches.
-use Rattle.std.proofs.Common.{◌≡◌, ◌⊎◌, ⊎_elim, Bool, true, false, [], Ok, Option, None, Some, refl, ap, sym, subst, ◌∙◌, option_map, option_and_then}
+use Rattle.std.proofs.Common.{◌≡◌, ◌⊎◌, ⊎_elim, true, false, [], Ok, Option, None, Some, refl, ap, sym, subst, option_map, option_and_then}
 use Rattle.std.specs.Prelude.{codes}
 use Rattle.pv_model.specs.Bytes.{Bytes}
-use Rattle.pv_model.specs.Grammar.Lines.{lines_of}
 use Rattle.pv_model.specs.Grammar.Manifests.{Manifest, read_manifest, read_bundle, tree_of}
 use Rattle.pv_model.specs.Grammar.Programs.{program_of}
-use Rattle.pv_model.specs.State.{Program, Process, State, first_state, process_at}
-use Rattle.pv_model.specs.Step.{boot, init_program, step, run}
+use Rattle.pv_model.specs.State.{Program, State, first_state}
+use Rattle.pv_model.specs.Step.{boot, init_program}
 use Rattle.pv_model.specs.Tree.{Node, directory_node, file_node, link_node, Tree, root, node_at, find_entry}
 use Rattle.pv_laws.specs.States.{is_program, SpellsPrograms, IsFirstTree, IsWhole}
 use Rattle.pv_laws.proofs.BySteps.{first-whole, run-keeps_whole}

@@ -4,21 +4,20 @@ use Rattle.std.specs.List.{list_all}
 use Rattle.std.proofs.lemmas.Bool.{and_parts}
 use Rattle.pv_model.specs.declared.version.Version.TheVariants.{V1}
 use Rattle.pv_model.specs.Bytes.{Bytes}
-use Rattle.pv_model.specs.Grammar.Applied.{LeadsTo, at_last_name, down, NamesFile, MakesAt, IsPlaceOf, Makes, Applies, AppliesAll}
+use Rattle.pv_model.specs.Grammar.Applied.{LeadsTo, at_last_name, down, Applies, AppliesAll}
 use Rattle.pv_model.specs.Grammar.Entries.{SpellsManifest}
 use Rattle.pv_model.specs.Grammar.Manifests.{Manifest, data_blocks, tree_of}
-use Rattle.pv_model.specs.Held.{among}
 use Rattle.pv_model.specs.Manifest.{Entry, make, further_name, empty_tree}
 use Rattle.pv_model.specs.Room.{fits, is_too_long}
 use Rattle.pv_model.specs.State.{State, first_state}
 use Rattle.pv_model.specs.Tree.{Node, directory_node, Tree, root, node_at, entries_of, is_directory_at, is_removed, find_entry, parent, is_name, new_number, with_node, with_entry, with_new_node}
 use Rattle.pv_model.specs.Walk.{pieces}
 use Rattle.pv_grammar.proofs.AppliedEntries.{AppliesAll-tree_of}
-use Rattle.pv_laws.specs.States.{are_bytes, has_bytes, IsTree, IsWhole, IsFirstTree}
+use Rattle.pv_laws.specs.States.{are_bytes, has_bytes, IsFirstTree}
 use Rattle.pv_laws.proofs.BySteps.{first-whole}
 use Rattle.pv_laws.proofs.Grown.{bytes-with_node, bytes-with_entry, new-below}
 use Rattle.pv_laws.proofs.Trim.{held_after}
-use Rattle.pv_tree_laws.specs.Kept.{EachIsNamed, kept}
+use Rattle.pv_tree_laws.specs.Kept.{EachIsNamed}
 use Rattle.pv_tree_laws.specs.Tree.{Stands}
 use Rattle.pv_tree_laws.proofs.Edits.{stays-new_node, stays-with_entry}
 use Rattle.pv_tree_laws.proofs.Empty.{only-root, sound-empty, short-empty, fits-empty}

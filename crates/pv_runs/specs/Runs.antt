@@ -4,11 +4,11 @@ use Rattle.pv_model.specs.Bytes.{Bytes}
 use Rattle.pv_model.specs.Grammar.Programs.{program_of}
 use Rattle.pv_model.specs.State.{Process, State, process_at}
 use Rattle.pv_model.specs.Step.{boot, step, run}
-use Rattle.pv_model.specs.Touch.{file_bytes, with_bytes, IsJustified}
+use Rattle.pv_model.specs.Touch.{file_bytes, IsJustified}
 use Rattle.pv_model.specs.Tree.{Tree}
 use Rattle.pv_laws.specs.States.{IsWhole}
 use Rattle.pv_rights.specs.Growth.{MayDoNoMore, IsLeftAlone, StaysInImage}
-use Rattle.pv_rights.specs.Secrets.{StaysSealed, RunAlike}
+use Rattle.pv_secrets.specs.Sealing.{IsSealedFile, IsFrozenFile, IsLeftFrozen, TellsNothing}
 use Rattle.pv_runs.specs.Starts.{MakesTree}
 
 -- a state that a run reaches, whoever's steps it has, from the first one of the tree that bytes make
@@ -40,8 +40,13 @@ RunsKeepOthers =
     (bytes : Bytes) (s : State) (pid other : ℕ) (p : Process) → IsReachedFrom bytes s → other ≢ pid → process_at s other ≡ Some p
     → (q : Process) × (process_at (step program_of s pid).after other ≡ Some q) × IsLeftAlone p q
 
--- on from such a state, other bytes in a file that stays sealed, as many, change no line, and at the end nothing but these bytes
+-- on from such a state where a file is sealed, it stays so, and other bytes in it, as many, change no line, and at the end nothing but these bytes
 abbrev pub SealedTellsNothing : Type 0
 SealedTellsNothing =
-    (bytes : Bytes) (s : State) (pids : List ℕ) (f : ℕ) (hidden : Bytes) → IsReachedFrom bytes s → StaysSealed program_of f pids s → length hidden ≡ length (file_bytes s f)
-    → RunAlike f (run program_of pids s) (run program_of pids (with_bytes s f hidden))
+    (bytes : Bytes) (s : State) (pids : List ℕ) (f : ℕ) (hidden : Bytes) → IsReachedFrom bytes s → IsSealedFile s f → length hidden ≡ length (file_bytes s f)
+    → TellsNothing program_of s pids f hidden
+
+-- and where it is frozen, it stays so, and its bytes stay as they are
+abbrev pub FrozenIsLeft : Type 0
+FrozenIsLeft =
+    (bytes : Bytes) (s : State) (pids : List ℕ) (f : ℕ) → IsReachedFrom bytes s → IsFrozenFile s f → IsLeftFrozen f s (run program_of pids s).final

@@ -5,7 +5,9 @@
 //! - `starts`: what bytes spell, the tree of a manifest, and the state in which a machine starts meet the premises of the laws
 //!   of states.
 //! - `runs`: what holds along every run from there, whoever's steps it has.
+//! - `examples`: a run with a sealed and a frozen file.
 #![tactic(auto)]
 
+pub mod examples;
 pub mod runs;
 pub mod starts;

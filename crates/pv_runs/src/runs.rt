@@ -1,6 +1,6 @@
 //! Laws of every run that an accepted input starts.
 
-ghost use Rattle.pv_runs.specs.Runs.{ReachedIsWhole, RunsAreJust, RunsNeverLoosen, RunsKeepOthers, SealedTellsNothing};
+ghost use Rattle.pv_runs.specs.Runs.{ReachedIsWhole, RunsAreJust, RunsNeverLoosen, RunsKeepOthers, SealedTellsNothing, FrozenIsLeft};
 
 /// Every state that a run reaches is whole.
 pub fn reached_is_whole()
@@ -24,8 +24,13 @@ pub fn runs_keep_others()
     ensures { RunsKeepOthers }
 {}
 
-/// On from every state that a run reaches, other bytes in a file that stays sealed, as many, change no byte of the text, and
-/// at the end nothing but these bytes.
+/// On from every state that a run reaches where a file is sealed, it stays sealed, and other bytes in it, as many, change no
+/// byte of the text, and at the end nothing but these bytes.
 pub fn sealed_tells_nothing()
     ensures { SealedTellsNothing }
+{}
+
+/// On from every state that a run reaches where a file is frozen, it stays frozen, with the same bytes.
+pub fn frozen_is_left()
+    ensures { FrozenIsLeft }
 {}

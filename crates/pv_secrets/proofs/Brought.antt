@@ -30,7 +30,7 @@ use Rattle.pv_tree_laws.proofs.Entries.{by_name}
 use Rattle.pv_rights.proofs.Changed.{cases_entry, entries-content, entry-with_other, entry-without_other, new-within, entry-new_other, entry-trim}
 use Rattle.pv_rights.proofs.Does
 use Rattle.pv_rights.proofs.JustFiles.{fine-name, many, between-directory}
-use Rattle.pv_rights.proofs.Touched.{touched, allowed-back}
+use Rattle.pv_rights.proofs.Touched.{touched}
 
 -- a place of the call's at a node, which calls may use, and which is allowed for a link or a rename of it
 pub record IsMoved (s : State) (me : Process) (call : Call) (n : ℕ) : Type 0 where

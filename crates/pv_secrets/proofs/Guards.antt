@@ -12,7 +12,7 @@ use Rattle.pv_model.specs.declared.place.Place.TheVariants.{At, Node as Unnamed}
 use Rattle.pv_model.specs.declared.promise.Promise.TheVariants.{Rpath, Wpath, Cpath}
 use Rattle.pv_model.specs.declared.target.Target.TheVariants.{Name}
 use Rattle.pv_model.specs.Bytes.{Bytes}
-use Rattle.pv_model.specs.Closed.{Lacks, GovernsName, opens_or_moves, IsClosed, IsPledgedShut, IsUnveiledShut, IsFrozenTo, IsPledgedFrom, IsUnveiledFrom}
+use Rattle.pv_model.specs.Closed.{GovernsName, opens_or_moves, IsClosed, IsUnveiledShut, IsFrozenTo}
 use Rattle.pv_model.specs.Effect.{node_of}
 use Rattle.pv_model.specs.Needs.{needs, needs_cpath, letters_of_open}
 use Rattle.pv_model.specs.Perms.{covers, no_letters, letter_r, letter_c}

@@ -5,24 +5,24 @@ use Rattle.std.specs.FinMap.Entries.{find, where_key, is_sorted}
 use Rattle.std.specs.Ordering.{nat_cmp}
 use Rattle.pv_model.specs.declared.call.Call.{Call}
 use Rattle.pv_model.specs.declared.call.Call.TheVariants as TheCall
-use Rattle.pv_model.specs.declared.errno.Errno.{Errno}
 use Rattle.pv_model.specs.declared.open_flags.Mode.{Mode}
 use Rattle.pv_model.specs.declared.open_flags.OpenFlags.{OpenFlags}
 use Rattle.pv_model.specs.declared.outcome.Outcome.{Outcome}
 use Rattle.pv_model.specs.declared.outcome.Outcome.TheVariants.{Value}
 use Rattle.pv_model.specs.declared.place.Place.{Place}
-use Rattle.pv_model.specs.Answer.{Answered, answer, answer_by_attempt, at_next_line, update, effect}
+use Rattle.pv_model.specs.Answer.{at_next_line, update}
 use Rattle.pv_model.specs.Bytes.{Bytes}
+use Rattle.pv_model.specs.Closed.{HasOn}
 use Rattle.pv_model.specs.Calls.Processes.{child, with_program, end_process}
 use Rattle.pv_model.specs.Effect.{Reply, node_of}
-use Rattle.pv_model.specs.Held.{among, trim}
+use Rattle.pv_model.specs.Held.{among}
 use Rattle.pv_model.specs.Needs.{needs, letters_of_open}
 use Rattle.pv_model.specs.Numbered.{Numbered, at_number}
-use Rattle.pv_model.specs.Program.{Next, inside, calls_for, next}
+use Rattle.pv_model.specs.Program.{Next, calls_for, next}
 use Rattle.pv_model.specs.Promises.{missing_promise}
-use Rattle.pv_model.specs.State.{OpenFile, Descriptor, Program, Process, Record, live, ended_record, State, process_at, with_process}
+use Rattle.pv_model.specs.State.{OpenFile, Program, Process, live, ended_record, State, process_at, with_process}
 use Rattle.pv_model.specs.Step.{Stepped, step, step_by}
-use Rattle.pv_model.specs.Touch.{flags_of, IsAllowed, HasOpen, Touches, gain_descriptor}
+use Rattle.pv_model.specs.Touch.{flags_of, IsAllowed, Touches, gain_descriptor, gain_by_open}
 use Rattle.pv_model.specs.Tree.{new_number}
 use Rattle.pv_laws.specs.Held.{used}
 use Rattle.pv_laws.specs.States.{IsWhole}
@@ -41,8 +41,10 @@ use Rattle.pv_rights.proofs.Ends.{process_at-trim, update-other, put_away, heir,
 use Rattle.pv_rights.proofs.Frames.{others-files}
 use Rattle.pv_rights.proofs.Images.{grows-never, others-keep, execve-leaves}
 use Rattle.pv_rights.proofs.JustGains.{Opens, opens-has, gains-opened}
-use Rattle.pv_rights.proofs.Narrowing.{no_more-of_same, no_more-same}
+use Rattle.pv_rights.proofs.Narrowing.{no_more-of_same}
+use Rattle.pv_rights.specs.Justice.{IsExplained}
 use Rattle.pv_rights.proofs.Touched.{touched, allowed-back}
+use Rattle.pv_secrets.specs.Origins.{IsHeirOf}
 
 -- ---- a process that was not live before is a child
 
@@ -116,6 +118,7 @@ pub record IsGained (s : State) (p : Process) (call : Call) (n : ℕ) (mode : Mo
 -- a call of a process with what it comes to
 pub record IsCalled (s : State) (pid : ℕ) (p : Process) (Comes : Call → Type 0) : Type 0 where
   pub call : Call
+  pub at : process_at s pid ≡ Some p
   pub next_is : next p ≡ calls_for call
   pub held : missing_promise p.promises (needs call) ≡ None
   pub comes : Comes call
@@ -126,6 +129,7 @@ IsExecve p q call = (path : Bytes) × (call ≡ TheCall.Execve path) × HasExecu
 -- a process behind a step has its restraints from one before it, and its descriptors but for those that it opened
 pub record IsHeir (s after : State) (pid k : ℕ) (q : Process) : Type 0 where
   pub from : ℕ
+  pub which : (from ≡ k) ⊎ (from ≡ pid)
   pub p : Process
   pub at : process_at s from ≡ Some p
   pub restraints : MayDoNoMore p q ⊎ IsCalled s pid p (IsExecve p q)
@@ -153,7 +157,7 @@ module _ (program_of : Bytes → Option Program) (s : State) (pid : ℕ) (whole 
         let left = (execve-leaves program_of s pid n p path at is told).1 in
         let both : Some left.0 ≡ Some q = sym left.1 ∙ there in
         let same : left.0 ≡ q = cc both in
-        record { call = TheCall.Execve path; next_is = is; held = valued (TheCall.Execve path) n is told; comes = (path, refl, subst (HasExecuted p) same left.2) }
+        record { call = TheCall.Execve path; at = at; next_is = is; held = valued (TheCall.Execve path) n is told; comes = (path, refl, subst (HasExecuted p) same left.2) }
     image n is o told begins = cc begins
 
     by_image : (b : Bool) → begins_image (next p) (step program_of s pid).outcome ≡ b → MayDoNoMore p q ⊎ IsCalled s pid p (IsExecve p q)
@@ -171,6 +175,7 @@ module _ (program_of : Bytes → Option Program) (s : State) (pid : ℕ) (whole 
         subst (λ (x : Process). IsCalled s pid x (λ call. IsGained s x call n mode)) same
         (record {
           call = e.call;
+          at = e.at;
           next_is = e.next_is;
           held = e.held;
           comes = record {
@@ -185,7 +190,7 @@ module _ (program_of : Bytes → Option Program) (s : State) (pid : ℕ) (whole 
         })
 
     itself : IsHeir s after pid pid q
-    itself = record { from = pid; p = p; at = at; restraints = by_image (begins_image (next p) (step program_of s pid).outcome) refl; gains = gained }
+    itself = record { from = pid; which = inl refl; p = p; at = at; restraints = by_image (begins_image (next p) (step program_of s pid).outcome) refl; gains = gained }
 
   -- ---- another
 
@@ -196,7 +201,7 @@ module _ (program_of : Bytes → Option Program) (s : State) (pid : ℕ) (whole 
         let both : Some left.0 ≡ Some q = sym left.1 ∙ there in
         let same : left.0 ≡ q = cc both in
         let alike : HasTheSame p q = subst (HasTheSame p) same (alone-same p left.0 left.2) in
-        record { from = k; p = p; at = at; restraints = inl (no_more-of_same p q alike); gains = λ n mode now before. absurd (before (had p at alike.descriptors n mode now)) }
+        record { from = k; which = inl refl; p = p; at = at; restraints = inl (no_more-of_same p q alike); gains = λ n mode now before. absurd (before (had p at alike.descriptors n mode now)) }
       where
         had : (p : Process) → process_at s k ≡ Some p → q.descriptors ≡ p.descriptors → (n : ℕ) (mode : Mode) → Opens after.files q.descriptors n mode → Opens s.files p.descriptors n mode
         had p at same n mode now = by (at_number s.files now.descriptor.file) refl
@@ -243,6 +248,7 @@ module _ (program_of : Bytes → Option Program) (s : State) (pid : ℕ) (whole 
         let same : HasTheSame t.me q = record { promises = born.0.promises; execpromises = born.0.execpromises; table = born.0.table; locked = born.0.locked; descriptors = born.0.descriptors } in
         record {
           from = pid;
+          which = inr refl;
           p = t.me;
           at = t.at;
           restraints = inl (no_more-of_same t.me q same);
@@ -273,3 +279,29 @@ module _ (program_of : Bytes → Option Program) (s : State) (pid : ℕ) (whole 
       others : k ≢ pid → (o : Option Process) → process_at s k ≡ o → IsHeir s after pid k q
       others apart None none = newborn k q there apart none
       others apart (Some p) at = other k q there apart p at
+
+-- ---- the law
+
+pub each-has_origin : (program_of : Bytes → Option Program) (s : State) (pid k : ℕ) (q : Process) → IsWhole s → process_at (step program_of s pid).after k ≡ Some q
+    → (from : ℕ) × (p : Process) × ((from ≡ k) ⊎ (from ≡ pid)) × (process_at s from ≡ Some p) × IsHeirOf s (step program_of s pid).after pid p q
+each-has_origin program_of s pid k q whole there = (
+  h.from,
+  h.p,
+  h.which,
+  h.at,
+  record {
+    restraints = ⊎_elim (λ no_more. inl no_more) (λ e. inr e.comes.2) h.restraints;
+    gains = λ n test d on none. justified n test d on none;
+  },
+)
+  where
+    h : IsHeir s (step program_of s pid).after pid k q
+    h = heirs program_of s pid whole k q there
+
+    justified : (n : ℕ) (test : Mode → Bool) (d : ℕ) → HasOn (step program_of s pid).after q n test d → ((e : ℕ) → ¬ HasOn s h.p n test e)
+        → (mode : Mode) × (test mode ≡ true) × IsExplained s pid (gain_descriptor n mode)
+    justified n test d on none =
+        let e =
+        h.gains n on.1.mode (record { number = d; descriptor = on.0; file = on.1; there = on.2; opened = on.3; node = on.4; mode_is = refl })
+        (λ was. none was.number (was.descriptor, was.file, was.there, was.opened, was.node, ap test was.mode_is ∙ on.5)) in
+        (on.1.mode, on.5, (h.p, e.call, e.at, e.next_is, e.held, gain_by_open e.comes.flags e.comes.place n on.1.mode e.comes.flagged e.comes.moded e.comes.allowed e.comes.which))

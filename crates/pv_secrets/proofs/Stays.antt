@@ -18,12 +18,12 @@ use Rattle.pv_model.specs.Closed.{Lacks, HasOn, GivesName, GivesAbove, opens_or_
 use Rattle.pv_model.specs.Effect.{Reply}
 use Rattle.pv_model.specs.Held.{among, trim, live_processes}
 use Rattle.pv_model.specs.Needs.{needs}
-use Rattle.pv_model.specs.Numbered.{at_number, keep_if}
+use Rattle.pv_model.specs.Numbered.{keep_if}
 use Rattle.pv_model.specs.Promises.{Promises, contains, missing_promise}
 use Rattle.pv_model.specs.Sealed.{is_file, leaks, is_frozen_to, is_sealed, is_frozen}
-use Rattle.pv_model.specs.State.{OpenFile, Program, Process, Record, live, ended_record, State, reads, writes, process_at}
+use Rattle.pv_model.specs.State.{Program, Process, Record, live, ended_record, State, reads, writes, process_at}
 use Rattle.pv_model.specs.Step.{step}
-use Rattle.pv_model.specs.Touch.{change_file, file_bytes, Touches}
+use Rattle.pv_model.specs.Touch.{file_bytes}
 use Rattle.pv_model.specs.Tree.{Node, directory_node, file_node, link_node, Tree, node_at, entries_of, is_directory_at, find_entry, with_entry, without_entry, with_new_node, names_of, IsWellFormed}
 use Rattle.pv_model.specs.Unveil.{Table}
 use Rattle.pv_tree_laws.specs.Kept.{wanted}
@@ -40,7 +40,7 @@ use Rattle.pv_laws.proofs.Processes.{number-itself, process_at-same, tree-update
 use Rattle.pv_laws.proofs.Replies.{whole-at_call}
 use Rattle.pv_laws.proofs.Trim.{held_after, tree-trim}
 use Rattle.pv_rights.specs.Growth.{MayDoNoMore, HasExecuted, GainsNone}
-use Rattle.pv_rights.proofs.Changed.{content-other, file-beside, new-within, file-new}
+use Rattle.pv_rights.proofs.Changed.{file-beside, new-within, file-new}
 use Rattle.pv_rights.proofs.Closed.{live-passes, lacking, frozen-not_changed}
 use Rattle.pv_rights.proofs.Does
 use Rattle.pv_rights.proofs.JustFiles.{fine-name, many, between-directory}
@@ -50,7 +50,7 @@ use Rattle.pv_rights.proofs.Touched.{touched}
 use Rattle.pv_rights.proofs.Verdicts.{leaks-closed, frozen-tested}
 use Rattle.pv_secrets.specs.Sealing.{IsSealedFile, IsFrozenFile, IsLeftFrozen}
 use Rattle.pv_secrets.proofs.Guards.{AllClosed, no-reader, no-writer, name-stays, above-stays, name-was}
-use Rattle.pv_secrets.proofs.Heirs.{IsHeir, IsCalled, IsExecve, heirs}
+use Rattle.pv_secrets.proofs.Heirs.{IsCalled, IsExecve, heirs}
 use Rattle.pv_secrets.proofs.Kept.{gave-name, gave-above}
 
 -- ---- a file stays one

@@ -1,23 +1,22 @@
 -- Laws of what a step leaves to the processes and the files behind it: where restraints, descriptors and names come from.
-use Rattle.std.specs.Prelude.{◌≡◌, ◌≢◌, ◌⊎◌, ℕ, IsTrue, Option, None, Some, is_some}
+use Rattle.std.specs.Prelude.{◌≡◌, ◌≢◌, ◌⊎◌, ℕ, Bool, IsTrue, Option, None, Some, is_some}
 use Rattle.pv_model.specs.declared.call.Call.{Call}
-use Rattle.pv_model.specs.declared.call.Call.TheVariants.{Execve, Fork}
 use Rattle.pv_model.specs.declared.open_flags.Mode.{Mode}
-use Rattle.pv_model.specs.declared.open_flags.OpenFlags.{OpenFlags}
 use Rattle.pv_model.specs.declared.place.Place.{Place}
 use Rattle.pv_model.specs.Bytes.{Bytes}
+use Rattle.pv_model.specs.Closed.{HasOn}
 use Rattle.pv_model.specs.Effect.{node_of}
-use Rattle.pv_model.specs.Needs.{needs, letters_of_open}
-use Rattle.pv_model.specs.Numbered.{Numbered, at_number}
+use Rattle.pv_model.specs.Needs.{needs}
 use Rattle.pv_model.specs.Perms.{letter_r, letter_c}
 use Rattle.pv_model.specs.Program.{calls_for, next}
 use Rattle.pv_model.specs.Promises.{missing_promise}
-use Rattle.pv_model.specs.State.{OpenFile, Descriptor, Program, Process, State, process_at}
+use Rattle.pv_model.specs.State.{Program, Process, State, process_at}
 use Rattle.pv_model.specs.Step.{step}
-use Rattle.pv_model.specs.Touch.{flags_of, IsAllowed}
-use Rattle.pv_model.specs.Tree.{node_at, find_entry, new_number}
+use Rattle.pv_model.specs.Touch.{gain_descriptor, IsAllowed}
+use Rattle.pv_model.specs.Tree.{node_at, find_entry}
 use Rattle.pv_laws.specs.States.{IsWhole}
 use Rattle.pv_rights.specs.Growth.{MayDoNoMore, HasExecuted}
+use Rattle.pv_rights.specs.Justice.{IsExplained}
 
 -- a call of a live process whose promises are held
 pub record IsMade (s : State) (pid : ℕ) (me : Process) (call : Call) : Type 0 where
@@ -39,12 +38,15 @@ NamesComeByNames =
     (program_of : Bytes → Option Program) (s : State) (pid : ℕ) (d : ℕ) (name : Bytes) (n : ℕ) → IsWhole s → IsTrue (is_some (node_at s.tree n))
     → find_entry (step program_of s pid).after.tree d name ≡ Some n → find_entry s.tree d name ≢ Some n → IsBrought s pid n
 
--- a process has an open file on a node, with a mode
-pub record HasOpened (s : State) (p : Process) (n : ℕ) (mode : Mode) : Type 0 where
-  pub number : ℕ
-  pub descriptor : Descriptor
-  pub file : OpenFile
-  pub there : at_number p.descriptors number ≡ Some descriptor
-  pub opened : at_number s.files descriptor.file ≡ Some file
-  pub node : file.node ≡ n
-  pub mode_is : file.mode ≡ mode
+-- of what the second process has behind a step: its restraints are the first one's, or fewer, or what an execve of the first leaves;
+-- and a descriptor that the first had not is gained by the step
+pub record IsHeirOf (s after : State) (pid : ℕ) (p q : Process) : Type 0 where
+  pub restraints : MayDoNoMore p q ⊎ HasExecuted p q
+  pub gains : (n : ℕ) (test : Mode → Bool) (d : ℕ) → HasOn after q n test d → ((e : ℕ) → ¬ HasOn s p n test e)
+      → (mode : Mode) × IsTrue (test mode) × IsExplained s pid (gain_descriptor n mode)
+
+-- each process that is live behind a step has what it has from itself, or from the process whose step it is
+abbrev pub EachHasAnOrigin : Type 0
+EachHasAnOrigin =
+    (program_of : Bytes → Option Program) (s : State) (pid k : ℕ) (q : Process) → IsWhole s → process_at (step program_of s pid).after k ≡ Some q
+    → (from : ℕ) × (p : Process) × ((from ≡ k) ⊎ (from ≡ pid)) × (process_at s from ≡ Some p) × IsHeirOf s (step program_of s pid).after pid p q

@@ -4,11 +4,11 @@ use Rattle.pv_model.specs.Bytes.{Bytes}
 use Rattle.pv_model.specs.Closed.{IsClosed, IsHeldOverExec}
 use Rattle.pv_model.specs.Sealed.{is_file, is_sealed, is_frozen}
 use Rattle.pv_model.specs.State.{Program, Process, State}
-use Rattle.pv_model.specs.Step.{step, run}
-use Rattle.pv_model.specs.Touch.{file_bytes, with_bytes}
+use Rattle.pv_model.specs.Step.{Run, step, run}
+use Rattle.pv_model.specs.Touch.{file_bytes, with_bytes, SameButFile}
+use Rattle.pv_model.specs.Trace.{trace_bytes}
 use Rattle.pv_model.specs.Tree.{node_at}
 use Rattle.pv_laws.specs.States.{SpellsPrograms, IsWhole}
-use Rattle.pv_rights.specs.Secrets.{RunAlike}
 
 pub record IsSealedFile (s : State) (f : ℕ) : Type 0 where
   pub file : IsTrue (is_file (node_at s.tree f))
@@ -38,6 +38,13 @@ FrozenStays =
 -- a process that is closed to a file is pledged without exec, or has execpromises: frozen, which is sealed too, asks no more by saying so again
 abbrev pub ClosedIsHeldOverExec : Type 0
 ClosedIsHeldOverExec = (s : State) (p : Process) (f : ℕ) → IsClosed s p f → IsHeldOverExec p
+
+-- two runs tell the same lines, and so the same text; what they leave differs in the bytes of one file alone, which are as many
+pub record RunAlike (f : ℕ) (a b : Run) : Type 0 where
+  pub lines : b.lines ≡ a.lines
+  pub text : trace_bytes b.lines ≡ trace_bytes a.lines
+  pub final : SameButFile f a.final b.final
+  pub as_many : length (file_bytes b.final f) ≡ length (file_bytes a.final f)
 
 -- from a state where a file is sealed, it is so behind every run, and with other bytes in it, as many, the run tells the same text, byte for byte, and leaves the same but for them
 pub record TellsNothing (program_of : Bytes → Option Program) (s : State) (pids : List ℕ) (f : ℕ) (bytes : Bytes) : Type 0 where
