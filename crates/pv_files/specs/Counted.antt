@@ -1,5 +1,6 @@
 -- Open files and their users, as clauses see them.
 use Rattle.std.specs.Prelude.{◌≡◌, ℕ, ◌<◌, ◌↔◌, List, length, replicate, slice_index, slice_set, IsSome, None}
+use Rattle.pv_model.specs.declared.limits.TheConstants.{OPEN_FILES}
 use Rattle.pv_model.specs.Numbered.{Numbered, at_number, with_number}
 use Rattle.pv_model.specs.State.{OpenFile}
 
@@ -10,13 +11,13 @@ pub record Counted : Type 0 where
 
 -- what holds of them at any time: 128 places, and a file is open under a number just where that has users
 pub record IsCounted (c : Counted) : Type 0 where
-  pub places : length c.files ≡ 128
-  pub counts : length c.users ≡ 128
+  pub places : length c.files ≡ OPEN_FILES
+  pub counts : length c.users ≡ OPEN_FILES
   pub used : (k : ℕ) → IsSome (at_number c.files k) ↔ (0 < slice_index c.users k)
 
 -- nothing is open
 abbrev pub no_files : Counted
-no_files = record { files = replicate 128 None; users = replicate 128 0 }
+no_files = record { files = replicate OPEN_FILES None; users = replicate OPEN_FILES 0 }
 
 -- with a new open file under a number, and one user of it
 abbrev pub with_opened : Counted → ℕ → OpenFile → Counted

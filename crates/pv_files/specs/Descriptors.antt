@@ -1,10 +1,11 @@
 -- The descriptors of a process, as clauses see them.
 use Rattle.std.specs.Prelude.{ℤ, pos, negsuc, Bool, false, replicate, Option, None, Some}
+use Rattle.pv_model.specs.declared.limits.TheConstants.{DESCRIPTORS}
 use Rattle.pv_model.specs.Numbered.{Numbered, at_number}
 use Rattle.pv_model.specs.State.{Descriptor}
 
 abbrev pub no_descriptors : Numbered Descriptor
-no_descriptors = replicate 16 None
+no_descriptors = replicate DESCRIPTORS None
 
 -- the descriptor under the number that a call gives, as `descriptor_at` finds it in a process
 abbrev pub descriptor_under : Numbered Descriptor → ℤ → Option Descriptor

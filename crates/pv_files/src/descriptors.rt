@@ -26,6 +26,7 @@ pub struct Descriptors {
 }
 
 impl Model for Descriptors {
+    ghost use Rattle.pv_model.specs.declared.limits.TheConstants.{DESCRIPTORS};
     ghost use Rattle.pv_model.specs.Numbered.{Numbered};
     ghost use Rattle.pv_model.specs.State.{Descriptor};
 
@@ -36,7 +37,7 @@ impl Model for Descriptors {
 
     ghost view = { λ t. descriptors_of t.places };
 
-    ghost invariant = { λ t. length t.places ≡ 16 };
+    ghost invariant = { λ t. length t.places ≡ DESCRIPTORS };
 
     ghost inverse = { λ v. record { places = places_of v } };
 
@@ -109,14 +110,14 @@ impl Descriptors {
 
     /// Does nothing: its contract tells what holds of the descriptors at any time.
     pub fn facts(&self)
-        ensures { length self.now ≡ 16 }
+        ensures { length self.now ≡ DESCRIPTORS }
     {
         let _ = &self.places;
     }
 
     /// Whether a number is free.
     pub fn has_room(&self) -> bool
-        ensures { IsTrue result ↔ (least_free self.now < 16) }
+        ensures { IsTrue result ↔ (least_free self.now < DESCRIPTORS) }
     {
         first_free(&self.places).is_some()
     }
@@ -128,11 +129,11 @@ impl Descriptors {
     /// `EMFILE` where all 16 numbers are used, and only there; nothing has then changed.
     pub fn give(&mut self, file: usize, close_on_exec: bool) -> Result<u8, Errno>
         ensures number { IfOk result (λ d. d ≡ least_free self.old) }
-        ensures in_range { IfOk result (λ d. d < 16) }
+        ensures in_range { IfOk result (λ d. d < DESCRIPTORS) }
         ensures given { IfOk result (λ d. self.new
             ≡ with_number self.old d (record { file = file; close_on_exec = close_on_exec })) }
         ensures errno { IfErr result (λ e. e ≡ Errno.EMFILE) }
-        ensures full { OnErr result (least_free self.old ≡ 16) }
+        ensures full { OnErr result (least_free self.old ≡ DESCRIPTORS) }
         ensures unchanged { OnErr result (self.new ≡ self.old) }
     {
         let Some(d) = first_free(&self.places) else {
@@ -147,7 +148,7 @@ impl Descriptors {
 
     /// Makes a number from 0 to 15 a descriptor of an open file, whatever it was. An execve(2) keeps it.
     pub fn set(&mut self, d: u8, file: usize)
-        requires { d < 16 }
+        requires { d < DESCRIPTORS }
         ensures { self.new
             ≡ with_number self.old d (record { file = file; close_on_exec = false }) }
     {

@@ -21,6 +21,7 @@ pub struct OpenFiles {
 }
 
 impl Model for OpenFiles {
+    ghost use Rattle.pv_model.specs.declared.limits.TheConstants.{OPEN_FILES};
     ghost use Rattle.pv_files.specs.Counted.{Counted};
 
     ghost Value = { Counted };
@@ -30,7 +31,7 @@ impl Model for OpenFiles {
 
     ghost view = { λ t. counted_of t.places.items };
 
-    ghost invariant = { λ t. length t.places.items ≡ 128 };
+    ghost invariant = { λ t. length t.places.items ≡ OPEN_FILES };
 }
 
 // One user more of what is kept at a place.
@@ -113,7 +114,7 @@ impl OpenFiles {
 
     /// Whether a number is free.
     pub fn has_room(&self) -> bool
-        ensures { IsTrue result ↔ (least_free self.now.files < 128) }
+        ensures { IsTrue result ↔ (least_free self.now.files < OPEN_FILES) }
     {
         first_free(&self.places).is_some()
     }
@@ -125,11 +126,11 @@ impl OpenFiles {
     /// `ENFILE` where all 128 numbers are used, and only there; nothing has then changed.
     pub fn add(&mut self, node: u16, mode: Mode, append: bool) -> Result<usize, Errno>
         ensures number { IfOk result (λ k. k ≡ least_free self.old.files) }
-        ensures in_range { IfOk result (λ k. k < 128) }
+        ensures in_range { IfOk result (λ k. k < OPEN_FILES) }
         ensures opened { IfOk result (λ k. self.new ≡ with_opened self.old k
             (record { node = node; mode = mode; append = append; offset = 0; listed = None })) }
         ensures errno { IfErr result (λ e. e ≡ Errno.ENFILE) }
-        ensures full { OnErr result (least_free self.old.files ≡ 128) }
+        ensures full { OnErr result (least_free self.old.files ≡ OPEN_FILES) }
         ensures unchanged { OnErr result (self.new ≡ self.old) }
     {
         let Some(file) = first_free(&self.places) else {

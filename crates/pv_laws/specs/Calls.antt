@@ -2,6 +2,7 @@
 use Rattle.std.specs.Prelude.{◌≡◌, ◌≢◌, ℕ, suc, negsuc, Bool, true, false, IsTrue, IsFalse, length, List, Option, None, Some}
 use Rattle.std.specs.FinMap.Entries.{find}
 use Rattle.std.specs.Ordering.{nat_cmp}
+use Rattle.pv_model.specs.declared.limits.TheConstants.{LAST_PROCESS}
 use Rattle.pv_model.specs.declared.call.Call.{Call}
 use Rattle.pv_model.specs.declared.call.Call.TheVariants.{Exit, Pledge, Fork}
 use Rattle.pv_model.specs.declared.errno.Errno.{Errno}
@@ -100,7 +101,7 @@ OthersKill =
 pub record IsNewNumber (s : State) (n : ℕ) (after : State) : Type 0 where
   pub next : n ≡ suc s.last_process
   pub kept : after.last_process ≡ n
-  pub within : IsTrue (Rattle.std.specs.Prelude.nat_le n 99999)
+  pub within : IsTrue (Rattle.std.specs.Prelude.nat_le n LAST_PROCESS)
 
 abbrev pub NextNumber : Type 0
 NextNumber =

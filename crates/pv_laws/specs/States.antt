@@ -3,6 +3,7 @@ use Rattle.std.specs.Prelude.{◌≡◌, ◌≢◌, ℕ, suc, ◌≤◌, ℤ, po
 use Rattle.std.specs.FinMap.Entries.{find, is_sorted}
 use Rattle.std.specs.List.{list_all}
 use Rattle.std.specs.Ordering.{nat_cmp}
+use Rattle.pv_model.specs.declared.limits.TheConstants.{BUFFER, DESCRIPTORS, LAST_PROCESS, LINES, NUMBER, OFFSET, OPEN_FILES, PROCESSES, REGISTERS, TEXT, UNVEILS}
 use Rattle.pv_model.specs.declared.call.Call.{Call}
 use Rattle.pv_model.specs.declared.call.Call.TheVariants.{Exit, GetPid, GetPpid, Fork, Wait, Pledge, Unveil, Execve, Open, OpenAt, Close, Dup, Dup2, Read, Write, Lseek, Fstat, Ftruncate, Getdents, Fchdir, Chdir, Stat, Lstat, Readlink, Mkdir, Symlink, Link, Unlink, Rmdir, Rename}
 use Rattle.pv_model.specs.declared.call.Start.{Start}
@@ -34,15 +35,15 @@ pub use Rattle.pv_tree_laws.specs.Spelled.{is_byte, are_bytes, has_bytes, AllByt
 
 -- a signed number of 32 bits
 abbrev pub is_word : ℤ → Bool
-is_word (pos n) = nat_le n 2147483647
-is_word (negsuc n) = nat_le n 2147483647
+is_word (pos n) = nat_le n NUMBER
+is_word (negsuc n) = nat_le n NUMBER
 
 -- a byte of a program's text, which is not 0
 abbrev pub is_text_byte : ℕ → Bool
 is_text_byte b = not (b == 0) && is_byte b
 
 abbrev pub is_text : Bytes → Bool
-is_text bs = nat_le (length bs) 1100 && list_all is_text_byte bs
+is_text bs = nat_le (length bs) TEXT && list_all is_text_byte bs
 
 abbrev pub is_text_or_none : Option Bytes → Bool
 is_text_or_none None = true
@@ -52,7 +53,7 @@ is_text_or_none (Some bs) = is_text bs
 
 abbrev pub is_operand : Operand → Bool
 is_operand (Number n) = is_word n
-is_operand (Register r) = nat_lt r 8
+is_operand (Register r) = nat_lt r REGISTERS
 
 abbrev pub is_origin : Origin → Bool
 is_origin HereOrigin = true
@@ -63,14 +64,14 @@ is_target_line lines line = nat_le 1 line && nat_le line lines
 
 -- an instruction of a program of so many lines
 abbrev pub is_instruction : ℕ → Instruction → Bool
-is_instruction lines (Line.Set r n) = nat_lt r 8 && is_word n
-is_instruction lines (Line.Add r n) = nat_lt r 8 && is_word n
+is_instruction lines (Line.Set r n) = nat_lt r REGISTERS && is_word n
+is_instruction lines (Line.Add r n) = nat_lt r REGISTERS && is_word n
 is_instruction lines (Line.Put bytes) = is_text bytes
-is_instruction lines (Line.Peek r k) = nat_lt r 8 && nat_lt k 4096
+is_instruction lines (Line.Peek r k) = nat_lt r REGISTERS && nat_lt k BUFFER
 is_instruction lines (Line.Jump line) = is_target_line lines line
-is_instruction lines (Line.JumpIfZero r line) = nat_lt r 8 && is_target_line lines line
-is_instruction lines (Line.JumpIfNotZero r line) = nat_lt r 8 && is_target_line lines line
-is_instruction lines (Line.JumpIfNegative r line) = nat_lt r 8 && is_target_line lines line
+is_instruction lines (Line.JumpIfZero r line) = nat_lt r REGISTERS && is_target_line lines line
+is_instruction lines (Line.JumpIfNotZero r line) = nat_lt r REGISTERS && is_target_line lines line
+is_instruction lines (Line.JumpIfNegative r line) = nat_lt r REGISTERS && is_target_line lines line
 is_instruction lines Line.Fork = true
 is_instruction lines Line.Wait = true
 is_instruction lines Line.GetPid = true
@@ -104,7 +105,7 @@ is_instruction lines (Line.Symlink text path) = is_text text && is_text path
 
 -- what bytes may spell: at most 256 such lines
 abbrev pub is_program : Program → Bool
-is_program lines = nat_le (length lines) 256 && list_all (is_instruction (length lines)) lines
+is_program lines = nat_le (length lines) LINES && list_all (is_instruction (length lines)) lines
 
 -- what is spelled is a program
 pub record SpellsPrograms (program_of : Bytes → Option Program) : Type 0 where
@@ -161,11 +162,11 @@ is_listed v (Some name) = is_name v name && are_bytes name
 pub record IsOpenFile (t : Tree) (f : OpenFile) : Type 0 where
   pub node : IsTrue (is_file (node_at t f.node) || is_directory_at t f.node)
   pub directory : IsTrue (is_directory_at t f.node) → IsFalse (writes f.mode)
-  pub offset : f.offset ≤ 2147483647
+  pub offset : f.offset ≤ OFFSET
   pub listed : IsTrue (is_listed t.version f.listed)
 
 pub record AreFiles (t : Tree) (files : Numbered OpenFile) : Type 0 where
-  pub count : length files ≡ 128
+  pub count : length files ≡ OPEN_FILES
   pub each : (k : ℕ) (f : OpenFile) → at_number files k ≡ Some f → IsOpenFile t f
 
 -- what an entry of a table is for is there
@@ -176,19 +177,19 @@ is_target t (of_name d name) = is_directory_at t d && (is_name t.version name &&
 -- a table has at most 64 entries
 abbrev pub is_table : Tree → Option Table → Bool
 is_table t None = true
-is_table t (Some table) = nat_le (length table) 64 && list_all (λ e. is_target t e.0) table
+is_table t (Some table) = nat_le (length table) UNVEILS && list_all (λ e. is_target t e.0) table
 
 -- the inside of a process: its program and place, registers and buffer
 pub record IsRunning (p : Process) : Type 0 where
   pub program : IsTrue (is_program p.program)
   pub line : (1 ≤ p.line) × (p.line ≤ suc (length p.program))
-  pub registers : (length p.registers ≡ 8) × IsTrue (list_all is_word p.registers)
-  pub buffer : (length p.buffer ≡ 4096) × IsTrue (are_bytes p.buffer)
+  pub registers : (length p.registers ≡ REGISTERS) × IsTrue (list_all is_word p.registers)
+  pub buffer : (length p.buffer ≡ BUFFER) × IsTrue (are_bytes p.buffer)
 
 -- what a process stands on: its directory, its descriptors' open files, its targets
 pub record IsPlaced (t : Tree) (files : Numbered OpenFile) (p : Process) : Type 0 where
   pub directory : IsTrue (is_directory_at t p.directory)
-  pub descriptors : length p.descriptors ≡ 16
+  pub descriptors : length p.descriptors ≡ DESCRIPTORS
   pub opens : (d : ℕ) (descriptor : Descriptor) → at_number p.descriptors d ≡ Some descriptor → IsTrue (is_some (at_number files descriptor.file))
   pub table : IsTrue (is_table t p.table)
 
@@ -199,8 +200,8 @@ is_number last pid = nat_le 1 pid && nat_le pid last
 pub record AreProcesses (s : State) : Type 0 where
   pub ascending : IsTrue (is_sorted nat_cmp s.processes)
   pub numbers : IsTrue (list_all (λ r. is_number s.last_process r.0) s.processes)
-  pub count : length s.processes ≤ 32
-  pub last : (1 ≤ s.last_process) × (s.last_process ≤ 99999)
+  pub count : length s.processes ≤ PROCESSES
+  pub last : (1 ≤ s.last_process) × (s.last_process ≤ LAST_PROCESS)
   pub running : (pid : ℕ) (p : Process) → process_at s pid ≡ Some p → IsRunning p
   pub placed : (pid : ℕ) (p : Process) → process_at s pid ≡ Some p → IsPlaced s.tree s.files p
   pub first : (p : Process) → process_at s 1 ≡ Some p → p.parent ≡ 0

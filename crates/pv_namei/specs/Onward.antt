@@ -1,5 +1,6 @@
 -- A walk on its way.
 use Rattle.std.specs.Prelude.{◌≡◌, ℕ, zero, suc, ◌+◌, ◌*◌, ◌<◌, Bool, IsTrue, List, length, if◌then◌else◌, nat_lt, Option, None, Some, Result, Ok, Err}
+use Rattle.pv_model.specs.declared.limits.TheConstants.{LINKS}
 use Rattle.pv_model.specs.declared.errno.Errno.{Errno}
 use Rattle.pv_model.specs.declared.errno.Errno.TheVariants.{ENOENT, ENAMETOOLONG}
 use Rattle.pv_model.specs.declared.follow.Follow.{Follow}
@@ -19,7 +20,7 @@ behind t last (suc links) = through_link t last (walk t last links)
 -- the walk of a path from a directory
 abbrev pub first_walk : ℕ → Bytes → Follow → Walk
 first_walk start path follow =
-    record { last = follows_last follow; links = 32; at = if is_absolute path then root else start; rest = pieces path; mark = end_mark follow path }
+    record { last = follows_last follow; links = LINKS; at = if is_absolute path then root else start; rest = pieces path; mark = end_mark follow path }
 
 -- what a walk on its way will answer
 abbrev pub remaining : Tree → Walk → Walked

@@ -1,5 +1,6 @@
 //! What is still to walk of a path.
 ghost use Rattle.std.specs.Prelude.{◌≡◌, ◌≤◌, ◌<◌, ◌+◌, ◌++◌, ◌∷◌, [], length, MatchOption, OnOk, OnErr, IfOk, IfErr};
+ghost use Rattle.pv_model.specs.declared.limits.TheConstants.{PATH};
 ghost use Rattle.pv_model.specs.Bytes.{is_empty};
 ghost use Rattle.pv_model.specs.Walk.{pieces, weight};
 ghost use Rattle.pv_namei.specs.Pieces.{with_slashes, behind_first, IsSpelledOut};
@@ -7,6 +8,7 @@ ghost use Rattle.pv_namei.specs.Pieces.{with_slashes, behind_first, IsSpelledOut
 use crate::piece::split_first;
 use arrayvec::ArrayVec;
 use pv_model::Errno;
+use pv_model::limits::WEIGHT;
 use std::marker::Model;
 
 /// The pieces that a walk has still before it: together with a slash behind each they are at most
@@ -14,12 +16,13 @@ use std::marker::Model;
 #[derive(Drop)]
 pub(crate) struct Rest {
     // Each piece with a slash behind it.
-    bytes: ArrayVec<u8, 1024>,
+    bytes: ArrayVec<u8, WEIGHT>,
     // Where the first piece begins.
     begin: usize,
 }
 
 impl Model for Rest {
+    ghost use Rattle.pv_model.specs.declared.limits.TheConstants.{WEIGHT};
     ghost use Rattle.std.specs.Prelude.{List, ℕ, ◌≤◌, drop, length};
     ghost use Rattle.pv_model.specs.Walk.{pieces};
     ghost use Rattle.pv_namei.specs.Pieces.{IsSpelledOut};
@@ -28,13 +31,13 @@ impl Model for Rest {
 
     ghost view = { λ r. pieces (drop r.begin r.bytes.items) };
 
-    ghost invariant = { λ r. (length r.bytes.items ≤ 1024) × (r.begin ≤ length r.bytes.items) × IsSpelledOut (drop r.begin r.bytes.items) };
+    ghost invariant = { λ r. (length r.bytes.items ≤ WEIGHT) × (r.begin ≤ length r.bytes.items) × IsSpelledOut (drop r.begin r.bytes.items) };
 }
 
 impl Rest {
     /// The pieces of a path of at most 1,023 bytes.
     pub(crate) fn of_path(path: &[u8]) -> Rest
-        requires { length path.now ≤ 1023 }
+        requires { length path.now ≤ PATH }
         ensures { result ≡ pieces path.now }
     {
         match spell_out(path) {
@@ -80,8 +83,8 @@ impl Rest {
     /// behind each, would be more than 1,024 bytes; then nothing has changed.
     pub(crate) fn put_before(&mut self, text: &[u8]) -> Result<(), Errno>
         ensures ok { OnOk result (self.new ≡ pieces text.now ++ self.old) }
-        ensures fits { OnOk result (weight (pieces text.now ++ self.old) ≤ 1024) }
-        ensures too_long { OnErr result (1024 < weight (pieces text.now ++ self.old)) }
+        ensures fits { OnOk result (weight (pieces text.now ++ self.old) ≤ WEIGHT) }
+        ensures too_long { OnErr result (WEIGHT < weight (pieces text.now ++ self.old)) }
         ensures err { IfErr result (λ e. e ≡ Errno.ENAMETOOLONG) }
         ensures kept { OnErr result (self.new ≡ self.old) }
     {
@@ -93,10 +96,10 @@ impl Rest {
 }
 
 // The pieces of a path with a slash behind each; ENAMETOOLONG where they are more than 1,024 bytes.
-fn spell_out(path: &[u8]) -> Result<ArrayVec<u8, 1024>, Errno>
+fn spell_out(path: &[u8]) -> Result<ArrayVec<u8, WEIGHT>, Errno>
     ensures ok { IfOk result (λ bytes. bytes.items ≡ with_slashes (pieces path.now)) }
-    ensures fits { OnOk result (weight (pieces path.now) ≤ 1024) }
-    ensures too_long { OnErr result (1024 < weight (pieces path.now)) }
+    ensures fits { OnOk result (weight (pieces path.now) ≤ WEIGHT) }
+    ensures too_long { OnErr result (WEIGHT < weight (pieces path.now)) }
     ensures err { IfErr result (λ e. e ≡ Errno.ENAMETOOLONG) }
 {
     let mut bytes = ArrayVec::new();
@@ -109,10 +112,10 @@ fn spell_out(path: &[u8]) -> Result<ArrayVec<u8, 1024>, Errno>
 }
 
 // Puts a piece with a slash behind it at the end; ENAMETOOLONG where there is no room for it.
-fn push_piece(bytes: &mut ArrayVec<u8, 1024>, piece: &[u8]) -> Result<(), Errno>
+fn push_piece(bytes: &mut ArrayVec<u8, WEIGHT>, piece: &[u8]) -> Result<(), Errno>
     ensures ok { OnOk result (bytes.new.items ≡ bytes.old.items ++ (piece.now ++ 47 ∷ [])) }
-    ensures fits { OnOk result (length bytes.old.items + (length piece.now + 1) ≤ 1024) }
-    ensures too_long { OnErr result (1024 < length bytes.old.items + (length piece.now + 1)) }
+    ensures fits { OnOk result (length bytes.old.items + (length piece.now + 1) ≤ WEIGHT) }
+    ensures too_long { OnErr result (WEIGHT < length bytes.old.items + (length piece.now + 1)) }
     ensures err { IfErr result (λ e. e ≡ Errno.ENAMETOOLONG) }
 {
     push_bytes(bytes, piece)?;
@@ -120,10 +123,10 @@ fn push_piece(bytes: &mut ArrayVec<u8, 1024>, piece: &[u8]) -> Result<(), Errno>
 }
 
 // Puts bytes at the end; ENAMETOOLONG where there is no room for them.
-fn push_bytes(bytes: &mut ArrayVec<u8, 1024>, more: &[u8]) -> Result<(), Errno>
+fn push_bytes(bytes: &mut ArrayVec<u8, WEIGHT>, more: &[u8]) -> Result<(), Errno>
     ensures ok { OnOk result (bytes.new.items ≡ bytes.old.items ++ more.now) }
-    ensures fits { OnOk result (length bytes.old.items + length more.now ≤ 1024) }
-    ensures too_long { OnErr result (1024 < length bytes.old.items + length more.now) }
+    ensures fits { OnOk result (length bytes.old.items + length more.now ≤ WEIGHT) }
+    ensures too_long { OnErr result (WEIGHT < length bytes.old.items + length more.now) }
     ensures err { IfErr result (λ e. e ≡ Errno.ENAMETOOLONG) }
 {
     match bytes.try_extend_from_slice(more) {

@@ -35,7 +35,7 @@ type Step = Result<Option<Place>, Errno>;
 impl Walk {
     // The walk of a path of at most 1,023 bytes from a directory.
     fn new(start: u16, path: &[u8], follow: Follow) -> Walk
-        requires { length path.now ≤ 1023 }
+        requires { length path.now ≤ PATH }
         ensures { result ≡ first_walk start path.now follow }
     {
         Walk {
@@ -158,7 +158,7 @@ fn read_link(tree: &Tree, link: u16, buffer: &mut [u8; PATH]) -> usize
     requires well_formed { IsWellFormed tree.now.tree }
     requires link { IsSome (link_text (node_at tree.now.tree link)) }
     ensures text { link_text (node_at tree.now.tree link) ≡ Some (take result buffer.new) }
-    ensures fits { result ≤ 1023 }
+    ensures fits { result ≤ PATH }
 {
     tree.read_at(link, 0, buffer)
 }

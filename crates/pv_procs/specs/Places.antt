@@ -1,6 +1,7 @@
 -- The places of processes and of programs, and what they hold, as the definitions have it.
 use Rattle.std.specs.Prelude.{◌≡◌, ℕ, ◌≤◌, ◌+◌, ◌&&◌, ◌==◌, not, Bool, true, List, [], ◌∷◌, map, length, count_by, nat_le, nat_lt, if◌then◌else◌, slice_get, is_none, is_some, Option, None, Some}
 use Rattle.std.specs.List.{list_all}
+use Rattle.pv_model.specs.declared.limits.TheConstants.{PROCESSES, LAST_PROCESS}
 use Rattle.pv_model.specs.State.{Program, Process, Record, live, ended_record}
 use Rattle.pv_procs.specs.declared.place.Place.{Place}
 use Rattle.pv_procs.specs.declared.shared.Shared.{Shared}
@@ -71,16 +72,16 @@ is_numbered last place = nat_le 1 place.number && nat_le place.number last
 pub record IsKept (places : List Place) (programs : List Shared) (last_number : ℕ) : Type 0 where
   pub ascending : ascends places ≡ true
   pub numbers : list_all (is_numbered last_number) places ≡ true
-  pub last : last_number ≤ 99999
-  pub table : length programs ≡ 32
-  pub within : list_all (λ (place : Place). nat_lt place.program 32) places ≡ true
+  pub last : last_number ≤ LAST_PROCESS
+  pub table : length programs ≡ PROCESSES
+  pub within : list_all (λ (place : Place). nat_lt place.program PROCESSES) places ≡ true
   pub users : (k : ℕ) → users_at programs k ≡ count_by (uses k) places
 
 -- the places are 32, and there is room for all of them among those that are used, and among the others
 pub record IsRoomy (used spare capacity spare_capacity : ℕ) : Type 0 where
-  pub full : used + spare ≡ 32
-  pub room : 32 ≤ capacity
-  pub spare_room : 32 ≤ spare_capacity
+  pub full : used + spare ≡ PROCESSES
+  pub room : PROCESSES ≤ capacity
+  pub spare_room : PROCESSES ≤ spare_capacity
 
 -- ---- what changes
 

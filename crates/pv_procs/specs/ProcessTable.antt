@@ -3,6 +3,7 @@ use Rattle.std.specs.Prelude.{◌≡◌, ℕ, ◌≤◌, ◌&&◌, true, List, [
 use Rattle.std.specs.FinMap.Entries.{find, put, is_sorted}
 use Rattle.std.specs.List.{list_all}
 use Rattle.std.specs.Ordering.{nat_cmp}
+use Rattle.pv_model.specs.declared.limits.TheConstants.{PROCESSES, LAST_PROCESS}
 use Rattle.pv_model.specs.Numbered.{Numbered}
 use Rattle.pv_model.specs.Program.{Next, inside}
 use Rattle.pv_model.specs.State.{OpenFile, Program, Process, Record, live, State, live_process, first_process}
@@ -41,8 +42,8 @@ first_processes program = record { processes = (1, live (first_process program))
 pub record IsProcessTable (ps : ProcessTable) : Type 0 where
   pub ascending : is_sorted nat_cmp ps.processes ≡ true
   pub numbers : list_all (λ r. nat_le 1 r.0 && nat_le r.0 ps.last_process) ps.processes ≡ true
-  pub count : length ps.processes ≤ 32
-  pub last : ps.last_process ≤ 99999
+  pub count : length ps.processes ≤ PROCESSES
+  pub last : ps.last_process ≤ LAST_PROCESS
 
 -- a process where an instruction inside it comes next, behind that
 abbrev pub after_inside : Process → Next → Process

@@ -1,5 +1,5 @@
 //! A place for a process.
-ghost use Rattle.std.specs.Prelude.{◌≡◌, ◌==◌, true, List, position, is_some, IsSome, Some, None, IfOk, vec_len, vec_capacity, if◌then◌else◌};
+ghost use Rattle.std.specs.Prelude.{◌≡◌, ◌-◌, ◌==◌, true, List, position, is_some, IsSome, Some, None, IfOk, vec_len, vec_capacity, if◌then◌else◌};
 ghost use Rattle.std.specs.FinMap.Entries.{find};
 ghost use Rattle.std.specs.Ordering.{nat_cmp};
 ghost use Rattle.pv_model.specs.State.{live_process};
@@ -43,8 +43,8 @@ pub(crate) fn blank(alloc: Global, number: u32) -> Result<Place, AllocError>
 
 /// The places of all processes but one, with room for that one too.
 pub(crate) fn spare_places(alloc: Global) -> Result<Vec<Place>, AllocError>
-    ensures count { IfOk result (λ spare. vec_len spare ≡ 31) }
-    ensures room { IfOk result (λ spare. vec_capacity spare ≡ 32) }
+    ensures count { IfOk result (λ spare. vec_len spare ≡ PROCESSES - 1) }
+    ensures room { IfOk result (λ spare. vec_capacity spare ≡ PROCESSES) }
 {
     let mut spare = Vec::with_capacity(alloc, PROCESSES)?;
     for _place in 0..PROCESSES - 1 {

@@ -3,6 +3,7 @@ ghost use Rattle.std.specs.Prelude.{◌≡◌, ◌↔◌, ◌<◌, ◌≤◌, �
 ghost use Rattle.std.specs.FinMap.Entries.{find};
 ghost use Rattle.std.specs.Borrow.{sem};
 ghost use Rattle.std.specs.Ordering.{nat_cmp};
+ghost use Rattle.pv_model.specs.declared.limits.TheConstants.{BUFFER};
 ghost use Rattle.pv_model.specs.declared.errno.Errno.TheVariants.{EAGAIN};
 ghost use Rattle.pv_model.specs.Answer.{at_next_line, with_front};
 ghost use Rattle.pv_model.specs.Attempt.{refuse};
@@ -280,7 +281,7 @@ impl Processes {
     /// Puts bytes, at most 4,096, to the front of a live process's buffer.
     pub fn put_front(&mut self, pid: u32, bytes: &[u8])
         requires live { IsSome (process_in self.old pid) }
-        requires size { length bytes.now ≤ 4096 }
+        requires size { length bytes.now ≤ BUFFER }
         ensures { self.new ≡ update self.old pid (with_front bytes.now) }
     {
         let k = live_index(&self.places, pid);

@@ -42,7 +42,7 @@ pub(crate) fn let_go(programs: &mut [Shared], k: usize)
 /// The program at a place has another user.
 pub(crate) fn take_up(programs: &mut [Shared], k: usize)
     requires within { k < length programs.old }
-    requires few { users_at programs.old k < 32 }
+    requires few { users_at programs.old k < PROCESSES }
     ensures users { users_at programs.new k ≡ users_at programs.old k + 1 }
     ensures other_users { (j : ℕ) → j ≢ k → users_at programs.new j ≡ users_at programs.old j }
     ensures programs { (j : ℕ) → program_at programs.new j ≡ program_at programs.old j }

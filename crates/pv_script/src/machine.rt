@@ -29,6 +29,7 @@ pub struct Machine {
 }
 
 impl Model for Machine {
+    ghost use Rattle.pv_model.specs.declared.limits.TheConstants.{BUFFER};
     ghost use Rattle.pv_script.specs.Context.{Context};
 
     ghost Value = { Context };
@@ -37,7 +38,7 @@ impl Model for Machine {
 
     ghost view = { λ m. record { line = m.line; registers = m.registers; buffer = m.buffer.items } };
 
-    ghost invariant = { λ m. vec_len m.buffer ≡ 4096 };
+    ghost invariant = { λ m. vec_len m.buffer ≡ BUFFER };
 }
 
 // The same text again, if there is one.
@@ -141,7 +142,7 @@ impl Machine {
     /// The 4,096 bytes of the buffer.
     pub fn buffer(&self) -> &[u8]
         ensures value { result.now ≡ self.now.buffer }
-        ensures size { length result.now ≡ 4096 }
+        ensures size { length result.now ≡ BUFFER }
     {
         &self.buffer
     }
@@ -168,7 +169,7 @@ impl Machine {
 
     /// Puts bytes, at most 4,096, to the front of the buffer.
     pub fn put_front(&mut self, bytes: &[u8])
-        requires { length bytes.now ≤ 4096 }
+        requires { length bytes.now ≤ BUFFER }
         ensures { (program : Instructions) → Changes (with_front bytes.now) program self.old self.new }
     {
         put_to_front(&mut self.buffer, bytes);

@@ -5,10 +5,14 @@ ghost use Rattle.pv_model.specs.Grammar.Programs.{read_program};
 ghost use Rattle.pv_script.specs.Reading.{GivesProgram};
 
 use crate::instruction::instruction;
+use pv_model::limits::LINES;
 use pv_model::{Instruction, ParseFault, What};
 use pv_text::lines::{count_lines, split_line};
 use std::alloc::Global;
 use std::marker::Model;
+
+// The line behind the last that a program may have, counted from 1.
+const TOO_MANY: u16 = LINES as u16 + 1;
 
 /// A program: at most 256 instructions. A contract sees their list.
 #[derive(Drop)]
@@ -17,6 +21,7 @@ pub struct Program {
 }
 
 impl Model for Program {
+    ghost use Rattle.pv_model.specs.declared.limits.TheConstants.{LINES};
     ghost use Rattle.std.specs.Prelude.{length, ◌≤◌};
     ghost use Rattle.pv_model.specs.State.{Program as Instructions};
 
@@ -24,7 +29,7 @@ impl Model for Program {
 
     ghost view = { λ p. p.lines.items };
 
-    ghost invariant = { λ p. length p.lines.items ≤ 256 };
+    ghost invariant = { λ p. length p.lines.items ≤ LINES };
 }
 
 impl Program {
@@ -45,13 +50,13 @@ impl Program {
     pub fn parse(alloc: Global, bytes: &[u8]) -> Result<Program, ParseFault>
         ensures exact { GivesProgram result (read_program bytes.now) }
     {
-        let line_count = count_lines(bytes, 256);
+        let line_count = count_lines(bytes, LINES as u16);
         let mut lines = Vec::new(alloc);
         let mut rest = bytes;
         let mut line_number: u16 = 1;
         while let Some((line, behind)) = split_line(rest) {
-            if line_number == 257 {
-                return Err(ParseFault::Line(257, What::TooMany));
+            if line_number == TOO_MANY {
+                return Err(ParseFault::Line(TOO_MANY, What::TooMany));
             }
             match instruction(line_count, line) {
                 Ok(instruction) => lines.push(instruction)?,
@@ -66,7 +71,7 @@ impl Program {
     /// How many lines it has, at most 256.
     pub fn len(&self) -> usize
         ensures value { result ≡ length self.now }
-        ensures few { result ≤ 256 }
+        ensures few { result ≤ LINES }
     {
         self.lines.len()
     }
@@ -81,7 +86,7 @@ impl Program {
     /// Its lines, in a list, which takes no memory.
     pub fn into_lines(self) -> Vec<Instruction>
         ensures value { result.items ≡ self }
-        ensures few { vec_len result ≤ 256 }
+        ensures few { vec_len result ≤ LINES }
     {
         self.lines
     }

@@ -1,11 +1,13 @@
 //! Schedules: which processes make how many steps, in turn.
 ghost use Rattle.std.specs.Prelude.{◌≡◌, ◌<◌, ◌≤◌, ◌↔◌, [], length, slice_get, IsTrue, Some};
+ghost use Rattle.pv_model.specs.declared.limits.TheConstants.{SCHEDULE_LINES};
 ghost use Rattle.pv_model.specs.Grammar.Arguments.{word_at, one_argument};
 ghost use Rattle.pv_model.specs.Grammar.Schedules.{count_of, turn_of, read_schedule};
 ghost use Rattle.pv_script.specs.Reading.{GivesSchedule};
 ghost use Rattle.pv_text.specs.Reading.{Reads};
 
 use pv_model::ScheduleFault;
+use pv_model::limits::LAST_PROCESS;
 use pv_text::lines::{behind_one_space, split_line, split_word};
 use pv_text::words::decimal;
 use std::alloc::Global;
@@ -18,6 +20,7 @@ pub struct Schedule {
 }
 
 impl Model for Schedule {
+    ghost use Rattle.pv_model.specs.declared.limits.TheConstants.{SCHEDULE_LINES};
     ghost use Rattle.std.specs.Prelude.{length, ◌≤◌};
     ghost use Rattle.pv_model.specs.Step.{Schedule as Turns};
 
@@ -25,7 +28,7 @@ impl Model for Schedule {
 
     ghost view = { λ s. s.turns.items };
 
-    ghost invariant = { λ s. length s.turns.items ≤ 65536 };
+    ghost invariant = { λ s. length s.turns.items ≤ SCHEDULE_LINES };
 }
 
 // The number from 1 to 99,999 that a word spells.
@@ -33,7 +36,7 @@ fn count_of_word(word: &[u8]) -> Option<u32>
     ensures { result ≡ count_of word.now }
 {
     let count = decimal(word)?;
-    if count == 0 || count > 99_999 {
+    if count == 0 || count > LAST_PROCESS {
         return None;
     }
     Some(count)
@@ -98,7 +101,7 @@ impl Schedule {
     /// How many lines it has, at most 65,536.
     pub fn len(&self) -> usize
         ensures value { result ≡ length self.now }
-        ensures few { result ≤ 65536 }
+        ensures few { result ≤ SCHEDULE_LINES }
     {
         self.turns.len()
     }
@@ -121,7 +124,7 @@ impl Schedule {
     /// Its lines.
     pub fn turns(&self) -> &[(u32, u32)]
         ensures value { result.now ≡ self.now }
-        ensures few { length result.now ≤ 65536 }
+        ensures few { length result.now ≤ SCHEDULE_LINES }
     {
         self.turns.as_slice()
     }

@@ -3,6 +3,7 @@ use Rattle.std.specs.Prelude.{◌≡◌, ℕ, suc, ◌<◌, ◌≤◌, IsTrue, I
 use Rattle.std.specs.Cmp.Lexicographic.{slice_cmp}
 use Rattle.std.specs.FinMap.Entries.{is_sorted}
 use Rattle.std.specs.Ordering.{nat_cmp}
+use Rattle.pv_model.specs.declared.limits.TheConstants.{INODES}
 use Rattle.pv_model.specs.Room.{is_too_long, fits}
 use Rattle.pv_model.specs.Tree.{Tree, node_at, entries_at, is_directory_at, names_of, parent, IsWellFormed}
 use Rattle.pv_tree_laws.specs.Spelled.{AllBytes}
@@ -11,11 +12,11 @@ use Rattle.pv_tree.specs.Holding.{HeldTree, holds_at, trimmed}
 -- what is true of every tree with its holds
 pub record IsStanding (h : HeldTree) : Type 0 where
   pub well_formed : IsWellFormed h.tree
-  pub few : h.tree.inodes ≤ 4096
+  pub few : h.tree.inodes ≤ INODES
   pub fits : IsTrue (fits h.tree)
   pub short : IsFalse (is_too_long h.tree)
   pub bytes : AllBytes h.tree
-  pub counted : length h.holds ≡ 4097
+  pub counted : length h.holds ≡ suc INODES
   pub held_are_nodes : (n : ℕ) → 0 < holds_at h n → IsTrue (is_some (node_at h.tree n))
   pub is_trimmed : trimmed h.tree h.holds ≡ h.tree
 
@@ -34,14 +35,14 @@ stored (Some d) = d
 -- what is stored of a tree that is perhaps not yet trimmed: the parent of each directory, and how many names each node has
 pub record IsCounted (t : Tree) (parents names holds : List ℕ) : Type 0 where
   pub well_formed : IsWellFormed t
-  pub few : t.inodes ≤ 4096
+  pub few : t.inodes ≤ INODES
   pub fits : IsTrue (fits t)
   pub short : IsFalse (is_too_long t)
   pub bytes : AllBytes t
   pub held_are_nodes : (n : ℕ) → 0 < slice_index holds n → IsTrue (is_some (node_at t n))
-  pub places_of_parents : length parents ≡ 4097
-  pub places_of_names : length names ≡ 4097
-  pub places_of_holds : length holds ≡ 4097
+  pub places_of_parents : length parents ≡ suc INODES
+  pub places_of_names : length names ≡ suc INODES
+  pub places_of_holds : length holds ≡ suc INODES
   pub parents_stored : (n : ℕ) → IsTrue (is_directory_at t n) → slice_index parents n ≡ stored (parent t n)
   pub names_counted : (n : ℕ) → slice_index names n ≡ length (names_of t n)
 

@@ -1,5 +1,6 @@
 //! A tree before boot.
 ghost use Rattle.std.specs.Prelude.{◌≡◌, ◌+◌, ◌-◌, ◌*◌, ◌≤◌, vec_len, All};
+ghost use Rattle.pv_model.specs.declared.limits.TheConstants.{INODES};
 ghost use Rattle.pv_model.specs.Image.{inode_blocks, greatest_blocks};
 ghost use Rattle.pv_tree.specs.Changes.{root_alone};
 ghost use Rattle.pv_tree.specs.Holding.{IsUnheld};
@@ -32,7 +33,7 @@ impl Store {
         requires whole { vec_len zeros ≡ 512 * blocks }
         requires zeros { All (λ byte. byte ≡ 0) zeros.items }
         requires some_inodes { 1 ≤ inodes }
-        requires few_inodes { inodes ≤ 4096 }
+        requires few_inodes { inodes ≤ INODES }
         requires some_blocks { inode_blocks version inodes + 1 ≤ blocks }
         requires few_blocks { blocks ≤ greatest_blocks version }
         ensures { result ≡ root_alone version (blocks - (inode_blocks version inodes + 1)) inodes }

@@ -22,12 +22,12 @@ mod names;
 mod tests;
 
 use pv_dirs::Directories;
-use pv_model::limits::ROOT;
+use pv_model::limits::{INODES, ROOT};
 use pv_model::{Name, Sort, Version};
 use std::marker::Model;
 
 /// The numbers of nodes: 0, which is none, and those of the greatest image.
-pub(crate) const NUMBERS: usize = 4_097;
+pub(crate) const NUMBERS: usize = INODES + 1;
 
 /// A tree of nodes by names, on the blocks of an image, and how often each node is held.
 /// Nothing here takes memory.
@@ -66,7 +66,7 @@ pub struct Sizes {
 
 // The parents of the tree of the root alone.
 fn root_above_itself() -> [u16; NUMBERS]
-    ensures { result ≡ slice_set (replicate 4097 0) 1 1 }
+    ensures { result ≡ slice_set (replicate NUMBERS 0) 1 1 }
 {
     let mut parents = [0; NUMBERS];
     parents[ROOT as usize] = ROOT;
@@ -75,14 +75,14 @@ fn root_above_itself() -> [u16; NUMBERS]
 
 // No node has a name.
 fn no_names() -> [u32; NUMBERS]
-    ensures { result ≡ replicate 4097 0 }
+    ensures { result ≡ replicate NUMBERS 0 }
 {
     [0; NUMBERS]
 }
 
 // No node is held.
 fn no_holds() -> [u16; NUMBERS]
-    ensures { result ≡ replicate 4097 0 }
+    ensures { result ≡ replicate NUMBERS 0 }
 {
     [0; NUMBERS]
 }
@@ -93,11 +93,11 @@ impl Tree {
         requires whole { vec_len zeros ≡ 512 * blocks }
         requires zeros { All (λ byte. byte ≡ 0) zeros.items }
         requires some_inodes { 1 ≤ inodes }
-        requires few_inodes { inodes ≤ 4096 }
+        requires few_inodes { inodes ≤ INODES }
         requires some_blocks { inode_blocks version inodes + 1 ≤ blocks }
         requires few_blocks { blocks ≤ greatest_blocks version }
         ensures tree { result.tree ≡ root_alone version (blocks - (inode_blocks version inodes + 1)) inodes }
-        ensures holds { result.holds ≡ replicate 4097 0 }
+        ensures holds { result.holds ≡ replicate NUMBERS 0 }
     {
         let mut directories = Directories::empty(zeros, blocks, inodes, version);
         let Some(_root) = directories.fresh(Sort::Directory) else {

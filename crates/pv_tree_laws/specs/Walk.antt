@@ -1,6 +1,7 @@
 -- The walk along a path, case by case, and laws of it: symlink(7).
 use Rattle.std.specs.Prelude.{◌≡◌, ◌↔◌, ℕ, suc, ◌<◌, ◌≤◌, Bool, true, false, not, ◌&&◌, ◌||◌, if◌then◌else◌, ◌==◌, IsTrue, IsFalse, List, [], ◌∷◌, ◌++◌, length, Option, None, Some, Ok, Err}
 use Rattle.std.specs.List.{list_all}
+use Rattle.pv_model.specs.declared.limits.TheConstants.{PATH, LINKS, WEIGHT}
 use Rattle.pv_model.specs.declared.errno.Errno.TheVariants.{ENOENT, ENOTDIR, ELOOP, ENAMETOOLONG}
 use Rattle.pv_model.specs.declared.follow.Follow.{Follow}
 use Rattle.pv_model.specs.declared.place.Place.{Place}
@@ -52,9 +53,9 @@ pub data Walks (t : Tree) (last : Bool) : ℕ → List Bytes → Bool → ℕ �
   out_of_links : (piece : Bytes) (rest : List Bytes) (mark : Bool) (at n : ℕ) (text : Bytes) → IsAhead t at piece n (link_node text) → IsTrue (is_followed rest mark last)
       → Walks t last 0 (piece ∷ rest) mark at (Err ELOOP)
   too_heavy : (links : ℕ) (piece : Bytes) (rest : List Bytes) (mark : Bool) (at n : ℕ) (text : Bytes) → IsAhead t at piece n (link_node text) → IsTrue (is_followed rest mark last)
-      → 1024 < weight (pieces text ++ rest) → Walks t last (suc links) (piece ∷ rest) mark at (Err ENAMETOOLONG)
+      → WEIGHT < weight (pieces text ++ rest) → Walks t last (suc links) (piece ∷ rest) mark at (Err ENAMETOOLONG)
   through : (links : ℕ) (piece : Bytes) (rest : List Bytes) (mark : Bool) (at n : ℕ) (text : Bytes) (r : Walked)
-      → IsAhead t at piece n (link_node text) → IsTrue (is_followed rest mark last) → weight (pieces text ++ rest) ≤ 1024
+      → IsAhead t at piece n (link_node text) → IsTrue (is_followed rest mark last) → weight (pieces text ++ rest) ≤ WEIGHT
       → Walks t last links (pieces text ++ rest) (mark || (is_empty rest && ends_in_slash text)) (if is_absolute text then root else at) r
       → Walks t last (suc links) (piece ∷ rest) mark at r
   -- 7. a piece remains: a directory is entered, and a file is none
@@ -78,9 +79,9 @@ pub data Walks (t : Tree) (last : Bool) : ℕ → List Bytes → Bool → ℕ �
 -- the walk of a path: an empty path and one above 1,023 bytes are errors, and else it begins at the root or at the start, with 32 links
 pub data Resolves (t : Tree) (follow : Follow) (start : ℕ) (path : Bytes) : Walked → Type 0 where
   empty : IsTrue (is_empty path) → Resolves t follow start path (Err ENOENT)
-  too_long : 1023 < length path → Resolves t follow start path (Err ENAMETOOLONG)
-  walks : (r : Walked) → IsFalse (is_empty path) → length path ≤ 1023
-      → Walks t (follows_last follow) 32 (pieces path) (end_mark follow path) (if is_absolute path then root else start) r → Resolves t follow start path r
+  too_long : PATH < length path → Resolves t follow start path (Err ENAMETOOLONG)
+  walks : (r : Walked) → IsFalse (is_empty path) → length path ≤ PATH
+      → Walks t (follows_last follow) LINKS (pieces path) (end_mark follow path) (if is_absolute path then root else start) r → Resolves t follow start path r
 
 -- a path is resolved exactly as the relation says
 abbrev pub ResolvesAsWalked : Type 0
@@ -96,7 +97,7 @@ WalksOnce =
 -- a path of slashes alone is the root
 abbrev pub SlashesAreRoot : Type 0
 SlashesAreRoot =
-    (t : Tree) (follow : Follow) (start : ℕ) (path : Bytes) → IsFalse (is_empty path) → IsTrue (list_all (λ b. b == 47) path) → length path ≤ 1023
+    (t : Tree) (follow : Follow) (start : ℕ) (path : Bytes) → IsFalse (is_empty path) → IsTrue (list_all (λ b. b == 47) path) → length path ≤ PATH
     → resolve t follow start path ≡ Ok (Unnamed root)
 
 -- a place: a directory that is there, with what it has under the name; a name that an entry may have

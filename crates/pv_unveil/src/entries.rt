@@ -1,5 +1,6 @@
 //! Entries of a table, in the order in which they came.
 ghost use Rattle.std.specs.Prelude.{◌≡◌, ◌<◌, ◌≤◌, length, IfSome};
+ghost use Rattle.pv_model.specs.declared.limits.TheConstants.{UNVEILS};
 ghost use Rattle.pv_model.specs.Unveil.{same_target, entry_for, letters_at};
 
 use pv_model::{Perms, Target};
@@ -46,7 +47,7 @@ fn index_of_name(entries: &[(Target, Perms)], directory: u16, name: &[u8]) -> Op
 
 // The number of an entry at an index.
 fn number_of(index: Option<usize>) -> Option<u8>
-    requires { IfSome index (λ k. k < 64) }
+    requires { IfSome index (λ k. k < UNVEILS) }
     ensures { result ≡ index }
 {
     match index {
@@ -57,7 +58,7 @@ fn number_of(index: Option<usize>) -> Option<u8>
 
 /// The entry for a directory.
 pub(crate) fn entry_for_directory(entries: &[(Target, Perms)], directory: u16) -> Option<u8>
-    requires { length entries.now ≤ 64 }
+    requires { length entries.now ≤ UNVEILS }
     ensures value { result ≡ entry_for entries.now (Target.Directory directory) }
     ensures in_table { IfSome result (λ k. k < length entries.now) }
 {
@@ -66,7 +67,7 @@ pub(crate) fn entry_for_directory(entries: &[(Target, Perms)], directory: u16) -
 
 /// The entry for a name in a directory.
 pub(crate) fn entry_for_name(entries: &[(Target, Perms)], directory: u16, name: &[u8]) -> Option<u8>
-    requires { length entries.now ≤ 64 }
+    requires { length entries.now ≤ UNVEILS }
     ensures value { result ≡ entry_for entries.now (Target.Name directory name.now) }
     ensures in_table { IfSome result (λ k. k < length entries.now) }
 {
@@ -75,7 +76,7 @@ pub(crate) fn entry_for_name(entries: &[(Target, Perms)], directory: u16, name: 
 
 /// The entry for a target.
 pub(crate) fn entry_for(entries: &[(Target, Perms)], target: &Target) -> Option<u8>
-    requires { length entries.now ≤ 64 }
+    requires { length entries.now ≤ UNVEILS }
     ensures value { result ≡ entry_for entries.now target.now }
     ensures in_table { IfSome result (λ k. k < length entries.now) }
 {

@@ -1,5 +1,6 @@
 //! The entry that governs a place of a plain tree, and what it says.
 ghost use Rattle.std.specs.Prelude.{◌≡◌, ◌≤◌, length};
+ghost use Rattle.pv_model.specs.declared.limits.TheConstants.{UNVEILS};
 ghost use Rattle.pv_model.specs.Unveil.{directory_rights, governing_entry, judgement};
 ghost use Rattle.pv_unveil.specs.Up.{up};
 ghost use Rattle.pv_unveil.specs.Unveiled.{in_force};
@@ -23,7 +24,7 @@ fn above(tree: &PlainTree, directory: u16) -> Option<u16>
 
 // The entry that governs a directory: its own, or else that of the nearest directory above.
 fn directory_rights(entries: &[(Target, Perms)], tree: &PlainTree, directory: u16) -> Option<u8>
-    requires { length entries.now ≤ 64 }
+    requires { length entries.now ≤ UNVEILS }
     ensures { result ≡ directory_rights tree.now entries.now directory }
 {
     let mut at = directory;
@@ -40,7 +41,7 @@ fn directory_rights(entries: &[(Target, Perms)], tree: &PlainTree, directory: u1
 // the one that governs the directory in which it stands.
 #[tactic(auto, unfolding(pv_model::specs::Unveil::governing_entry))]
 fn governing_entry(entries: &[(Target, Perms)], tree: &PlainTree, place: &Place) -> Option<u8>
-    requires { length entries.now ≤ 64 }
+    requires { length entries.now ≤ UNVEILS }
     ensures { result ≡ governing_entry tree.now entries.now place.now }
 {
     match place {
@@ -67,7 +68,7 @@ pub(crate) fn judge_in(
     place: &Place,
     needed: Perms,
 ) -> Judgement
-    requires { length entries.now ≤ 64 }
+    requires { length entries.now ≤ UNVEILS }
     ensures { result ≡ judgement tree.now (in_force entries.now) place.now needed }
 {
     match entries {

@@ -1,5 +1,6 @@
 //! The entry that governs a place, and what it says.
 ghost use Rattle.std.specs.Prelude.{◌≡◌, ◌≤◌, length, IsTrue};
+ghost use Rattle.pv_model.specs.declared.limits.TheConstants.{UNVEILS};
 ghost use Rattle.pv_model.specs.Tree.{is_directory_at};
 ghost use Rattle.pv_model.specs.Unveil.{directory_rights, governing_entry, judge_entry, judgement};
 ghost use Rattle.pv_unveil.specs.Up.{up, directory_of};
@@ -25,7 +26,7 @@ fn above(tree: &Tree, directory: u16) -> Option<u16>
 
 // The entry that governs a directory: its own, or else that of the nearest directory above.
 fn directory_rights(entries: &[(Target, Perms)], tree: &Tree, directory: u16) -> Option<u8>
-    requires few { length entries.now ≤ 64 }
+    requires few { length entries.now ≤ UNVEILS }
     requires directory { IsTrue (is_directory_at tree.now.tree directory) }
     ensures { result ≡ directory_rights tree.now.tree entries.now directory }
 {
@@ -43,7 +44,7 @@ fn directory_rights(entries: &[(Target, Perms)], tree: &Tree, directory: u16) ->
 // the one that governs the directory in which it stands.
 #[tactic(auto, unfolding(pv_model::specs::Unveil::governing_entry))]
 fn governing_entry(entries: &[(Target, Perms)], tree: &Tree, place: &Place) -> Option<u8>
-    requires few { length entries.now ≤ 64 }
+    requires few { length entries.now ≤ UNVEILS }
     requires directory { IsTrue (is_directory_at tree.now.tree (directory_of place.now)) }
     ensures { result ≡ governing_entry tree.now.tree entries.now place.now }
 {
@@ -64,7 +65,11 @@ fn governing_entry(entries: &[(Target, Perms)], tree: &Tree, place: &Place) -> O
 }
 
 /// What an entry says, where one governs.
-pub(crate) fn judge_entry(entries: &[(Target, Perms)], governing: Option<u8>, needed: Perms) -> Judgement
+pub(crate) fn judge_entry(
+    entries: &[(Target, Perms)],
+    governing: Option<u8>,
+    needed: Perms,
+) -> Judgement
     ensures { result ≡ judge_entry entries.now needed governing }
 {
     match governing {
@@ -87,7 +92,7 @@ pub(crate) fn judge_in(
     place: &Place,
     needed: Perms,
 ) -> Judgement
-    requires few { length entries.now ≤ 64 }
+    requires few { length entries.now ≤ UNVEILS }
     requires directory { IsTrue (is_directory_at tree.now.tree (directory_of place.now)) }
     ensures { result ≡ judgement tree.now.tree (in_force entries.now) place.now needed }
 {

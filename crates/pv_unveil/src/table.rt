@@ -116,7 +116,7 @@ impl Table {
     /// The number of entries, at most 64.
     pub fn len(&self) -> usize
         ensures value { result ≡ length (entries_of_table self.now.table) }
-        ensures few { result ≤ 64 }
+        ensures few { result ≤ UNVEILS }
     {
         self.entries.len()
     }

@@ -5,7 +5,9 @@ ghost use Rattle.pv_model.specs.Tree.{is_node};
 ghost use Rattle.pv_tree.specs.Changes.{new_node};
 
 use crate::{AddFault, Table};
-use pv_model::{Judgement, Kind, Name, Perms, Place, PlainNode, PlainTree, Target, Version, is_name};
+use pv_model::{
+    Judgement, Kind, Name, Perms, Place, PlainNode, PlainTree, Target, Version, is_name,
+};
 use pv_tree::{Space, Store, Tree};
 use std::alloc::{AllocError, Global};
 use std::process::Abort;
@@ -116,8 +118,14 @@ fn judge_node(
 fn without_entries_all_is_allowed(rt: HostRuntime) -> Result<(), Fail> {
     let tree = small_tree(&rt, rt.alloc())?;
     let table = Table::new();
-    assert_eq!(rt; judge_name(&rt, &table, &tree, 1, b"f", RW), Judgement::Allowed);
-    assert_eq!(rt; judge_name(&rt, &table, &tree, 3, b"new", RW), Judgement::Allowed);
+    assert_eq!(rt;
+        judge_name(&rt, &table, &tree, 1, b"f", RW),
+        Judgement::Allowed
+    );
+    assert_eq!(rt;
+        judge_name(&rt, &table, &tree, 3, b"new", RW),
+        Judgement::Allowed
+    );
     assert_eq!(rt; judge_node(&rt, &table, &tree, 7, RW), Judgement::Allowed);
     Ok(())
 }
@@ -127,14 +135,35 @@ fn judges_by_the_nearest_entry(rt: HostRuntime) -> Result<(), Fail> {
     let tree = small_tree(&rt, rt.alloc())?;
     let mut table = Table::new();
     assert_eq!(rt; table.add(Target::Directory(2), R), Ok(0));
-    assert_eq!(rt; judge_name(&rt, &table, &tree, 3, b"x", R), Judgement::Allowed);
+    assert_eq!(rt;
+        judge_name(&rt, &table, &tree, 3, b"x", R),
+        Judgement::Allowed
+    );
     assert_eq!(rt; table.add(Target::Directory(3), Perms::NONE), Ok(1));
-    assert_eq!(rt; judge_name(&rt, &table, &tree, 2, b"x", R), Judgement::Allowed);
-    assert_eq!(rt; judge_name(&rt, &table, &tree, 2, b"x", RW), Judgement::Denied(0));
-    assert_eq!(rt; judge_name(&rt, &table, &tree, 2, b"new", RW), Judgement::Denied(0));
-    assert_eq!(rt; judge_name(&rt, &table, &tree, 3, b"x", R), Judgement::Denied(1));
-    assert_eq!(rt; judge_name(&rt, &table, &tree, 2, b"b", R), Judgement::Denied(1));
-    assert_eq!(rt; judge_name(&rt, &table, &tree, 1, b"a", R), Judgement::Allowed);
+    assert_eq!(rt;
+        judge_name(&rt, &table, &tree, 2, b"x", R),
+        Judgement::Allowed
+    );
+    assert_eq!(rt;
+        judge_name(&rt, &table, &tree, 2, b"x", RW),
+        Judgement::Denied(0)
+    );
+    assert_eq!(rt;
+        judge_name(&rt, &table, &tree, 2, b"new", RW),
+        Judgement::Denied(0)
+    );
+    assert_eq!(rt;
+        judge_name(&rt, &table, &tree, 3, b"x", R),
+        Judgement::Denied(1)
+    );
+    assert_eq!(rt;
+        judge_name(&rt, &table, &tree, 2, b"b", R),
+        Judgement::Denied(1)
+    );
+    assert_eq!(rt;
+        judge_name(&rt, &table, &tree, 1, b"a", R),
+        Judgement::Allowed
+    );
     assert_eq!(rt; judge_node(&rt, &table, &tree, 2, R), Judgement::Allowed);
     Ok(())
 }
@@ -144,8 +173,14 @@ fn hides_what_no_entry_governs(rt: HostRuntime) -> Result<(), Fail> {
     let tree = small_tree(&rt, rt.alloc())?;
     let mut table = Table::new();
     assert_eq!(rt; table.add(Target::Directory(2), RW), Ok(0));
-    assert_eq!(rt; judge_name(&rt, &table, &tree, 1, b"f", R), Judgement::Hidden);
-    assert_eq!(rt; judge_name(&rt, &table, &tree, 1, b"new", R), Judgement::Hidden);
+    assert_eq!(rt;
+        judge_name(&rt, &table, &tree, 1, b"f", R),
+        Judgement::Hidden
+    );
+    assert_eq!(rt;
+        judge_name(&rt, &table, &tree, 1, b"new", R),
+        Judgement::Hidden
+    );
     assert_eq!(rt; judge_node(&rt, &table, &tree, 1, R), Judgement::Hidden);
     Ok(())
 }
@@ -177,14 +212,32 @@ fn judges_by_a_name(rt: HostRuntime) -> Result<(), Fail> {
     };
     assert_eq!(rt; table.add(file, R), Ok(0));
     assert_eq!(rt; table.add(new, RW), Ok(1));
-    assert_eq!(rt; judge_name(&rt, &table, &tree, 1, b"f", R), Judgement::Allowed);
-    assert_eq!(rt; judge_name(&rt, &table, &tree, 1, b"f", RW), Judgement::Denied(0));
-    assert_eq!(rt; judge_name(&rt, &table, &tree, 1, b"foo", R), Judgement::Hidden);
-    assert_eq!(rt; judge_name(&rt, &table, &tree, 2, b"f", R), Judgement::Hidden);
+    assert_eq!(rt;
+        judge_name(&rt, &table, &tree, 1, b"f", R),
+        Judgement::Allowed
+    );
+    assert_eq!(rt;
+        judge_name(&rt, &table, &tree, 1, b"f", RW),
+        Judgement::Denied(0)
+    );
+    assert_eq!(rt;
+        judge_name(&rt, &table, &tree, 1, b"foo", R),
+        Judgement::Hidden
+    );
+    assert_eq!(rt;
+        judge_name(&rt, &table, &tree, 2, b"f", R),
+        Judgement::Hidden
+    );
     // The name is not there yet; once a directory is, it goes by what is above it.
-    assert_eq!(rt; judge_name(&rt, &table, &tree, 2, b"new", RW), Judgement::Allowed);
+    assert_eq!(rt;
+        judge_name(&rt, &table, &tree, 2, b"new", RW),
+        Judgement::Allowed
+    );
     assert_eq!(rt; make(&rt, &mut tree, 2, b"new", Kind::Directory), Ok(8));
-    assert_eq!(rt; judge_name(&rt, &table, &tree, 2, b"new", R), Judgement::Hidden);
+    assert_eq!(rt;
+        judge_name(&rt, &table, &tree, 2, b"new", R),
+        Judgement::Hidden
+    );
     Ok(())
 }
 
@@ -219,8 +272,14 @@ fn judges_places_of_a_plain_tree(rt: HostRuntime) -> Result<(), Fail> {
     assert_eq!(rt; table.add(Target::Directory(2), R), Ok(0));
     assert_eq!(rt; table.judge_plain(&tree, &new, R), Judgement::Allowed);
     assert_eq!(rt; table.judge_plain(&tree, &new, RW), Judgement::Denied(0));
-    assert_eq!(rt; table.judge_plain(&tree, &Place::Node(1), R), Judgement::Hidden);
-    assert_eq!(rt; table.judge_plain(&tree, &Place::Node(3), R), Judgement::Hidden);
+    assert_eq!(rt;
+        table.judge_plain(&tree, &Place::Node(1), R),
+        Judgement::Hidden
+    );
+    assert_eq!(rt;
+        table.judge_plain(&tree, &Place::Node(3), R),
+        Judgement::Hidden
+    );
     Ok(())
 }
 

@@ -30,8 +30,8 @@ loop-climbed-preserved c =
     let up = sym c.above.ensures ∙ c.in_ok-at.was in (
       up-directory t c.sizes-climbed-end.ensures.standing.well_formed c.loop-climbed.at c.in_ok-at.at up,
       λ left total.
-      let above = climb-above t c.args.entries.now left c.loop-climbed.at c.in_ok-at.at (sym c.entry_for_directory.ensures.value ∙ c.in_default.is) up in
-      sym above ∙ c.loop-climbed.invariant.1 (suc left) (omega (arith, total)),
+          let above = climb-above t c.args.entries.now left c.loop-climbed.at c.in_ok-at.at (sym c.entry_for_directory.ensures.value ∙ c.in_default.is) up in
+          sym above ∙ c.loop-climbed.invariant.1 (suc left) (omega (arith, total)),
     )
 
 pub returns : goal.returns
