@@ -1,6 +1,5 @@
 //! A directory of many names.
-ghost use Rattle.std.specs.Prelude.{◌≤◌};
-
+use crate::image::{INODES, blocks_of};
 use anyhow::{Context, Result, ensure};
 use pv_dirs::Directories;
 use pv_model::limits::BLOCK;
@@ -10,16 +9,11 @@ use std::alloc::{AllocError, Global};
 /// The greatest number of names.
 pub const MOST: u32 = 2_000;
 
-/// Data blocks that so many names need: 250 of their own, and the index block.
-const ROOM: u16 = 251;
-
-// An image of 16 inodes and so many data blocks.
-fn empty_image(alloc: Global, room: u16) -> Result<Directories, AllocError>
-    requires some { 1 ≤ room }
-    requires few { room ≤ 8000 }
-{
-    let zeros = vec![in alloc; 0; BLOCK * (room as usize + 2)]?;
-    Ok(Directories::empty(zeros, room + 2, 16, Version::V1))
+// An image with room for one content of the greatest length, which is more than so many names need.
+fn empty_image(alloc: Global, version: Version) -> Result<Directories, AllocError> {
+    let blocks = blocks_of(version);
+    let zeros = vec![in alloc; 0; BLOCK * blocks as usize]?;
+    Ok(Directories::empty(zeros, blocks, INODES, version))
 }
 
 /// A directory in an image that has room for the greatest number of names, and a file for them.
@@ -45,13 +39,13 @@ pub fn name_of(number: u32) -> [u8; 6] {
 }
 
 impl LongDirectory {
-    /// A directory without names.
+    /// A directory without names, in an image of a version.
     ///
     /// # Errors
     ///
     /// Where memory was refused.
-    pub fn new(alloc: Global) -> Result<LongDirectory> {
-        let mut directories = empty_image(alloc, ROOM)?;
+    pub fn new(alloc: Global, version: Version) -> Result<LongDirectory> {
+        let mut directories = empty_image(alloc, version)?;
         let number = directories
             .fresh(Sort::Directory)
             .context("an inode is free")?;
@@ -69,7 +63,10 @@ impl LongDirectory {
     ///
     /// Where it is no name, is there, or has no room.
     pub fn add(&mut self, name: &[u8]) -> Result<()> {
-        ensure!(is_name(Version::V1, name), "a name may be added");
+        ensure!(
+            is_name(self.directories.version(), name),
+            "a name may be added"
+        );
         ensure!(
             self.directories.is_directory(self.number),
             "names are in a directory"

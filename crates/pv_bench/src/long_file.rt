@@ -1,24 +1,21 @@
 //! A file of the greatest length.
 ghost use Rattle.std.specs.Prelude.{◌≡◌, ◌-◌, ◌≤◌, ◌++◌, min, length, take, drop, OnOk, OnErr};
 ghost use Rattle.pv_inodes.specs.Files.{IsUsed, bytes_at, written};
+ghost use Rattle.pv_model.specs.declared.version.Version.TheVariants.{V1};
+ghost use Rattle.pv_model.specs.Room.{greatest_length};
 
-use crate::rounds::GREATEST;
+use crate::image::{INODES, blocks_of};
 use anyhow::{Context, Result};
 use pv_inodes::{Inodes, Space};
 use pv_model::limits::BLOCK;
 use pv_model::{Sort, Version};
 use std::alloc::{AllocError, Global};
 
-/// Data blocks that a content of the greatest length needs: 266 of its own, and the index block.
-const ROOM: u16 = 267;
-
-// An image of 16 inodes and so many data blocks.
-fn empty_image(alloc: Global, room: u16) -> Result<Inodes, AllocError>
-    requires some { 1 ≤ room }
-    requires few { room ≤ 8000 }
-{
-    let zeros = vec![in alloc; 0; BLOCK * (room as usize + 2)]?;
-    Ok(Inodes::empty(zeros, room + 2, 16, Version::V1))
+// An image with room for one content of the greatest length.
+fn empty_image(alloc: Global, version: Version) -> Result<Inodes, AllocError> {
+    let blocks = blocks_of(version);
+    let zeros = vec![in alloc; 0; BLOCK * blocks as usize]?;
+    Ok(Inodes::empty(zeros, blocks, INODES, version))
 }
 
 /// A file in an image that has room for a content of the greatest length, and for nothing more.
@@ -26,23 +23,38 @@ fn empty_image(alloc: Global, room: u16) -> Result<Inodes, AllocError>
 pub struct LongFile {
     inodes: Inodes,
     number: u16,
+    length: u32,
     ghost used: { IsUsed inodes number },
+    ghost long: { greatest_length V1 ≤ length },
 }
 
 impl LongFile {
-    /// A file of the greatest length, of zeros.
+    /// A file of the greatest length that an image of a version has room for, of zeros.
     ///
     /// # Errors
     ///
     /// Where memory was refused.
-    pub fn new(alloc: Global) -> Result<LongFile> {
-        let mut inodes = empty_image(alloc, ROOM)?;
+    pub fn new(alloc: Global, version: Version) -> Result<LongFile> {
+        let length = version.layout().greatest_length;
+        let mut inodes = empty_image(alloc, version)?;
         let number = inodes.fresh(Sort::File).context("an inode is free")?;
         inodes
-            .cut(number, GREATEST)
+            .cut(number, length)
             .ok()
             .context("the image has room")?;
-        Ok(LongFile { inodes, number })
+        Ok(LongFile {
+            inodes,
+            number,
+            length,
+        })
+    }
+
+    /// Its length, in bytes.
+    pub fn length(&self) -> u32
+        ensures value { result ≡ self.now.length }
+        ensures long { greatest_length V1 ≤ result }
+    {
+        self.length
     }
 
     /// Writes bytes over the file's, from `at` on.
@@ -50,6 +62,7 @@ impl LongFile {
         ensures ok { OnOk result (self.new.inodes ≡ written self.old.inodes self.old.number at bytes.now) }
         ensures err { OnErr result (self.new.inodes ≡ self.old.inodes) }
         ensures number { self.new.number ≡ self.old.number }
+        ensures length { self.new.length ≡ self.old.length }
     {
         self.inodes.write_at(self.number, at, bytes)
     }

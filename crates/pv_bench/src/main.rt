@@ -1,15 +1,16 @@
 //! `pv_bench`: how fast files and directories on blocks are.
 //!
-//! With no words it makes a small round, and writes what it did and what the bytes sum to, which is the
-//! same each time. With the word `full` it makes a million operations of each kind, and also writes how
-//! long they took.
+//! It measures both versions of images, one after the other. With no words it makes a small round, and
+//! writes what it did and what the bytes sum to, which is the same each time. With the word `full` it makes
+//! a million operations of each kind, and also writes how long they took.
 //!
-//! `long_file` has the file that is measured, `rounds` what is done to it, `long_directory` the directory,
-//! and `report` the lines that are written.
+//! `image` has the sizes of the images, `long_file` the file that is measured, `rounds` what is done to it,
+//! `long_directory` the directory, and `report` the lines that are written.
 #![tactic(auto)]
 
-ghost use Rattle.std.specs.Prelude.{◌<◌, ◌≤◌, length};
+ghost use Rattle.std.specs.Prelude.{◌≡◌, ◌<◌, ◌≤◌, length};
 
+mod image;
 mod long_directory;
 mod long_file;
 mod report;
@@ -18,9 +19,9 @@ mod rounds;
 use anyhow::{Context, Result, bail};
 use long_directory::{LongDirectory, name_of};
 use long_file::LongFile;
-use pv_model::Name;
+use pv_model::{Name, Version};
 use report::{Measured, Scale, report, report_names};
-use rounds::{GREATEST, fill, read_round, sum_of, write_round};
+use rounds::{fill, read_round, sum_of, write_round};
 use std::env;
 use std::time::Instant;
 
@@ -35,7 +36,8 @@ fn measure_pieces(
     buffer: &mut [u8],
 ) -> Result<()>
     requires some { 0 < length buffer.old }
-    requires fits { length buffer.old ≤ 136192 }
+    requires fits { length buffer.old ≤ file.old.length }
+    ensures { file.new.length ≡ file.old.length }
 {
     fill(buffer);
     let operations = scale.operations();
@@ -68,13 +70,13 @@ fn measure_pieces(
 }
 
 // Measures a file of the greatest length, and then writes what its bytes sum to.
-fn measure_file(rt: &HostRuntime, scale: Scale) -> Result<()> {
-    let mut file = LongFile::new(rt.alloc())?;
+fn measure_file(rt: &HostRuntime, scale: Scale, version: Version) -> Result<()> {
+    let mut file = LongFile::new(rt.alloc(), version)?;
     for size in SIZES {
         let mut buffer = vec![in rt.alloc(); 0; size]?;
         measure_pieces(rt, scale, &mut file, &mut buffer)?;
     }
-    let mut whole = vec![in rt.alloc(); 0; GREATEST as usize]?;
+    let mut whole = vec![in rt.alloc(); 0; file.length() as usize]?;
     let bytes = file.read(0, &mut whole);
     let sum = sum_of(&whole);
     println!(rt; "file of {bytes} bytes, which sum to {sum}")?;
@@ -82,8 +84,8 @@ fn measure_file(rt: &HostRuntime, scale: Scale) -> Result<()> {
 }
 
 // Gives a directory names, looks each up, and lists them.
-fn measure_directory(rt: &HostRuntime, scale: Scale) -> Result<()> {
-    let mut directory = LongDirectory::new(rt.alloc())?;
+fn measure_directory(rt: &HostRuntime, scale: Scale, version: Version) -> Result<()> {
+    let mut directory = LongDirectory::new(rt.alloc(), version)?;
     let start = Instant::now(rt)?;
     for number in 0..scale.names() {
         directory.add(&name_of(number))?;
@@ -127,6 +129,10 @@ fn scale_of(words: &[String]) -> Result<Scale> {
 fn main(rt: HostRuntime) -> Result<()> {
     let words: Vec<String> = env::args(&rt)?.collect(rt.alloc())?;
     let scale = scale_of(&words)?;
-    measure_file(&rt, scale)?;
-    measure_directory(&rt, scale)
+    for (number, version) in [(1, Version::V1), (2, Version::V2)] {
+        println!(&rt; "version {number}")?;
+        measure_file(&rt, scale, version)?;
+        measure_directory(&rt, scale, version)?;
+    }
+    Ok(())
 }

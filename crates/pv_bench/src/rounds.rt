@@ -3,10 +3,6 @@ ghost use Rattle.std.specs.Prelude.{◌≡◌, ◌+◌, ◌*◌, ◌/◌, ◌%�
 
 use crate::long_file::LongFile;
 use pv_inodes::Space;
-use pv_model::Layout;
-
-/// The length of the file.
-pub const GREATEST: u32 = Layout::V1.greatest_length;
 
 /// What a round moved between a buffer and a file.
 #[derive(Clone, Copy, Debug, PartialEq, Eq)]
@@ -29,15 +25,16 @@ impl Moved {
     }
 }
 
-/// Where the piece of this number, counted from 0, begins. As many as fit the file stand in it one behind
-/// the other, and the next is at its front again.
-fn place(number: u32, size: u32) -> u32
+/// Where the piece of this number, counted from 0, begins in a file of this length. As many as fit the file
+/// stand in it one behind the other, and the next is at its front again.
+fn place(number: u32, size: u32, file_length: u32) -> u32
     requires some { 0 < size }
-    requires fits { size ≤ 136192 }
-    ensures place { result ≡ number % (136192 / size) * size }
-    ensures within { result + size ≤ 136192 }
+    requires fits { size ≤ file_length }
+    ensures place { result ≡ number % (file_length / size) * size }
+    ensures within { result + size ≤ file_length }
 {
-    number % (GREATEST / size) * size
+    let pieces = file_length / size;
+    number % pieces * size
 }
 
 /// Fills a buffer with numbers that count up, modulo 251.
@@ -53,15 +50,17 @@ pub fn fill(buffer: &mut [u8])
 /// modulo 256.
 pub fn write_round(file: &mut LongFile, buffer: &mut [u8], count: u32) -> Result<Moved, Space>
     requires some { 0 < length buffer.old }
-    requires fits { length buffer.old ≤ 136192 }
-    ensures { length buffer.new ≡ length buffer.old }
+    requires fits { length buffer.old ≤ file.old.length }
+    ensures buffer { length buffer.new ≡ length buffer.old }
+    ensures file { file.new.length ≡ file.old.length }
 {
     let size = buffer.len() as u32;
+    let file_length = file.length();
     let mut moved = Moved::NOTHING;
     for number in 0..count {
         let first = (number % 256) as u8;
         buffer[0] = first;
-        file.write(place(number, size), buffer)?;
+        file.write(place(number, size, file_length), buffer)?;
         moved = moved.with(buffer.len(), first);
     }
     Ok(moved)
@@ -70,13 +69,14 @@ pub fn write_round(file: &mut LongFile, buffer: &mut [u8], count: u32) -> Result
 /// Reads so many pieces of the file into the buffer.
 pub fn read_round(file: &LongFile, buffer: &mut [u8], count: u32) -> Moved
     requires some { 0 < length buffer.old }
-    requires fits { length buffer.old ≤ 136192 }
+    requires fits { length buffer.old ≤ file.now.length }
     ensures { length buffer.new ≡ length buffer.old }
 {
     let size = buffer.len() as u32;
+    let file_length = file.length();
     let mut moved = Moved::NOTHING;
     for number in 0..count {
-        let bytes = file.read(place(number, size), buffer);
+        let bytes = file.read(place(number, size, file_length), buffer);
         moved = moved.with(bytes, buffer[0]);
     }
     moved
