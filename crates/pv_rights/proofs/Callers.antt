@@ -55,7 +55,7 @@ module _ (s : State) (pid : ℕ) (me : Process) (call : Call) (order : IsInOrder
 
   pub caller : (after : State) (r : Reply) → Does s pid me call after r → HasNoMore me pid call after r
   caller _ _ (stays r) = itself r
-  caller _ _ (restrains q r no_more same goes) = becomes s q r no_more
+  caller _ _ (restrains q r no_more same table goes) = becomes s q r no_more
   caller _ _ (begins path program is) = (
     with_program s pid me program,
     process_at-same s pid (with_program s pid me program),
@@ -73,13 +73,13 @@ module _ (s : State) (pid : ℕ) (me : Process) (call : Call) (order : IsInOrder
   caller _ _ (links place p old n change from_old is fine) = itself (returns 0)
   caller _ _ (unlinks place p change) = itself (returns 0)
   caller _ _ (renames place p there q n from into is) = itself (returns 0)
-  caller _ _ (opens flags place n m flagged allowed is fine) = becomes s _ (returns m) (no_more-same me _ refl refl refl refl)
+  caller _ _ (opens flags place n m flagged allowed is fine written) = becomes s _ (returns m) (no_more-same me _ refl refl refl refl)
   caller _ _ (creates flags place p m flagged allowed create named none fine) = becomes s _ (returns m) (no_more-same me _ refl refl refl refl)
 
   -- each other live process stays as it is
   pub other : (k : ℕ) (p : Process) → k ≢ pid → process_at s k ≡ Some p → (after : State) (r : Reply) → Does s pid me call after r → process_at after k ≡ Some p
   other k p apart there _ _ (stays r) = there
-  other k p apart there _ _ (restrains q r no_more same goes) = process_at-other s pid q k apart ∙ there
+  other k p apart there _ _ (restrains q r no_more same table goes) = process_at-other s pid q k apart ∙ there
   other k p apart there _ _ (begins path program is) = process_at-other s pid (with_program s pid me program) k apart ∙ there
   other k p apart there _ _ (closes d) = process_at-other s pid _ k apart ∙ there
   other k p apart there _ _ (copies d x n is) = process_at-other s pid _ k apart ∙ there
@@ -92,7 +92,7 @@ module _ (s : State) (pid : ℕ) (me : Process) (call : Call) (order : IsInOrder
   other k p apart there _ _ (links place q old n change from_old is fine) = there
   other k p apart there _ _ (unlinks place q change) = there
   other k p apart there _ _ (renames place q next r n from into is) = there
-  other k p apart there _ _ (opens flags place n m flagged allowed is fine) = process_at-other s pid _ k apart ∙ there
+  other k p apart there _ _ (opens flags place n m flagged allowed is fine written) = process_at-other s pid _ k apart ∙ there
   other k p apart there _ _ (creates flags place q m flagged allowed create named none fine) = process_at-other s pid _ k apart ∙ there
 
 -- ---- calls

@@ -26,6 +26,7 @@ use Rattle.pv_model.specs.Touch.{flags_of, IsAllowed, HasDescriptor}
 use Rattle.pv_model.specs.Tree.{Node, file_node, entries_of, new_number, with_new_node, with_entry, without_entry}
 use Rattle.pv_model.specs.Unveil.{judgement}
 use Rattle.pv_model.specs.Walk.{resolve}
+use Rattle.pv_laws.specs.Courses.{is_unveil}
 use Rattle.pv_laws.specs.States.{is_call, IsWhole}
 use Rattle.pv_laws.proofs.Attempts.{Leads, leads-after_walks, leads-walk}
 use Rattle.pv_laws.proofs.Standing.{IsFinePlace}
@@ -55,7 +56,8 @@ module _ (s : State) (pid : ℕ) (me : Process) (call : Call) where
     -- nothing, or its end
     stays : (r : Reply) → Does s r
     -- it narrows its restraints, or goes elsewhere
-    restrains : (q : Process) (r : Reply) → MayDoNoMore me q → q.descriptors ≡ me.descriptors → goes_on r ≡ true → Does (with_process s pid q) r
+    restrains : (q : Process) (r : Reply) → MayDoNoMore me q → q.descriptors ≡ me.descriptors → (is_unveil call ≡ false → (q.table ≡ me.table) × (q.locked ≡ me.locked)) → goes_on r ≡ true
+        → Does (with_process s pid q) r
     begins : (path : Bytes) (program : Program) → call ≡ Execve path → Does (with_process s pid (with_program s pid me program)) (returns 0)
     -- a descriptor less, or one more of the same open file
     closes : (d : ℕ) → Does (with_process s pid (record me { descriptors = without_number me.descriptors d })) (returns 0)
@@ -81,6 +83,7 @@ module _ (s : State) (pid : ℕ) (me : Process) (call : Call) where
         → Does (with_tree s (with_entry (without_entry s.tree p.0 p.1) q.0 q.1 n)) (returns 0)
     -- a file or a directory is opened, or a file is made and opened
     opens : (flags : OpenFlags) (place : Place) (n m : ℕ) → flags_of call ≡ Some flags → IsAllowed s me call (letters_of_open flags) place → node_of place ≡ Some n → IsFine place
+        → (flags.truncate ≡ true → writes flags.mode ≡ true)
         → Does (with_open_file s pid me flags n (if flags.truncate then with_content s.tree n [] else s.tree)) (returns m)
     creates : (flags : OpenFlags) (place : Place) (p : ℕ × Bytes) (m : ℕ) → flags_of call ≡ Some flags → IsAllowed s me call (letters_of_open flags) place → flags.create ≡ true
         → name_of place ≡ Some p → node_of place ≡ None → IsFine place
@@ -92,7 +95,7 @@ module _ (s : State) (pid : ℕ) (me : Process) (call : Call) where
   -- a call that ends its process leaves the rest to the end
   pub ends-stays : (after : State) (r : Reply) (status : ℕ) → Does after r → r ≡ ends status → after ≡ s
   ends-stays _ _ status (stays r) is = refl
-  ends-stays _ _ status (restrains q r no_more same goes) is = let on = ap goes_on is in cc
+  ends-stays _ _ status (restrains q r no_more same table goes) is = let on = ap goes_on is in cc
   ends-stays _ _ status (begins path program new) is = cc
   ends-stays _ _ status (closes d) is = cc
   ends-stays _ _ status (copies d x n found) is = cc
@@ -105,7 +108,7 @@ module _ (s : State) (pid : ℕ) (me : Process) (call : Call) where
   ends-stays _ _ status (links place p old n change from_old node fine) is = cc
   ends-stays _ _ status (unlinks place p change) is = cc
   ends-stays _ _ status (renames place p there q n from into node) is = cc
-  ends-stays _ _ status (opens flags place n m flagged allowed found fine) is = cc
+  ends-stays _ _ status (opens flags place n m flagged allowed found fine written) is = cc
   ends-stays _ _ status (creates flags place p m flagged allowed create named free fine) is = cc
 
 -- ---- places of walks

@@ -76,7 +76,7 @@ module _ (s : State) (pid : ℕ) (me : Process) where
           table = table-itself me.table;
           lock = λ is. is;
           closed = λ is. refl;
-        }) refl refl))))
+        }) refl (λ no. (refl, refl)) refl))))
 
   with_table : (table : Table) → me.locked ≡ false → KeepsEntries (entries_of_table me.table) table → MayDoNoMore me (record me { table = Some table })
   with_table table unlocked keeps = record {
@@ -90,7 +90,7 @@ module _ (s : State) (pid : ℕ) (me : Process) where
   pub does-unveil : (path letters : Option Bytes) → Leads (D (TheCall.Unveil path letters)) (unveil s pid me path letters)
   does-unveil None None =
       restrains (record me { locked = true }) (returns 0)
-      (record { promises = gains-self me.promises; execpromises = gains-self me.execpromises; table = table-itself me.table; lock = λ is. refl; closed = λ is. refl }) refl refl
+      (record { promises = gains-self me.promises; execpromises = gains-self me.execpromises; table = table-itself me.table; lock = λ is. refl; closed = λ is. refl }) refl (λ no. cc no) refl
   does-unveil None (Some letters) = tt
   does-unveil (Some path) None = tt
   does-unveil (Some path) (Some text) =
@@ -100,7 +100,7 @@ module _ (s : State) (pid : ℕ) (me : Process) where
       leads-walk (D C) s me.directory Last path (Rests.unveil_2 s pid me letters) (λ place found.
       leads-bind (D C) (KeepsEntries (entries_of_table me.table)) (add_target s pid me (target_of s.tree place) letters) (Rests.unveil_3 s pid me)
       (leads-add_entry (entries_of_table me.table) (target_of s.tree place) letters (entry_for (entries_of_table me.table) (target_of s.tree place)) refl) (λ table keeps.
-      restrains (record me { table = Some table }) (returns 0) (with_table table unlocked keeps) refl refl))))
+      restrains (record me { table = Some table }) (returns 0) (with_table table unlocked keeps) refl (λ no. cc no) refl))))
 
   pub does-execve : (program_of : Bytes → Option Program) (path : Bytes) → Leads (D (TheCall.Execve path)) (execve s pid me program_of path)
   does-execve program_of path =
@@ -113,7 +113,7 @@ module _ (s : State) (pid : ℕ) (me : Process) where
   -- paths
 
   goes : (call : Call) (n : ℕ) → Does s pid me call (with_process s pid (record me { directory = n })) (returns 0)
-  goes call n = restrains (record me { directory = n }) (returns 0) (no_more-same me (record me { directory = n }) refl refl refl refl) refl refl
+  goes call n = restrains (record me { directory = n }) (returns 0) (no_more-same me (record me { directory = n }) refl refl refl refl) refl (λ no. (refl, refl)) refl
 
   pub does-chdir : (path : Bytes) → Leads (D (TheCall.Chdir path)) (chdir s pid me path)
   does-chdir path =

@@ -60,7 +60,7 @@ left-beside files new k file there =
 -- what a call leaves
 left-does : (s : State) (pid : ℕ) (me : Process) (call : Call) (k : ℕ) (file : OpenFile) → at_number s.files k ≡ Some file → (after : State) (r : Reply) → Does s pid me call after r → IsLeft after.files k file
 left-does s pid me call k file there _ _ (stays r) = left-as_was s.files k file there
-left-does s pid me call k file there _ _ (restrains q r no_more same goes) = left-as_was s.files k file there
+left-does s pid me call k file there _ _ (restrains q r no_more same table goes) = left-as_was s.files k file there
 left-does s pid me call k file there _ _ (begins path program is) = left-as_was s.files k file there
 left-does s pid me call k file there _ _ (closes d) = left-as_was s.files k file there
 left-does s pid me call k file there _ _ (copies d x n is) = left-as_was s.files k file there
@@ -73,7 +73,7 @@ left-does s pid me call k file there _ _ (makes place q node change none bare) =
 left-does s pid me call k file there _ _ (links place q old n change from_old is fine) = left-as_was s.files k file there
 left-does s pid me call k file there _ _ (unlinks place q change) = left-as_was s.files k file there
 left-does s pid me call k file there _ _ (renames place q next r n from into is) = left-as_was s.files k file there
-left-does s pid me call k file there _ _ (opens flags place n m flagged allowed is fine) = left-beside s.files _ k file there
+left-does s pid me call k file there _ _ (opens flags place n m flagged allowed is fine written) = left-beside s.files _ k file there
 left-does s pid me call k file there _ _ (creates flags place q m flagged allowed create named none fine) = left-beside s.files _ k file there
 
 -- what a live process uses is kept

@@ -1,5 +1,5 @@
 -- What justifies changes of entries and of files.
-use Rattle.std.proofs.Common.{◌≡◌, ◌≢◌, ℕ, suc, Bool, true, false, cond, if◌then◌else◌, List, [], ◌++◌, length, Option, None, Some, refl, ap, sym, subst, ◌∙◌, ⊎_elim}
+use Rattle.std.proofs.Common.{◌≡◌, ◌≢◌, ℕ, suc, Bool, true, false, cond, if◌then◌else◌, List, [], ◌++◌, length, Option, None, Some, refl, ap, sym, subst, ◌∙◌, ◌⊎◌, inl, inr, ⊎_elim}
 use Rattle.std.proofs.lemmas.Bool.{cases_eq}
 use Rattle.std.specs.FinMap.Entries.{find}
 use Rattle.pv_model.specs.declared.call.Call.{Call}
@@ -19,8 +19,8 @@ use Rattle.pv_model.specs.Perms.{no_letters, join_letters, covers, letter_c}
 use Rattle.pv_model.specs.Program.{calls_for, next}
 use Rattle.pv_model.specs.Promises.{Need, missing_promise}
 use Rattle.pv_model.specs.Sealed.{is_file}
-use Rattle.pv_model.specs.State.{Program, Process, State, process_at}
-use Rattle.pv_model.specs.Touch.{Touch, change_file, change_entry, file_bytes, flags_of, IsAllowed, Touches, Justifies, change_by_descriptor, change_by_open, entry_by_place}
+use Rattle.pv_model.specs.State.{Program, Process, State, writes, process_at}
+use Rattle.pv_model.specs.Touch.{Touch, change_file, change_entry, file_bytes, flags_of, IsAllowed, HasDescriptor, Touches, Justifies, change_by_descriptor, change_by_open, entry_by_place}
 use Rattle.pv_model.specs.Tree.{Node, file_node, Tree, node_at, entries_of, is_directory_at, find_entry, with_entry, without_entry, with_new_node}
 use Rattle.pv_model.specs.Unveil.{Table, letters_at, judge_entry, governing_entry, judgement}
 use Rattle.pv_laws.specs.States.{is_call, IsTree, IsWhole}
@@ -36,7 +36,7 @@ use Rattle.pv_rights.specs.Justice.{IsExplained}
 use Rattle.pv_rights.proofs.Changed.{cases_entry, content-other, entries-content, file-beside, entry-with_other, entry-without_other, new-within, entry-new_other, file-new, entry-trim, file-trim}
 use Rattle.pv_rights.proofs.Does
 use Rattle.pv_rights.proofs.Narrowing.{covers-along}
-use Rattle.pv_rights.proofs.Touched.{touched, back, allowed-back}
+use Rattle.pv_rights.proofs.Touched.{touched, allowed-back}
 
 -- ---- fewer letters
 
@@ -87,6 +87,23 @@ needs-open (TheCall.Open path g) flags is = let same : g ≡ flags = cc is in ap
 needs-open (TheCall.OpenAt start path g) flags is = let same : g ≡ flags = cc is in ap (λ (h : OpenFlags). needs_of_mode h.mode ++ (if h.create then needs_cpath else [])) same
 needs-open call flags is = cc is
 
+-- an open that cuts a file, at a place that is allowed for its letters
+pub record IsCut (s : State) (me : Process) (call : Call) (f : ℕ) : Type 0 where
+  pub flags : OpenFlags
+  pub place : Place
+  pub flagged : flags_of call ≡ Some flags
+  pub truncates : flags.truncate ≡ true
+  pub written : writes flags.mode ≡ true
+  pub allowed : IsAllowed s me call (letters_of_open flags) place
+  pub node : node_of place ≡ Some f
+
+-- how a call writes a file: by a descriptor that is open for writing, or by such an open
+abbrev pub IsWritten : State → Process → Call → ℕ → Type 0
+IsWritten s me call f = HasDescriptor s me call writes f ⊎ IsCut s me call f
+
+written-justifies : (s : State) (me : Process) (call : Call) (f : ℕ) → IsWritten s me call f → Justifies s me call (change_file f)
+written-justifies s me call f is = ⊎_elim (λ has. change_by_descriptor f has) (λ c. change_by_open c.flags c.place f c.flagged c.truncates c.allowed c.node) is
+
 -- a call needs cpath, perhaps behind others
 abbrev pub AsksCpath : Call → Type 0
 AsksCpath call = (others : List Need) × (needs call ≡ others ++ needs_cpath)
@@ -103,8 +120,8 @@ module _ (s : State) (pid : ℕ) (me : Process) (call : Call) (whole : IsWhole s
   abbrev pub Change : Place → ℕ × Bytes → Type 0
   Change = Does.MayChange s pid me call
 
-  abbrev J : Touch → Type 0
-  J = Justifies s me call
+  abbrev W : ℕ → Type 0
+  W = IsWritten s me call
 
   pub fine-name : (place : Place) (p : ℕ × Bytes) → Change place p → FineName s.tree p (node_of place)
   fine-name place p change = named-place s.tree place p (change.fine whole at is_good) change.name
@@ -147,7 +164,7 @@ module _ (s : State) (pid : ℕ) (me : Process) (call : Call) (whole : IsWhole s
 
     pub entries-by : (after : State) (r : Reply) → Does.Does s pid me call after r → IsTree after.tree → Differs after.tree → E
     entries-by _ _ (Does.stays r) tree differs = absurd (differs refl)
-    entries-by _ _ (Does.restrains q r no_more same goes) tree differs = absurd (differs refl)
+    entries-by _ _ (Does.restrains q r no_more same table goes) tree differs = absurd (differs refl)
     entries-by _ _ (Does.begins path program is) tree differs = absurd (differs refl)
     entries-by _ _ (Does.closes n) tree differs = absurd (differs refl)
     entries-by _ _ (Does.copies e x n is) tree differs = absurd (differs refl)
@@ -170,7 +187,7 @@ module _ (s : State) (pid : ℕ) (me : Process) (call : Call) (whole : IsWhole s
         (λ apart. absurd (differs
         (entry-with_other (without_entry s.tree p.0 p.1) q.0 q.1 n (between-directory p dir q.0 (fine-name there q into).directory) d name apart
         ∙ entry-without_other s.tree p.0 p.1 dir d name other))) (cases_entry d q.0 name q.1)) (cases_entry d p.0 name p.1)
-    entries-by _ _ (Does.opens flags place n m flagged allowed is fine) tree differs =
+    entries-by _ _ (Does.opens flags place n m flagged allowed is fine written) tree differs =
         absurd (differs (by flags.truncate))
       where
         by : (b : Bool) → find_entry (if b then with_content s.tree n [] else s.tree) d name ≡ find_entry s.tree d name
@@ -192,29 +209,29 @@ module _ (s : State) (pid : ℕ) (me : Process) (call : Call) (whole : IsWhole s
     abbrev Changes : Tree → Type 0
     Changes t = bytes_of (node_at t f) ≢ bytes_of (node_at s.tree f)
 
-    stays-same : (t : Tree) → node_at t f ≡ node_at s.tree f → Changes t → J (change_file f)
+    stays-same : (t : Tree) → node_at t f ≡ node_at s.tree f → Changes t → W f
     stays-same t same changes = absurd (changes (ap bytes_of same))
 
-    cut-by : (g : ℕ) (bytes : Bytes) → J (change_file g) → Changes (with_content s.tree g bytes) → J (change_file f)
+    cut-by : (g : ℕ) (bytes : Bytes) → W g → Changes (with_content s.tree g bytes) → W f
     cut-by g bytes justified changes =
-        ⊎_elim (λ here. subst (λ n. J (change_file n)) (sym here) justified) (λ other. stays-same (with_content s.tree g bytes) (content-other s.tree g bytes f other) changes) (cases_eq f g)
+        ⊎_elim (λ here. subst (λ n. W n) (sym here) justified) (λ other. stays-same (with_content s.tree g bytes) (content-other s.tree g bytes f other) changes) (cases_eq f g)
 
-    made-file : (p : ℕ × Bytes) (node : Node) (u : Tree) → u ≡ with_new_node s.tree p.0 p.1 node → IsTree u → is_directory_at s.tree p.0 ≡ true → entries_of (Some node) ≡ [] → Changes u → J (change_file f)
+    made-file : (p : ℕ × Bytes) (node : Node) (u : Tree) → u ≡ with_new_node s.tree p.0 p.1 node → IsTree u → is_directory_at s.tree p.0 ≡ true → entries_of (Some node) ≡ [] → Changes u → W f
     made-file p node u is tree dir bare changes =
         let below = new-within s.tree p node (ap (λ (t : Tree). length t.nodes) (sym is) ∙ many u tree (ap (λ (t : Tree). t.inodes) is)) in
         stays-same u (ap (λ (t : Tree). node_at t f) is ∙ file-new s.tree p node dir bare below f file) changes
 
-    pub files-by : (after : State) (r : Reply) → Does.Does s pid me call after r → IsTree after.tree → Changes after.tree → J (change_file f)
+    pub files-by : (after : State) (r : Reply) → Does.Does s pid me call after r → IsTree after.tree → Changes after.tree → W f
     files-by _ _ (Does.stays r) tree changes = absurd (changes refl)
-    files-by _ _ (Does.restrains q r no_more same goes) tree changes = absurd (changes refl)
+    files-by _ _ (Does.restrains q r no_more same table goes) tree changes = absurd (changes refl)
     files-by _ _ (Does.begins path program is) tree changes = absurd (changes refl)
     files-by _ _ (Does.closes n) tree changes = absurd (changes refl)
     files-by _ _ (Does.copies e x n is) tree changes = absurd (changes refl)
     files-by _ _ (Does.forks is) tree changes = absurd (changes refl)
     files-by _ _ (Does.reaps k r ended goes) tree changes = absurd (changes refl)
     files-by _ _ (Does.moves k old new r there node mode goes) tree changes = absurd (changes refl)
-    files-by _ _ (Does.cuts g bytes has) tree changes = cut-by g bytes (change_by_descriptor g has) changes
-    files-by _ _ (Does.writes_bytes g bytes k old new n has there node mode) tree changes = cut-by g bytes (change_by_descriptor g has) changes
+    files-by _ _ (Does.cuts g bytes has) tree changes = cut-by g bytes (inl has) changes
+    files-by _ _ (Does.writes_bytes g bytes k old new n has there node mode) tree changes = cut-by g bytes (inl has) changes
     files-by _ _ (Does.makes place p node change free bare) tree changes = made-file p node _ refl tree (fine-name place p change).directory bare changes
     files-by _ _ (Does.links place p old n change from_old is fine) tree changes = stays-same (with_entry s.tree p.0 p.1 n) (file-beside s.tree p.0 _ f (fine-name place p change).directory file) changes
     files-by _ _ (Does.unlinks place p change) tree changes = stays-same (without_entry s.tree p.0 p.1) (file-beside s.tree p.0 _ f (fine-name place p change).directory file) changes
@@ -222,10 +239,10 @@ module _ (s : State) (pid : ℕ) (me : Process) (call : Call) (whole : IsWhole s
         let dir = (fine-name place p from).directory in
         let first = file-beside s.tree p.0 _ f dir file in
         stays-same (with_entry (without_entry s.tree p.0 p.1) q.0 q.1 n) (file-beside (without_entry s.tree p.0 p.1) q.0 _ f (between-directory p dir q.0 (fine-name there q into).directory) (ap is_file first ∙ file) ∙ first) changes
-    files-by _ _ (Does.opens flags place n m flagged allowed is fine) tree changes = by flags.truncate refl changes
+    files-by _ _ (Does.opens flags place n m flagged allowed is fine written) tree changes = by flags.truncate refl changes
       where
-        by : (b : Bool) → flags.truncate ≡ b → Changes (if b then with_content s.tree n [] else s.tree) → J (change_file f)
-        by true cut changes = cut-by n [] (change_by_open flags place n flagged cut allowed is) changes
+        by : (b : Bool) → flags.truncate ≡ b → Changes (if b then with_content s.tree n [] else s.tree) → W f
+        by true cut changes = cut-by n [] (inr (record { flags = flags; place = place; flagged = flagged; truncates = cut; written = written cut; allowed = allowed; node = is })) changes
         by false cut changes = absurd (changes refl)
     files-by _ _ (Does.creates flags place p m flagged allowed create named free fine) tree changes =
         made-file p (file_node false []) _ refl tree (named-place s.tree place p (fine whole at is_good) named).directory refl changes
@@ -273,8 +290,31 @@ entries-explained program_of s pid d name whole changes =
 pub entries-justified : (program_of : Bytes → Option Program) (s : State) (pid : ℕ) (d : ℕ) (name : Bytes) → IsWhole s → Touches program_of s pid (change_entry d name) → IsExplained s pid (change_entry d name)
 entries-justified program_of s pid d name whole changes = (entries-explained program_of s pid d name whole changes).0
 
-pub files-justified : (program_of : Bytes → Option Program) (s : State) (pid : ℕ) (f : ℕ) → IsWhole s → Touches program_of s pid (change_file f) → IsExplained s pid (change_file f)
-files-justified program_of s pid f whole changes =
+-- what was written at the call is written before it
+written-back : (s : State) (pid : ℕ) (me : Process) (call : Call) (f : ℕ) → IsWritten (at_call s pid me) (at_next_line me) call f → IsWritten s me call f
+written-back s pid me call f is =
+    ⊎_elim (λ has. inl has)
+    (λ c. inr (record {
+      flags = c.flags;
+      place = c.place;
+      flagged = c.flagged;
+      truncates = c.truncates;
+      written = c.written;
+      allowed = allowed-back s pid me call (letters_of_open c.flags) c.place c.allowed;
+      node = c.node;
+    })) is
+
+-- the call that writes a file, with its promises held
+pub record IsWrittenBy (s : State) (pid : ℕ) (f : ℕ) : Type 0 where
+  pub me : Process
+  pub call : Call
+  pub at : process_at s pid ≡ Some me
+  pub next_is : next me ≡ calls_for call
+  pub held : missing_promise me.promises (needs call) ≡ None
+  pub written : IsWritten s me call f
+
+pub files-written : (program_of : Bytes → Option Program) (s : State) (pid : ℕ) (f : ℕ) → IsWhole s → Touches program_of s pid (change_file f) → IsWrittenBy s pid f
+files-written program_of s pid f whole changes =
     let T : State → Type 0 = λ y. (is_file (node_at y.tree f) ≡ true) × (file_bytes y f ≢ file_bytes s f) in
     let t = touched program_of s pid whole T
     (λ differs. differs.1 refl)
@@ -283,13 +323,19 @@ files-justified program_of s pid f whole changes =
     differs.1 (ap bytes_of (file-trim (end_process y pid me status) f differs.0 ∙ ap (λ (u : Tree). node_at u f) (tree-end y pid me status ∙ tree))))
     (changes.1, changes.2) in
     let same : node_at (trim (update t.after pid t.told)).tree f ≡ node_at t.after.tree f =
-    file-trim (update t.after pid t.told) f t.touch.0 ∙ ap (λ (u : Tree). node_at u f) (tree-update t.after pid t.told) in (
-      t.me,
-      t.call,
-      t.at,
-      t.next_is,
-      t.held,
-      back s pid t.me t.call (change_file f)
+    file-trim (update t.after pid t.told) f t.touch.0 ∙ ap (λ (u : Tree). node_at u f) (tree-update t.after pid t.told) in
+    record {
+      me = t.me;
+      call = t.call;
+      at = t.at;
+      next_is = t.next_is;
+      held = t.held;
+      written = written-back s pid t.me t.call f
           (files-by (at_call s pid t.me) pid (at_next_line t.me) t.call (whole-at_call s pid t.me whole t.at) (process_at-same s pid (at_next_line t.me)) t.is f changes.0 t.after t.reply t.does t.tree
-          (λ eq. t.touch.1 (ap bytes_of same ∙ eq))),
-    )
+          (λ eq. t.touch.1 (ap bytes_of same ∙ eq)));
+    }
+
+pub files-justified : (program_of : Bytes → Option Program) (s : State) (pid : ℕ) (f : ℕ) → IsWhole s → Touches program_of s pid (change_file f) → IsExplained s pid (change_file f)
+files-justified program_of s pid f whole changes =
+    let e = files-written program_of s pid f whole changes in
+    (e.me, e.call, e.at, e.next_is, e.held, written-justifies s e.me e.call f e.written)

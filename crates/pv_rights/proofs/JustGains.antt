@@ -163,7 +163,7 @@ module _ (s : State) (pid : ℕ) (me : Process) (call : Call) (order : IsInOrder
 
   pub gains-by : (after : State) (r : Reply) → Does.Does s pid me call after r → (q : Process) → process_at after pid ≡ Some q → NowOpens after.files q.descriptors → J
   gains-by _ _ (Does.stays r) q there opens = by_same q there opens
-  gains-by _ _ (Does.restrains p r no_more same goes) q there opens = absurd (not_open (subst (NowOpens s.files) same (by_change s p q there s.files opens)))
+  gains-by _ _ (Does.restrains p r no_more same table goes) q there opens = absurd (not_open (subst (NowOpens s.files) same (by_change s p q there s.files opens)))
   gains-by _ _ (Does.begins path program is) q there opens =
       let now = by_change s _ q there s.files opens in
       absurd (not_open (record { number = now.number; descriptor = now.descriptor; file = now.file; there = kept_descriptor me.descriptors now.number now.descriptor now.there; opened = now.opened; node = now.node; mode_is = now.mode_is }))
@@ -192,7 +192,7 @@ module _ (s : State) (pid : ℕ) (me : Process) (call : Call) (order : IsInOrder
   gains-by _ _ (Does.links place p old m change from_old is fine) q there opens = by_same q there opens
   gains-by _ _ (Does.unlinks place p change) q there opens = by_same q there opens
   gains-by _ _ (Does.renames place p next r m from into is) q there opens = by_same q there opens
-  gains-by _ _ (Does.opens flags place m k flagged allowed is fine) q there opens = newly flags place m flagged allowed fine (inl is) (by_change s _ q there _ opens)
+  gains-by _ _ (Does.opens flags place m k flagged allowed is fine written) q there opens = newly flags place m flagged allowed fine (inl is) (by_change s _ q there _ opens)
   gains-by _ _ (Does.creates flags place p k flagged allowed create named free fine) q there opens = newly flags place (new_number s.tree) flagged allowed fine (inr (free, refl)) (by_change s _ q there _ opens)
 
 -- the call that opens, with its promises held

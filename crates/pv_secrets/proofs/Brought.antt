@@ -74,7 +74,7 @@ module _ (s : State) (pid : ℕ) (me : Process) (call : Call) (whole : IsWhole s
 
   pub moved-by : (after : State) (r : Reply) → Does.Does s pid me call after r → IsTree after.tree → Has after.tree → M
   moved-by _ _ (Does.stays r) tree has = as_was s.tree refl has
-  moved-by _ _ (Does.restrains q r no_more same goes) tree has = as_was s.tree refl has
+  moved-by _ _ (Does.restrains q r no_more same table goes) tree has = as_was s.tree refl has
   moved-by _ _ (Does.begins path program is) tree has = as_was s.tree refl has
   moved-by _ _ (Does.closes k) tree has = as_was s.tree refl has
   moved-by _ _ (Does.copies e x k is) tree has = as_was s.tree refl has
@@ -112,7 +112,7 @@ module _ (s : State) (pid : ℕ) (me : Process) (call : Call) (whole : IsWhole s
       (λ here. let both : None ≡ Some n = sym (found-without s.tree p.0 p.1 dir) ∙ in_place less p here.0 here.1 (sym beside ∙ has) in cc both)
       (λ other. as_was (with_entry less q.0 q.1 m) (beside ∙ entry-without_other s.tree p.0 p.1 dir d name other) has) (cases_entry d p.0 name p.1))
       (cases_entry d q.0 name q.1)
-  moved-by _ _ (Does.opens flags place m k flagged allowed is fine) tree has = as_was (if flags.truncate then with_content s.tree m [] else s.tree) (by flags.truncate) has
+  moved-by _ _ (Does.opens flags place m k flagged allowed is fine written) tree has = as_was (if flags.truncate then with_content s.tree m [] else s.tree) (by flags.truncate) has
     where
       by : (b : Bool) → find_entry (if b then with_content s.tree m [] else s.tree) d name ≡ find_entry s.tree d name
       by true = ap (find by_name name) (entries-content s.tree m [] d)

@@ -1,5 +1,5 @@
 -- Each process behind a step, and the one before it from which it has its restraints and its descriptors.
-use Rattle.std.proofs.Common.{◌≡◌, ◌≢◌, ◌⊎◌, inl, inr, ⊎_elim, ℕ, suc, Bool, true, false, not, ◌==◌, Option, None, Some, refl, ap, sym, subst, ◌∙◌}
+use Rattle.std.proofs.Common.{◌≡◌, ◌≢◌, ◌⊎◌, inl, inr, ⊎_elim, ℕ, suc, Bool, true, false, not, if◌then◌else◌, ◌==◌, Option, None, Some, is_some, refl, ap, sym, subst, ◌∙◌}
 use Rattle.std.proofs.lemmas.Bool.{cases_eq}
 use Rattle.std.specs.FinMap.Entries.{find, where_key, is_sorted}
 use Rattle.std.specs.Ordering.{nat_cmp}
@@ -44,14 +44,14 @@ use Rattle.pv_rights.proofs.JustGains.{Opens, opens-has, gains-opened}
 use Rattle.pv_rights.proofs.Narrowing.{no_more-of_same}
 use Rattle.pv_rights.specs.Justice.{IsExplained}
 use Rattle.pv_rights.proofs.Touched.{touched, allowed-back}
-use Rattle.pv_secrets.specs.Origins.{IsHeirOf}
+use Rattle.pv_secrets.specs.Origins.{IsHeirOf, origin}
 
 -- ---- a process that was not live before is a child
 
 module _ (s : State) (pid : ℕ) (me : Process) (call : Call) (k : ℕ) (q : Process) (fresh : process_at s k ≡ None) (apart : k ≢ pid) where
   -- it is a child, and no open file changes
   abbrev IsBorn : Numbered OpenFile → Type 0
-  IsBorn files = HasTheSame me q × (files ≡ s.files)
+  IsBorn files = HasTheSame me q × (files ≡ s.files) × (call ≡ TheCall.Fork)
 
   still : process_at s k ≡ Some q → (files : Numbered OpenFile) → IsBorn files
   still there files = let both : None ≡ Some q = sym fresh ∙ there in cc both
@@ -62,7 +62,7 @@ module _ (s : State) (pid : ℕ) (me : Process) (call : Call) (k : ℕ) (q : Pro
 
   pub born-by : (after : State) (r : Reply) → Does.Does s pid me call after r → is_sorted nat_cmp s.processes ≡ true → process_at after k ≡ Some q → IsBorn after.files
   born-by _ _ (Does.stays r) ascending there = still there s.files
-  born-by _ _ (Does.restrains p r no_more same goes) ascending there = beside p there _
+  born-by _ _ (Does.restrains p r no_more same table goes) ascending there = beside p there _
   born-by _ _ (Does.begins path program is) ascending there = beside (with_program s pid me program) there _
   born-by _ _ (Does.closes d) ascending there = beside _ there _
   born-by _ _ (Does.copies e x n is) ascending there = beside _ there _
@@ -71,7 +71,7 @@ module _ (s : State) (pid : ℕ) (me : Process) (call : Call) (k : ℕ) (q : Pro
       (λ here.
       let both : Some (child s pid me) ≡ Some q = sym (process_at-same s (suc s.last_process) (child s pid me)) ∙ ap (process_at (with_process s (suc s.last_process) (child s pid me))) (sym here) ∙ there in
       let same : child s pid me ≡ q = cc both in
-      (subst (HasTheSame me) same (record { promises = refl; execpromises = refl; table = refl; locked = refl; descriptors = refl }), refl))
+      (subst (HasTheSame me) same (record { promises = refl; execpromises = refl; table = refl; locked = refl; descriptors = refl }), refl, is))
       (λ away. still (sym (process_at-other s (suc s.last_process) (child s pid me) k away) ∙ there) _)
       (cases_eq k (suc s.last_process))
   born-by _ _ (Does.reaps j r ended goes) ascending there =
@@ -85,7 +85,7 @@ module _ (s : State) (pid : ℕ) (me : Process) (call : Call) (k : ℕ) (q : Pro
   born-by _ _ (Does.links place p old n change allowed is fine) ascending there = still there _
   born-by _ _ (Does.unlinks place p change) ascending there = still there _
   born-by _ _ (Does.renames place p next r n from into is) ascending there = still there _
-  born-by _ _ (Does.opens flags place n m flagged allowed is fine) ascending there = beside _ there _
+  born-by _ _ (Does.opens flags place n m flagged allowed is fine written) ascending there = beside _ there _
   born-by _ _ (Does.creates flags place p m flagged allowed create named free fine) ascending there = beside _ there _
 
 -- who is live behind the end of a process was live before it
@@ -129,11 +129,15 @@ IsExecve p q call = (path : Bytes) × (call ≡ TheCall.Execve path) × HasExecu
 -- a process behind a step has its restraints from one before it, and its descriptors but for those that it opened
 pub record IsHeir (s after : State) (pid k : ℕ) (q : Process) : Type 0 where
   pub from : ℕ
-  pub which : (from ≡ k) ⊎ (from ≡ pid)
+  pub is_origin : origin s pid k ≡ from
   pub p : Process
   pub at : process_at s from ≡ Some p
   pub restraints : MayDoNoMore p q ⊎ IsCalled s pid p (IsExecve p q)
   pub gains : (n : ℕ) (mode : Mode) → Opens after.files q.descriptors n mode → (Opens s.files p.descriptors n mode → ⊥) → IsCalled s pid p (λ call. IsGained s p call n mode)
+
+-- a process that was live is its own origin
+own : (s : State) (pid k : ℕ) (p : Process) → process_at s k ≡ Some p → origin s pid k ≡ k
+own s pid k p at = ap (λ (o : Option Process). if is_some o then k else pid) at
 
 module _ (program_of : Bytes → Option Program) (s : State) (pid : ℕ) (whole : IsWhole s) where
   abbrev after : State
@@ -190,7 +194,7 @@ module _ (program_of : Bytes → Option Program) (s : State) (pid : ℕ) (whole 
         })
 
     itself : IsHeir s after pid pid q
-    itself = record { from = pid; which = inl refl; p = p; at = at; restraints = by_image (begins_image (next p) (step program_of s pid).outcome) refl; gains = gained }
+    itself = record { from = pid; is_origin = own s pid pid p at; p = p; at = at; restraints = by_image (begins_image (next p) (step program_of s pid).outcome) refl; gains = gained }
 
   -- ---- another
 
@@ -201,7 +205,7 @@ module _ (program_of : Bytes → Option Program) (s : State) (pid : ℕ) (whole 
         let both : Some left.0 ≡ Some q = sym left.1 ∙ there in
         let same : left.0 ≡ q = cc both in
         let alike : HasTheSame p q = subst (HasTheSame p) same (alone-same p left.0 left.2) in
-        record { from = k; which = inl refl; p = p; at = at; restraints = inl (no_more-of_same p q alike); gains = λ n mode now before. absurd (before (had p at alike.descriptors n mode now)) }
+        record { from = k; is_origin = own s pid k p at; p = p; at = at; restraints = inl (no_more-of_same p q alike); gains = λ n mode now before. absurd (before (had p at alike.descriptors n mode now)) }
       where
         had : (p : Process) → process_at s k ≡ Some p → q.descriptors ≡ p.descriptors → (n : ℕ) (mode : Mode) → Opens after.files q.descriptors n mode → Opens s.files p.descriptors n mode
         had p at same n mode now = by (at_number s.files now.descriptor.file) refl
@@ -248,7 +252,7 @@ module _ (program_of : Bytes → Option Program) (s : State) (pid : ℕ) (whole 
         let same : HasTheSame t.me q = record { promises = born.0.promises; execpromises = born.0.execpromises; table = born.0.table; locked = born.0.locked; descriptors = born.0.descriptors } in
         record {
           from = pid;
-          which = inr refl;
+          is_origin = ap (λ (o : Option Process). if is_some o then k else pid) fresh;
           p = t.me;
           at = t.at;
           restraints = inl (no_more-of_same t.me q same);
@@ -283,12 +287,10 @@ module _ (program_of : Bytes → Option Program) (s : State) (pid : ℕ) (whole 
 -- ---- the law
 
 pub each-has_origin : (program_of : Bytes → Option Program) (s : State) (pid k : ℕ) (q : Process) → IsWhole s → process_at (step program_of s pid).after k ≡ Some q
-    → (from : ℕ) × (p : Process) × ((from ≡ k) ⊎ (from ≡ pid)) × (process_at s from ≡ Some p) × IsHeirOf s (step program_of s pid).after pid p q
+    → (p : Process) × (process_at s (origin s pid k) ≡ Some p) × IsHeirOf s (step program_of s pid).after pid p q
 each-has_origin program_of s pid k q whole there = (
-  h.from,
   h.p,
-  h.which,
-  h.at,
+  ap (process_at s) h.is_origin ∙ h.at,
   record {
     restraints = ⊎_elim (λ no_more. inl no_more) (λ e. inr e.comes.2) h.restraints;
     gains = λ n test d on none. justified n test d on none;

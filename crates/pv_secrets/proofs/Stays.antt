@@ -80,7 +80,7 @@ module _ (s : State) (pid : ℕ) (me : Process) (call : Call) (whole : IsWhole s
 
   still-by : (after : State) (r : Reply) → Does.Does s pid me call after r → IsTree after.tree → IsStill after.tree
   still-by _ _ (Does.stays r) tree = file
-  still-by _ _ (Does.restrains q r no_more same goes) tree = file
+  still-by _ _ (Does.restrains q r no_more same table goes) tree = file
   still-by _ _ (Does.begins path program is) tree = file
   still-by _ _ (Does.closes k) tree = file
   still-by _ _ (Does.copies e x k is) tree = file
@@ -98,7 +98,7 @@ module _ (s : State) (pid : ℕ) (me : Process) (call : Call) (whole : IsWhole s
       let first : is_file (node_at (without_entry s.tree p.0 p.1) f) ≡ true = ap is_file (file-beside s.tree p.0 _ f dir file) ∙ file in
       let into_dir = between-directory s pid me call whole at is_good p dir q.0 (fine-name s pid me call whole at is_good next q into).directory in
       ap is_file (file-beside (without_entry s.tree p.0 p.1) q.0 _ f into_dir first) ∙ first
-  still-by _ _ (Does.opens flags place n m flagged allowed is fine) tree = by flags.truncate
+  still-by _ _ (Does.opens flags place n m flagged allowed is fine written) tree = by flags.truncate
     where
       by : (b : Bool) → IsStill (if b then with_content s.tree n [] else s.tree)
       by true = file-content s.tree n [] f file

@@ -1,5 +1,5 @@
 -- Laws of what a step leaves to the processes and the files behind it: where restraints, descriptors and names come from.
-use Rattle.std.specs.Prelude.{◌≡◌, ◌≢◌, ◌⊎◌, ℕ, Bool, IsTrue, Option, None, Some, is_some}
+use Rattle.std.specs.Prelude.{◌≡◌, ◌≢◌, ◌⊎◌, ℕ, Bool, if◌then◌else◌, IsTrue, Option, None, Some, is_some}
 use Rattle.pv_model.specs.declared.call.Call.{Call}
 use Rattle.pv_model.specs.declared.open_flags.Mode.{Mode}
 use Rattle.pv_model.specs.declared.place.Place.{Place}
@@ -45,8 +45,12 @@ pub record IsHeirOf (s after : State) (pid : ℕ) (p q : Process) : Type 0 where
   pub gains : (n : ℕ) (test : Mode → Bool) (d : ℕ) → HasOn after q n test d → ((e : ℕ) → ¬ HasOn s p n test e)
       → (mode : Mode) × IsTrue (test mode) × IsExplained s pid (gain_descriptor n mode)
 
--- each process that is live behind a step has what it has from itself, or from the process whose step it is
+-- the process before a step from which one behind it comes: itself, or for a number that was not live the one whose step it is
+abbrev pub origin : State → ℕ → ℕ → ℕ
+origin s pid k = if is_some (process_at s k) then k else pid
+
+-- each process that is live behind a step has what it has from its origin, which was live
 abbrev pub EachHasAnOrigin : Type 0
 EachHasAnOrigin =
     (program_of : Bytes → Option Program) (s : State) (pid k : ℕ) (q : Process) → IsWhole s → process_at (step program_of s pid).after k ≡ Some q
-    → (from : ℕ) × (p : Process) × ((from ≡ k) ⊎ (from ≡ pid)) × (process_at s from ≡ Some p) × IsHeirOf s (step program_of s pid).after pid p q
+    → (p : Process) × (process_at s (origin s pid k) ≡ Some p) × IsHeirOf s (step program_of s pid).after pid p q
