@@ -17,6 +17,7 @@ use Rattle.pv_model.specs.Errno.{errno_number}
 use Rattle.pv_model.specs.Held.{trim}
 use Rattle.pv_model.specs.Program.{calls_for, next}
 use Rattle.pv_model.specs.State.{Program, Process, live, ended_record, State, process_at, with_process}
+use Rattle.pv_laws.specs.Courses.{is_unveil}
 use Rattle.pv_laws.proofs.Attempts.{Leads}
 use Rattle.pv_laws.proofs.Ending.{filtered-found}
 use Rattle.pv_laws.proofs.Members.{live-found, found-live}
@@ -34,16 +35,20 @@ use Rattle.pv_rights.proofs.Narrowing.{no_more-along, no_more-same, no_more-of_s
 abbrev IsQuiet : Call → Reply → Type 0
 IsQuiet call r = (n : ℕ) → r ≡ returns n → begins_image (calls_for call) (Value n) ≡ false
 
+-- a call that is no unveil leaves the table and the lock
+abbrev pub LeavesTable : Call → Process → Process → Type 0
+LeavesTable call p q = is_unveil call ≡ false → (q.table ≡ p.table) × (q.locked ≡ p.locked)
+
 -- the caller is live, and has no more unless it began a new image
 abbrev HasNoMore : Process → ℕ → Call → State → Reply → Type 0
-HasNoMore me pid call after r = (q : Process) × (process_at after pid ≡ Some q) × (IsQuiet call r → MayDoNoMore me q)
+HasNoMore me pid call after r = (q : Process) × (process_at after pid ≡ Some q) × (IsQuiet call r → MayDoNoMore me q × LeavesTable call me q)
 
 module _ (s : State) (pid : ℕ) (me : Process) (call : Call) (order : IsInOrder s) (at : process_at s pid ≡ Some me) where
   itself : (r : Reply) → HasNoMore me pid call s r
-  itself r = (me, at, λ quiet. no_more-same me me refl refl refl refl)
+  itself r = (me, at, λ quiet. (no_more-same me me refl refl refl refl, λ no. (refl, refl)))
 
-  becomes : (x : State) (q : Process) (r : Reply) → MayDoNoMore me q → HasNoMore me pid call (with_process x pid q) r
-  becomes x q r no_more = (q, process_at-same x pid q, λ quiet. no_more)
+  becomes : (x : State) (q : Process) (r : Reply) → MayDoNoMore me q → LeavesTable call me q → HasNoMore me pid call (with_process x pid q) r
+  becomes x q r no_more leaves = (q, process_at-same x pid q, λ quiet. (no_more, leaves))
 
   -- a live process is not one that is forgotten
   pub spared : (j : ℕ) (p : Process) → process_at s j ≡ Some p → (k : ℕ) → (parent : ℕ) × (status : ℕ) × (find nat_cmp k s.processes ≡ Some (ended_record parent status))
@@ -55,17 +60,17 @@ module _ (s : State) (pid : ℕ) (me : Process) (call : Call) (order : IsInOrder
 
   pub caller : (after : State) (r : Reply) → Does s pid me call after r → HasNoMore me pid call after r
   caller _ _ (stays r) = itself r
-  caller _ _ (restrains q r no_more same table goes) = becomes s q r no_more
+  caller _ _ (restrains q r no_more same table goes) = becomes s q r no_more table
   caller _ _ (begins path program is) = (
     with_program s pid me program,
     process_at-same s pid (with_program s pid me program),
     λ quiet. let new : begins_image (calls_for call) (Value 0) ≡ true = ap (λ c. begins_image (calls_for c) (Value 0)) is in let none = quiet 0 refl in cc,
   )
-  caller _ _ (closes d) = becomes s _ (returns 0) (no_more-same me _ refl refl refl refl)
-  caller _ _ (copies d x n is) = becomes s _ (returns n) (no_more-same me _ refl refl refl refl)
+  caller _ _ (closes d) = becomes s _ (returns 0) (no_more-same me _ refl refl refl refl) (λ no. (refl, refl))
+  caller _ _ (copies d x n is) = becomes s _ (returns n) (no_more-same me _ refl refl refl refl) (λ no. (refl, refl))
   caller _ _ (forks is) =
-      (me, process_at-other s (suc s.last_process) (child s pid me) pid (not_next s order pid me at) ∙ at, λ quiet. no_more-same me me refl refl refl refl)
-  caller _ _ (reaps k r ended goes) = (me, spared pid me at k (ended order.ascending), λ quiet. no_more-same me me refl refl refl refl)
+      (me, process_at-other s (suc s.last_process) (child s pid me) pid (not_next s order pid me at) ∙ at, λ quiet. (no_more-same me me refl refl refl refl, λ no. (refl, refl)))
+  caller _ _ (reaps k r ended goes) = (me, spared pid me at k (ended order.ascending), λ quiet. (no_more-same me me refl refl refl refl, λ no. (refl, refl)))
   caller _ _ (moves k old new r there node mode goes) = itself r
   caller _ _ (cuts f bytes has) = itself (returns 0)
   caller _ _ (writes_bytes f bytes k old new n has there node mode) = itself (returns n)
@@ -73,8 +78,8 @@ module _ (s : State) (pid : ℕ) (me : Process) (call : Call) (order : IsInOrder
   caller _ _ (links place p old n change from_old is fine) = itself (returns 0)
   caller _ _ (unlinks place p change) = itself (returns 0)
   caller _ _ (renames place p there q n from into is) = itself (returns 0)
-  caller _ _ (opens flags place n m flagged allowed is fine written) = becomes s _ (returns m) (no_more-same me _ refl refl refl refl)
-  caller _ _ (creates flags place p m flagged allowed create named none fine) = becomes s _ (returns m) (no_more-same me _ refl refl refl refl)
+  caller _ _ (opens flags place n m flagged allowed is fine written) = becomes s _ (returns m) (no_more-same me _ refl refl refl refl) (λ no. (refl, refl))
+  caller _ _ (creates flags place p m flagged allowed create named none fine) = becomes s _ (returns m) (no_more-same me _ refl refl refl refl) (λ no. (refl, refl))
 
   -- each other live process stays as it is
   pub other : (k : ℕ) (p : Process) → k ≢ pid → process_at s k ≡ Some p → (after : State) (r : Reply) → Does s pid me call after r → process_at after k ≡ Some p
@@ -98,8 +103,9 @@ module _ (s : State) (pid : ℕ) (me : Process) (call : Call) (order : IsInOrder
 -- ---- calls
 
 -- what is said of a process is kept when it is told an answer
-told : (me q : Process) (f : Process → Process) → HasTheSame q (f q) → MayDoNoMore me q → MayDoNoMore me (f q)
-told me q f same no_more = no_more-along me q (f q) no_more (no_more-of_same q (f q) same)
+told : (call : Call) (me q : Process) (f : Process → Process) → HasTheSame q (f q) → MayDoNoMore me q × LeavesTable call me q → MayDoNoMore me (f q) × LeavesTable call me (f q)
+told call me q f same both =
+    (no_more-along me q (f q) both.0 (no_more-of_same q (f q) same), λ no. let kept = both.1 no in (same.table ∙ kept.0, same.locked ∙ kept.1))
 
 module _ (program_of : Bytes → Option Program) (s : State) (pid : ℕ) (order : IsInOrder s) (me : Process) (at : process_at s pid ≡ Some me) (call : Call) where
   abbrev x : State
@@ -116,19 +122,25 @@ module _ (program_of : Bytes → Option Program) (s : State) (pid : ℕ) (order 
 
   -- the caller behind its answer
   abbrev Keeps : Answered → Type 0
-  Keeps a = (q : Process) → process_at a.after pid ≡ Some q → begins_image (calls_for call) a.outcome ≡ false → MayDoNoMore me q
+  Keeps a = (q : Process) → process_at a.after pid ≡ Some q → begins_image (calls_for call) a.outcome ≡ false → MayDoNoMore me q × LeavesTable call me q
 
-  since : (q : Process) → MayDoNoMore now q → MayDoNoMore me q
-  since q no_more = no_more-along me now q (no_more-same me now refl refl refl refl) no_more
+  abbrev Leaves : Process → Type 0
+  Leaves q = MayDoNoMore me q × LeavesTable call me q
+
+  as-was : (q : Process) → HasTheSame me q → Leaves q
+  as-was q same = (no_more-of_same me q same, λ no. (same.table, same.locked))
+
+  since : (q : Process) → MayDoNoMore now q × LeavesTable call now q → Leaves q
+  since q both = (no_more-along me now q (no_more-same me now refl refl refl refl) both.0, both.1)
 
   kept-told : (after : State) (r : Reply) (f : Process → Process) → ((p : Process) → HasTheSame p (f p)) → HasNoMore now pid call after r → IsQuiet call r
-      → (q : Process) → process_at (trim (update after pid f)) pid ≡ Some q → MayDoNoMore me q
+      → (q : Process) → process_at (trim (update after pid f)) pid ≡ Some q → Leaves q
   kept-told after r f same has quiet q there =
       let is : Some (f has.0) ≡ Some q = sym (process_at-trim (update after pid f) pid ∙ update-live after pid f has.0 has.1) ∙ there in
       let eq : f has.0 ≡ q = cc is in
-      subst (MayDoNoMore me) eq (since (f has.0) (told now has.0 f (same has.0) (has.2 quiet)))
+      subst Leaves eq (since (f has.0) (told call now has.0 f (same has.0) (has.2 quiet)))
 
-  ended : (after : State) (status : ℕ) → Does x pid now call after (ends status) → (q : Process) → process_at (trim (end_process after pid now status)) pid ≡ Some q → MayDoNoMore me q
+  ended : (after : State) (status : ℕ) → Does x pid now call after (ends status) → (q : Process) → process_at (trim (end_process after pid now status)) pid ≡ Some q → Leaves q
   ended after status does q there =
       let same = ends-stays x pid now call after (ends status) status does refl in
       absurd (ended-not_live x pid now status x_order.ascending q
@@ -142,13 +154,13 @@ module _ (program_of : Bytes → Option Program) (s : State) (pid : ℕ) (order 
       kept-told after (returns_bytes n bytes) (λ p. with_front bytes (with_result p (pos n) 0)) (λ p. record { promises = refl; execpromises = refl; table = refl; locked = refl; descriptors = refl })
       (caller x pid now call x_order x_at after (returns_bytes n bytes) does) (λ m is. cc is) q there
   kept-attempt (done walks (after, ends status)) does q there quiet = ended after status does q there
-  kept-attempt (done walks (after, waits)) does q there quiet = let is : Some me ≡ Some q = sym at ∙ there in let same : me ≡ q = cc is in subst (MayDoNoMore me) same (no_more-same me me refl refl refl refl)
+  kept-attempt (done walks (after, waits)) does q there quiet = let is : Some me ≡ Some q = sym at ∙ there in let same : me ≡ q = cc is in subst Leaves same (as-was me (record { promises = refl; execpromises = refl; table = refl; locked = refl; descriptors = refl }))
   kept-attempt (refused walks errno cause) does q there quiet = refused-keeps errno q there
     where
-      refused-keeps : (errno : Errno) (q : Process) → process_at (update x pid (λ p. with_result p (negsuc 0) (errno_number errno))) pid ≡ Some q → MayDoNoMore me q
+      refused-keeps : (errno : Errno) (q : Process) → process_at (update x pid (λ p. with_result p (negsuc 0) (errno_number errno))) pid ≡ Some q → Leaves q
       refused-keeps errno q there =
           let is : Some (with_result now (negsuc 0) (errno_number errno)) ≡ Some q = sym (update-live x pid (λ p. with_result p (negsuc 0) (errno_number errno)) now x_at) ∙ there in
-          let same : with_result now (negsuc 0) (errno_number errno) ≡ q = cc is in subst (MayDoNoMore me) same (no_more-same me _ refl refl refl refl)
+          let same : with_result now (negsuc 0) (errno_number errno) ≡ q = cc is in subst Leaves same (as-was (with_result now (negsuc 0) (errno_number errno)) (record { promises = refl; execpromises = refl; table = refl; locked = refl; descriptors = refl }))
 
   pub kept : Keeps (answer program_of s pid call)
   kept =

@@ -1,6 +1,7 @@
 -- Steps and runs in one program image, forks and executions.
 use Rattle.std.proofs.Common.{◌≡◌, ◌≢◌, ℕ, suc, pos, Bool, true, false, ◌&&◌, ◌||◌, if◌then◌else◌, nat_le, nat_lt, List, [], ◌∷◌, length, Option, None, Some, is_some, refl, ap, sym, subst, ◌∙◌, ⊎_elim}
 use Rattle.std.proofs.lemmas.Bool.{cases_eq}
+use Rattle.pv_model.specs.declared.call.Call.{Call}
 use Rattle.pv_model.specs.declared.call.Call.TheVariants.{Execve, Fork}
 use Rattle.pv_model.specs.declared.errno.Errno.TheVariants.{EAGAIN, ENOENT, EACCES, ENOEXEC}
 use Rattle.pv_model.specs.declared.follow.Follow.TheVariants.{Last}
@@ -16,6 +17,7 @@ use Rattle.pv_model.specs.Program.{Next, inside, calls_for, next}
 use Rattle.pv_model.specs.State.{Program, Process, State, process_at, with_process}
 use Rattle.pv_model.specs.Step.{Stepped, step, step_by, run}
 use Rattle.pv_model.specs.Tree.{node_at}
+use Rattle.pv_laws.specs.Courses.{is_unveil}
 use Rattle.pv_laws.specs.States.{SpellsPrograms, IsWhole}
 use Rattle.pv_laws.proofs.Attempts.{Leads, leads-demand, leads-place}
 use Rattle.pv_laws.proofs.BySteps.{step-keeps_whole}
@@ -37,7 +39,20 @@ grows-never program_of s pid p q order at there quiet =
   where
     by : (n : Next) → IsSameNext p n → process_at (step_by program_of s pid p n).after pid ≡ Some q → begins_image n (step_by program_of s pid p n).outcome ≡ false → MayDoNoMore p q
     by (inside r) same left none = let now : Some r ≡ Some q = sym (process_at-same s pid r) ∙ left in let eq : r ≡ q = cc now in subst (MayDoNoMore p) eq (no_more-of_same p r same.0)
-    by (calls_for call) same left none = kept program_of s pid order p at call q left none
+    by (calls_for call) same left none = (kept program_of s pid order p at call q left none).0
+
+-- where it makes no unveil, the table and the lock stay too
+pub tables-stay : (program_of : Bytes → Option Program) (s : State) (pid : ℕ) (p q : Process) → IsInOrder s → process_at s pid ≡ Some p → process_at (step program_of s pid).after pid ≡ Some q
+    → begins_image (next p) (step program_of s pid).outcome ≡ false → ((call : Call) → next p ≡ calls_for call → is_unveil call ≡ false) → (q.table ≡ p.table) × (q.locked ≡ p.locked)
+tables-stay program_of s pid p q order at there quiet others =
+    let is = step-is program_of s pid p at in
+    by (next p) refl (same-next p) (subst (λ (w : Stepped). process_at w.after pid ≡ Some q) is there) (subst (λ (w : Stepped). begins_image (next p) w.outcome ≡ false) is quiet)
+  where
+    by : (n : Next) → next p ≡ n → IsSameNext p n → process_at (step_by program_of s pid p n).after pid ≡ Some q → begins_image n (step_by program_of s pid p n).outcome ≡ false
+        → (q.table ≡ p.table) × (q.locked ≡ p.locked)
+    by (inside r) which same left none =
+        let now : Some r ≡ Some q = sym (process_at-same s pid r) ∙ left in let eq : r ≡ q = cc now in subst (λ (x : Process). (x.table ≡ p.table) × (x.locked ≡ p.locked)) eq (same.0.table, same.0.locked)
+    by (calls_for call) which same left none = (kept program_of s pid order p at call q left none).1 (others call which)
 
 pub others-keep : (program_of : Bytes → Option Program) (s : State) (pid other : ℕ) (p : Process) → IsInOrder s → other ≢ pid → process_at s other ≡ Some p
     → (q : Process) × (process_at (step program_of s pid).after other ≡ Some q) × IsLeftAlone p q
@@ -52,7 +67,7 @@ others-keep program_of s pid other p order apart there = of (process_at s pid) r
     of (Some me) at = subst (λ (w : Stepped). (q : Process) × (process_at w.after other ≡ Some q) × IsLeftAlone p q) (sym (step-is program_of s pid me at)) (by me at (next me))
 
 -- a step that calls
-step-calls : (program_of : Bytes → Option Program) (s : State) (pid : ℕ) (p : Process) (call : Rattle.pv_model.specs.declared.call.Call.Call) → process_at s pid ≡ Some p → next p ≡ calls_for call
+step-calls : (program_of : Bytes → Option Program) (s : State) (pid : ℕ) (p : Process) (call : Call) → process_at s pid ≡ Some p → next p ≡ calls_for call
     → step program_of s pid ≡ step_by program_of s pid p (calls_for call)
 step-calls program_of s pid p call at is = step-is program_of s pid p at ∙ ap (step_by program_of s pid p) is
 

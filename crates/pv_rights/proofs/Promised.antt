@@ -31,7 +31,7 @@ met-behind o ((p ∷ ps) ∷ others) more met =
     ] met
 
 -- a promise that is not held is missed
-missed : (o : Option Promises) (q : Promise) (rest : List Need) → has_none_of (q ∷ []) o ≡ true → missing_promise o ((q ∷ []) ∷ rest) ≡ None → ⊥
+pub missed : (o : Option Promises) (q : Promise) (rest : List Need) → has_none_of (q ∷ []) o ≡ true → missing_promise o ((q ∷ []) ∷ rest) ≡ None → ⊥
 missed None q rest none met = cc none
 missed (Some held) q rest none met = by (contains held q) (and_parts (not (contains held q)) true none).0 met
   where

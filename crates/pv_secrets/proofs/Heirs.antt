@@ -133,7 +133,19 @@ pub record IsHeir (s after : State) (pid k : ℕ) (q : Process) : Type 0 where
   pub p : Process
   pub at : process_at s from ≡ Some p
   pub restraints : MayDoNoMore p q ⊎ IsCalled s pid p (IsExecve p q)
+  pub forked : process_at s k ≡ None → IsCalled s pid p (λ call. call ≡ TheCall.Fork)
   pub gains : (n : ℕ) (mode : Mode) → Opens after.files q.descriptors n mode → (Opens s.files p.descriptors n mode → ⊥) → IsCalled s pid p (λ call. IsGained s p call n mode)
+
+-- a call that answers a value has its promises
+pub valued : (program_of : Bytes → Option Program) (s : State) (pid : ℕ) (p : Process) → process_at s pid ≡ Some p → (call : Call) (n : ℕ) → next p ≡ calls_for call → (step program_of s pid).outcome ≡ Value n
+    → missing_promise p.promises (needs call) ≡ None
+valued program_of s pid p at call n is told =
+    by_answer (λ a. a.outcome ≡ Value n → missing_promise p.promises (needs call) ≡ None) program_of s pid call
+    (λ none answered. let both : None ≡ Some p = sym none ∙ at in cc both)
+    (λ me found met answered. let both : Some me ≡ Some p = sym found ∙ at in let same : me ≡ p = cc both in subst (λ (x : Process). missing_promise x.promises (needs call) ≡ None) same met)
+    (λ me lacks found missing lenient answered. cc answered)
+    (λ me lacks found missing lenient answered. cc answered)
+    (subst (λ (w : Stepped). w.outcome ≡ Value n) (step-is program_of s pid p at ∙ ap (step_by program_of s pid p) is) told)
 
 -- a process that was live is its own origin
 own : (s : State) (pid k : ℕ) (p : Process) → process_at s k ≡ Some p → origin s pid k ≡ k
@@ -146,22 +158,12 @@ module _ (program_of : Bytes → Option Program) (s : State) (pid : ℕ) (whole 
   -- ---- the caller
 
   module _ (p : Process) (at : process_at s pid ≡ Some p) (q : Process) (there : process_at after pid ≡ Some q) where
-    -- a call that answers a value has its promises
-    valued : (call : Call) (n : ℕ) → next p ≡ calls_for call → (step program_of s pid).outcome ≡ Value n → missing_promise p.promises (needs call) ≡ None
-    valued call n is told =
-        by_answer (λ a. a.outcome ≡ Value n → missing_promise p.promises (needs call) ≡ None) program_of s pid call
-        (λ none answered. let both : None ≡ Some p = sym none ∙ at in cc both)
-        (λ me found met answered. let both : Some me ≡ Some p = sym found ∙ at in let same : me ≡ p = cc both in subst (λ (x : Process). missing_promise x.promises (needs call) ≡ None) same met)
-        (λ me lacks found missing lenient answered. cc answered)
-        (λ me lacks found missing lenient answered. cc answered)
-        (subst (λ (w : Stepped). w.outcome ≡ Value n) (step-is program_of s pid p at ∙ ap (step_by program_of s pid p) is) told)
-
     image : (n : Next) → next p ≡ n → (o : Outcome) → (step program_of s pid).outcome ≡ o → begins_image n o ≡ true → IsCalled s pid p (IsExecve p q)
     image (calls_for (TheCall.Execve path)) is (Value n) told begins =
         let left = (execve-leaves program_of s pid n p path at is told).1 in
         let both : Some left.0 ≡ Some q = sym left.1 ∙ there in
         let same : left.0 ≡ q = cc both in
-        record { call = TheCall.Execve path; at = at; next_is = is; held = valued (TheCall.Execve path) n is told; comes = (path, refl, subst (HasExecuted p) same left.2) }
+        record { call = TheCall.Execve path; at = at; next_is = is; held = valued program_of s pid p at (TheCall.Execve path) n is told; comes = (path, refl, subst (HasExecuted p) same left.2) }
     image n is o told begins = cc begins
 
     by_image : (b : Bool) → begins_image (next p) (step program_of s pid).outcome ≡ b → MayDoNoMore p q ⊎ IsCalled s pid p (IsExecve p q)
@@ -194,7 +196,7 @@ module _ (program_of : Bytes → Option Program) (s : State) (pid : ℕ) (whole 
         })
 
     itself : IsHeir s after pid pid q
-    itself = record { from = pid; is_origin = own s pid pid p at; p = p; at = at; restraints = by_image (begins_image (next p) (step program_of s pid).outcome) refl; gains = gained }
+    itself = record { from = pid; is_origin = own s pid pid p at; p = p; at = at; restraints = by_image (begins_image (next p) (step program_of s pid).outcome) refl; forked = λ none. let both : None ≡ Some p = sym none ∙ at in cc both; gains = gained }
 
   -- ---- another
 
@@ -205,7 +207,7 @@ module _ (program_of : Bytes → Option Program) (s : State) (pid : ℕ) (whole 
         let both : Some left.0 ≡ Some q = sym left.1 ∙ there in
         let same : left.0 ≡ q = cc both in
         let alike : HasTheSame p q = subst (HasTheSame p) same (alone-same p left.0 left.2) in
-        record { from = k; is_origin = own s pid k p at; p = p; at = at; restraints = inl (no_more-of_same p q alike); gains = λ n mode now before. absurd (before (had p at alike.descriptors n mode now)) }
+        record { from = k; is_origin = own s pid k p at; p = p; at = at; restraints = inl (no_more-of_same p q alike); forked = λ none. let both : None ≡ Some p = sym none ∙ at in cc both; gains = λ n mode now before. absurd (before (had p at alike.descriptors n mode now)) }
       where
         had : (p : Process) → process_at s k ≡ Some p → q.descriptors ≡ p.descriptors → (n : ℕ) (mode : Mode) → Opens after.files q.descriptors n mode → Opens s.files p.descriptors n mode
         had p at same n mode now = by (at_number s.files now.descriptor.file) refl
@@ -256,6 +258,7 @@ module _ (program_of : Bytes → Option Program) (s : State) (pid : ℕ) (whole 
           p = t.me;
           at = t.at;
           restraints = inl (no_more-of_same t.me q same);
+          forked = λ _. record { call = t.call; at = t.at; next_is = t.next_is; held = t.held; comes = born.2 };
           gains = λ n mode opens before.
               let kept = keep-some (among (used z)) z.files opens.descriptor.file opens.file (ap (λ fs. at_number fs opens.descriptor.file) (sym (files-trim z) ∙ t.touch.1) ∙ opens.opened) in
               absurd (before (record {

@@ -107,7 +107,7 @@ module _ (s : State) (pid : ℕ) (me : Process) (call : Call) (whole : IsWhole s
       still-new p (file_node false []) (with_new_node s.tree p.0 p.1 (file_node false [])) refl tree (named-place s.tree place p (fine whole at is_good) named).directory refl
 
 -- what is left by trim is as it was
-trim-there : (s : State) (f : ℕ) → is_some (node_at (trim s).tree f) ≡ true → node_at (trim s).tree f ≡ node_at s.tree f
+pub trim-there : (s : State) (f : ℕ) → is_some (node_at (trim s).tree f) ≡ true → node_at (trim s).tree f ≡ node_at s.tree f
 trim-there s f there =
     let kept = ap (λ (t : Tree). node_at t f) (tree-trim s) ∙ at_number-keep (among (wanted s.tree (held_after s))) s.tree.nodes f in
     kept ∙ by (among (wanted s.tree (held_after s)) f) (node_at s.tree f) (ap is_some (sym kept) ∙ there)
@@ -161,7 +161,7 @@ some-no_more None u gains is = cc is
 some-no_more (Some held) None gains is = absurd gains
 some-no_more (Some held) (Some kept) gains is = refl
 
-held-no_more : (p q : Process) → MayDoNoMore p q → IsHeldOverExec p → IsHeldOverExec q
+pub held-no_more : (p q : Process) → MayDoNoMore p q → IsHeldOverExec p → IsHeldOverExec q
 held-no_more p q no_more held =
     ⊎_elim (λ l. inl (lacks-no_more p q ExecPromise no_more.promises l)) (λ set. inr (some-no_more p.execpromises q.execpromises no_more.execpromises set)) held
 
@@ -173,12 +173,12 @@ no-exec s pid p q e l =
     lacking l.0 ExecPromise [] l.2 (ap (λ o. missing_promise o ((ExecPromise ∷ []) ∷ [])) (sym l.1) ∙ met)
 
 -- what an execve leaves of a process that is held over it
-record IsCarried (p q : Process) : Type 0 where
-  table : q.table ≡ p.table
-  locked : q.locked ≡ p.locked
-  held : IsHeldOverExec q
+pub record IsCarried (p q : Process) : Type 0 where
+  pub table : q.table ≡ p.table
+  pub locked : q.locked ≡ p.locked
+  pub held : IsHeldOverExec q
 
-carried : (s : State) (pid : ℕ) (p q : Process) → IsCalled s pid p (IsExecve p q) → IsHeldOverExec p → IsCarried p q
+pub carried : (s : State) (pid : ℕ) (p q : Process) → IsCalled s pid p (IsExecve p q) → IsHeldOverExec p → IsCarried p q
 carried s pid p q e held = ⊎_elim (λ l. absurd (no-exec s pid p q e l)) (λ set. by p.execpromises refl set) held
   where
     has : HasExecuted p q

@@ -1,0 +1,4 @@
+pub mod Judged
+pub mod Inherited
+pub mod Missing
+pub mod Refused
