@@ -1,6 +1,7 @@
 //! The directories of an image.
 ghost use Rattle.std.specs.Prelude.{◌≡◌, ◌+◌, ◌-◌, ◌*◌, ◌<◌, ◌≤◌, ◌↔◌, suc, min, false, [], ◌++◌, length, take, drop, replicate, vec_len, All, IsTrue, None, Some, IsSome, IsNone, IfNone, IfSome, OnOk, OnErr, option_map};
 ghost use Rattle.std.specs.Option.{option_copied};
+ghost use Rattle.pv_model.specs.declared.limits.TheConstants.{INODES};
 ghost use Rattle.pv_model.specs.Calls.Descriptors.{next_name};
 ghost use Rattle.pv_model.specs.Effect.{size_of};
 ghost use Rattle.pv_model.specs.Image.{inode_blocks, greatest_blocks};
@@ -41,7 +42,7 @@ impl Directories {
         requires whole { vec_len zeros ≡ 512 * blocks }
         requires zeros { All (λ byte. byte ≡ 0) zeros.items }
         requires some_inodes { 1 ≤ inodes }
-        requires few_inodes { inodes ≤ 4096 }
+        requires few_inodes { inodes ≤ INODES }
         requires some_blocks { inode_blocks version inodes + 1 ≤ blocks }
         requires few_blocks { blocks ≤ greatest_blocks version }
         ensures nodes { result.nodes ≡ replicate (suc inodes) None }

@@ -1,5 +1,6 @@
 //! The bytes of a slot.
 ghost use Rattle.std.specs.Prelude.{◌≡◌, ◌≤◌, length, slice_index};
+ghost use Rattle.pv_model.specs.declared.limits.TheConstants.{NAME_V2};
 ghost use Rattle.pv_model.specs.Room.{entry_length};
 ghost use Rattle.pv_model.specs.Tree.{greatest_name};
 ghost use Rattle.pv_dirs.specs.Slots.{slot_name, slot_number};
@@ -41,7 +42,7 @@ impl Model for Slot {
 // The bytes of an entry, and zeros behind them.
 #[tactic(auto, unfolding(crate::specs::Slots::slot_name, crate::specs::Slots::slot_number))]
 fn spelled(name: &[u8], inode: u16) -> [u8; LONGEST]
-    requires { length name.now ≤ 255 }
+    requires { length name.now ≤ NAME_V2 }
     ensures name { slot_name result ≡ name.now }
     ensures number { slot_number result ≡ inode }
     ensures measured { slice_index result 2 ≡ length name.now }
@@ -89,7 +90,7 @@ impl Slot {
     #[tactic(auto, unfolding(crate::specs::Slots::slot_name))]
     pub(crate) fn name(&self) -> &[u8]
         ensures value { result.now ≡ slot_name self.now }
-        ensures short { length result.now ≤ 255 }
+        ensures short { length result.now ≤ NAME_V2 }
     {
         let bytes = self.as_bytes();
         let end = (NAME + bytes[LENGTH] as usize).min(bytes.len());
