@@ -1,5 +1,5 @@
 -- The bytes of files and links in the tree of files.
-use Rattle.std.proofs.Common.{◌≡◌, ◌≢◌, ℕ, ◌%◌, ◌<◌, true, false, [], ◌∷◌, length, Option, None, Some, is_some, refl, sym, ap, ◌∙◌, arith}
+use Rattle.std.proofs.Common.{◌≡◌, ◌≢◌, ℕ, ◌<◌, true, false, [], ◌∷◌, length, Option, None, Some, is_some, refl, sym, ap, ◌∙◌, arith}
 use Rattle.std.specs.Prelude.{option_map, IsSome}
 use Rattle.pv_model.specs.declared.sort.Sort.{Sort}
 use Rattle.pv_model.specs.declared.sort.Sort.TheVariants.{Directory, File, Executable, Symlink}
@@ -7,7 +7,6 @@ use Rattle.pv_model.specs.declared.version.Version.{Version}
 use Rattle.pv_model.specs.declared.version.Version.TheVariants.{V1, V2}
 use Rattle.pv_model.specs.Bytes.{Bytes}
 use Rattle.pv_model.specs.Effect.{overwrite, resize, size_of}
-use Rattle.pv_model.specs.Room.{entry_length}
 use Rattle.pv_model.specs.Tree.{Node, node_at, is_directory, is_directory_at, with_node}
 use Rattle.pv_inodes.specs.Files.{Contained, Files, held, IsUsed, bytes_at, bytes_of, sort_at, LacksRoom, with_bytes, written, cut, with_new}
 use Rattle.pv_dirs.specs.Slots.{slot_count, slot_entries, in_order, IsDistinct, IsSlotted}

@@ -1,5 +1,5 @@
 -- The slots of a directory's bytes, as the format of an image spells them.
-use Rattle.std.specs.Prelude.{◌≡◌, ℕ, ◌%◌, length}
+use Rattle.std.specs.Prelude.{◌≡◌, ◌%◌, length}
 use Rattle.pv_model.specs.declared.version.Version.{Version}
 use Rattle.pv_model.specs.Bytes.{Bytes}
 use Rattle.pv_model.specs.Image.{AreSlots}

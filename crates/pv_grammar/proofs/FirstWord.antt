@@ -1,6 +1,6 @@
 -- The first word of a line, and what stands behind it.
 use Rattle.std.proofs.Common.{◌≡◌, Bool, true, false, cond, not, ◌==◌, [], ◌∷◌, ◌++◌, ap, ◌∙◌, refl, eqb-true}
-use Rattle.std.proofs.lemmas.Bool.{cond_both, and_parts, and_from, not-true, not_from_false}
+use Rattle.std.proofs.lemmas.Bool.{cond_both, and_parts, and_from, not-true}
 use Rattle.std.proofs.lemmas.List.Folds.{list_all-append}
 use Rattle.std.specs.List.{list_all}
 use Rattle.pv_model.specs.Bytes.{Bytes}

@@ -1,5 +1,5 @@
 -- Whole manifests: their first line, and then their entries.
-use Rattle.std.proofs.Common.{◌≡◌, ◌∙◌, ap, ℕ, ◌-◌, ◌≤◌, Bool, true, false, cond, leb, List, [], ◌∷◌, length, drop, Option, None, Some, Result, Ok, Err, refl, sym, arith, inl, inr}
+use Rattle.std.proofs.Common.{◌≡◌, ◌∙◌, ap, ℕ, Bool, true, false, cond, leb, [], ◌∷◌, Option, None, Some, Result, Ok, Err, refl, sym, arith, inl, inr}
 use Rattle.std.specs.Prelude.{option_map, ◌&&◌}
 use Rattle.std.proofs.lemmas.Bool.{cases_lt, lt-leb, le-leb}
 use Rattle.pv_model.specs.declared.fault.ManifestFault.{ManifestFault}

@@ -14,7 +14,6 @@ use Rattle.pv_inodes.proofs.Contents.{SameNode, node_at-same, node_at-used, node
 use Rattle.pv_inodes.proofs.Heads.{SameHead, owned_at-same, index-is, size_at-with_size, kind_at-with_size, pointer_at-with_size, head-with_size, block_at-with_size, length-with_size, length-block_with_size}
 use Rattle.pv_inodes.proofs.Layouts.{home-below, greatest_length-small, pointer_of-few, index_of, IsContent}
 use Rattle.pv_inodes.proofs.Numbers.{at_number-within, with_number-set}
-use Rattle.pv_inodes.proofs.Splices.{number-same}
 use Rattle.pv_inodes.proofs.Ownership.{changed-same, changed-other, owning-same}
 
 pub nodes-files_of : (version : Version) (st : BlockStore) (inodes : ℕ) → (files_of version st inodes).nodes ≡ nodes_in version st.blocks inodes

@@ -1,6 +1,5 @@
 -- Trees that calls change: their bytes, their kinds, their room.
 use Rattle.std.proofs.Common.{◌≡◌, ℕ, suc, ◌<◌, ◌≤◌, true, false, ◌==◌, nat_le, List, [], length, drop, Option, None, Some, is_some, refl, ap, sym, ◌∙◌, ⊎_elim, arith}
-use Rattle.std.specs.FinMap.Entries.{put}
 use Rattle.std.proofs.lemmas.Bool.{and_parts, or_cases, or_left, leb-true, cases_eq, cases_lt, cases_Bool}
 use Rattle.pv_model.specs.Bytes.{Bytes}
 use Rattle.pv_model.specs.Calls.Descriptors.{with_content, with_content_of}
@@ -9,14 +8,13 @@ use Rattle.pv_model.specs.Numbered.{at_number, least_free, present}
 use Rattle.pv_model.specs.Room.{fits, is_too_long}
 use Rattle.pv_model.specs.Sealed.{is_file}
 use Rattle.pv_model.specs.State.{State, with_tree}
-use Rattle.pv_model.specs.Tree.{Entries, Node, directory_node, file_node, link_node, Tree, root, node_at, entries_of, entries_at, is_directory, is_directory_at, find_entry, named_numbers, with_node, new_number, with_new_node, with_entry}
+use Rattle.pv_model.specs.Tree.{Entries, Node, directory_node, file_node, link_node, Tree, root, node_at, entries_of, is_directory, is_directory_at, find_entry, named_numbers, with_node, new_number, with_new_node, with_entry}
 use Rattle.pv_tree_laws.specs.Kept.{wanted, kept}
 use Rattle.pv_tree_laws.specs.Room.{IsNoLarger}
 use Rattle.pv_laws.specs.States.{are_bytes, AllBytes, IsTree, IsWhole}
 pub use Rattle.pv_tree_laws.proofs.Spelled.{bytes-with_node, bytes-entries, bytes-with_entry, bytes-without_entry}
 use Rattle.pv_tree_laws.proofs.Changes.{node_at-same, node_at-other, directory-below}
 use Rattle.pv_tree_laws.proofs.Edits.{stays-content}
-use Rattle.pv_tree_laws.proofs.Entries.{by_name}
 use Rattle.pv_tree_laws.proofs.NewNodes.{new-same, there-new, there-old, stays-new, named-new}
 use Rattle.pv_tree_laws.proofs.Numbered.{at_number-below, keep-some, keep-passes, least_free-below, least_free-within, present-all, present-drop, at_number-drop, length-drop_one}
 use Rattle.pv_tree_laws.proofs.Rooms.{smaller-fits, smaller-not_too_long}

@@ -1,6 +1,6 @@
 -- Lemmas on the text of lines.
 use Rattle.std.proofs.Common.{◌≡◌, ◌<◌, ◌+◌, ◌∙◌, length, length-append, ap, ℕ, zero, suc, List, [], ◌∷◌, ◌++◌, take, append_assoc, arith, refl, Result, Ok, Err}
-use Rattle.std.specs.Prelude.{OnOk, min, map}
+use Rattle.std.specs.Prelude.{OnOk, min}
 use Rattle.std.proofs.lemmas.List.{length-take, length-map}
 use Rattle.pv_model.specs.declared.call.Call.{Call}
 use Rattle.pv_model.specs.declared.outcome.Outcome.{Outcome}

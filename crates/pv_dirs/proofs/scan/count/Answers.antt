@@ -1,4 +1,4 @@
-use Rattle.std.proofs.Common.{◌/◌, ◌≤◌, ap, ◌∙◌, arith}
+use Rattle.std.proofs.Common.{◌/◌, ap, ◌∙◌, arith}
 use Rattle.pv_model.specs.Room.{entry_length}
 use Rattle.pv_dirs.proofs.Strides.{entries_few, entries_within}
 use Rattle.pv_dirs.proofs.scan.count.Goals as goal

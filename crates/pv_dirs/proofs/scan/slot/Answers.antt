@@ -1,5 +1,5 @@
-use Rattle.std.proofs.Common.{◌≡◌, ◌≤◌, length, replicate, take, ap, sym, ◌∙◌, arith}
-use Rattle.std.proofs.lemmas.List.{length-replicate, length-take-le, take_at}
+use Rattle.std.proofs.Common.{◌≡◌, length, replicate, take, ap, sym, ◌∙◌, arith}
+use Rattle.std.proofs.lemmas.List.{length-take-le, take_at}
 use Rattle.pv_model.specs.Room.{entry_length}
 use Rattle.pv_inodes.specs.Files.{bytes_at}
 use Rattle.pv_dirs.proofs.SlotBytes.{slot_taken, length-slot_at}

@@ -1,4 +1,4 @@
-use Rattle.std.proofs.Common.{◌*◌, ◌≤◌, ◌<◌, ap, ◌∙◌, arith}
+use Rattle.std.proofs.Common.{◌*◌, ap, ◌∙◌, arith}
 use Rattle.pv_model.specs.Room.{entry_length}
 use Rattle.pv_dirs.proofs.Strides.{start_fits}
 use Rattle.pv_dirs.proofs.scan.start.Goals as goal

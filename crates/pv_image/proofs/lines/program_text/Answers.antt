@@ -1,4 +1,4 @@
-use Rattle.pv_image.proofs.BodyLines.{IsTextSoFar, IsTextSoFar-step, IsTextSoFar-short}
+use Rattle.pv_image.proofs.BodyLines.{IsTextSoFar-step, IsTextSoFar-short}
 use Rattle.pv_image.proofs.lines.program_text.Goals as goal
 
 pub returns-in_default-clause-fewer : goal.returns-in_default-clause-fewer

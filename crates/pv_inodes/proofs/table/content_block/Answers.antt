@@ -1,5 +1,5 @@
-use Rattle.std.proofs.Common.{◌≡◌, ◌≢◌, ℕ, ◌+◌, ◌-◌, ◌/◌, ◌%◌, ◌*◌, sym, ap, ◌∙◌, arith}
-use Rattle.pv_inodes.specs.Layout.{pointer_at, pointer_of, behind_index, place_of, number}
+use Rattle.std.proofs.Common.{◌≡◌, ◌≢◌, ◌-◌, ◌%◌, sym, ap, ◌∙◌, arith}
+use Rattle.pv_inodes.specs.Layout.{pointer_at, pointer_of, behind_index, place_of}
 use Rattle.pv_inodes.proofs.Heads.{owned_at-direct, owned_at-entry}
 use Rattle.pv_inodes.proofs.Layouts.{pointer_of-few, pointer_of-first, pointer_of-past, behind_index-first, behind_index-past}
 use Rattle.pv_inodes.proofs.table.content_block.Goals as goal

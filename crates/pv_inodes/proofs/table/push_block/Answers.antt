@@ -1,4 +1,3 @@
-use Rattle.std.proofs.Common.{arith}
 use Rattle.pv_inodes.specs.Layout.{pointer_of}
 use Rattle.pv_inodes.proofs.Layouts.{pointer_of-few}
 use Rattle.pv_inodes.proofs.Pushes.{pushed-steps, pointer_at-cleared, length-cleared}

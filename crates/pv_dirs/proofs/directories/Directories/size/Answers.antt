@@ -1,4 +1,4 @@
-use Rattle.std.proofs.Common.{◌≤◌, subst, sym, ap, ◌∙◌, Some, arith}
+use Rattle.std.proofs.Common.{subst, sym, ap, ◌∙◌, Some, arith}
 use Rattle.std.specs.Prelude.{option_map, IsSome}
 use Rattle.pv_model.specs.Effect.{size_of}
 use Rattle.pv_model.specs.Room.{greatest_length}

@@ -1,4 +1,4 @@
-use Rattle.std.proofs.Common.{◌+◌, ◌≤◌, get_or, arith, ◌∙◌}
+use Rattle.std.proofs.Common.{arith, ◌∙◌}
 use Rattle.std.proofs.lemmas.List.{get_or-take, length-take-le}
 use Rattle.pv_dirs.proofs.SlotBytes.{front_name, front_number}
 use Rattle.pv_dirs.proofs.Strides.{name_fits, name_short, slot_least, slot_greatest}

@@ -1,4 +1,4 @@
-use Rattle.std.proofs.Common.{◌≡◌, ◌≢◌, ◌/◌, ◌%◌, length, sym, ap, ◌∙◌, arith}
+use Rattle.std.proofs.Common.{◌/◌, length, sym, ap, ◌∙◌, arith}
 use Rattle.pv_inodes.specs.Files.{bytes_at}
 use Rattle.pv_inodes.specs.Layout.{place_of, wanted}
 use Rattle.pv_inodes.proofs.Layouts.{place_of-next}

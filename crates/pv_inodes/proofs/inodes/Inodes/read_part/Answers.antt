@@ -1,4 +1,4 @@
-use Rattle.std.proofs.Common.{◌/◌, ◌<◌, ap, ◌∙◌, arith}
+use Rattle.std.proofs.Common.{◌/◌, ◌<◌, ◌∙◌, arith}
 use Rattle.pv_inodes.specs.Layout.{owned_count, place_of}
 use Rattle.pv_inodes.proofs.InUse.{InUse, in_use, place_in_use}
 use Rattle.pv_inodes.proofs.Layouts.{greatest_length-most}

@@ -1,4 +1,4 @@
-use Rattle.std.proofs.Common.{◌/◌, ◌<◌, ap, ◌∙◌, arith}
+use Rattle.std.proofs.Common.{◌/◌, ◌<◌, arith}
 use Rattle.pv_model.specs.Effect.{overwrite}
 use Rattle.pv_inodes.specs.Files.{bytes_at}
 use Rattle.pv_inodes.specs.Layout.{owned_count, place_of}
