@@ -9,7 +9,7 @@ use crate::fault::Fault;
 use crate::system::{Files, System};
 use pv_model::{Failed, RunFault, Sink, Source};
 use pv_run::run_tree;
-use pv_run::stream::write_whole;
+use pv_trace::write_whole;
 use std::alloc::Global;
 use std::convert::AsStr;
 use std::fmt;

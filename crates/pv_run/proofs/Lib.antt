@@ -1,4 +1,5 @@
 pub mod AttemptLaws
+pub mod Begun
 pub mod Building
 pub mod CallLemmas
 pub mod Grown

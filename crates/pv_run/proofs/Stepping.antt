@@ -1,20 +1,19 @@
 -- A step of the machine, by what is fetched and answered.
-use Rattle.std.proofs.Common.{◌≡◌, ℕ, List, [], ◌∷◌, ap, sym, ◌∙◌, refl, Option, None, Some}
-use Rattle.std.specs.Prelude.{option_map, IsTrue, false}
+use Rattle.std.proofs.Common.{◌≡◌, ℕ, List, ap, refl, Option, None, Some}
+use Rattle.std.specs.Prelude.{option_map, IsTrue}
 use Rattle.pv_model.specs.declared.call.Call.{Call}
 use Rattle.pv_model.specs.declared.call.Call.TheVariants.{Write}
 use Rattle.pv_model.specs.declared.outcome.Outcome.{Outcome}
 use Rattle.pv_model.specs.declared.outcome.Outcome.TheVariants.{Value, Text, Failed, Killed, Exited, Blocked, Gone}
 use Rattle.pv_model.specs.Answer.{Answered, answer}
-use Rattle.pv_model.specs.Bytes.{Bytes}
 use Rattle.pv_model.specs.Grammar.Programs.{program_of}
 use Rattle.pv_model.specs.Program.{Next, calls_for, next}
 use Rattle.pv_model.specs.State.{Process, State, process_at}
-use Rattle.pv_model.specs.Step.{Stepped, step, step_of, step_by, step_by_call}
+use Rattle.pv_model.specs.Step.{Stepped, step, step_of, step_by}
 use Rattle.pv_model.specs.Trace.{Line, buffer_of, call_lines, gone_lines, moved_words}
 use Rattle.pv_run.specs.Offered.{is_offered_call}
 use Rattle.pv_run.specs.Running.{stepped}
-use Rattle.pv_trace.specs.Lines.{lines_by, moved_by}
+use Rattle.pv_trace.specs.Steps.{lines_by, moved_by}
 
 gone_of : (s : State) (pid : ℕ) (p : Option Process) → option_map next p ≡ None → step_of program_of s pid p ≡ record { after = s; outcome = Gone; lines = gone_lines pid }
 gone_of s pid None fetched = refl

@@ -1,23 +1,20 @@
 -- What a run is asked by the bytes of a bundle, and what it answers.
-use Rattle.std.specs.Prelude.{◌≡◌, ⊤, ℕ, [], Bool, true, false, codes, length, Option, None, Some, option_and_then, Result, Ok, Err}
-use Rattle.std.specs.Borrow.{Bor}
-use Rattle.pv_model.specs.declared.fault.ManifestFault.{ManifestFault}
+use Rattle.std.specs.Prelude.{◌≡◌, ⊤, [], true, codes, length, Option, None, Some, option_and_then, Result, Ok, Err}
 use Rattle.pv_model.specs.declared.fault.ManifestFault.TheVariants.{Memory as ManifestMemory}
 use Rattle.pv_model.specs.declared.run_fault.RunFault.{RunFault}
-use Rattle.pv_model.specs.declared.run_fault.RunFault.TheVariants.{Read, Image, Manifest, Schedule as ScheduleLine, Init, Memory, WriteTrace, WriteImage}
+use Rattle.pv_model.specs.declared.run_fault.RunFault.TheVariants.{Read, Manifest, Schedule as ScheduleLine, Init, Memory, WriteTrace}
 use Rattle.pv_model.specs.Bytes.{Bytes}
 use Rattle.pv_model.specs.Grammar.Manifests.{tree_of}
 use Rattle.pv_model.specs.Grammar.Programs.{program_of}
 use Rattle.pv_model.specs.Grammar.Schedules.{schedule_of_lines}
 use Rattle.pv_model.specs.RunFault.{of_manifest, of_program, of_schedule}
 use Rattle.pv_model.specs.State.{Program, State, first_state}
-use Rattle.pv_model.specs.Step.{Run, Schedule, boot, run, steps_of}
-use Rattle.pv_model.specs.Stream.{Rose}
+use Rattle.pv_model.specs.Step.{Schedule, boot, steps_of}
 use Rattle.pv_model.specs.Trace.{trace_bytes}
 use Rattle.pv_model.specs.Tree.{Node, file_node, Tree, root, node_at, find_entry}
 use Rattle.pv_run.specs.Offered.{offered_bundle, offered_program}
 use Rattle.pv_run.specs.Running.{run_of}
-use Rattle.pv_run.specs.Streams.{and_all, TellsBeginning, GivesMoreThan}
+use Rattle.pv_trace.specs.Streams.{and_all, TellsBeginning}
 use Rattle.pv_run.specs.declared.run.Summary.{Summary}
 
 -- what a run starts from: the manifest's tree, the machine's first state on it, and the schedule
@@ -101,11 +98,15 @@ IsStartFault (Init n) = ⊤
 IsStartFault Memory = ⊤
 IsStartFault fault = ⊥
 
+-- what the run of bytes may answer
+abbrev pub IsBytesFault : RunFault → Type 0
+IsBytesFault WriteTrace = ⊤
+IsBytesFault fault = IsStartFault fault
+
 -- what the run of a bundle may answer
 abbrev pub IsBundleFault : RunFault → Type 0
 IsBundleFault Read = ⊤
-IsBundleFault WriteTrace = ⊤
-IsBundleFault fault = IsStartFault fault
+IsBundleFault fault = IsBytesFault fault
 
 -- nothing was told, but where the trace could not be written whole
 abbrev pub TellsNothingUnlessCut : Option Bytes → Option Bytes → RunFault → Type 0

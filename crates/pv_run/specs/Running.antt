@@ -1,10 +1,11 @@
 -- What a step and a run of the small kernel leave and write.
-use Rattle.std.specs.Prelude.{ℕ, List, ◌++◌, take, length, replicate}
+use Rattle.std.specs.Prelude.{◌≡◌, ℕ, List, take, replicate, Option}
 use Rattle.pv_model.specs.Bytes.{Bytes}
 use Rattle.pv_model.specs.Grammar.Programs.{program_of}
 use Rattle.pv_model.specs.State.{State}
 use Rattle.pv_model.specs.Step.{Run, Schedule, Stepped, run, step, steps_of}
 use Rattle.pv_model.specs.Trace.{Line, trace_bytes}
+use Rattle.pv_trace.specs.Streams.{and_all, TellsBeginning}
 
 -- a step of the machine, whose programs are what files spell
 abbrev pub stepped : State → ℕ → Stepped
@@ -22,6 +23,10 @@ run_of_first s count schedule = run program_of (steps_of (take count schedule)) 
 abbrev pub run_of : State → Schedule → Run
 run_of s schedule = run program_of (steps_of schedule) s
 
--- a text, and behind it that of lines
-abbrev pub and_lines : Bytes → List Line → Bytes
-and_lines text lines = text ++ trace_bytes lines
+-- the text of lines is told behind what was told before
+abbrev pub ToldLines : List Line → Option Bytes → Option Bytes → Type 0
+ToldLines lines before after = after ≡ and_all before (trace_bytes lines)
+
+-- a beginning of the text of lines is told
+abbrev pub BeginsLines : List Line → Option Bytes → Option Bytes → Type 0
+BeginsLines lines before after = TellsBeginning (trace_bytes lines) before after

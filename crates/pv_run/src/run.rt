@@ -5,13 +5,13 @@ ghost use Rattle.pv_model.specs.Step.{boot};
 ghost use Rattle.pv_model.specs.Stream.{Rose};
 ghost use Rattle.std.specs.List.{list_all};
 ghost use Rattle.pv_run.specs.Offered.{is_offered_instruction};
-ghost use Rattle.pv_run.specs.Run.{HasRun, IsBundleFault, IsStartFault, IsTextOf, RefusesStart, StandsIn, TellsNothingUnlessCut, first_program, started, started_from};
+ghost use Rattle.pv_run.specs.Run.{HasRun, IsBundleFault, IsBytesFault, IsStartFault, RefusesStart, StandsIn, TellsNothingUnlessCut, first_program, started, started_from};
 ghost use Rattle.pv_run.specs.Streams.{GivesMoreThan};
 
 use crate::kernel::Kernel;
 use crate::reader::{build, bundle_of, read_program};
 use crate::running::{run_schedule, step_count};
-use crate::stream::{SOURCE_BYTES, read_whole, write_whole};
+use crate::stream::{SOURCE_BYTES, read_whole};
 use pv_model::{Failed, Instruction, PlainNode, PlainTree, RunFault, Sink, Source};
 use pv_script::Schedule;
 use std::alloc::Global;
@@ -74,29 +74,32 @@ fn start(alloc: Global, bytes: &[u8]) -> Result<Ready, RunFault>
     })
 }
 
-// The text of a bundle's run, with its summary.
-fn text(alloc: Global, bytes: &[u8]) -> Result<(Vec<u8>, Summary), RunFault>
+// Runs what the bytes of a bundle ask for.
+fn run_bytes<W: Sink>(alloc: Global, bytes: &[u8], trace: &mut W) -> Result<Summary, RunFault>
     requires { length bytes.now ≤ SOURCE_BYTES }
-    ensures ran { IfOk result (λ p. IsTextOf bytes.now p.0.items p.1) }
-    ensures fault { IfErr result (λ f. RefusesStart f (started bytes.now)) }
-    ensures kind { IfErr result IsStartFault }
+    ensures ran { IfOk result (λ summary. HasRun bytes.now (W.told trace.old) (W.told trace.new) summary) }
+    ensures refused { IfErr result (λ fault. StandsIn bytes.now (W.told trace.old) (W.told trace.new) fault) }
+    ensures kind { IfErr result IsBytesFault }
+    ensures unwritten { IfErr result (TellsNothingUnlessCut (W.told trace.old) (W.told trace.new)) }
+    ensures write { result ≡ Err RunFault.WriteTrace → Rose (W.failures trace.old) (W.failures trace.new) }
 {
     let Ready {
         mut kernel,
         schedule,
     } = start(alloc, bytes)?;
-    let mut text = Vec::new(alloc);
-    let lines = run_schedule(&mut kernel, schedule.turns(), &mut text)?;
     let steps = step_count(schedule.turns());
-    Ok((text, Summary { steps, lines }))
+    match run_schedule(&mut kernel, schedule.turns(), trace) {
+        Ok(lines) => Ok(Summary { steps, lines }),
+        Err(Failed) => Err(RunFault::WriteTrace),
+    }
 }
 
 /// Runs a bundle: a manifest, the line `schedule`, and a schedule.
 ///
 /// The bundle is read whole. Then its manifest, the manifest's entries, the schedule and the program of
-/// `init` are checked in this order, and nothing is written before all of them have passed. Where the
-/// answer is `Ok`, the trace has grown by just the text of the machine's run on the manifest's tree, and
-/// the summary counts its steps and its lines.
+/// `init` are checked in this order, and nothing is written before all of them have passed. Then the lines
+/// of each step are written before the next step is made. Where the answer is `Ok`, the trace has grown by
+/// just the text of the machine's run on the manifest's tree, and the summary counts its steps and its lines.
 ///
 /// # Errors
 ///
@@ -104,7 +107,8 @@ fn text(alloc: Global, bytes: &[u8]) -> Result<(Vec<u8>, Summary), RunFault>
 /// - `Manifest`, `Schedule`, `Init`: the first fault of the bundle, in the order of the checks; each names
 ///   the least line of its kind.
 /// - `Memory`: memory was refused; nothing was written.
-/// - `WriteTrace`: a write failed; the trace has grown by a beginning of the text.
+/// - `WriteTrace`: a write failed; the trace has grown by a beginning of the text, and no step was made
+///   after it.
 ///
 /// After each of them but `WriteTrace` nothing was written.
 pub fn run_tree<S: Source, W: Sink>(
@@ -122,9 +126,5 @@ pub fn run_tree<S: Source, W: Sink>(
     ensures write { result ≡ Err RunFault.WriteTrace → Rose (W.failures trace.old) (W.failures trace.new) }
 {
     let bytes = read_whole(alloc, bundle)?;
-    let (text, summary) = text(alloc, &bytes)?;
-    match write_whole(trace, &text) {
-        Ok(()) => Ok(summary),
-        Err(Failed) => Err(RunFault::WriteTrace),
-    }
+    run_bytes(alloc, &bytes, trace)
 }

@@ -1,7 +1,7 @@
-//! Whole sources and whole sinks, and those that stand in memory.
+//! Sources that are read whole, and sources and sinks that stand in memory.
 ghost use Rattle.std.specs.Prelude.{◌≡◌, ◌⊎◌, ◌++◌, ◌<◌, ◌≤◌, [], length, vec_len, Some, IfOk, IfErr, IfSome, OnOk, OnErr};
-ghost use Rattle.pv_model.specs.Stream.{Rose, and_front, front_and};
-ghost use Rattle.pv_run.specs.Streams.{and_all, TellsBeginning, GivesMoreThan, IsReadOrMemory};
+ghost use Rattle.pv_model.specs.Stream.{Rose, front_and};
+ghost use Rattle.pv_run.specs.Streams.{GivesMoreThan, IsReadOrMemory};
 
 use pv_model::{Failed, RunFault, Sink, Source};
 use std::alloc::{AllocError, Global};
@@ -73,42 +73,6 @@ impl Sink for Gathered {
             }
         }
     }
-}
-
-// Writes some of the bytes, at least one.
-#[tactic(auto, using(crate::proofs::Streaming::told_nothing))]
-fn write_some<W: Sink>(sink: &mut W, bytes: &[u8]) -> Result<usize, Failed>
-    requires { 0 < length bytes.now }
-    ensures some { IfOk result (λ n. 0 < n) }
-    ensures bound { IfOk result (λ n. n ≤ length bytes.now) }
-    ensures told { IfOk result (λ n. W.told sink.new ≡ and_front (W.told sink.old) n bytes.now) }
-    ensures quiet { OnOk result (W.failures sink.new ≡ W.failures sink.old) }
-    ensures kept { OnErr result (W.told sink.new ≡ W.told sink.old) }
-    ensures failed { OnErr result (Rose (W.failures sink.old) (W.failures sink.new)) }
-{
-    match sink.write(bytes)? {
-        0 => Err(Failed),
-        count => Ok(count),
-    }
-}
-
-/// Writes all the bytes, in as many writes as it takes.
-///
-/// # Errors
-///
-/// `Failed` where a write failed: the sink was told a beginning of the bytes.
-#[tactic(auto, using(crate::proofs::Streaming::told_more, crate::proofs::Streaming::tells_beginning))]
-pub fn write_whole<W: Sink>(sink: &mut W, bytes: &[u8]) -> Result<(), Failed>
-    ensures whole { OnOk result (W.told sink.new ≡ and_all (W.told sink.old) bytes.now) }
-    ensures beginning { OnErr result (TellsBeginning bytes.now (W.told sink.old) (W.told sink.new)) }
-    ensures failed { OnErr result (Rose (W.failures sink.old) (W.failures sink.new)) }
-    ensures quiet { OnOk result (W.failures sink.new ≡ W.failures sink.old) }
-{
-    let mut at = 0;
-    while at < bytes.len() {
-        at += write_some(sink, &bytes[at..])?;
-    }
-    Ok(())
 }
 
 // Reads some bytes: none at the end.

@@ -1,1 +1,4 @@
-pub mod Writing
+pub mod Flags
+pub mod Paths
+pub mod Streaming
+pub mod Telling

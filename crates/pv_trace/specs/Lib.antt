@@ -1,1 +1,3 @@
-pub mod Lines
+pub mod Steps
+pub mod Streams
+pub mod Words

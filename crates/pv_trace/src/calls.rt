@@ -1,16 +1,18 @@
 //! Calls with their arguments, as a program writes them.
-ghost use Rattle.std.specs.Prelude.{◌≡◌, ◌++◌, [], ◌∷◌, codes, OnOk};
+ghost use Rattle.std.specs.Prelude.{◌≡◌, ◌++◌, ◌+◌, ◌*◌, ◌≤◌, [], ◌∷◌, length, codes};
 ghost use Rattle.std.specs.Fmt.{signed_decimal};
 ghost use Rattle.std.specs.List.{join_by};
+ghost use Rattle.pv_model.specs.declared.limits.TheConstants.{TEXT};
 ghost use Rattle.pv_model.specs.Trace.{quote, quote_or_null, flag_text, start_text, call_name, call_text, call_line, mode_text as trace_mode_text, whence_text as trace_whence_text};
-ghost use Rattle.pv_trace.specs.Lines.{flags_bytes};
+ghost use Rattle.pv_trace.specs.declared.sheet.TheConstants.{SHEET};
+ghost use Rattle.pv_trace.specs.Words.{flags_bytes};
 
-use crate::text::{push_quoted, push_quoted_or_null, push_signed};
+use crate::sheet::{Sheet, put, put_quoted, put_quoted_or_null, put_signed};
 use pv_model::{Call, Mode, OpenFlags, Start, Text, Whence};
-use std::alloc::AllocError;
 
 fn mode_text(mode: Mode) -> &'static [u8]
-    ensures { result.now ≡ trace_mode_text mode }
+    ensures text { result.now ≡ trace_mode_text mode }
+    ensures few { length result.now ≤ 2 }
 {
     match mode {
         Mode::Read => b"r",
@@ -20,33 +22,37 @@ fn mode_text(mode: Mode) -> &'static [u8]
 }
 
 // A flag with its plus sign, where it is set.
-fn push_flag(out: &mut Vec<u8>, set: bool, name: &[u8]) -> Result<(), AllocError>
-    ensures { OnOk result (out.new.items ≡ out.old.items ++ flag_text set name.now) }
+fn put_flag(out: &mut Sheet, set: bool, name: &[u8])
+    requires { length out.old.items + 1 + length name.now ≤ SHEET }
+    ensures text { out.new.items ≡ out.old.items ++ flag_text set name.now }
+    ensures growth { length out.new.items ≤ length out.old.items + 1 + length name.now }
 {
     if set {
-        out.extend_from_slice(b"+")?;
-        out.extend_from_slice(name)?;
+        put(out, b"+");
+        put(out, name);
     }
-    Ok(())
 }
 
 // The flags of an open, as a program writes them.
-#[tactic(auto, unfolding(crate::specs::Lines::flags_bytes))]
-fn push_flags(out: &mut Vec<u8>, flags: &OpenFlags) -> Result<(), AllocError>
-    ensures { OnOk result (out.new.items ≡ out.old.items ++ flags_bytes flags.now) }
+#[tactic(auto, unfolding(crate::specs::Words::flags_bytes))]
+fn put_flags(out: &mut Sheet, flags: &OpenFlags)
+    requires { length out.old.items + 48 ≤ SHEET }
+    ensures text { out.new.items ≡ out.old.items ++ flags_bytes flags.now }
+    ensures growth { length out.new.items ≤ length out.old.items + 48 }
 {
-    out.extend_from_slice(mode_text(flags.mode))?;
-    push_flag(out, flags.append, b"append")?;
-    push_flag(out, flags.create, b"create")?;
-    push_flag(out, flags.truncate, b"trunc")?;
-    push_flag(out, flags.exclusive, b"excl")?;
-    push_flag(out, flags.no_follow, b"nofollow")?;
-    push_flag(out, flags.directory, b"dir")?;
-    push_flag(out, flags.close_on_exec, b"cloexec")
+    put(out, mode_text(flags.mode));
+    put_flag(out, flags.append, b"append");
+    put_flag(out, flags.create, b"create");
+    put_flag(out, flags.truncate, b"trunc");
+    put_flag(out, flags.exclusive, b"excl");
+    put_flag(out, flags.no_follow, b"nofollow");
+    put_flag(out, flags.directory, b"dir");
+    put_flag(out, flags.close_on_exec, b"cloexec");
 }
 
 fn whence_text(whence: Whence) -> &'static [u8]
-    ensures { result.now ≡ trace_whence_text whence }
+    ensures text { result.now ≡ trace_whence_text whence }
+    ensures few { length result.now ≤ 3 }
 {
     match whence {
         Whence::Set => b"set",
@@ -55,19 +61,22 @@ fn whence_text(whence: Whence) -> &'static [u8]
     }
 }
 
-fn push_start(out: &mut Vec<u8>, start: &Start) -> Result<(), AllocError>
-    ensures { OnOk result (out.new.items ≡ out.old.items ++ start_text start.now) }
+fn put_start(out: &mut Sheet, start: &Start)
+    requires { length out.old.items + 40 ≤ SHEET }
+    ensures text { out.new.items ≡ out.old.items ++ start_text start.now }
+    ensures growth { length out.new.items ≤ length out.old.items + 40 }
 {
     match start {
-        Start::WorkingDirectory => out.extend_from_slice(b"cwd"),
-        Start::Descriptor(descriptor) => push_signed(out, *descriptor),
+        Start::WorkingDirectory => put(out, b"cwd"),
+        Start::Descriptor(descriptor) => put_signed(out, *descriptor),
     }
 }
 
 // The name of a call.
 #[tactic(auto, unfolding(pv_model::specs::Trace::call_text))]
 pub(crate) fn name(call: &Call) -> &'static [u8]
-    ensures { result.now ≡ call_name call.now }
+    ensures text { result.now ≡ call_name call.now }
+    ensures few { length result.now ≤ 9 }
 {
     match call {
         Call::Exit(_) => b"exit",
@@ -103,83 +112,88 @@ pub(crate) fn name(call: &Call) -> &'static [u8]
     }
 }
 
-fn push_two_numbers(out: &mut Vec<u8>, first: i32, second: i32) -> Result<(), AllocError>
-    ensures { OnOk result (out.new.items ≡ out.old.items ++ join_by (λ bs. bs) (codes ", ") (signed_decimal first ∷ signed_decimal second ∷ [])) }
+fn put_two_numbers(out: &mut Sheet, first: i32, second: i32)
+    requires { length out.old.items + 82 ≤ SHEET }
+    ensures text { out.new.items ≡ out.old.items ++ join_by (λ bs. bs) (codes ", ") (signed_decimal first ∷ signed_decimal second ∷ []) }
+    ensures growth { length out.new.items ≤ length out.old.items + 82 }
 {
-    push_signed(out, first)?;
-    out.extend_from_slice(b", ")?;
-    push_signed(out, second)
+    put_signed(out, first);
+    put(out, b", ");
+    put_signed(out, second);
 }
 
-fn push_two_texts(out: &mut Vec<u8>, first: &Text, second: &Text) -> Result<(), AllocError>
-    ensures { OnOk result (out.new.items ≡ out.old.items ++ join_by (λ bs. bs) (codes ", ") (quote first.now ∷ quote second.now ∷ [])) }
+fn put_two_texts(out: &mut Sheet, first: &Text, second: &Text)
+    requires { length out.old.items + 8 * TEXT + 6 ≤ SHEET }
+    ensures text { out.new.items ≡ out.old.items ++ join_by (λ bs. bs) (codes ", ") (quote first.now ∷ quote second.now ∷ []) }
+    ensures growth { length out.new.items ≤ length out.old.items + 8 * TEXT + 6 }
 {
-    push_quoted(out, first.as_slice())?;
-    out.extend_from_slice(b", ")?;
-    push_quoted(out, second.as_slice())
+    put_quoted(out, first);
+    put(out, b", ");
+    put_quoted(out, second);
 }
 
-fn push_two_options(
-    out: &mut Vec<u8>,
-    first: &Option<Text>,
-    second: &Option<Text>,
-) -> Result<(), AllocError>
-    ensures { OnOk result (out.new.items ≡ out.old.items ++ join_by (λ bs. bs) (codes ", ") (quote_or_null first.now ∷ quote_or_null second.now ∷ [])) }
+fn put_two_options(out: &mut Sheet, first: &Option<Text>, second: &Option<Text>)
+    requires { length out.old.items + 8 * TEXT + 6 ≤ SHEET }
+    ensures text { out.new.items ≡ out.old.items ++ join_by (λ bs. bs) (codes ", ") (quote_or_null first.now ∷ quote_or_null second.now ∷ []) }
+    ensures growth { length out.new.items ≤ length out.old.items + 8 * TEXT + 6 }
 {
-    push_quoted_or_null(out, first)?;
-    out.extend_from_slice(b", ")?;
-    push_quoted_or_null(out, second)
+    put_quoted_or_null(out, first);
+    put(out, b", ");
+    put_quoted_or_null(out, second);
 }
 
-fn push_open(out: &mut Vec<u8>, path: &Text, flags: &OpenFlags) -> Result<(), AllocError>
-    ensures { OnOk result (out.new.items ≡ out.old.items ++ join_by (λ bs. bs) (codes ", ") (quote path.now ∷ flags_bytes flags.now ∷ [])) }
+fn put_open(out: &mut Sheet, path: &Text, flags: &OpenFlags)
+    requires { length out.old.items + 4 * TEXT + 52 ≤ SHEET }
+    ensures text { out.new.items ≡ out.old.items ++ join_by (λ bs. bs) (codes ", ") (quote path.now ∷ flags_bytes flags.now ∷ []) }
+    ensures growth { length out.new.items ≤ length out.old.items + 4 * TEXT + 52 }
 {
-    push_quoted(out, path.as_slice())?;
-    out.extend_from_slice(b", ")?;
-    push_flags(out, flags)
+    put_quoted(out, path);
+    put(out, b", ");
+    put_flags(out, flags);
 }
 
-fn push_openat(
-    out: &mut Vec<u8>,
-    start: &Start,
-    path: &Text,
-    flags: &OpenFlags,
-) -> Result<(), AllocError>
-    ensures { OnOk result (out.new.items ≡ out.old.items ++ join_by (λ bs. bs) (codes ", ") (start_text start.now ∷ quote path.now ∷ flags_bytes flags.now ∷ [])) }
+fn put_openat(out: &mut Sheet, start: &Start, path: &Text, flags: &OpenFlags)
+    requires { length out.old.items + 4 * TEXT + 94 ≤ SHEET }
+    ensures text { out.new.items ≡ out.old.items ++ join_by (λ bs. bs) (codes ", ") (start_text start.now ∷ quote path.now ∷ flags_bytes flags.now ∷ []) }
+    ensures growth { length out.new.items ≤ length out.old.items + 4 * TEXT + 94 }
 {
-    push_start(out, start)?;
-    out.extend_from_slice(b", ")?;
-    push_open(out, path, flags)
+    put_start(out, start);
+    put(out, b", ");
+    put_open(out, path, flags);
 }
 
-fn push_lseek(out: &mut Vec<u8>, descriptor: i32, by: i32, whence: Whence) -> Result<(), AllocError>
-    ensures { OnOk result (out.new.items ≡ out.old.items ++ join_by (λ bs. bs) (codes ", ") (signed_decimal descriptor ∷ signed_decimal by ∷ trace_whence_text whence ∷ [])) }
+fn put_lseek(out: &mut Sheet, descriptor: i32, by: i32, whence: Whence)
+    requires { length out.old.items + 87 ≤ SHEET }
+    ensures text { out.new.items ≡ out.old.items ++ join_by (λ bs. bs) (codes ", ") (signed_decimal descriptor ∷ signed_decimal by ∷ trace_whence_text whence ∷ []) }
+    ensures growth { length out.new.items ≤ length out.old.items + 87 }
 {
-    push_two_numbers(out, descriptor, by)?;
-    out.extend_from_slice(b", ")?;
-    out.extend_from_slice(whence_text(whence))
+    put_two_numbers(out, descriptor, by);
+    put(out, b", ");
+    put(out, whence_text(whence));
 }
 
 // The arguments of a call, joined by commas.
-#[tactic(auto, unfolding(pv_model::specs::Trace::call_text, crate::specs::Lines::flags_bytes))]
-fn push_arguments(out: &mut Vec<u8>, call: &Call) -> Result<(), AllocError>
-    ensures { OnOk result (out.new.items ≡ out.old.items ++ join_by (λ bs. bs) (codes ", ") (call_text call.now).1) }
+#[tactic(auto, unfolding(pv_model::specs::Trace::call_text, crate::specs::Words::flags_bytes))]
+fn put_arguments(out: &mut Sheet, call: &Call)
+    requires { length out.old.items + 8 * TEXT + 6 ≤ SHEET }
+    ensures text { out.new.items ≡ out.old.items ++ join_by (λ bs. bs) (codes ", ") (call_text call.now).1 }
+    ensures growth { length out.new.items ≤ length out.old.items + 8 * TEXT + 6 }
 {
     match call {
-        Call::GetPid | Call::GetPpid | Call::Fork | Call::Wait => Ok(()),
+        Call::GetPid | Call::GetPpid | Call::Fork | Call::Wait => {}
         Call::Exit(number)
         | Call::Close(number)
         | Call::Dup(number)
         | Call::Fstat(number)
         | Call::Getdents(number)
-        | Call::Fchdir(number) => push_signed(out, *number),
+        | Call::Fchdir(number) => put_signed(out, *number),
         Call::Dup2(first, second)
         | Call::Read(first, second)
         | Call::Write(first, second)
-        | Call::Ftruncate(first, second) => push_two_numbers(out, *first, *second),
-        Call::Lseek(descriptor, by, whence) => push_lseek(out, *descriptor, *by, *whence),
+        | Call::Ftruncate(first, second) => put_two_numbers(out, *first, *second),
+        Call::Lseek(descriptor, by, whence) => put_lseek(out, *descriptor, *by, *whence),
         Call::Pledge(first, second) | Call::Unveil(first, second) => {
-            push_two_options(out, first, second)
+            put_two_options(out, first, second)
         }
         Call::Execve(path)
         | Call::Chdir(path)
@@ -188,21 +202,23 @@ fn push_arguments(out: &mut Vec<u8>, call: &Call) -> Result<(), AllocError>
         | Call::Readlink(path)
         | Call::Mkdir(path)
         | Call::Unlink(path)
-        | Call::Rmdir(path) => push_quoted(out, path.as_slice()),
-        Call::Open(path, flags) => push_open(out, path, flags),
-        Call::OpenAt(start, path, flags) => push_openat(out, start, path, flags),
+        | Call::Rmdir(path) => put_quoted(out, path),
+        Call::Open(path, flags) => put_open(out, path, flags),
+        Call::OpenAt(start, path, flags) => put_openat(out, start, path, flags),
         Call::Symlink(first, second) | Call::Link(first, second) | Call::Rename(first, second) => {
-            push_two_texts(out, first, second)
+            put_two_texts(out, first, second)
         }
     }
 }
 
 // A call with its arguments.
-pub(crate) fn push_call(out: &mut Vec<u8>, call: &Call) -> Result<(), AllocError>
-    ensures { OnOk result (out.new.items ≡ out.old.items ++ call_line call.now) }
+pub(crate) fn put_call(out: &mut Sheet, call: &Call)
+    requires { length out.old.items + 8 * TEXT + 17 ≤ SHEET }
+    ensures text { out.new.items ≡ out.old.items ++ call_line call.now }
+    ensures growth { length out.new.items ≤ length out.old.items + 8 * TEXT + 17 }
 {
-    out.extend_from_slice(name(call))?;
-    out.extend_from_slice(b"(")?;
-    push_arguments(out, call)?;
-    out.extend_from_slice(b")")
+    put(out, name(call));
+    put(out, b"(");
+    put_arguments(out, call);
+    put(out, b")");
 }

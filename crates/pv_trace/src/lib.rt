@@ -1,12 +1,21 @@
 //! The lines of a trace, in the manner of kdump(1), byte by byte.
 //!
-//! `lines` writes the lines of a step at the end of a text, `calls` a call with its arguments, and
-//! `text` what both are made of. A clause sees the bytes of the text; what a line is stands in
-//! `pv_model`'s definitions, and `specs/Lines.antt` splits a step's lines by their words.
+//! `line` has the lines as values, `steps` those of a step, and `stream` writes bytes whole. A line is made
+//! on a sheet of fixed size, and a sink is given it in one piece: `sheet` puts on it what lines are made of,
+//! `calls` a call with its arguments, and `words` the text behind each word. No call takes memory.
+//!
+//! A clause sees a line as `pv_model`'s definitions have it.
 #![tactic(auto)]
 
 mod calls;
-mod lines;
-mod text;
+mod line;
+mod sheet;
+mod steps;
+mod stream;
+#[cfg(test)]
+mod tests;
+mod words;
 
-pub use lines::{call_line_count, push_call_lines, push_gone_line};
+pub use line::{Line, PromiseVerdict, Returned, UnveilVerdict, Way, Word, write_line};
+pub use steps::{write_call_lines, write_gone_line};
+pub use stream::write_whole;

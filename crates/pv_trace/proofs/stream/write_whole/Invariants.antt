@@ -1,6 +1,6 @@
 use Rattle.std.proofs.Common.{◌≡◌, ◌≤◌, ◌-◌, length}
 use Rattle.pv_model.specs.Stream.{and_front}
-use Rattle.pv_run.proofs.stream.write_whole.Given as goal
+use Rattle.pv_trace.proofs.stream.write_whole.Given as goal
 
 abbrev pub invariant-loop-at : goal.invariant-loop-at
 invariant-loop-at g l = record {

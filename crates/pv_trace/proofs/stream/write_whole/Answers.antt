@@ -1,6 +1,6 @@
 use Rattle.std.proofs.Common.{◌∙◌, arith}
-use Rattle.pv_run.proofs.Streaming.{told_more}
-use Rattle.pv_run.proofs.stream.write_whole.Goals as goal
+use Rattle.pv_trace.proofs.Streaming.{told_more}
+use Rattle.pv_trace.proofs.stream.write_whole.Goals as goal
 
 pub loop-at-preserved : goal.loop-at-preserved
 loop-at-preserved g c = record {

@@ -1,0 +1,80 @@
+-- What sinks are told, text by text.
+use Rattle.std.proofs.Common.{◌≡◌, ◌<◌, ◌+◌, ◌++◌, ◌∙◌, ap, sym, ℕ, List, [], ◌∷◌, length, take, drop, get_or, append_assoc, refl, subst, zero, suc, Option, None, Some}
+use Rattle.std.specs.Prelude.{OnOk, OnErr, Result, Ok, Err}
+use Rattle.std.proofs.lemmas.List.{append-nil, take_more, take-append-drop}
+use Rattle.std.proofs.lemmas.Grind.{flat_map-append}
+use Rattle.pv_model.specs.Bytes.{Bytes}
+use Rattle.pv_model.specs.Stream.{and_front}
+use Rattle.pv_model.specs.Trace.{Line, line_bytes, trace_bytes}
+use Rattle.pv_trace.specs.Streams.{and_all, TellsBeginning}
+
+-- the front of a text is a front of that text and another behind it
+front_first : (a b : Bytes) (k : ℕ) → (n : ℕ) × (take n (a ++ b) ≡ take k a)
+front_first [] b zero = (0, refl)
+front_first [] b (suc k) = (0, refl)
+front_first (x ∷ a) b zero = (0, refl)
+front_first (x ∷ a) b (suc k) = let p = front_first a b k in (suc p.0, ap (λ bs. x ∷ bs) p.1)
+
+-- a text, and then the front of another
+front_then : (a b : Bytes) (k : ℕ) → (n : ℕ) × (take n (a ++ b) ≡ a ++ take k b)
+front_then [] b k = (k, refl)
+front_then (x ∷ a) b k = let p = front_then a b k in (suc p.0, ap (λ bs. x ∷ bs) p.1)
+
+-- a beginning of a text is one of that text and another behind it
+pub begins_first : (a b : Bytes) (before after : Option Bytes) → TellsBeginning a before after → TellsBeginning (a ++ b) before after
+begins_first a b None after told = (0, told.1)
+begins_first a b (Some had) after told =
+    let p = front_first a b told.0 in (p.0, told.1 ∙ ap (λ bs. Some (had ++ bs)) (sym p.1))
+
+-- a whole text and then a beginning of another are a beginning of both
+pub begins_then : (a b : Bytes) (before mid after : Option Bytes) → mid ≡ and_all before a → TellsBeginning b mid after → TellsBeginning (a ++ b) before after
+begins_then a b None mid after first told = (0, told.1 ∙ ap (λ t. and_front t told.0 b) first)
+begins_then a b (Some had) mid after first told =
+    let p = front_then a b told.0 in
+    (p.0, told.1 ∙ ap (λ t. and_front t told.0 b) first ∙ ap Some (append_assoc had a (take told.0 b)) ∙ ap (λ bs. Some (had ++ bs)) (sym p.1))
+
+-- two whole texts
+pub told_both : (a b : Bytes) (before mid after : Option Bytes) → mid ≡ and_all before a → after ≡ and_all mid b → after ≡ and_all before (a ++ b)
+told_both a b None mid after first second = second ∙ ap (λ t. and_all t b) first
+told_both a b (Some had) mid after first second = second ∙ ap (λ t. and_all t b) first ∙ ap Some (append_assoc had a b)
+
+-- ---- lines
+
+-- the text of no lines
+pub told_no_lines : (before : Option Bytes) → before ≡ and_all before (trace_bytes [])
+told_no_lines None = refl
+told_no_lines (Some had) = ap Some (sym (append-nil had))
+
+module _ (ls : List Line) (i : ℕ) (x : Line) (is : x ≡ get_or ls i x) (within : i < length ls) where
+  -- the lines up to one more
+  lines_more : trace_bytes (take (i + 1) ls) ≡ trace_bytes (take i ls) ++ line_bytes x
+  lines_more =
+      ap trace_bytes (take_more ls i x within) ∙ flat_map-append line_bytes (take i ls) (get_or ls i x ∷ [])
+      ∙ ap (λ bs. trace_bytes (take i ls) ++ bs) (append-nil (line_bytes (get_or ls i x)) ∙ ap line_bytes (sym is))
+
+  lines_all : trace_bytes ls ≡ (trace_bytes (take i ls) ++ line_bytes x) ++ trace_bytes (drop (i + 1) ls)
+  lines_all =
+      ap trace_bytes (sym (take-append-drop (i + 1) ls)) ∙ flat_map-append line_bytes (take (i + 1) ls) (drop (i + 1) ls)
+      ∙ ap (λ bs. bs ++ trace_bytes (drop (i + 1) ls)) lines_more
+
+  -- one line more
+  pub told_line : (before mid after : Option Bytes) → mid ≡ and_all before (trace_bytes (take i ls)) → after ≡ and_all mid (line_bytes x)
+      → after ≡ and_all before (trace_bytes (take (i + 1) ls))
+  told_line before mid after first second =
+      told_both (trace_bytes (take i ls)) (line_bytes x) before mid after first second ∙ ap (and_all before) (sym lines_more)
+
+  -- a beginning of one line more
+  pub begins_line : (before mid after : Option Bytes) → mid ≡ and_all before (trace_bytes (take i ls)) → TellsBeginning (line_bytes x) mid after
+      → TellsBeginning (trace_bytes ls) before after
+  begins_line before mid after first begun =
+      subst (λ (bs : Bytes). TellsBeginning bs before after) (sym lines_all)
+      (begins_first (trace_bytes (take i ls) ++ line_bytes x) (trace_bytes (drop (i + 1) ls)) before after (begins_then (trace_bytes (take i ls)) (line_bytes x) before mid after first begun))
+
+-- what holds holds where something succeeded, and where it failed
+pub on_ok : {T E P : Type 0} (r : Result T E) → P → OnOk r P
+on_ok (Ok x) p = p
+on_ok (Err e) p = tt
+
+pub on_err : {T E P : Type 0} (r : Result T E) → P → OnErr r P
+on_err (Ok x) p = tt
+on_err (Err e) p = p

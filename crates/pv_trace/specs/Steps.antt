@@ -1,0 +1,48 @@
+-- The lines of a step, word by word.
+use Rattle.std.specs.Prelude.{ℕ, List, [], ◌∷◌, ◌++◌, take, map}
+use Rattle.pv_model.specs.declared.call.Call.{Call}
+use Rattle.pv_model.specs.declared.call.Call.TheVariants.{Write}
+use Rattle.pv_model.specs.declared.errno.Errno.{Errno}
+use Rattle.pv_model.specs.declared.errno.Errno.TheVariants.{ENOSYS}
+use Rattle.pv_model.specs.declared.outcome.Outcome.{Outcome}
+use Rattle.pv_model.specs.declared.outcome.Outcome.TheVariants.{Value, Text}
+use Rattle.pv_model.specs.Bytes.{Bytes}
+use Rattle.pv_model.specs.Trace.{Word, PromiseVerdict, for_refusal, for_increase, call_word, nami_word, gio_word, gave, took, Line, line, walked_paths, promise_words, unveil_words, end_words}
+
+-- what is said of the bytes that a call moved, which stand at the front of a buffer
+abbrev pub moved_by : Bytes → Call → Outcome → List Word
+moved_by front call (Text taken) = gio_word gave (take taken.len front) ∷ []
+moved_by front (Write d n) (Value count) = gio_word took (take count front) ∷ []
+moved_by front call _ = []
+
+abbrev pub call_lines_of : ℕ → Call → List Line
+call_lines_of pid call = line pid (call_word call) ∷ []
+
+abbrev pub path_line : ℕ → Bytes → Line
+path_line pid path = line pid (nami_word path)
+
+abbrev pub path_lines_of : ℕ → Call → ℕ → List Line
+path_lines_of pid call walks = map (path_line pid) (take walks (walked_paths call))
+
+-- what was refused for a promise: a call that lacks it, or a promise that may not be had again
+abbrev pub refusal_verdict : Errno → PromiseVerdict
+refusal_verdict ENOSYS = for_refusal
+refusal_verdict _ = for_increase
+
+abbrev pub promise_lines_of : ℕ → Call → Outcome → List Line
+promise_lines_of pid call outcome = map (line pid) (promise_words call outcome)
+
+abbrev pub unveil_lines_of : ℕ → Call → ℕ → Outcome → List Line
+unveil_lines_of pid call walks outcome = map (line pid) (unveil_words call walks outcome)
+
+abbrev pub moved_lines_of : ℕ → Bytes → Call → Outcome → List Line
+moved_lines_of pid front call outcome = map (line pid) (moved_by front call outcome)
+
+abbrev pub end_lines_of : ℕ → Call → Outcome → List Line
+end_lines_of pid call outcome = map (line pid) (end_words call outcome)
+
+-- the lines of a call that answered so after so many walks, where the bytes it moved stand at the front of a buffer
+unfoldable pub lines_by : ℕ → Bytes → Call → Outcome → ℕ → List Line
+lines_by pid front call outcome walks =
+    call_lines_of pid call ++ path_lines_of pid call walks ++ promise_lines_of pid call outcome ++ unveil_lines_of pid call walks outcome
+    ++ moved_lines_of pid front call outcome ++ end_lines_of pid call outcome

@@ -1,0 +1,76 @@
+-- The words of the code's lines, as the definitions have them, and parts of their texts.
+use Rattle.std.specs.Prelude.{⊤, ℕ, ◌≤◌, ◌++◌, length, codes, decimal, Option, None, Some}
+use Rattle.pv_model.specs.declared.errno.Errno.{Errno}
+use Rattle.pv_model.specs.declared.limits.TheConstants.{BUFFER}
+use Rattle.pv_model.specs.declared.open_flags.OpenFlags.{OpenFlags}
+use Rattle.pv_model.specs.declared.perms.Perms.{Perms}
+use Rattle.pv_model.specs.Bytes.{Bytes}
+use Rattle.pv_model.specs.Errno.{errno_number, errno_name}
+use Rattle.pv_model.specs.Perms.{letters_text}
+use Rattle.pv_model.specs.Trace.{Word as TraceWord, PromiseVerdict as TracePromise, UnveilVerdict as TraceUnveil, Way as TraceWay, Returned as TraceReturned, call_word, nami_word, pldg_word, unvl_word, gio_word, ret_word, psig_word, wait_word, gone_word, for_kill, for_refusal, for_increase, no_entry, entry_lacks, table_locked, gave, took, value_of, error_of, pad_left, pad_right, word_name, flags_text}
+use Rattle.pv_trace.specs.declared.line.PromiseVerdict.{PromiseVerdict}
+use Rattle.pv_trace.specs.declared.line.PromiseVerdict.TheVariants.{Killed, Refused, Increase}
+use Rattle.pv_trace.specs.declared.line.Returned.{Returned}
+use Rattle.pv_trace.specs.declared.line.Returned.TheVariants.{Value, Error}
+use Rattle.pv_trace.specs.declared.line.UnveilVerdict.{UnveilVerdict}
+use Rattle.pv_trace.specs.declared.line.UnveilVerdict.TheVariants.{NoEntry, EntryLacks, Locked}
+use Rattle.pv_trace.specs.declared.line.Way.{Way}
+use Rattle.pv_trace.specs.declared.line.Way.TheVariants.{Gave, Took}
+use Rattle.pv_trace.specs.declared.line.Word.{Word}
+use Rattle.pv_trace.specs.declared.line.Word.TheVariants.{Call, Nami, Pldg, Unvl, Gio, Ret, Psig, Wait, Gone}
+
+abbrev pub promise_verdict_of : PromiseVerdict → TracePromise
+promise_verdict_of Killed = for_kill
+promise_verdict_of Refused = for_refusal
+promise_verdict_of Increase = for_increase
+
+abbrev pub unveil_verdict_of : UnveilVerdict → TraceUnveil
+unveil_verdict_of (NoEntry needed) = no_entry needed
+unveil_verdict_of (EntryLacks entry needed) = entry_lacks entry needed
+unveil_verdict_of Locked = table_locked
+
+abbrev pub way_of : Way → TraceWay
+way_of Gave = gave
+way_of Took = took
+
+abbrev pub returned_of : Returned → TraceReturned
+returned_of (Value n) = value_of n
+returned_of (Error errno) = error_of errno
+
+-- the word as the definitions have it
+abbrev pub word_of : Word → TraceWord
+word_of (Call call) = call_word call.now
+word_of (Nami path) = nami_word path.now
+word_of (Pldg call promise verdict) = pldg_word call.now promise (promise_verdict_of verdict)
+word_of (Unvl verdict) = unvl_word (unveil_verdict_of verdict)
+word_of (Gio way bytes) = gio_word (way_of way) bytes.now
+word_of (Ret call returned) = ret_word call.now (returned_of returned)
+word_of Psig = psig_word
+word_of Wait = wait_word
+word_of Gone = gone_word
+
+-- bytes that were moved are no more than a buffer has
+abbrev pub HasFewBytes : Word → Type 0
+HasFewBytes (Gio way bytes) = length bytes.now ≤ BUFFER
+HasFewBytes word = ⊤
+
+-- what stands before a line's text
+abbrev pub line_front : ℕ → TraceWord → Bytes
+line_front pid word = pad_left 5 (decimal pid) ++ codes " " ++ pad_right 4 (word_name word) ++ codes "  "
+
+-- the flags of an open as a program writes them
+unfoldable pub flags_bytes : OpenFlags → Bytes
+flags_bytes f = flags_text f
+
+-- letters in the order rwxc
+unfoldable pub letters_bytes : Perms → Bytes
+letters_bytes letters = letters_text letters
+
+-- the letters that an entry lacks, or that no entry gives
+abbrev pub needed_text : Option ℕ → Perms → Bytes
+needed_text None letters = codes "none, needs " ++ letters_bytes letters
+needed_text (Some k) letters = codes "entry " ++ decimal k ++ codes ", needs " ++ letters_bytes letters
+
+-- an error with its number and its name
+unfoldable pub errno_text : Errno → Bytes
+errno_text errno = codes "-1 errno " ++ decimal (errno_number errno) ++ codes " " ++ errno_name errno

@@ -1,0 +1,147 @@
+//! Lines as values, and a line written to a sink.
+ghost use Rattle.std.specs.Prelude.{◌≡◌, ◌++◌, ◌+◌, ◌≤◌, length, OnOk, OnErr};
+ghost use Rattle.pv_model.specs.Stream.{Rose};
+ghost use Rattle.pv_model.specs.Trace.{line_bytes};
+ghost use Rattle.pv_trace.specs.declared.sheet.TheConstants.{SHEET};
+ghost use Rattle.pv_trace.specs.Streams.{and_all, TellsBeginning};
+ghost use Rattle.pv_trace.specs.Words.{word_of, line_front};
+
+use crate::sheet::{Sheet, put, put_pid};
+use crate::stream::write_whole;
+use crate::words::{name_of, put_word};
+use pv_model::{Call, Errno, Failed, Perms, Promise, Sink, Text};
+use std::marker::Model;
+
+/// What a promise decided, pledge(2).
+#[derive(Clone, Copy, Debug, PartialEq, Eq)]
+pub enum PromiseVerdict {
+    /// The process is killed for want of it.
+    Killed,
+    /// The call is refused for want of it.
+    Refused,
+    /// It may not be had again.
+    Increase,
+}
+
+/// What an unveil table decided, unveil(2).
+#[derive(Clone, Copy, Debug, PartialEq, Eq)]
+pub enum UnveilVerdict {
+    /// No entry governs the place, of which these letters are needed.
+    NoEntry(Perms),
+    /// The entry with this number lacks a letter of those that are needed.
+    EntryLacks(u8, Perms),
+    /// The table is locked.
+    Locked,
+}
+
+/// Which way bytes went.
+#[derive(Clone, Copy, Debug, PartialEq, Eq)]
+pub enum Way {
+    /// A call gave them to its process.
+    Gave,
+    /// A call took them from its process.
+    Took,
+}
+
+/// What a call answered.
+#[derive(Clone, Copy, Debug, PartialEq, Eq)]
+pub enum Returned {
+    /// A value.
+    Value(u32),
+    /// -1, with this error.
+    Error(Errno),
+}
+
+/// The word of a line, with the parts of its text.
+#[derive(Clone, Copy)]
+pub enum Word<'a> {
+    /// CALL: a call, with its arguments.
+    Call(&'a Call),
+    /// NAMI: a path that a call walks.
+    Nami(&'a Text),
+    /// PLDG: a promise that decided a call.
+    Pldg(&'a Call, Promise, PromiseVerdict),
+    /// UNVL: an unveil table that decided.
+    Unvl(UnveilVerdict),
+    /// GIO: at most 4,096 bytes that were given or taken.
+    Gio(Way, &'a [u8]),
+    /// RET: what a call answered.
+    Ret(&'a Call, Returned),
+    /// PSIG: the process was killed.
+    Psig,
+    /// WAIT: the call waits.
+    Wait,
+    /// GONE: the process is not live.
+    Gone,
+}
+
+/// A line of a trace: whose it is, and what it tells. A contract sees a line of the definitions.
+///
+/// The bytes of a GIO line are at most 4,096, as many as a process's buffer has.
+#[derive(Drop)]
+pub struct Line<'a> {
+    /// The number of the process.
+    pub pid: u32,
+    /// The word, with the parts of its text.
+    pub word: Word<'a>,
+}
+
+/// A blank for the unused places of a row of lines.
+impl<'a> Default for Line<'a> {
+    fn default() -> Line<'a> {
+        Line {
+            pid: 0,
+            word: Word::Gone,
+        }
+    }
+}
+
+impl<'a> Model for Line<'a> {
+    ghost use Rattle.pv_model.specs.Trace.{Line as TraceLine};
+    ghost use Rattle.pv_trace.specs.Words.{word_of, HasFewBytes};
+
+    ghost Value = { TraceLine };
+
+    ghost view = { λ l. record { pid = l.pid; word = word_of l.word } };
+
+    ghost invariant = { λ l. HasFewBytes l.word };
+}
+
+// The beginning of a line: whose it is, and its word.
+fn begin_line(out: &mut Sheet, pid: u32, word: &Word)
+    requires { length out.old.items + 52 ≤ SHEET }
+    ensures text { out.new.items ≡ out.old.items ++ line_front pid (word_of word.now) }
+    ensures growth { length out.new.items ≤ length out.old.items + 52 }
+{
+    put_pid(out, pid);
+    put(out, b" ");
+    put(out, name_of(word));
+    put(out, b"  ");
+}
+
+// The sheet with a line.
+#[tactic(auto, unfolding(pv_model::specs::Trace::text_line))]
+fn sheet_of(line: &Line) -> Sheet
+    ensures { result.items ≡ line_bytes line.now }
+{
+    let mut out = Sheet::new();
+    begin_line(&mut out, line.pid, &line.word);
+    put_word(&mut out, &line.word);
+    put(&mut out, b"\n");
+    out
+}
+
+/// Writes a line. It takes no memory.
+///
+/// # Errors
+///
+/// `Failed` where a write failed: the sink was told a beginning of the line.
+pub fn write_line<W: Sink>(out: &mut W, line: &Line) -> Result<(), Failed>
+    ensures whole { OnOk result (W.told out.new ≡ and_all (W.told out.old) (line_bytes line.now)) }
+    ensures beginning { OnErr result (TellsBeginning (line_bytes line.now) (W.told out.old) (W.told out.new)) }
+    ensures failed { OnErr result (Rose (W.failures out.old) (W.failures out.new)) }
+    ensures quiet { OnOk result (W.failures out.new ≡ W.failures out.old) }
+{
+    let sheet = sheet_of(line);
+    write_whole(out, sheet.as_slice())
+}

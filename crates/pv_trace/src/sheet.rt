@@ -1,0 +1,171 @@
+//! The sheet that a line is made on, and numbers, texts and bytes as a trace spells them.
+//!
+//! Each call says how much room it asks for and how much the text grows by, at most.
+ghost use Rattle.std.specs.Prelude.{◌≡◌, ◌++◌, ◌+◌, ◌*◌, ◌<◌, ◌≤◌, replicate, ◌∷◌, length, codes, decimal, flat_map};
+ghost use Rattle.std.specs.Fmt.{signed_decimal};
+ghost use Rattle.pv_model.specs.declared.limits.TheConstants.{TEXT};
+ghost use Rattle.pv_model.specs.Trace.{quote, quote_byte, quote_or_null, hex, hex_byte, hex_digit, pad_left};
+ghost use Rattle.pv_trace.specs.Words.{letters_bytes};
+
+use arrayvec::ArrayVec;
+use itoa::Buffer;
+use pv_model::{Perms, Text};
+
+/// Bytes of a sheet: more than any line has.
+pub(crate) const SHEET: usize = 9_216;
+
+/// A line while it is made.
+pub(crate) type Sheet = ArrayVec<u8, SHEET>;
+
+pub(crate) fn put(out: &mut Sheet, bytes: &[u8])
+    requires { length out.old.items + length bytes.now ≤ SHEET }
+    ensures text { out.new.items ≡ out.old.items ++ bytes.now }
+    ensures growth { length out.new.items ≡ length out.old.items + length bytes.now }
+{
+    let _ = out.try_extend_from_slice(bytes);
+}
+
+pub(crate) fn put_decimal(out: &mut Sheet, n: u32)
+    requires { length out.old.items + 40 ≤ SHEET }
+    ensures text { out.new.items ≡ out.old.items ++ decimal n }
+    ensures growth { length out.new.items ≤ length out.old.items + 40 }
+{
+    let mut buffer = Buffer::new();
+    put(out, buffer.format(n).as_bytes());
+}
+
+pub(crate) fn put_signed(out: &mut Sheet, n: i32)
+    requires { length out.old.items + 40 ≤ SHEET }
+    ensures text { out.new.items ≡ out.old.items ++ signed_decimal n }
+    ensures growth { length out.new.items ≤ length out.old.items + 40 }
+{
+    let mut buffer = Buffer::new();
+    put(out, buffer.format(n).as_bytes());
+}
+
+// So many spaces.
+fn spaces(count: usize) -> &'static [u8]
+    requires { count ≤ 5 }
+    ensures text { result.now ≡ replicate count 32 }
+    ensures few { length result.now ≤ 5 }
+{
+    &b"     "[..count]
+}
+
+// The number, right in five places.
+pub(crate) fn put_pid(out: &mut Sheet, pid: u32)
+    requires { length out.old.items + 45 ≤ SHEET }
+    ensures text { out.new.items ≡ out.old.items ++ pad_left 5 (decimal pid) }
+    ensures growth { length out.new.items ≤ length out.old.items + 45 }
+{
+    let mut buffer = Buffer::new();
+    let digits = buffer.format(pid).as_bytes();
+    put(out, spaces(5usize.saturating_sub(digits.len())));
+    put(out, digits);
+}
+
+fn digit(value: u8) -> u8
+    requires { value < 16 }
+    ensures { result ≡ hex_digit value }
+{
+    if value < 10 {
+        b'0' + value
+    } else {
+        b'a' - 10 + value
+    }
+}
+
+// A byte in two digits.
+fn put_hex_byte(out: &mut Sheet, byte: u8)
+    requires { length out.old.items + 2 ≤ SHEET }
+    ensures text { out.new.items ≡ out.old.items ++ hex_byte byte }
+    ensures growth { length out.new.items ≤ length out.old.items + 2 }
+{
+    put(out, &[digit(byte / 16), digit(byte % 16)]);
+}
+
+pub(crate) fn put_hex(out: &mut Sheet, bytes: &[u8])
+    requires { length out.old.items + 2 * length bytes.now ≤ SHEET }
+    ensures text { out.new.items ≡ out.old.items ++ hex bytes.now }
+    ensures growth { length out.new.items ≤ length out.old.items + 2 * length bytes.now }
+{
+    for byte in bytes {
+        put_hex_byte(out, *byte);
+    }
+}
+
+// A byte of a text, as a program writes it in its shortest form.
+fn put_quoted_byte(out: &mut Sheet, byte: u8)
+    requires { length out.old.items + 4 ≤ SHEET }
+    ensures text { out.new.items ≡ out.old.items ++ quote_byte byte }
+    ensures growth { length out.new.items ≤ length out.old.items + 4 }
+{
+    if (32..=126).contains(&byte) && byte != b'"' && byte != b'\\' {
+        put(out, &[byte]);
+    } else {
+        put(out, b"\\x");
+        put_hex_byte(out, byte);
+    }
+}
+
+fn put_quoted_bytes(out: &mut Sheet, bytes: &[u8])
+    requires { length out.old.items + 4 * length bytes.now ≤ SHEET }
+    ensures text { out.new.items ≡ out.old.items ++ flat_map quote_byte bytes.now }
+    ensures growth { length out.new.items ≤ length out.old.items + 4 * length bytes.now }
+{
+    for byte in bytes {
+        put_quoted_byte(out, *byte);
+    }
+}
+
+// Bytes as a program writes them, in their shortest form.
+pub(crate) fn put_quoted_all(out: &mut Sheet, bytes: &[u8])
+    requires { length out.old.items + 4 * length bytes.now + 2 ≤ SHEET }
+    ensures text { out.new.items ≡ out.old.items ++ quote bytes.now }
+    ensures growth { length out.new.items ≤ length out.old.items + 4 * length bytes.now + 2 }
+{
+    put(out, b"\"");
+    put_quoted_bytes(out, bytes);
+    put(out, b"\"");
+}
+
+// A text as a program writes it, in its shortest form.
+pub(crate) fn put_quoted(out: &mut Sheet, text: &Text)
+    requires { length out.old.items + 4 * TEXT + 2 ≤ SHEET }
+    ensures text { out.new.items ≡ out.old.items ++ quote text.now }
+    ensures growth { length out.new.items ≤ length out.old.items + 4 * TEXT + 2 }
+{
+    put_quoted_all(out, text.as_slice());
+}
+
+pub(crate) fn put_quoted_or_null(out: &mut Sheet, text: &Option<Text>)
+    requires { length out.old.items + 4 * TEXT + 2 ≤ SHEET }
+    ensures text { out.new.items ≡ out.old.items ++ quote_or_null text.now }
+    ensures growth { length out.new.items ≤ length out.old.items + 4 * TEXT + 2 }
+{
+    match text {
+        Some(text) => put_quoted(out, text),
+        None => put(out, b"null"),
+    }
+}
+
+// The letters, in the order rwxc.
+#[tactic(auto, unfolding(crate::specs::Words::letters_bytes))]
+pub(crate) fn put_letters(out: &mut Sheet, letters: Perms)
+    requires { length out.old.items + 4 ≤ SHEET }
+    ensures text { out.new.items ≡ out.old.items ++ letters_bytes letters }
+    ensures growth { length out.new.items ≤ length out.old.items + 4 }
+{
+    if letters.r {
+        put(out, b"r");
+    }
+    if letters.w {
+        put(out, b"w");
+    }
+    if letters.x {
+        put(out, b"x");
+    }
+    if letters.c {
+        put(out, b"c");
+    }
+}

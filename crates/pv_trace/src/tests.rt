@@ -1,0 +1,264 @@
+//! Each kind of line, and sinks that take little.
+ghost use Rattle.std.specs.Prelude.{None};
+ghost use Rattle.pv_trace.specs.Words.{HasFewBytes};
+
+use crate::{
+    Line, PromiseVerdict, Returned, UnveilVerdict, Way, Word, write_call_lines, write_gone_line,
+    write_line,
+};
+use pv_model::{
+    Call, Cause, Errno, Failed, Mode, OpenFlags, Outcome, Perms, Promise, Sink, Start, Taken, Text,
+    Whence,
+};
+use std::process::Abort;
+use std::test::Fail;
+
+const FOR_READING: OpenFlags = OpenFlags {
+    mode: Mode::Read,
+    append: false,
+    create: false,
+    truncate: false,
+    exclusive: false,
+    no_follow: false,
+    directory: false,
+    close_on_exec: false,
+};
+
+// A sink that takes so many bytes, at most so many a write, and counts its writes.
+#[derive(Drop)]
+struct Narrow {
+    bytes: Vec<u8>,
+    room: usize,
+    width: usize,
+    writes: u64,
+    failures: u64,
+}
+
+impl Sink for Narrow {
+    ghost told = { λ _. None };
+
+    ghost failures = { λ s. s.failures };
+
+    fn write(&mut self, buffer: &[u8]) -> Result<usize, Failed> {
+        self.writes = self.writes.saturating_add(1);
+        let count = buffer.len().min(self.room).min(self.width);
+        if count > 0 && self.bytes.extend_from_slice(&buffer[..count]).is_ok() {
+            self.room -= count;
+            return Ok(count);
+        }
+        self.failures = self.failures.saturating_add(1);
+        Err(Failed)
+    }
+}
+
+// A sink with room for so many bytes, at most so many a write.
+fn sink_of<R: AllocGlobal>(rt: &R, room: usize, width: usize) -> Narrow {
+    Narrow {
+        bytes: Vec::new(rt.alloc()),
+        room,
+        width,
+        writes: 0,
+        failures: 0,
+    }
+}
+
+// Checks that a word of process 1 is written so.
+fn expect_line<R: Abort + AllocGlobal>(rt: &R, word: Word, wanted: &[u8])
+    requires { HasFewBytes word }
+{
+    let mut out = sink_of(rt, 20_000, 20_000);
+    let line = Line { pid: 1, word };
+    assert!(rt; write_line(&mut out, &line).is_ok());
+    assert!(rt; out.bytes.as_slice() == wanted);
+    assert!(rt; out.writes == 1);
+}
+
+#[test]
+fn each_word_has_its_text(rt: HostRuntime) -> Result<(), Fail> {
+    let path = Text::new(b"/a\"\x01\xff~").ok_or("text")?;
+    let call = Call::Close(3);
+    expect_line(&rt, Word::Call(&call), b"    1 CALL  close(3)\n");
+    expect_line(&rt, Word::Nami(&path), b"    1 NAMI  \"/a\\x22\\x01\\xff~\"\n");
+    expect_line(
+        &rt,
+        Word::Pldg(&call, Promise::ProtExec, PromiseVerdict::Refused),
+        b"    1 PLDG  close, \"prot_exec\", refused\n",
+    );
+    expect_line(
+        &rt,
+        Word::Unvl(UnveilVerdict::NoEntry(Perms {
+            r: true,
+            w: false,
+            x: true,
+            c: true,
+        })),
+        b"    1 UNVL  none, needs rxc\n",
+    );
+    expect_line(
+        &rt,
+        Word::Unvl(UnveilVerdict::EntryLacks(63, Perms::C)),
+        b"    1 UNVL  entry 63, needs c\n",
+    );
+    expect_line(&rt, Word::Unvl(UnveilVerdict::Locked), b"    1 UNVL  locked\n");
+    expect_line(&rt, Word::Gio(Way::Gave, b"\x00k"), b"    1 GIO   read 2 006b\n");
+    expect_line(&rt, Word::Gio(Way::Took, b""), b"    1 GIO   wrote 0\n");
+    expect_line(&rt, Word::Ret(&call, Returned::Value(4_294_967_295)), b"    1 RET   close 4294967295\n");
+    expect_line(
+        &rt,
+        Word::Ret(&call, Returned::Error(Errno::ENAMETOOLONG)),
+        b"    1 RET   close -1 errno 63 ENAMETOOLONG\n",
+    );
+    expect_line(&rt, Word::Psig, b"    1 PSIG  SIGABRT\n");
+    expect_line(&rt, Word::Wait, b"    1 WAIT  blocked\n");
+    expect_line(&rt, Word::Gone, b"    1 GONE  no such process\n");
+    Ok(())
+}
+
+#[test]
+fn calls_show_their_arguments(rt: HostRuntime) -> Result<(), Fail> {
+    let all = OpenFlags {
+        mode: Mode::ReadWrite,
+        append: true,
+        create: true,
+        truncate: true,
+        exclusive: true,
+        no_follow: true,
+        directory: true,
+        close_on_exec: true,
+    };
+    let open = Call::OpenAt(Start::Descriptor(-1), Text::new(b"f").ok_or("text")?, all);
+    expect_line(
+        &rt,
+        Word::Call(&open),
+        b"    1 CALL  openat(-1, \"f\", rw+append+create+trunc+excl+nofollow+dir+cloexec)\n",
+    );
+    let seek = Call::Lseek(0, -2_147_483_648, Whence::Current);
+    expect_line(&rt, Word::Call(&seek), b"    1 CALL  lseek(0, -2147483648, cur)\n");
+    let link = Call::Link(Text::new(b"/a").ok_or("text")?, Text::new(b"").ok_or("text")?);
+    expect_line(&rt, Word::Call(&link), b"    1 CALL  link(\"/a\", \"\")\n");
+    expect_line(&rt, Word::Call(&Call::Fork), b"    1 CALL  fork()\n");
+    Ok(())
+}
+
+#[test]
+fn longest_lines_are_written_at_once(rt: HostRuntime) -> Result<(), Fail> {
+    let mut out = sink_of(&rt, 20_000, 20_000);
+    let call = Call::Rename(
+        Text::new(&[0; 1_100]).ok_or("text")?,
+        Text::new(&[255; 1_100]).ok_or("text")?,
+    );
+    let line = Line {
+        pid: 4_294_967_295,
+        word: Word::Call(&call),
+    };
+    assert!(rt; write_line(&mut out, &line).is_ok());
+    assert!(rt; out.writes == 1);
+    assert!(rt; out.bytes.len() == 17 + 7 + 2 * 4_402 + 2 + 1 + 1);
+    let mut out = sink_of(&rt, 20_000, 20_000);
+    let line = Line {
+        pid: 1,
+        word: Word::Gio(Way::Took, &[171; 4_096]),
+    };
+    assert!(rt; write_line(&mut out, &line).is_ok());
+    assert!(rt; out.writes == 1);
+    assert!(rt; out.bytes.len() == 12 + 11 + 2 * 4_096 + 1);
+    assert!(rt; out.bytes.ends_with(b"abab\n"));
+    Ok(())
+}
+
+const HIDDEN: &[u8] =
+    b"    1 CALL  open(\"/a\\x22\\x01\", r)\n    1 NAMI  \"/a\\x22\\x01\"\n    1 UNVL  none, needs r\n    1 RET   open -1 errno 2 ENOENT\n";
+
+#[test]
+fn hidden_open_has_four_lines(rt: HostRuntime) -> Result<(), Fail> {
+    let call = Call::Open(Text::new(b"/a\"\x01").ok_or("text")?, FOR_READING);
+    let outcome = Outcome::Failed(Errno::ENOENT, Cause::Unveil(None));
+    let mut out = sink_of(&rt, 1_000, 1_000);
+    let lines = write_call_lines(&mut out, 1, b"", &call, outcome, 1);
+    assert!(rt; matches!(lines, Ok(4)));
+    assert!(rt; out.writes == 4);
+    assert!(rt; out.bytes.as_slice() == HIDDEN);
+    let mut out = sink_of(&rt, 1_000, 1);
+    assert!(rt; write_call_lines(&mut out, 1, b"", &call, outcome, 1).is_ok());
+    assert!(rt; out.bytes.as_slice() == HIDDEN);
+    Ok(())
+}
+
+#[test]
+fn full_sink_has_a_beginning_of_the_text(rt: HostRuntime) -> Result<(), Fail> {
+    let call = Call::Open(Text::new(b"/a\"\x01").ok_or("text")?, FOR_READING);
+    let outcome = Outcome::Failed(Errno::ENOENT, Cause::Unveil(None));
+    for room in 0..HIDDEN.len() {
+        for width in [1, 7, 1_000] {
+            let mut out = sink_of(&rt, room, width);
+            assert!(rt; write_call_lines(&mut out, 1, b"", &call, outcome, 1).is_err());
+            assert!(rt; out.bytes.as_slice() == &HIDDEN[..room]);
+            assert!(rt; out.failures == 1);
+        }
+    }
+    Ok(())
+}
+
+#[test]
+fn read_shows_the_bytes_it_gave(rt: HostRuntime) {
+    let mut out = sink_of(&rt, 1_000, 1_000);
+    let outcome = Outcome::Text(Taken { value: 3, len: 3 });
+    let lines = write_call_lines(&mut out, 99_999, b"abcdef", &Call::Read(0, -1), outcome, 0);
+    assert!(rt; matches!(lines, Ok(3)));
+    let wanted = b"99999 CALL  read(0, -1)\n99999 GIO   read 3 616263\n99999 RET   read 3\n";
+    assert!(rt; out.bytes.as_slice() == wanted.as_slice());
+}
+
+#[test]
+fn write_shows_the_bytes_it_took(rt: HostRuntime) {
+    let mut out = sink_of(&rt, 1_000, 1_000);
+    let call = Call::Write(0, 2);
+    let lines = write_call_lines(&mut out, 1, b"abcdef", &call, Outcome::Value(2), 0);
+    assert!(rt; matches!(lines, Ok(3)));
+    let wanted = b"    1 CALL  write(0, 2)\n    1 GIO   wrote 2 6162\n    1 RET   write 2\n";
+    assert!(rt; out.bytes.as_slice() == wanted.as_slice());
+}
+
+#[test]
+fn killed_call_ends_with_its_signal(rt: HostRuntime) -> Result<(), Fail> {
+    let mut out = sink_of(&rt, 1_000, 1_000);
+    let call = Call::Unveil(None, Some(Text::new(b"r").ok_or("text")?));
+    let outcome = Outcome::Killed(Promise::Unveil);
+    assert!(rt; matches!(write_call_lines(&mut out, 12, b"", &call, outcome, 0), Ok(3)));
+    let wanted =
+        b"   12 CALL  unveil(null, \"r\")\n   12 PLDG  unveil, \"unveil\", killed\n   12 PSIG  SIGABRT\n";
+    assert!(rt; out.bytes.as_slice() == wanted.as_slice());
+    Ok(())
+}
+
+#[test]
+fn rename_tells_the_walks_that_it_began(rt: HostRuntime) -> Result<(), Fail> {
+    let call = Call::Rename(Text::new(b"/a").ok_or("text")?, Text::new(b"/b").ok_or("text")?);
+    let refused = Outcome::Failed(Errno::EACCES, Cause::Unveil(Some(1)));
+    let mut out = sink_of(&rt, 1_000, 1_000);
+    assert!(rt; matches!(write_call_lines(&mut out, 1, b"", &call, refused, 2), Ok(5)));
+    let wanted =
+        b"    1 CALL  rename(\"/a\", \"/b\")\n    1 NAMI  \"/a\"\n    1 NAMI  \"/b\"\n    1 UNVL  entry 1, needs c\n    1 RET   rename -1 errno 13 EACCES\n";
+    assert!(rt; out.bytes.as_slice() == wanted.as_slice());
+    let mut out = sink_of(&rt, 1_000, 1_000);
+    let empty = Outcome::Failed(Errno::ENOENT, Cause::Plain);
+    assert!(rt; matches!(write_call_lines(&mut out, 1, b"", &call, empty, 1), Ok(3)));
+    Ok(())
+}
+
+#[test]
+fn exit_has_its_call_alone(rt: HostRuntime) {
+    let mut out = sink_of(&rt, 1_000, 1_000);
+    assert!(rt; matches!(write_call_lines(&mut out, 1, b"", &Call::Exit(0), Outcome::Exited, 0), Ok(1)));
+    assert!(rt; out.bytes.as_slice() == b"    1 CALL  exit(0)\n".as_slice());
+}
+
+#[test]
+fn step_of_a_process_that_is_gone_has_one_line(rt: HostRuntime) {
+    let mut out = sink_of(&rt, 1_000, 1_000);
+    assert!(rt; write_gone_line(&mut out, 2).is_ok());
+    assert!(rt; out.bytes.as_slice() == b"    2 GONE  no such process\n".as_slice());
+    let mut out = sink_of(&rt, 11, 2);
+    assert!(rt; write_gone_line(&mut out, 2).is_err());
+    assert!(rt; out.bytes.as_slice() == b"    2 GONE  ".as_slice().split_at(11).0);
+}
