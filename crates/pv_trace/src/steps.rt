@@ -43,13 +43,7 @@ fn push_one_path<'a>(lines: &mut Lines<'a>, pid: u32, path: &'a Text, walks: u8)
 
 // The lines of the walks along two paths.
 #[tactic(auto, using(crate::proofs::Paths::take_two))]
-fn push_two_paths<'a>(
-    lines: &mut Lines<'a>,
-    pid: u32,
-    first: &'a Text,
-    second: &'a Text,
-    walks: u8,
-)
+fn push_two_paths<'a>(lines: &mut Lines<'a>, pid: u32, first: &'a Text, second: &'a Text, walks: u8)
     requires { length lines.old.items + 2 ≤ STEP_LINES }
     ensures lines { lines.new.items ≡ lines.old.items ++ map (path_line pid) (take walks (first.now ∷ second.now ∷ [])) }
     ensures growth { length lines.new.items ≤ length lines.old.items + 2 }
@@ -107,7 +101,11 @@ fn push_promise_lines<'a>(lines: &mut Lines<'a>, pid: u32, call: &'a Call, outco
 {
     match outcome {
         Outcome::Killed(promise) => {
-            push(lines, pid, Word::Pldg(call, promise, PromiseVerdict::Killed))
+            push(
+                lines,
+                pid,
+                Word::Pldg(call, promise, PromiseVerdict::Killed),
+            )
         }
         Outcome::Failed(errno, Cause::Promise(promise)) => {
             push(lines, pid, Word::Pldg(call, promise, verdict_of(errno)))
@@ -245,13 +243,7 @@ fn push_end_lines<'a>(lines: &mut Lines<'a>, pid: u32, call: &'a Call, outcome: 
 
 // The lines of a call.
 #[tactic(auto, unfolding(crate::specs::Steps::lines_by))]
-fn lines_of<'a>(
-    pid: u32,
-    front: &'a [u8],
-    call: &'a Call,
-    outcome: Outcome,
-    walks: u8,
-) -> Lines<'a>
+fn lines_of<'a>(pid: u32, front: &'a [u8], call: &'a Call, outcome: Outcome, walks: u8) -> Lines<'a>
     requires { length front.now ≤ BUFFER }
     ensures { result.items ≡ lines_by pid front.now call.now outcome walks }
 {

@@ -78,7 +78,11 @@ fn each_word_has_its_text(rt: HostRuntime) -> Result<(), Fail> {
     let path = Text::new(b"/a\"\x01\xff~").ok_or("text")?;
     let call = Call::Close(3);
     expect_line(&rt, Word::Call(&call), b"    1 CALL  close(3)\n");
-    expect_line(&rt, Word::Nami(&path), b"    1 NAMI  \"/a\\x22\\x01\\xff~\"\n");
+    expect_line(
+        &rt,
+        Word::Nami(&path),
+        b"    1 NAMI  \"/a\\x22\\x01\\xff~\"\n",
+    );
     expect_line(
         &rt,
         Word::Pldg(&call, Promise::ProtExec, PromiseVerdict::Refused),
@@ -99,10 +103,22 @@ fn each_word_has_its_text(rt: HostRuntime) -> Result<(), Fail> {
         Word::Unvl(UnveilVerdict::EntryLacks(63, Perms::C)),
         b"    1 UNVL  entry 63, needs c\n",
     );
-    expect_line(&rt, Word::Unvl(UnveilVerdict::Locked), b"    1 UNVL  locked\n");
-    expect_line(&rt, Word::Gio(Way::Gave, b"\x00k"), b"    1 GIO   read 2 006b\n");
+    expect_line(
+        &rt,
+        Word::Unvl(UnveilVerdict::Locked),
+        b"    1 UNVL  locked\n",
+    );
+    expect_line(
+        &rt,
+        Word::Gio(Way::Gave, b"\x00k"),
+        b"    1 GIO   read 2 006b\n",
+    );
     expect_line(&rt, Word::Gio(Way::Took, b""), b"    1 GIO   wrote 0\n");
-    expect_line(&rt, Word::Ret(&call, Returned::Value(4_294_967_295)), b"    1 RET   close 4294967295\n");
+    expect_line(
+        &rt,
+        Word::Ret(&call, Returned::Value(4_294_967_295)),
+        b"    1 RET   close 4294967295\n",
+    );
     expect_line(
         &rt,
         Word::Ret(&call, Returned::Error(Errno::ENAMETOOLONG)),
@@ -133,8 +149,15 @@ fn calls_show_their_arguments(rt: HostRuntime) -> Result<(), Fail> {
         b"    1 CALL  openat(-1, \"f\", rw+append+create+trunc+excl+nofollow+dir+cloexec)\n",
     );
     let seek = Call::Lseek(0, -2_147_483_648, Whence::Current);
-    expect_line(&rt, Word::Call(&seek), b"    1 CALL  lseek(0, -2147483648, cur)\n");
-    let link = Call::Link(Text::new(b"/a").ok_or("text")?, Text::new(b"").ok_or("text")?);
+    expect_line(
+        &rt,
+        Word::Call(&seek),
+        b"    1 CALL  lseek(0, -2147483648, cur)\n",
+    );
+    let link = Call::Link(
+        Text::new(b"/a").ok_or("text")?,
+        Text::new(b"").ok_or("text")?,
+    );
     expect_line(&rt, Word::Call(&link), b"    1 CALL  link(\"/a\", \"\")\n");
     expect_line(&rt, Word::Call(&Call::Fork), b"    1 CALL  fork()\n");
     Ok(())
@@ -224,7 +247,12 @@ fn killed_call_ends_with_its_signal(rt: HostRuntime) -> Result<(), Fail> {
     let mut out = sink_of(&rt, 1_000, 1_000);
     let call = Call::Unveil(None, Some(Text::new(b"r").ok_or("text")?));
     let outcome = Outcome::Killed(Promise::Unveil);
-    assert!(rt; matches!(write_call_lines(&mut out, 12, b"", &call, outcome, 0), Ok(3)));
+    assert!(rt;
+        matches!(
+            write_call_lines(&mut out, 12, b"", &call, outcome, 0),
+            Ok(3)
+        )
+    );
     let wanted =
         b"   12 CALL  unveil(null, \"r\")\n   12 PLDG  unveil, \"unveil\", killed\n   12 PSIG  SIGABRT\n";
     assert!(rt; out.bytes.as_slice() == wanted.as_slice());
@@ -233,7 +261,10 @@ fn killed_call_ends_with_its_signal(rt: HostRuntime) -> Result<(), Fail> {
 
 #[test]
 fn rename_tells_the_walks_that_it_began(rt: HostRuntime) -> Result<(), Fail> {
-    let call = Call::Rename(Text::new(b"/a").ok_or("text")?, Text::new(b"/b").ok_or("text")?);
+    let call = Call::Rename(
+        Text::new(b"/a").ok_or("text")?,
+        Text::new(b"/b").ok_or("text")?,
+    );
     let refused = Outcome::Failed(Errno::EACCES, Cause::Unveil(Some(1)));
     let mut out = sink_of(&rt, 1_000, 1_000);
     assert!(rt; matches!(write_call_lines(&mut out, 1, b"", &call, refused, 2), Ok(5)));
@@ -249,7 +280,12 @@ fn rename_tells_the_walks_that_it_began(rt: HostRuntime) -> Result<(), Fail> {
 #[test]
 fn exit_has_its_call_alone(rt: HostRuntime) {
     let mut out = sink_of(&rt, 1_000, 1_000);
-    assert!(rt; matches!(write_call_lines(&mut out, 1, b"", &Call::Exit(0), Outcome::Exited, 0), Ok(1)));
+    assert!(rt;
+        matches!(
+            write_call_lines(&mut out, 1, b"", &Call::Exit(0), Outcome::Exited, 0),
+            Ok(1)
+        )
+    );
     assert!(rt; out.bytes.as_slice() == b"    1 CALL  exit(0)\n".as_slice());
 }
 

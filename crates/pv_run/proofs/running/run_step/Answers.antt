@@ -15,8 +15,8 @@ returns-in-Call g c =
     let before = g.W.Sink.told c.args.trace.now in
     let after = g.W.Sink.told c.write_call_lines.new.out in
     let same : lines_by c.args.pid c.buffer-front.result.now c.in-Call.call c.call-answer.result.outcome c.call-answer.result.walks ≡ (stepped c.args.kernel.now c.args.pid).lines =
-        ap (λ front. lines_by c.args.pid front c.in-Call.call c.call-answer.result.outcome c.call-answer.result.walks) c.buffer-front.ensures.value
-        ∙ sym (ap (λ s. s.lines) step) in
+    ap (λ front. lines_by c.args.pid front c.in-Call.call c.call-answer.result.outcome c.call-answer.result.walks) c.buffer-front.ensures.value
+    ∙ sym (ap (λ s. s.lines) step) in
     record {
       after = on_ok r (sym (ap (λ s. s.after) step));
       whole = subst (λ (ls : List Line). OnOk r (ToldLines ls before after)) same c.write_call_lines.ensures.whole;
