@@ -7,6 +7,7 @@
 //! gives, and a fault names the least line that has no form.
 #![tactic(auto)]
 
+mod building;
 mod bundle;
 mod entry;
 mod lines;
@@ -18,6 +19,7 @@ mod taking;
 #[cfg(test)]
 mod tests;
 
+pub use building::build;
 pub use bundle::Bundle;
 pub use entry::{Content, Entry};
 pub use manifest::Manifest;

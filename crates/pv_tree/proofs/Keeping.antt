@@ -6,10 +6,10 @@ use Rattle.pv_model.specs.Held.{among}
 use Rattle.pv_model.specs.Numbered.{Numbered, at_number, without_number, keep, keep_if}
 use Rattle.pv_model.specs.Tree.{Node, Tree, root, node_at}
 use Rattle.pv_dirs.specs.Trees.{without_node}
-use Rattle.pv_tree_laws.specs.Kept.{wanted}
+use Rattle.pv_tree_laws.specs.Kept.{EachIsNamed, wanted}
 use Rattle.pv_tree_laws.proofs.Numbered.{same_numbered, at_number-keep, keep-some, keep-passes, keep-fails, length-keep, length-without_number, without_number-same, without_number-other}
 use Rattle.pv_tree_laws.proofs.Keeping.{only_nodes_all, wanted-is}
-use Rattle.pv_tree.specs.Holding.{held_from, held_numbers, trimmed}
+use Rattle.pv_tree.specs.Holding.{held_from, held_numbers, IsUnheld, trimmed}
 use Rattle.pv_tree.proofs.Names.{name_count, named-is, is_positive}
 
 -- ---- the numbers that are held
@@ -59,6 +59,16 @@ all-kept t holds same n is =
     let found = some_at (node_at t n) is in
     sym (wanted-counted t holds n)
     ∙ (keep-some (among (wanted t (held_numbers holds))) t.nodes n found.0 (ap (λ u. node_at u n) same ∙ found.1)).0
+
+-- where nothing is held either, each node but the root is named
+pub unheld-named : (t : Tree) (holds : List ℕ) → trimmed t holds ≡ t → IsUnheld holds → EachIsNamed t
+unheld-named t holds same unheld = record {
+  named = λ n other is. named-is t n ∙ by n other (name_count t n) (ap (λ k. is_kept n (name_count t n) k) (sym (unheld n)) ∙ all-kept t holds same n is);
+}
+  where
+    by : (n : ℕ) → n ≢ root → (names : ℕ) → is_kept n names 0 ≡ true → is_positive names ≡ true
+    by n other zero is = let top : (root == n) ≡ false = ne_eqb root n (λ e. other (sym e)) in let kept : is_kept n 0 0 ≡ false = ap (λ b. b || false) top in cc
+    by n other (suc names) is = refl
 
 keep_if_none : (b : Bool) → keep_if {X = Node} b None ≡ None
 keep_if_none true = refl

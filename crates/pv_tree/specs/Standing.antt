@@ -6,6 +6,7 @@ use Rattle.std.specs.Ordering.{nat_cmp}
 use Rattle.pv_model.specs.declared.limits.TheConstants.{INODES}
 use Rattle.pv_model.specs.Room.{is_too_long, fits}
 use Rattle.pv_model.specs.Tree.{Tree, node_at, entries_at, is_directory_at, names_of, parent, IsWellFormed}
+use Rattle.pv_tree_laws.specs.Kept.{EachIsNamed}
 use Rattle.pv_tree_laws.specs.Spelled.{AllBytes}
 use Rattle.pv_tree.specs.Holding.{HeldTree, holds_at, trimmed}
 
@@ -19,6 +20,15 @@ pub record IsStanding (h : HeldTree) : Type 0 where
   pub counted : length h.holds ≡ suc INODES
   pub held_are_nodes : (n : ℕ) → 0 < holds_at h n → IsTrue (is_some (node_at h.tree n))
   pub is_trimmed : trimmed h.tree h.holds ≡ h.tree
+
+-- what is true of every tree of which nothing is held
+pub record IsAtRest (t : Tree) : Type 0 where
+  pub well_formed : IsWellFormed t
+  pub few : t.inodes ≤ INODES
+  pub fits : IsTrue (fits t)
+  pub short : IsFalse (is_too_long t)
+  pub bytes : AllBytes t
+  pub named : EachIsNamed t
 
 -- what tells whether a tree has room for one entry more
 pub record IsShaped (t : Tree) : Type 0 where

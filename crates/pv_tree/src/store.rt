@@ -4,6 +4,7 @@ ghost use Rattle.pv_model.specs.declared.limits.TheConstants.{INODES};
 ghost use Rattle.pv_model.specs.Image.{inode_blocks, greatest_blocks};
 ghost use Rattle.pv_tree.specs.Changes.{root_alone};
 ghost use Rattle.pv_tree.specs.Holding.{IsUnheld};
+ghost use Rattle.pv_tree.specs.Standing.{IsAtRest};
 
 use crate::Tree;
 use pv_model::Version;
@@ -49,6 +50,14 @@ impl Store {
         ensures { result ≡ tree.tree }
     {
         Store { tree }
+    }
+
+    /// What is true of every store: the tree is well-formed and has room in its image, and each node but the
+    /// root has a name.
+    pub fn facts(&self)
+        ensures { IsAtRest self.now }
+    {
+        let _ = self.tree.sizes();
     }
 
     /// The tree.
