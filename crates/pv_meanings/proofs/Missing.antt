@@ -104,9 +104,9 @@ module _ (s : State) (pid : ℕ) (me : Process) (call : Call) (whole : IsWhole s
   made-by _ _ (Does.copies e x k is) there = same-node s.tree refl there
   made-by _ _ (Does.forks is) there = same-node s.tree refl there
   made-by _ _ (Does.reaps k r ended goes) there = same-node s.tree refl there
-  made-by _ _ (Does.moves k old new r was node mode goes) there = same-node s.tree refl there
+  made-by _ _ (Does.moves k old new r was node mode named goes) there = same-node s.tree refl there
   made-by _ _ (Does.cuts f bytes own) there = same-node (with_content s.tree f bytes) (there-content s.tree f bytes n) there
-  made-by _ _ (Does.writes_bytes f bytes k old new m own was node mode) there = same-node (with_content s.tree f bytes) (there-content s.tree f bytes n) there
+  made-by _ _ (Does.writes_bytes f bytes k old new m own was node mode named) there = same-node (with_content s.tree f bytes) (there-content s.tree f bytes n) there
   made-by _ _ (Does.makes place p node change free bare) there = ([], change.need)
   made-by _ _ (Does.links place p old m change allowed is fine) there = ([], change.need)
   made-by _ _ (Does.unlinks place p change) there = ([], change.need)

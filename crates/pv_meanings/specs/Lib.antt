@@ -1,3 +1,4 @@
 pub mod Lacking
 pub mod Tables
 pub mod Descent
+pub mod Examples

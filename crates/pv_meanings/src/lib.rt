@@ -6,8 +6,10 @@
 //! - `lacking`: what a process's own steps can't do where it is pledged without a promise.
 //! - `tables`: what the judgement of a place is.
 //! - `descent`: what a process passes to its descendants.
+//! - `examples`: a run with a descendant.
 #![tactic(auto)]
 
 pub mod descent;
+pub mod examples;
 pub mod lacking;
 pub mod tables;

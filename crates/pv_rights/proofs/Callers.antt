@@ -71,9 +71,9 @@ module _ (s : State) (pid : ℕ) (me : Process) (call : Call) (order : IsInOrder
   caller _ _ (forks is) =
       (me, process_at-other s (suc s.last_process) (child s pid me) pid (not_next s order pid me at) ∙ at, λ quiet. (no_more-same me me refl refl refl refl, λ no. (refl, refl)))
   caller _ _ (reaps k r ended goes) = (me, spared pid me at k (ended order.ascending), λ quiet. (no_more-same me me refl refl refl refl, λ no. (refl, refl)))
-  caller _ _ (moves k old new r there node mode goes) = itself r
+  caller _ _ (moves k old new r there node mode named goes) = itself r
   caller _ _ (cuts f bytes has) = itself (returns 0)
-  caller _ _ (writes_bytes f bytes k old new n has there node mode) = itself (returns n)
+  caller _ _ (writes_bytes f bytes k old new n has there node mode named) = itself (returns n)
   caller _ _ (makes place p node change none bare) = itself (returns 0)
   caller _ _ (links place p old n change from_old is fine) = itself (returns 0)
   caller _ _ (unlinks place p change) = itself (returns 0)
@@ -90,9 +90,9 @@ module _ (s : State) (pid : ℕ) (me : Process) (call : Call) (order : IsInOrder
   other k p apart there _ _ (copies d x n is) = process_at-other s pid _ k apart ∙ there
   other k p apart there _ _ (forks is) = process_at-other s (suc s.last_process) (child s pid me) k (not_next s order k p there) ∙ there
   other k p apart there _ _ (reaps j r ended goes) = spared k p there j (ended order.ascending)
-  other k p apart there _ _ (moves j old new r is node mode goes) = there
+  other k p apart there _ _ (moves j old new r is node mode named goes) = there
   other k p apart there _ _ (cuts f bytes has) = there
-  other k p apart there _ _ (writes_bytes f bytes j old new n has is node mode) = there
+  other k p apart there _ _ (writes_bytes f bytes j old new n has is node mode named) = there
   other k p apart there _ _ (makes place q node change none bare) = there
   other k p apart there _ _ (links place q old n change from_old is fine) = there
   other k p apart there _ _ (unlinks place q change) = there

@@ -22,7 +22,7 @@ use Rattle.pv_model.specs.Needs.{needs, needs_cpath, letters_of_open}
 use Rattle.pv_model.specs.Numbered.{at_number, with_number, without_number}
 use Rattle.pv_model.specs.Perms.{letter_r, letter_c}
 use Rattle.pv_model.specs.State.{OpenFile, Descriptor, Program, Process, ended_record, State, writes, process_at, with_process, with_tree}
-use Rattle.pv_model.specs.Touch.{flags_of, IsAllowed, HasDescriptor}
+use Rattle.pv_model.specs.Touch.{descriptor_of, flags_of, IsAllowed, HasDescriptor}
 use Rattle.pv_model.specs.Tree.{Node, file_node, entries_of, new_number, with_new_node, with_entry, without_entry}
 use Rattle.pv_model.specs.Unveil.{judgement}
 use Rattle.pv_model.specs.Walk.{resolve}
@@ -52,6 +52,10 @@ module _ (s : State) (pid : ℕ) (me : Process) (call : Call) where
     pub fine : IsFine place
     pub need : needs call ≡ needs_cpath
 
+  -- the open file is that of the call's own descriptor
+  abbrev pub IsOwnFile : ℕ → OpenFile → Type 0
+  IsOwnFile k file = (d : ℤ) × (descriptor_of call ≡ Some d) × (open_file s me d ≡ Some (k, file))
+
   pub data Does : State → Reply → Type 0 where
     -- nothing, or its end
     stays : (r : Reply) → Does s r
@@ -68,10 +72,10 @@ module _ (s : State) (pid : ℕ) (me : Process) (call : Call) where
     reaps : (k : ℕ) (r : Reply) → (is_sorted nat_cmp s.processes ≡ true → (parent : ℕ) × (status : ℕ) × (find nat_cmp k s.processes ≡ Some (ended_record parent status)))
         → goes_on r ≡ true → Does (record s { processes = where_key nat_cmp (λ other. not (other == k)) s.processes }) r
     -- an open file stands elsewhere
-    moves : (k : ℕ) (old new : OpenFile) (r : Reply) → at_number s.files k ≡ Some old → new.node ≡ old.node → new.mode ≡ old.mode → goes_on r ≡ true → Does (with_file s k new) r
+    moves : (k : ℕ) (old new : OpenFile) (r : Reply) → at_number s.files k ≡ Some old → new.node ≡ old.node → new.mode ≡ old.mode → IsOwnFile k old → goes_on r ≡ true → Does (with_file s k new) r
     -- a file has other bytes
     cuts : (f : ℕ) (bytes : Bytes) → HasDescriptor s me call writes f → Does (with_tree s (with_content s.tree f bytes)) (returns 0)
-    writes_bytes : (f : ℕ) (bytes : Bytes) (k : ℕ) (old new : OpenFile) (n : ℕ) → HasDescriptor s me call writes f → at_number s.files k ≡ Some old → new.node ≡ old.node → new.mode ≡ old.mode
+    writes_bytes : (f : ℕ) (bytes : Bytes) (k : ℕ) (old new : OpenFile) (n : ℕ) → HasDescriptor s me call writes f → at_number s.files k ≡ Some old → new.node ≡ old.node → new.mode ≡ old.mode → IsOwnFile k old
         → Does (with_file (with_tree s (with_content s.tree f bytes)) k new) (returns n)
     -- an entry comes, goes, or moves
     makes : (place : Place) (p : ℕ × Bytes) (node : Node) → MayChange place p → node_of place ≡ None → entries_of (Some node) ≡ []
@@ -101,9 +105,9 @@ module _ (s : State) (pid : ℕ) (me : Process) (call : Call) where
   ends-stays _ _ status (copies d x n found) is = cc
   ends-stays _ _ status (forks new) is = cc
   ends-stays _ _ status (reaps k r gone goes) is = let on = ap goes_on is in cc
-  ends-stays _ _ status (moves k old new r found node mode goes) is = let on = ap goes_on is in cc
+  ends-stays _ _ status (moves k old new r found node mode named goes) is = let on = ap goes_on is in cc
   ends-stays _ _ status (cuts f bytes has) is = cc
-  ends-stays _ _ status (writes_bytes f bytes k old new n has found node mode) is = cc
+  ends-stays _ _ status (writes_bytes f bytes k old new n has found node mode named) is = cc
   ends-stays _ _ status (makes place p node change free bare) is = cc
   ends-stays _ _ status (links place p old n change from_old node fine) is = cc
   ends-stays _ _ status (unlinks place p change) is = cc

@@ -26,7 +26,7 @@ use Rattle.pv_laws.proofs.ByTable.{first-ended}
 use Rattle.pv_laws.proofs.Rests
 use Rattle.pv_rights.specs.Growth.{MayDoNoMore, KeepsEntries}
 use Rattle.pv_rights.proofs.Narrowing.{narrows, leads-unless_refused, leads-add_entry, table-itself, gains-self, keeps-of_table, no_more-same}
-use Rattle.pv_rights.proofs.Does.{Does, stays, restrains, begins, closes, copies, forks, reaps, moves, Did}
+use Rattle.pv_rights.proofs.Does.{Does, stays, restrains, begins, closes, copies, forks, reaps, moves, Did, open_file_for-is}
 use Rattle.pv_model.specs.Walks.{from_here}
 
 -- what is not locked
@@ -174,7 +174,7 @@ module _ (s : State) (pid : ℕ) (me : Process) where
       leads-demand (D C) EBADF (open_file s me d) (Rests.lseek_1 s pid me by whence) (λ (k, file) is.
       leads-then (D C) (refuse_if EINVAL (is_directory_at s.tree file.node)) (Rests.lseek_2 s pid me by whence k file) (
       leads-demand (D C) EINVAL (within 2147483647 (pos (seek_base s pid me file whence) +ℤ by)) (Rests.lseek_3 s pid me k file) (λ offset low.
-      moves k file (record file { offset = offset }) (returns offset) (open_file-at s me d k file is) refl refl refl)))
+      moves k file (record file { offset = offset }) (returns offset) (open_file-at s me d k file is) refl refl (d, refl, is) refl)))
 
   pub does-read : (d n : ℤ) → Leads (D (TheCall.Read d n)) (read s pid me d n)
   does-read d n =
@@ -183,15 +183,15 @@ module _ (s : State) (pid : ℕ) (me : Process) where
       leads-demand (D C) EINVAL (within 4096 n) (Rests.read_2 s pid me k file) (λ count low.
       leads-then (D C) (refuse_if EISDIR (is_directory_at s.tree file.node)) (Rests.read_3 s pid me k file count)
       (moves k file (record file { offset = file.offset + length (Rests.read_bytes s pid me count file) })
-      (returns_bytes (length (Rests.read_bytes s pid me count file)) (Rests.read_bytes s pid me count file)) (open_file_for-at s pid me reads d k file is).0 refl refl refl)))
+      (returns_bytes (length (Rests.read_bytes s pid me count file)) (Rests.read_bytes s pid me count file)) (open_file_for-at s pid me reads d k file is).0 refl refl (d, refl, (open_file_for-is s pid me reads d k file is).0) refl)))
 
   pub does-getdents : (d : ℤ) → Leads (D (TheCall.Getdents d)) (getdents s pid me d)
   does-getdents d =
       let C : Call = TheCall.Getdents d in
       leads-demand (D C) EBADF (open_file s me d) (Rests.getdents_1 s pid me) (λ (k, file) is.
       leads-then (D C) (refuse_if EINVAL (not (is_directory_at s.tree file.node))) (Rests.getdents_2 s pid me k file)
-      (listed k file (open_file-at s me d k file is) (next_name file.listed (entries_at s.tree file.node))))
+      (listed k file is (open_file-at s me d k file is) (next_name file.listed (entries_at s.tree file.node))))
     where
-      listed : (k : ℕ) (file : OpenFile) → Rattle.pv_model.specs.Numbered.at_number s.files k ≡ Some file → (o : Option Bytes) → Leads (D (TheCall.Getdents d)) (list_name s pid me k file o)
-      listed k file there None = stays (returns_bytes 0 [])
-      listed k file there (Some name) = moves k file (record file { listed = Some name }) (returns_bytes (length name) name) there refl refl refl
+      listed : (k : ℕ) (file : OpenFile) → open_file s me d ≡ Some (k, file) → Rattle.pv_model.specs.Numbered.at_number s.files k ≡ Some file → (o : Option Bytes) → Leads (D (TheCall.Getdents d)) (list_name s pid me k file o)
+      listed k file is there None = stays (returns_bytes 0 [])
+      listed k file is there (Some name) = moves k file (record file { listed = Some name }) (returns_bytes (length name) name) there refl refl (d, refl, is) refl

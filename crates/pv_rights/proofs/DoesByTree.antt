@@ -163,12 +163,12 @@ module _ (s : State) (pid : ℕ) (me : Process) where
 
   -- ---- bytes
 
-  does-written : (d n : ℤ) (k : ℕ) (file : OpenFile) (count : ℕ) → HasDescriptor s me (TheCall.Write d n) writes file.node → Rattle.pv_model.specs.Numbered.at_number s.files k ≡ Some file
+  does-written : (d n : ℤ) (k : ℕ) (file : OpenFile) (count : ℕ) → HasDescriptor s me (TheCall.Write d n) writes file.node → open_file s me d ≡ Some (k, file) → Rattle.pv_model.specs.Numbered.at_number s.files k ≡ Some file
       → Does s pid me (TheCall.Write d n) (after_write s pid me k file count) (returns count)
-  does-written d n k file zero has there = stays (returns 0)
-  does-written d n k file (suc m) has there =
+  does-written d n k file zero has is there = stays (returns 0)
+  does-written d n k file (suc m) has is there =
       let bytes = take (suc m) me.buffer in
-      writes_bytes file.node (overwrite (bytes_of (node_at s.tree file.node)) (write_place s pid me file) bytes) k file (record file { offset = write_place s pid me file + length bytes }) (suc m) has there refl refl
+      writes_bytes file.node (overwrite (bytes_of (node_at s.tree file.node)) (write_place s pid me file) bytes) k file (record file { offset = write_place s pid me file + length bytes }) (suc m) has there refl refl (d, refl, is)
 
   pub does-write : (d n : ℤ) → Leads (D (TheCall.Write d n)) (write s pid me d n)
   does-write d n =
@@ -178,7 +178,7 @@ module _ (s : State) (pid : ℕ) (me : Process) where
       leads-then (D C) (refuse_if EFBIG (is_past_greatest s.tree (write_end s pid me file count))) (Rests.write_3 s pid me k file count) (
       leads-room (D C) (after_write s pid me k file count) (λ roomy. answers roomy count) (λ short fit.
       let both = open_file_for-is s pid me writes d k file is in
-      does-written d n k file count (d, k, file, refl, both.0, refl, both.1) (open_file-at s me d k file both.0)))))
+      does-written d n k file count (d, k, file, refl, both.0, refl, both.1) both.0 (open_file-at s me d k file both.0)))))
 
   pub does-ftruncate : (d n : ℤ) → Leads (D (TheCall.Ftruncate d n)) (ftruncate s pid me d n)
   does-ftruncate d n =

@@ -170,9 +170,9 @@ module _ (s : State) (pid : ℕ) (me : Process) (call : Call) (whole : IsWhole s
     entries-by _ _ (Does.copies e x n is) tree differs = absurd (differs refl)
     entries-by _ _ (Does.forks is) tree differs = absurd (differs refl)
     entries-by _ _ (Does.reaps k r ended goes) tree differs = absurd (differs refl)
-    entries-by _ _ (Does.moves k old new r there node mode goes) tree differs = absurd (differs refl)
+    entries-by _ _ (Does.moves k old new r there node mode named goes) tree differs = absurd (differs refl)
     entries-by _ _ (Does.cuts f bytes has) tree differs = absurd (differs (ap (find by_name name) (entries-content s.tree f bytes d)))
-    entries-by _ _ (Does.writes_bytes f bytes k old new n has there node mode) tree differs = absurd (differs (ap (find by_name name) (entries-content s.tree f bytes d)))
+    entries-by _ _ (Does.writes_bytes f bytes k old new n has there node mode named) tree differs = absurd (differs (ap (find by_name name) (entries-content s.tree f bytes d)))
     entries-by _ _ (Does.makes place p node change free bare) tree differs = made p node _ refl tree (fine-name place p change).directory bare differs (λ here same. at_place place p change here same)
     entries-by _ _ (Does.links place p old n change from_old is fine) tree differs =
         ⊎_elim (λ here. at_place place p change here.0 here.1)
@@ -229,9 +229,9 @@ module _ (s : State) (pid : ℕ) (me : Process) (call : Call) (whole : IsWhole s
     files-by _ _ (Does.copies e x n is) tree changes = absurd (changes refl)
     files-by _ _ (Does.forks is) tree changes = absurd (changes refl)
     files-by _ _ (Does.reaps k r ended goes) tree changes = absurd (changes refl)
-    files-by _ _ (Does.moves k old new r there node mode goes) tree changes = absurd (changes refl)
+    files-by _ _ (Does.moves k old new r there node mode named goes) tree changes = absurd (changes refl)
     files-by _ _ (Does.cuts g bytes has) tree changes = cut-by g bytes (inl has) changes
-    files-by _ _ (Does.writes_bytes g bytes k old new n has there node mode) tree changes = cut-by g bytes (inl has) changes
+    files-by _ _ (Does.writes_bytes g bytes k old new n has there node mode named) tree changes = cut-by g bytes (inl has) changes
     files-by _ _ (Does.makes place p node change free bare) tree changes = made-file p node _ refl tree (fine-name place p change).directory bare changes
     files-by _ _ (Does.links place p old n change from_old is fine) tree changes = stays-same (with_entry s.tree p.0 p.1 n) (file-beside s.tree p.0 _ f (fine-name place p change).directory file) changes
     files-by _ _ (Does.unlinks place p change) tree changes = stays-same (without_entry s.tree p.0 p.1) (file-beside s.tree p.0 _ f (fine-name place p change).directory file) changes

@@ -183,10 +183,10 @@ module _ (s : State) (pid : ℕ) (me : Process) (call : Call) (order : IsInOrder
       unchanged (with_process s (suc s.last_process) (child s pid me)) q (process_at-other s (suc s.last_process) (child s pid me) pid (not_next s order pid me at) ∙ at) there opens
   gains-by _ _ (Does.reaps k r ended goes) q there opens =
       unchanged (record s { processes = where_key nat_cmp (λ other. not (other == k)) s.processes }) q (spared s pid me call order at pid me at k (ended order.ascending)) there opens
-  gains-by _ _ (Does.moves k old new r was node mode_is goes) q there opens =
+  gains-by _ _ (Does.moves k old new r was node mode_is named goes) q there opens =
       let is : Some q ≡ Some me = sym there ∙ at in let same : q ≡ me = cc is in absurd (moved k old new was node mode_is (subst (λ (p : Process). NowOpens (with_number s.files k new) p.descriptors) same opens))
   gains-by _ _ (Does.cuts f bytes has) q there opens = by_same q there opens
-  gains-by _ _ (Does.writes_bytes f bytes k old new m has was node mode_is) q there opens =
+  gains-by _ _ (Does.writes_bytes f bytes k old new m has was node mode_is named) q there opens =
       let is : Some q ≡ Some me = sym there ∙ at in let same : q ≡ me = cc is in absurd (moved k old new was node mode_is (subst (λ (p : Process). NowOpens (with_number s.files k new) p.descriptors) same opens))
   gains-by _ _ (Does.makes place p node change free bare) q there opens = by_same q there opens
   gains-by _ _ (Does.links place p old m change from_old is fine) q there opens = by_same q there opens

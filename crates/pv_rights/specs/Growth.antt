@@ -1,7 +1,8 @@
 -- Laws of restraints that do not loosen: pledge(2), unveil(2).
-use Rattle.std.specs.Prelude.{◌≡◌, ◌≢◌, ℕ, suc, Bool, true, false, IsTrue, IsFalse, List, [], ◌∷◌, slice_get, Option, None, Some, is_some}
+use Rattle.std.specs.Prelude.{◌≡◌, ◌≢◌, ◌⊎◌, ℕ, ℤ, suc, Bool, true, false, IsTrue, IsFalse, List, [], ◌∷◌, slice_get, Option, None, Some, is_some}
 use Rattle.std.specs.FinMap.Entries.{find, is_sorted}
 use Rattle.std.specs.Ordering.{nat_cmp}
+use Rattle.pv_model.specs.declared.call.Call.{Call}
 use Rattle.pv_model.specs.declared.call.Call.TheVariants.{Execve, Fork}
 use Rattle.pv_model.specs.declared.outcome.Outcome.{Outcome}
 use Rattle.pv_model.specs.declared.outcome.Outcome.TheVariants.{Value}
@@ -9,12 +10,14 @@ use Rattle.pv_model.specs.declared.perms.Perms.{Perms}
 use Rattle.pv_model.specs.declared.promise.Promise.{Promise}
 use Rattle.pv_model.specs.declared.target.Target.{Target}
 use Rattle.pv_model.specs.Bytes.{Bytes}
+use Rattle.pv_model.specs.Effect.{open_file}
 use Rattle.pv_model.specs.Numbered.{at_number}
 use Rattle.pv_model.specs.Perms.{covers}
 use Rattle.pv_model.specs.Program.{Next, calls_for, next}
 use Rattle.pv_model.specs.Promises.{Promises, contains}
 use Rattle.pv_model.specs.State.{OpenFile, Descriptor, Program, Process, State, process_at}
 use Rattle.pv_model.specs.Step.{step, run}
+use Rattle.pv_model.specs.Touch.{descriptor_of}
 use Rattle.pv_model.specs.Unveil.{Table}
 use Rattle.pv_laws.specs.States.{SpellsPrograms, IsWhole}
 
@@ -92,12 +95,23 @@ OthersKeepTheirs =
     → other ≢ pid → process_at s other ≡ Some p
     → (q : Process) × (process_at (step program_of s pid).after other ≡ Some q) × IsLeftAlone p q
 
--- and each of its descriptors on an open file on the same node, in the same mode
+-- the call of a process is by its own descriptor of an open file
+pub record IsNamedBy (s : State) (pid k : ℕ) : Type 0 where
+  pub p : Process
+  pub call : Call
+  pub d : ℤ
+  pub file : OpenFile
+  pub at : process_at s pid ≡ Some p
+  pub next_is : next p ≡ calls_for call
+  pub own : descriptor_of call ≡ Some d
+  pub opened : open_file s p d ≡ Some (k, file)
+
+-- and each of its descriptors on an open file on the same node, in the same mode; all of it is as it was, unless the call is by a descriptor of that open file
 abbrev pub OthersKeepTheirFiles : Type 0
 OthersKeepTheirFiles =
     (program_of : Bytes → Option Program) (s : State) (pid other : ℕ) (p : Process) (d : ℕ) (x : Descriptor) (file : OpenFile) → IsInOrder s
     → other ≢ pid → process_at s other ≡ Some p → at_number p.descriptors d ≡ Some x → at_number s.files x.file ≡ Some file
-    → (left : OpenFile) × (at_number (step program_of s pid).after.files x.file ≡ Some left) × IsSameFile file left
+    → (left : OpenFile) × (at_number (step program_of s pid).after.files x.file ≡ Some left) × IsSameFile file left × ((left ≡ file) ⊎ IsNamedBy s pid x.file)
 
 -- a child begins with its parent's
 abbrev pub ChildHasTheSame : Type 0

@@ -20,7 +20,8 @@ pub fn others_keep_theirs()
     ensures { OthersKeepTheirs }
 {}
 
-/// A step of another process leaves each descriptor of a live process on an open file on the same node, in the same mode.
+/// A step of another process leaves each descriptor of a live process on an open file on the same node, in the same mode; and
+/// all of that open file as it was, where it stands too, unless the call is by a descriptor of the same open file.
 pub fn others_keep_their_files()
     ensures { OthersKeepTheirFiles }
 {}

@@ -80,9 +80,9 @@ module _ (s : State) (pid : ℕ) (me : Process) (call : Call) (whole : IsWhole s
   moved-by _ _ (Does.copies e x k is) tree has = as_was s.tree refl has
   moved-by _ _ (Does.forks is) tree has = as_was s.tree refl has
   moved-by _ _ (Does.reaps k r ended goes) tree has = as_was s.tree refl has
-  moved-by _ _ (Does.moves k old other r was node mode goes) tree has = as_was s.tree refl has
+  moved-by _ _ (Does.moves k old other r was node mode named goes) tree has = as_was s.tree refl has
   moved-by _ _ (Does.cuts f bytes own) tree has = as_was (with_content s.tree f bytes) (ap (find by_name name) (entries-content s.tree f bytes d)) has
-  moved-by _ _ (Does.writes_bytes f bytes k old other m own was node mode) tree has = as_was (with_content s.tree f bytes) (ap (find by_name name) (entries-content s.tree f bytes d)) has
+  moved-by _ _ (Does.writes_bytes f bytes k old other m own was node mode named) tree has = as_was (with_content s.tree f bytes) (ap (find by_name name) (entries-content s.tree f bytes d)) has
   moved-by _ _ (Does.makes place p node change free bare) tree has = made p node (with_new_node s.tree p.0 p.1 node) refl tree (fine-name s pid me call whole at is_good place p change).directory bare has
   moved-by _ _ (Does.links place p old m change allowed is fine) tree has =
       let dir = (fine-name s pid me call whole at is_good place p change).directory in

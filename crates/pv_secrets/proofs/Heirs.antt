@@ -78,9 +78,9 @@ module _ (s : State) (pid : ℕ) (me : Process) (call : Call) (k : ℕ) (q : Pro
       still
       (found-live s k q
       (found-filtered (λ e. not (e.0 == j)) s.processes ascending k (live q) (live-found (record s { processes = where_key nat_cmp (λ other. not (other == j)) s.processes }) k q there)).0) _
-  born-by _ _ (Does.moves j old new r was node mode goes) ascending there = still there _
+  born-by _ _ (Does.moves j old new r was node mode named goes) ascending there = still there _
   born-by _ _ (Does.cuts f bytes own) ascending there = still there _
-  born-by _ _ (Does.writes_bytes f bytes j old new n own was node mode) ascending there = still there _
+  born-by _ _ (Does.writes_bytes f bytes j old new n own was node mode named) ascending there = still there _
   born-by _ _ (Does.makes place p node change free bare) ascending there = still there _
   born-by _ _ (Does.links place p old n change allowed is fine) ascending there = still there _
   born-by _ _ (Does.unlinks place p change) ascending there = still there _

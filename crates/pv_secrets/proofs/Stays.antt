@@ -86,9 +86,9 @@ module _ (s : State) (pid : ℕ) (me : Process) (call : Call) (whole : IsWhole s
   still-by _ _ (Does.copies e x k is) tree = file
   still-by _ _ (Does.forks is) tree = file
   still-by _ _ (Does.reaps k r ended goes) tree = file
-  still-by _ _ (Does.moves k old new r was node mode goes) tree = file
+  still-by _ _ (Does.moves k old new r was node mode named goes) tree = file
   still-by _ _ (Does.cuts g bytes own) tree = file-content s.tree g bytes f file
-  still-by _ _ (Does.writes_bytes g bytes k old new m own was node mode) tree = file-content s.tree g bytes f file
+  still-by _ _ (Does.writes_bytes g bytes k old new m own was node mode named) tree = file-content s.tree g bytes f file
   still-by _ _ (Does.makes place p node change free bare) tree =
       still-new p node (with_new_node s.tree p.0 p.1 node) refl tree (fine-name s pid me call whole at is_good place p change).directory bare
   still-by _ _ (Does.links place p old n change allowed is fine) tree = ap is_file (file-beside s.tree p.0 _ f (fine-name s pid me call whole at is_good place p change).directory file) ∙ file

@@ -1,0 +1,10 @@
+//! Laws of what steps leave of other processes, of the machine's definitions in `pv_model`.
+//!
+//! Each function has an empty body: its contract is the law, which the check proves. The statements stand in `specs/`:
+//!
+//! - `leaving`: the end of a process.
+//! - `examples`: a run with ends.
+#![tactic(auto)]
+
+pub mod examples;
+pub mod leaving;
