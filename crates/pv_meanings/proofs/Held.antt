@@ -1,7 +1,7 @@
 -- A process that is held to its table, and its child, by computing.
-use Rattle.std.proofs.Common.{◌≡◌, [], ◌∷◌, Option, None, Some, refl, inl}
+use Rattle.std.proofs.Common.{[], ◌∷◌, Option, None, Some, refl, inl}
 use Rattle.pv_model.specs.OnLiterals.{machine_on_literals}
-use Rattle.pv_model.specs.State.{Process, State, first_process, process_at}
+use Rattle.pv_model.specs.State.{Process, first_process, process_at}
 use Rattle.pv_model.specs.Unveil.{Table}
 use Rattle.pv_meanings.specs.Examples.{state_behind, DescentHappens}
 

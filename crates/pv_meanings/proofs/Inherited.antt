@@ -1,24 +1,17 @@
 -- What descendants have from those that they descend from.
 use Rattle.std.proofs.Common.{◌≡◌, ℕ, ⊎_elim, List, [], ◌∷◌, true, Option, None, Some, is_some, refl, ap, sym, subst, ◌∙◌}
 use Rattle.pv_model.specs.Bytes.{Bytes}
-use Rattle.pv_model.specs.Promises.{Promises}
 use Rattle.pv_model.specs.State.{Program, Process, State, process_at}
 use Rattle.pv_model.specs.Step.{step, run}
 use Rattle.pv_model.specs.Unveil.{Table}
 use Rattle.pv_laws.specs.States.{SpellsPrograms, IsWhole}
 use Rattle.pv_laws.proofs.BySteps.{step-keeps_whole}
 use Rattle.pv_rights.specs.Growth.{GainsNone}
-use Rattle.pv_rights.proofs.Narrowing.{gains-self}
+use Rattle.pv_rights.proofs.Narrowing.{gains-self, gains-along}
 use Rattle.pv_secrets.specs.Origins.{origin}
 use Rattle.pv_secrets.proofs.Heirs.{heirs}
 use Rattle.pv_secrets.proofs.Stays.{carried, held-no_more}
 use Rattle.pv_meanings.specs.Descent.{Descends, IsHeldTo, HasInherited}
-
-gains-along : (a b c : Option Promises) → GainsNone a b → GainsNone b c → GainsNone a c
-gains-along None b c first second = tt
-gains-along (Some x) None c first second = absurd first
-gains-along (Some x) (Some y) None first second = absurd second
-gains-along (Some x) (Some y) (Some z) first second = λ p is. first p (second p is)
 
 -- in one step
 inherited : (program_of : Bytes → Option Program) (s : State) (pid m : ℕ) (p q : Process) (table : Table) → IsWhole s → process_at s (origin s pid m) ≡ Some p → IsHeldTo table p

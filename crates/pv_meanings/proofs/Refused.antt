@@ -18,16 +18,8 @@ use Rattle.pv_model.specs.Promises.{Promises, narrow_promises, is_lenient, missi
 use Rattle.pv_model.specs.State.{Program, Process, State, process_at}
 use Rattle.pv_model.specs.Step.{Stepped, step, step_by}
 use Rattle.pv_laws.proofs.Outcomes.{at_call, by_answer}
-use Rattle.pv_rights.proofs.Ends.{step-is}
+use Rattle.pv_rights.proofs.Ends.{step-is, not-killed}
 use Rattle.pv_meanings.specs.Lacking.{MissingDecides}
-
--- what an attempt comes to is no kill
-not-killed : (before s : State) (pid : ℕ) (me : Process) (attempt : Attempt Effect) (a : Promise) → (answer_by_attempt before s pid me attempt).outcome ≡ Killed a → ⊥
-not-killed before s pid me (done walks (after, returns n)) a is = cc is
-not-killed before s pid me (done walks (after, returns_bytes n bytes)) a is = cc is
-not-killed before s pid me (done walks (after, ends status)) a is = cc is
-not-killed before s pid me (done walks (after, waits)) a is = cc is
-not-killed before s pid me (refused walks errno cause) a is = cc is
 
 module _ (program_of : Bytes → Option Program) (s : State) (pid : ℕ) (p : Process) (at : process_at s pid ≡ Some p) where
   one : (me : Process) → process_at s pid ≡ Some me → me ≡ p

@@ -7,11 +7,9 @@ use Rattle.pv_model.specs.declared.call.Call.{Call}
 use Rattle.pv_model.specs.declared.call.Call.TheVariants.{Exit}
 use Rattle.pv_model.specs.declared.outcome.Outcome.TheVariants.{Killed}
 use Rattle.pv_model.specs.declared.promise.Promise.{Promise}
-use Rattle.pv_model.specs.Answer.{answer, answer_by_attempt, at_next_line, effect}
-use Rattle.pv_model.specs.Attempt.{Attempt, done, refused}
+use Rattle.pv_model.specs.Answer.{answer, at_next_line, effect}
 use Rattle.pv_model.specs.Bytes.{Bytes}
 use Rattle.pv_model.specs.Calls.Processes.{exit_status, end_process}
-use Rattle.pv_model.specs.Effect.{Effect, returns, returns_bytes, ends, waits}
 use Rattle.pv_model.specs.Held.{among, trim}
 use Rattle.pv_model.specs.Needs.{needs}
 use Rattle.pv_model.specs.Numbered.{at_number}
@@ -202,18 +200,11 @@ module _ (program_of : Bytes → Option Program) (s : State) (pid : ℕ) (p : Pr
   exits-leave code is =
       subst (λ (w : Stepped). IsEnded s w.after pid p (exit_status code)) (sym (Put.step-is program_of s pid p at ∙ ap (step_by program_of s pid p) is)) (exit-ends code)
 
-  not-killed : (before x : State) (me : Process) (attempt : Attempt Effect) (a : Promise) → (answer_by_attempt before x pid me attempt).outcome ≡ Killed a → ⊥
-  not-killed before x me (done walks (y, returns n)) a is = cc is
-  not-killed before x me (done walks (y, returns_bytes n bytes)) a is = cc is
-  not-killed before x me (done walks (y, ends status)) a is = cc is
-  not-killed before x me (done walks (y, waits)) a is = cc is
-  not-killed before x me (refused walks errno cause) a is = cc is
-
   kill-ends : (call : Call) (a : Promise) → (answer program_of s pid call).outcome ≡ Killed a → IsEnded s (answer program_of s pid call).after pid p 6
   kill-ends call a =
       by_answer (λ x. x.outcome ≡ Killed a → IsEnded s x.after pid p 6) program_of s pid call
       (λ gone is. cc is)
-      (λ me found met is. absurd (not-killed s (at_call s pid me) (at_next_line me) (effect program_of (at_call s pid me) pid (at_next_line me) call) a is))
+      (λ me found met is. absurd (Put.not-killed s (at_call s pid me) pid (at_next_line me) (effect program_of (at_call s pid me) pid (at_next_line me) call) a is))
       (λ me b found missing lenient is. cc is)
       (λ me b found missing lenient is. before-call me found 6)
 

@@ -5,9 +5,13 @@ use Rattle.std.specs.Ordering.{nat_cmp}
 use Rattle.std.proofs.lemmas.Bool.{and_parts, leb-true}
 use Rattle.pv_model.specs.declared.instruction.Instruction.{Instruction}
 use Rattle.pv_model.specs.declared.instruction.Instruction.TheVariants as Line
-use Rattle.pv_model.specs.Answer.{at_next_line, update_live, update}
+use Rattle.pv_model.specs.declared.outcome.Outcome.TheVariants.{Killed}
+use Rattle.pv_model.specs.declared.promise.Promise.{Promise}
+use Rattle.pv_model.specs.Answer.{answer_by_attempt, at_next_line, update_live, update}
+use Rattle.pv_model.specs.Attempt.{Attempt, done, refused}
 use Rattle.pv_model.specs.Bytes.{Bytes}
 use Rattle.pv_model.specs.Calls.Processes.{is_unclaimed, adopter, end_process}
+use Rattle.pv_model.specs.Effect.{Effect, returns, returns_bytes, ends, waits}
 use Rattle.pv_model.specs.Held.{trim}
 use Rattle.pv_model.specs.Program.{jump_if, Next, inside, calls_for, perform, next_by, next}
 use Rattle.pv_model.specs.State.{Program, Process, Record, live, ended_record, State, process_at, live_process}
@@ -152,3 +156,11 @@ step-is program_of s pid p at = ap (step_of program_of s pid) at
 pub step-gone : (program_of : Bytes → Option Program) (s : State) (pid : ℕ) → process_at s pid ≡ None → step program_of s pid ≡ step_of program_of s pid None
 unfolding step
 step-gone program_of s pid none = ap (step_of program_of s pid) none
+
+-- what an attempt comes to is no kill
+pub not-killed : (before x : State) (pid : ℕ) (me : Process) (attempt : Attempt Effect) (a : Promise) → (answer_by_attempt before x pid me attempt).outcome ≡ Killed a → ⊥
+not-killed before x pid me (done walks (after, returns n)) a is = cc is
+not-killed before x pid me (done walks (after, returns_bytes n bytes)) a is = cc is
+not-killed before x pid me (done walks (after, ends status)) a is = cc is
+not-killed before x pid me (done walks (after, waits)) a is = cc is
+not-killed before x pid me (refused walks errno cause) a is = cc is
