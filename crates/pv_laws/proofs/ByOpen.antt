@@ -116,7 +116,7 @@ module _ (s : State) (pid : ℕ) (me : Process) (whole : IsWhole s) (at : proces
           (λ other. ap (among (used opened)) (sym user.6) ∙ among-used opened user.0 user.1 user.2 user.3 (process_at-other between pid opener user.0 other ∙ user.4) user.5)
           (cases_eq user.0 pid)
 
-      held-more : (m : ℕ) → among (held_after s) m ≡ true → among (held_after opened) m ≡ true
+      pub held-more : (m : ℕ) → among (held_after s) m ≡ true → among (held_after opened) m ≡ true
       held-more m is =
           held_cases (among (held_after opened) m ≡ true) s whole.processes.ascending m is
           (λ number p there holds. ⊎_elim

@@ -24,10 +24,7 @@ use Rattle.pv_laws.proofs.Whole.{has_room, solid, solid-with_process, table-same
 
 -- ---- places
 
--- a place that calls may use: a directory that stands, what it has, a name with bytes
-abbrev pub IsFinePlace : Tree → Place → Type 0
-IsFinePlace t (Unnamed d) = is_directory_at t d ≡ true
-IsFinePlace t (At d name n) = (is_directory_at t d ≡ true) × (is_removed t d ≡ false) × (find_entry t d name ≡ n) × (is_name t.version name ≡ true) × (are_bytes name ≡ true)
+pub use Rattle.pv_laws.specs.States.{IsFinePlace}
 
 both_tests : (xs : Bytes) → list_all not_zero xs ≡ true → list_all is_byte xs ≡ true → list_all is_text_byte xs ≡ true
 both_tests [] a b = refl

@@ -1,5 +1,5 @@
 -- What every state of a run is.
-use Rattle.std.specs.Prelude.{◌≡◌, ◌≢◌, ℕ, suc, ◌≤◌, ℤ, pos, negsuc, Bool, true, not, ◌&&◌, ◌||◌, ◌==◌, IsTrue, IsFalse, nat_le, nat_lt, List, length, Option, None, Some, is_some}
+use Rattle.std.specs.Prelude.{◌≡◌, ◌≢◌, ℕ, suc, ◌≤◌, ℤ, pos, negsuc, Bool, true, false, not, ◌&&◌, ◌||◌, ◌==◌, IsTrue, IsFalse, nat_le, nat_lt, List, length, Option, None, Some, is_some}
 use Rattle.std.specs.FinMap.Entries.{find, is_sorted}
 use Rattle.std.specs.List.{list_all}
 use Rattle.std.specs.Ordering.{nat_cmp}
@@ -14,6 +14,8 @@ use Rattle.pv_model.specs.declared.instruction.Operand.{Operand}
 use Rattle.pv_model.specs.declared.instruction.Operand.TheVariants.{Number, Register}
 use Rattle.pv_model.specs.declared.instruction.Origin.{Origin}
 use Rattle.pv_model.specs.declared.instruction.Origin.TheVariants.{WorkingDirectory as HereOrigin, Descriptor as OfDescriptor}
+use Rattle.pv_model.specs.declared.place.Place.{Place}
+use Rattle.pv_model.specs.declared.place.Place.TheVariants.{At, Node as Unnamed}
 use Rattle.pv_model.specs.declared.version.Version.{Version}
 use Rattle.pv_model.specs.Answer.{answer}
 use Rattle.pv_model.specs.Bytes.{Bytes}
@@ -24,7 +26,7 @@ use Rattle.pv_model.specs.Room.{fits, is_too_long}
 use Rattle.pv_model.specs.Sealed.{is_file}
 use Rattle.pv_model.specs.State.{OpenFile, Descriptor, Program, Process, Record, ended_record, State, writes, first_state, process_at}
 use Rattle.pv_model.specs.Step.{step, run}
-use Rattle.pv_model.specs.Tree.{Tree, node_at, is_directory_at, is_name, IsWellFormed}
+use Rattle.pv_model.specs.Tree.{Tree, node_at, is_directory_at, is_name, is_removed, find_entry, IsWellFormed}
 use Rattle.pv_model.specs.declared.target.Target.{Target}
 use Rattle.pv_model.specs.declared.target.Target.TheVariants.{Directory as of_directory, Name as of_name}
 use Rattle.pv_model.specs.Unveil.{Table}
@@ -173,6 +175,11 @@ pub record AreFiles (t : Tree) (files : Numbered OpenFile) : Type 0 where
 abbrev pub is_target : Tree → Target → Bool
 is_target t (of_directory d) = is_directory_at t d
 is_target t (of_name d name) = is_directory_at t d && (is_name t.version name && are_bytes name)
+
+-- what a walk leads to: a directory without a name, or a place in a directory that stands, with what that has under the name
+abbrev pub IsFinePlace : Tree → Place → Type 0
+IsFinePlace t (Unnamed d) = is_directory_at t d ≡ true
+IsFinePlace t (At d name n) = (is_directory_at t d ≡ true) × (is_removed t d ≡ false) × (find_entry t d name ≡ n) × (is_name t.version name ≡ true) × (are_bytes name ≡ true)
 
 -- a table has at most 64 entries
 abbrev pub is_table : Tree → Option Table → Bool

@@ -1,3 +1,4 @@
+pub mod Dots
 pub mod FirstPlaces
 pub mod Pieces
 pub mod Spelling

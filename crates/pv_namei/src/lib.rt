@@ -17,4 +17,5 @@ mod tests;
 mod walk;
 
 pub use lookup::{Lookup, PlainLookup};
+pub use piece::{ends_in_dot, is_absolute};
 pub use walk::resolve;

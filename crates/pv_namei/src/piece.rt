@@ -1,6 +1,9 @@
 //! A path, piece by piece: a piece is what is not empty between slashes.
 ghost use Rattle.std.specs.Prelude.{◌≡◌, ◌<◌, ◌==◌, ◌∷◌, [], not, length, position, MatchOption, IfSome};
+ghost use Rattle.pv_model.specs.Calls.Paths.{ends_in_dot};
 ghost use Rattle.pv_model.specs.Walk.{pieces, is_absolute, ends_in_slash};
+
+use crate::ahead::{is_dot, is_dot_dot};
 
 // The index of the first slash.
 fn first_slash(path: &[u8]) -> Option<usize>
@@ -29,8 +32,21 @@ pub(crate) fn split_first(path: &[u8]) -> Option<(&[u8], &[u8])>
     Some(path.split_at(end))
 }
 
+/// Whether the last piece of a path is `.` or `..`.
+pub fn ends_in_dot(path: &[u8]) -> bool
+    ensures { result ≡ ends_in_dot path.now }
+{
+    let mut rest = path;
+    let mut dots = false;
+    while let Some((piece, behind)) = split_first(rest) {
+        dots = is_dot(piece) || is_dot_dot(piece);
+        rest = behind;
+    }
+    dots
+}
+
 /// Whether a path begins with a slash.
-pub(crate) fn is_absolute(path: &[u8]) -> bool
+pub fn is_absolute(path: &[u8]) -> bool
     ensures { result ≡ is_absolute path.now }
 {
     match path {

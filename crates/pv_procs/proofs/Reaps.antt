@@ -1,6 +1,7 @@
 -- A child that is waited for, on the places.
-use Rattle.std.proofs.Common.{◌≡◌, ℕ, zero, suc, ◌+◌, ◌<◌, ◌≤◌, Bool, true, false, cond, not, ◌&&◌, ◌||◌, ◌==◌, nat_lt, List, [], ◌∷◌, filter, length, count_by, position, Option, None, Some, is_none, is_some, refl, sym, ap, ap₂, ◌∙◌, arith}
+use Rattle.std.proofs.Common.{◌≡◌, ℕ, zero, suc, ◌+◌, ◌<◌, ◌≤◌, Bool, true, false, cond, not, ◌&&◌, ◌||◌, ◌==◌, nat_lt, List, [], ◌∷◌, filter, length, count_by, position, Option, None, Some, is_none, is_some, refl, sym, ap, ap₂, subst, ◌∙◌, arith}
 use Rattle.std.specs.FinMap.Entries.{where_key}
+use Rattle.std.specs.Prelude.{◌↔◌, IsTrue}
 use Rattle.std.specs.List.{list_all, list_any, remove, position_or_len, prefix_len}
 use Rattle.std.specs.Ordering.{nat_cmp}
 use Rattle.std.proofs.Math.ListN.{get_or}
@@ -9,10 +10,10 @@ use Rattle.std.proofs.lemmas.Bool.Decides.{nat_tests}
 use Rattle.std.proofs.lemmas.List.Quantifiers.{position-Some}
 use Rattle.std.proofs.lemmas.List.Sums.{prefix_len-le-length}
 use Rattle.pv_model.specs.declared.errno.Errno.TheVariants.{ECHILD}
-use Rattle.pv_model.specs.Attempt.{Attempt, ◌>>◌, refuse_if}
+use Rattle.pv_model.specs.Attempt.{Attempt, done, refused, ◌>>◌, give, refuse_if}
 use Rattle.pv_model.specs.Bytes.{is_empty, little_endian}
 use Rattle.pv_model.specs.Calls.Processes.{parent_of, statuses, reap, wait}
-use Rattle.pv_model.specs.Effect.{Effect, answers_bytes}
+use Rattle.pv_model.specs.Effect.{Effect, Reply, returns_bytes, waits, answers_bytes}
 use Rattle.pv_model.specs.Numbered.{Numbered}
 use Rattle.pv_model.specs.State.{OpenFile, Process, Record, State}
 use Rattle.pv_model.specs.Tree.{Tree}
@@ -20,7 +21,7 @@ use Rattle.pv_procs.specs.declared.place.Place.{Place}
 use Rattle.pv_procs.specs.declared.shared.Shared.{Shared}
 use Rattle.pv_procs.specs.declared.processes.Reap.TheVariants.{Child, Blocked, NoChild}
 use Rattle.pv_procs.specs.Places.{IsKept, entry_by, entry_of, entries_of, is_above, ascends, is_numbered, is_ended_child, uses, users_at, program_at, table_of}
-use Rattle.pv_procs.specs.ProcessTable.{state_with}
+use Rattle.pv_procs.specs.ProcessTable.{ProcessTable, state_with}
 use Rattle.pv_procs.specs.Reaping.{waited}
 use Rattle.pv_procs.proofs.Finding.{parent-entry, above_at}
 use Rattle.pv_procs.proofs.Keeping.{bit, count_by-cons}
@@ -96,6 +97,23 @@ module _ (programs : List Shared) (pid : ℕ) where
           ap (λ t. t || list_any (λ (q : Place). q.parent == pid) ps) same
           ∙ elim b as (λ t. (t || list_any (λ (q : Place). q.parent == pid) ps) ≡ not (is_empty (cond t ((p.number, entry_of programs p) ∷ children_in ps) (children_in ps)))) [ true ↦ refl | false ↦ rest ]
           ∙ sym (ap (λ t. not (is_empty (cond t ((p.number, entry_of programs p) ∷ children_in ps) (children_in ps)))) (ap (λ n. n == pid) (parent-entry p (program_at programs p.program) p.status) ∙ same))
+
+  abbrev pub ended_in : List Place → Bool
+  ended_in places = list_any (λ (p : Place). is_ended_child pid p) places
+
+  -- whether one has ended
+  pub any-ended : (places : List Place) → list_any (λ (p : Place). is_ended_child pid p) places ≡ not (is_empty (statuses (children_in places)))
+  any-ended [] = refl
+  any-ended (p ∷ ps) = by (any-ended ps) (p.parent == pid) refl p.status refl
+    where
+      by : ended_in ps ≡ not (is_empty (statuses (children_in ps))) → (b : Bool) → (p.parent == pid) ≡ b → (status : Option ℕ) → p.status ≡ status
+          → ended_in (p ∷ ps) ≡ not (is_empty (statuses (children_in (p ∷ ps))))
+      by rest false same status has =
+          ap (λ t. t || ended_in ps) (test-is p false same status has) ∙ rest ∙ sym (ap (λ ss. not (is_empty ss)) (first-is p ps false same status has))
+      by rest true same None has =
+          ap (λ t. t || ended_in ps) (test-is p true same None has) ∙ rest ∙ sym (ap (λ ss. not (is_empty ss)) (first-is p ps true same None has))
+      by rest true same (Some n) has =
+          ap (λ t. t || ended_in ps) (test-is p true same (Some n) has) ∙ sym (ap (λ ss. not (is_empty ss)) (first-is p ps true same (Some n) has))
 
 -- ---- a place is taken out
 
@@ -208,6 +226,33 @@ module _ (places : List Place) (programs : List Shared) (last pid : ℕ) (t : Tr
       let first = first-ended programs pid places k place status at.0 is test ended at.2 in
       ap₂ wait_by (not-empty (children_in programs pid places) (place.number, status) first.0 first.1) first.1
       ∙ ap (λ es. answers_bytes (record { tree = t; files = files; processes = es; last_process = last }) place.number (little_endian 4 status)) (remove-at programs places k place asc at.0 is)
+
+  waits-by : (rs : List (ℕ × Record)) (ss : List (ℕ × ℕ)) → IsTrue (not (is_empty rs) && not (not (is_empty ss))) ↔ (wait_by (is_empty rs) ss ≡ give (before, waits))
+  waits-by [] ss = (λ no. cc, λ no. cc)
+  waits-by (r ∷ rs) [] = (λ is. refl, λ is. refl)
+  waits-by (r ∷ rs) (one ∷ ss) = (λ no. cc, λ no. apart one ss no)
+    where
+      apart : (one : ℕ × ℕ) (ss : List (ℕ × ℕ)) → reap before pid me (one ∷ ss) ≡ give (before, waits) → false ≡ true
+      apart (number, status) ss is = told (ap reply_of is)
+        where
+          reply_of : Attempt Effect → Reply
+          reply_of (done walks effect) = effect.1
+          reply_of (refused walks errno cause) = waits
+
+          told : returns_bytes number (little_endian 4 status) ≡ waits → false ≡ true
+          told is = cc
+
+  waits-where : (IsTrue (list_any (λ (p : Place). p.parent == pid) places && not (ended_in programs pid places))) ↔ (wait before pid me ≡ give (before, waits))
+  waits-where =
+      rw (any-child programs pid places, any-ended programs pid places) (waits-by (children_in programs pid places) (statuses (children_in programs pid places)))
+
+  -- whether a wait waits, by two tests
+  pub waits-tested : (some ended result : Bool) → some ≡ list_any (λ (p : Place). p.parent == pid) places → ended ≡ list_any (λ (p : Place). is_ended_child pid p) places
+      → result ≡ (some && not ended) → (table : ProcessTable) → table_of places programs last ≡ table
+      → IsTrue result ↔ (wait (state_with t files table) pid me ≡ give (state_with t files table, waits))
+  waits-tested some ended result is has both table same =
+      subst (λ (v : ProcessTable). IsTrue result ↔ (wait (state_with t files v) pid me ≡ give (state_with t files v, waits))) same
+      (subst (λ b. IsTrue b ↔ (wait before pid me ≡ give (before, waits))) (sym (both ∙ ap₂ (λ a b. a && not b) is has)) waits-where)
 
 -- it is there, and has ended
 pub ended-within : (pid : ℕ) (places : List Place) (k : ℕ) (place : Place) → position (λ (p : Place). is_ended_child pid p) places ≡ Some k → k < length places

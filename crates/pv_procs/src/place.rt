@@ -118,3 +118,12 @@ pub(crate) fn has_child(places: &[Place], pid: u32) -> bool
 {
     places.iter().any(|place| place.parent == pid)
 }
+
+// Whether a process has a child that has ended.
+pub(crate) fn has_ended_child(places: &[Place], pid: u32) -> bool
+    ensures { result ≡ list_any (λ place. is_ended_child pid place) places.now }
+{
+    places
+        .iter()
+        .any(|place| place.parent == pid && place.status.is_some())
+}

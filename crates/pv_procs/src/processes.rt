@@ -6,9 +6,9 @@ ghost use Rattle.std.specs.Ordering.{nat_cmp};
 ghost use Rattle.pv_model.specs.declared.limits.TheConstants.{BUFFER};
 ghost use Rattle.pv_model.specs.declared.errno.Errno.TheVariants.{EAGAIN};
 ghost use Rattle.pv_model.specs.Answer.{at_next_line, with_front};
-ghost use Rattle.pv_model.specs.Attempt.{refuse};
+ghost use Rattle.pv_model.specs.Attempt.{give, refuse};
 ghost use Rattle.pv_model.specs.Calls.Processes.{parent_of, with_result, end_process, fork, wait, with_program};
-ghost use Rattle.pv_model.specs.Effect.{answers};
+ghost use Rattle.pv_model.specs.Effect.{answers, waits};
 ghost use Rattle.pv_model.specs.Numbered.{Numbered};
 ghost use Rattle.pv_model.specs.Program.{next, calls_for};
 ghost use Rattle.pv_model.specs.State.{OpenFile, Process, State};
@@ -17,8 +17,8 @@ ghost use Rattle.pv_model.specs.Tree.{Tree};
 use crate::Record;
 use crate::ending::settle;
 use crate::place::{
-    Place, adopter, blank, ended_child_of, has_child, index_of, live_index, make_child,
-    spare_places,
+    Place, adopter, blank, ended_child_of, has_child, has_ended_child, index_of, live_index,
+    make_child, spare_places,
 };
 use crate::shared::{Shared, first_programs, free_program, let_go, take_up};
 use pv_model::Errno;
@@ -183,6 +183,14 @@ impl Processes {
         let child = Reap::Child(place.number, place.status.unwrap_or(0));
         self.spare.push_reserved(place);
         child
+    }
+
+    /// Whether a wait(2) of a process would wait: it has children, and all are live.
+    pub fn waits(&self, pid: u32) -> bool
+        ensures { (t : Tree) (files : Numbered OpenFile) (me : Process)
+            → IsTrue result ↔ (wait (state_with t files self.now) pid me ≡ give (state_with t files self.now, waits)) }
+    {
+        has_child(&self.places, pid) && !has_ended_child(&self.places, pid)
     }
 
     /// Gives a live process another program, execve(2): its promises become its execpromises, without these its

@@ -35,12 +35,14 @@ fn family(rt: &impl Abort, alloc: Global) -> Result<Processes, AllocError> {
 fn waits_for_children(rt: HostRuntime) -> Result<(), Fail> {
     let mut processes = family(&rt, rt.alloc())?;
     assert_eq!(rt; processes.parent_of(4), Some(2));
+    assert!(rt; processes.waits(1) && !processes.waits(3));
     assert_eq!(rt; processes.reap(1), Reap::Blocked);
     assert_eq!(rt; processes.reap(3), Reap::NoChild);
     end(&rt, &mut processes, 2, 6);
     assert!(rt; !processes.live(2));
     assert_eq!(rt; processes.parent_of(2), Some(1));
     assert_eq!(rt; processes.parent_of(4), Some(1));
+    assert!(rt; !processes.waits(1));
     assert_eq!(rt; processes.reap(1), Reap::Child(2, 6));
     assert_eq!(rt; processes.parent_of(2), None);
     assert_eq!(rt; processes.reap(1), Reap::Blocked);

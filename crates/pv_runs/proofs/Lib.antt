@@ -1,4 +1,4 @@
-mod Ranges
+pub mod Ranges
 mod Entries
 mod Trees
 mod Starting

@@ -1,0 +1,98 @@
+-- Whether a wait would wait does not depend on the line of its process.
+use Rattle.std.proofs.Common.{◌≡◌, ◌∙◌, ap, sym, subst, refl, ℕ, ◌↔◌, Bool, true, false, cond, List, [], ◌∷◌, Some}
+use Rattle.std.specs.Prelude.{filter, ◌==◌}
+use Rattle.std.specs.FinMap.Entries.{by_order, find, put, is_sorted, below_all}
+use Rattle.std.specs.Ordering.{nat_cmp, is_eq}
+use Rattle.std.specs.declared.cmp.Ordering.{Ordering}
+use Rattle.std.specs.declared.cmp.Ordering.TheVariants.{Less, Equal, Greater}
+use Rattle.pv_model.specs.declared.errno.Errno.TheVariants.{ECHILD}
+use Rattle.pv_model.specs.Answer.{at_next_line}
+use Rattle.pv_model.specs.Attempt.{done, give, refuse_if, ◌>>◌}
+use Rattle.pv_model.specs.Bytes.{is_empty}
+use Rattle.pv_model.specs.Calls.Processes.{parent_of, children, statuses, reap, wait}
+use Rattle.pv_model.specs.Effect.{Effect, waits}
+use Rattle.pv_model.specs.State.{Process, Record, live, ended_record, State, process_at, with_process}
+use Rattle.std.proofs.lemmas.Bool.{and_parts}
+use Rattle.pv_laws.proofs.Members.{live-found}
+use Rattle.pv_laws.proofs.Running.{not_before}
+
+-- among ended and live processes, those that a test takes: whether there are any, and the statuses of those that ended
+abbrev SameChildren : (ℕ × Record → Bool) → List (ℕ × Record) → List (ℕ × Record) → Type 0
+SameChildren test xs ys = (is_empty (filter test xs) ≡ is_empty (filter test ys)) × (statuses (filter test xs) ≡ statuses (filter test ys))
+
+module _ (parent : ℕ) where
+  behind : (e : ℕ × Record) (xs ys : List (ℕ × Record)) → SameChildren (λ r. parent_of r.1 == parent) xs ys → SameChildren (λ r. parent_of r.1 == parent) (e ∷ xs) (e ∷ ys)
+  behind (k, live p) xs ys same = by (p.parent == parent) same
+    where
+      by : (b : Bool) → SameChildren (λ r. parent_of r.1 == parent) xs ys
+          → (is_empty (cond b ((k, live p) ∷ filter (λ r. parent_of r.1 == parent) xs) (filter (λ r. parent_of r.1 == parent) xs)) ≡ is_empty (cond b ((k, live p) ∷ filter (λ r. parent_of r.1 == parent) ys) (filter (λ r. parent_of r.1 == parent) ys)))
+          × (statuses (cond b ((k, live p) ∷ filter (λ r. parent_of r.1 == parent) xs) (filter (λ r. parent_of r.1 == parent) xs)) ≡ statuses (cond b ((k, live p) ∷ filter (λ r. parent_of r.1 == parent) ys) (filter (λ r. parent_of r.1 == parent) ys)))
+      by true s = (refl, s.1)
+      by false s = s
+  behind (k, ended_record up status) xs ys same = by (up == parent) same
+    where
+      by : (b : Bool) → SameChildren (λ r. parent_of r.1 == parent) xs ys
+          → (is_empty (cond b ((k, ended_record up status) ∷ filter (λ r. parent_of r.1 == parent) xs) (filter (λ r. parent_of r.1 == parent) xs)) ≡ is_empty (cond b ((k, ended_record up status) ∷ filter (λ r. parent_of r.1 == parent) ys) (filter (λ r. parent_of r.1 == parent) ys)))
+          × (statuses (cond b ((k, ended_record up status) ∷ filter (λ r. parent_of r.1 == parent) xs) (filter (λ r. parent_of r.1 == parent) xs)) ≡ statuses (cond b ((k, ended_record up status) ∷ filter (λ r. parent_of r.1 == parent) ys) (filter (λ r. parent_of r.1 == parent) ys)))
+      by true s = (refl, ap (λ ss. (k, status) ∷ ss) s.1)
+      by false s = s
+
+  put-children : (rs : List (ℕ × Record)) (pid : ℕ) (p q : Process) → is_sorted nat_cmp rs ≡ true → find nat_cmp pid rs ≡ Some (live p) → q.parent ≡ p.parent
+      → SameChildren (λ r. parent_of r.1 == parent) (put nat_cmp pid (live q) rs) rs
+  put-children [] pid p q sorted found same = cc
+  put-children (e ∷ rs) pid p q sorted found same = by (nat_cmp pid e.0) refl
+      (λ there. put-children rs pid p q (and_parts (below_all nat_cmp e.0 rs) _ sorted).1 there same)
+    where
+      one : (b : Bool) → (is_empty (cond b ((e.0, live q) ∷ filter (λ r. parent_of r.1 == parent) rs) (filter (λ r. parent_of r.1 == parent) rs)) ≡ is_empty (cond b ((e.0, live p) ∷ filter (λ r. parent_of r.1 == parent) rs) (filter (λ r. parent_of r.1 == parent) rs)))
+          × (statuses (cond b ((e.0, live q) ∷ filter (λ r. parent_of r.1 == parent) rs) (filter (λ r. parent_of r.1 == parent) rs)) ≡ statuses (cond b ((e.0, live p) ∷ filter (λ r. parent_of r.1 == parent) rs) (filter (λ r. parent_of r.1 == parent) rs)))
+      one true = (refl, refl)
+      one false = (refl, refl)
+
+      head : (r : Record) → r ≡ live p → SameChildren (λ r. parent_of r.1 == parent) ((e.0, live q) ∷ rs) ((e.0, r) ∷ rs)
+      head r is =
+          subst (λ x. SameChildren (λ r. parent_of r.1 == parent) ((e.0, live q) ∷ rs) ((e.0, x) ∷ rs)) (sym is)
+          (subst (λ n.
+          (is_empty (cond (n == parent) ((e.0, live q) ∷ filter (λ r. parent_of r.1 == parent) rs) (filter (λ r. parent_of r.1 == parent) rs)) ≡ is_empty (filter (λ r. parent_of r.1 == parent) ((e.0, live p) ∷ rs)))
+          × (statuses (cond (n == parent) ((e.0, live q) ∷ filter (λ r. parent_of r.1 == parent) rs) (filter (λ r. parent_of r.1 == parent) rs)) ≡ statuses (filter (λ r. parent_of r.1 == parent) ((e.0, live p) ∷ rs)))) (sym same) (one (p.parent == parent)))
+
+      by : (o : Ordering) → nat_cmp pid e.0 ≡ o → (find nat_cmp pid rs ≡ Some (live p) → SameChildren (λ r. parent_of r.1 == parent) (put nat_cmp pid (live q) rs) rs)
+          → SameChildren (λ r. parent_of r.1 == parent) (by_order o ((pid, live q) ∷ e ∷ rs) ((e.0, live q) ∷ rs) (e ∷ put nat_cmp pid (live q) rs)) (e ∷ rs)
+      by Less is rest = not_before pid (live p) e rs sorted is found
+      by Equal is rest = head e.1 (cc (sym (ap (λ o. cond (is_eq o) (Some e.1) (find nat_cmp pid rs)) is) ∙ found))
+      by Greater is rest = behind e (put nat_cmp pid (live q) rs) rs (rest (sym (ap (λ o. cond (is_eq o) (Some e.1) (find nat_cmp pid rs)) is) ∙ found))
+
+value_of : {a b : ℕ} {x y : Effect} → done a x ≡ done b y → x ≡ y
+value_of {a} {b} {x} {y} is = cc is
+
+-- a wait would wait just where there are children and none has ended
+abbrev waiting : Bool → List (ℕ × ℕ) → Bool
+waiting true ss = false
+waiting false [] = true
+waiting false (e ∷ ss) = false
+
+module _ (s : State) (pid : ℕ) (me : Process) where
+  told : (b : Bool) (ss : List (ℕ × ℕ)) → (refuse_if ECHILD b >> reap s pid me ss) ≡ give (s, waits) → waiting b ss ≡ true
+  told true ss is = cc
+  told false [] is = refl
+  told false ((k, status) ∷ ss) is = let reply = ap (λ (x : Effect). x.1) (value_of is) in cc reply
+
+  tells : (b : Bool) (ss : List (ℕ × ℕ)) → waiting b ss ≡ true → (refuse_if ECHILD b >> reap s pid me ss) ≡ give (s, waits)
+  tells true ss is = cc
+  tells false [] is = refl
+  tells false (e ∷ ss) is = cc
+
+  waits-told : wait s pid me ≡ give (s, waits) → waiting (is_empty (children s pid me)) (statuses (children s pid me)) ≡ true
+  waits-told = told (is_empty (children s pid me)) (statuses (children s pid me))
+
+  waits-tells : waiting (is_empty (children s pid me)) (statuses (children s pid me)) ≡ true → wait s pid me ≡ give (s, waits)
+  waits-tells = tells (is_empty (children s pid me)) (statuses (children s pid me))
+
+module _ (s : State) (pid : ℕ) (me : Process) (sorted : is_sorted nat_cmp s.processes ≡ true) (at : process_at s pid ≡ Some me) where
+  -- the same would wait from the next line
+  pub waits-next : wait (with_process s pid (at_next_line me)) pid (at_next_line me) ≡ give (with_process s pid (at_next_line me), waits) ↔ (wait s pid me ≡ give (s, waits))
+  waits-next =
+      let t = with_process s pid (at_next_line me) in
+      let same = put-children pid s.processes pid me (at_next_line me) sorted (live-found s pid me at) refl in
+      let equal : waiting (is_empty (children t pid (at_next_line me))) (statuses (children t pid (at_next_line me))) ≡ waiting (is_empty (children s pid me)) (statuses (children s pid me)) =
+      ap (λ b. waiting b (statuses (children t pid (at_next_line me)))) same.0 ∙ ap (waiting (is_empty (children s pid me))) same.1 in
+      (λ is. waits-tells s pid me (sym equal ∙ waits-told t pid (at_next_line me) is), λ is. waits-tells t pid (at_next_line me) (equal ∙ waits-told s pid me is))

@@ -1,0 +1,19 @@
+use Rattle.std.proofs.Common.{ap, sym, ◌∙◌, subst, refl, Ok}
+use Rattle.pv_model.specs.Tree.{find_entry}
+use Rattle.pv_laws.specs.States.{IsWhole}
+use Rattle.pv_calls.proofs.Booting.{boot-refused, boot-made, boot-whole}
+use Rattle.pv_calls.proofs.kernel.Kernel.boot_with.Goals as goal
+
+pub returns-in-Err-clause-refused : goal.returns-in-Err-clause-refused
+returns-in-Err-clause-refused g c = boot-refused c.args.store c.tree.result.now.tree c.in-Err.fault c.tree.ensures.tree c.in-Err.ensures.refused
+
+pub invariant_of-result : goal.invariant_of-result
+invariant_of-result g c =
+    let made = c.in_ok-parts.ensures {u = tt} in (
+      subst IsWhole (sym made) (boot-whole c.args.store c.tree.result.now.tree c.in-Ok.program c.requires.first c.tree.ensures.tree c.in-Ok.ensures.program),
+      subst (λ s. g.L.Lookup.agrees c.args.lookup (find_entry s.tree)) (sym made) c.requires.agrees,
+    )
+
+pub returns-clause-booted : goal.returns-clause-booted
+returns-clause-booted g c =
+    (boot-made c.args.store c.tree.result.now.tree c.in-Ok.program c.tree.ensures.tree c.in-Ok.ensures.program ∙ ap (λ s. Ok s) (sym (c.in_ok-parts.ensures {u = tt})), refl)

@@ -1,0 +1,59 @@
+-- What the parts come to.
+use Rattle.std.specs.Prelude.{◌≡◌, ℕ, if◌then◌else◌, [], Bool, false, Some}
+use Rattle.pv_model.specs.declared.open_flags.OpenFlags.{OpenFlags}
+use Rattle.pv_model.specs.declared.perms.Perms.{Perms}
+use Rattle.pv_model.specs.declared.target.Target.{Target}
+use Rattle.pv_model.specs.Attempt.{give}
+use Rattle.pv_model.specs.Bytes.{Bytes}
+use Rattle.pv_model.specs.Calls.Descriptors.{with_content, with_open_file}
+use Rattle.pv_model.specs.Program.{inside, next}
+use Rattle.pv_model.specs.Numbered.{Numbered, with_number, least_free}
+use Rattle.pv_model.specs.State.{Descriptor, Process, State, with_process}
+use Rattle.pv_model.specs.Tree.{Tree, file_node, new_number, with_new_node}
+use Rattle.pv_model.specs.Unveil.{Table}
+use Rattle.pv_unveil.specs.Added.{add_to}
+use Rattle.pv_unveil.specs.Unveiled.{Unveiled}
+
+-- the instruction inside a process that comes next was made
+pub record StepsInside (s : State) (pid : ℕ) (me : Process) (new : State) : Type 0 where
+  pub after : Process
+  pub step : next me ≡ inside after
+  pub only : new ≡ with_process s pid after
+
+abbrev pub unveiled_of : Process → Unveiled
+unveiled_of p = record { table = p.table; locked = p.locked }
+
+abbrev pub with_directory : ℕ → Process → Process
+with_directory n p = record p { directory = n }
+
+abbrev pub with_descriptors : Numbered Descriptor → Process → Process
+with_descriptors ds p = record p { descriptors = ds }
+
+-- with a descriptor of an open file, the least that is free
+abbrev pub with_opened_descriptor : ℕ → Bool → Process → Process
+with_opened_descriptor file close_on_exec p =
+    with_descriptors (with_number p.descriptors (least_free p.descriptors) (record { file = file; close_on_exec = close_on_exec })) p
+
+abbrev pub with_unveiled : Unveiled → Process → Process
+with_unveiled u p = record p { table = u.table; locked = u.locked }
+
+abbrev pub with_table : Table → Process → Process
+with_table table p = record p { table = Some table }
+
+-- an entry was added to a process's table, or left with fewer letters
+pub record Unveils (s : State) (pid : ℕ) (me : Process) (target : Target) (letters : Perms) (new : State) : Type 0 where
+  pub table : Table
+  pub added : add_to (unveiled_of me) target letters ≡ give table
+  pub only : new ≡ with_process s pid (with_table table me)
+
+-- the tree in which a node is opened: a file is cut where the flags say so
+abbrev pub tree_for_open : Tree → OpenFlags → ℕ → Tree
+tree_for_open t f n = if f.truncate then with_content t n [] else t
+
+-- the state with a node opened
+abbrev pub with_node_opened : State → ℕ → Process → OpenFlags → ℕ → State
+with_node_opened s pid me f n = with_open_file s pid me f n (tree_for_open s.tree f n)
+
+-- the state with a new file under a name, opened
+abbrev pub with_file_made : State → ℕ → Process → OpenFlags → ℕ → Bytes → State
+with_file_made s pid me f d name = with_open_file s pid me f (new_number s.tree) (with_new_node s.tree d name (file_node false []))

@@ -1,0 +1,15 @@
+-- The parts of rename(2).
+use Rattle.std.specs.Prelude.{ℕ, not, ◌&&◌, Option, is_some}
+use Rattle.pv_model.specs.declared.errno.Errno.TheVariants.{ENOTDIR, EISDIR, EINVAL, ENOTEMPTY}
+use Rattle.pv_model.specs.Attempt.{Attempt, ◌>>◌, refuse_if}
+use Rattle.pv_model.specs.Bytes.{is_empty}
+use Rattle.pv_model.specs.Calls.Paths.{contains_directory, is_directory_there, entries_there}
+use Rattle.pv_model.specs.Tree.{Tree, is_directory_at}
+
+-- whether a node may have a name in a directory in place of what is there
+abbrev pub check_move : Tree → ℕ → ℕ → Option ℕ → Attempt (Unit {0})
+check_move t n e there = do
+  refuse_if EINVAL (contains_directory t n e)
+  refuse_if EISDIR (is_directory_there t there && not (is_directory_at t n))
+  refuse_if ENOTDIR (is_directory_at t n && is_some there && not (is_directory_there t there))
+  refuse_if ENOTEMPTY (not (is_empty (entries_there t there)))

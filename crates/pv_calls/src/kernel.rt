@@ -1,0 +1,162 @@
+//! The kernel: the parts of the system, and the calls on them.
+ghost use Rattle.std.specs.Prelude.{◌≡◌, ◌⊎◌, ◌≤◌, ℕ, IfOk, IfErr, OnErr, IsOk, IsSome, IsTrue, Ok, Err, Some, length, List, Option};
+ghost use Rattle.pv_calls.specs.Changes.{StepsInside};
+ghost use Rattle.pv_calls.specs.Kernel.{Fetches, IsCallable};
+ghost use Rattle.pv_laws.specs.States.{IsFirstTree, is_call};
+ghost use Rattle.pv_model.specs.Answer.{answer};
+ghost use Rattle.pv_model.specs.Grammar.Programs.{program_of};
+ghost use Rattle.pv_model.specs.Start.{booted};
+ghost use Rattle.pv_model.specs.State.{Process, process_at};
+ghost use Rattle.pv_model.specs.Trace.{buffer_of};
+ghost use Rattle.pv_model.specs.Tree.{find_entry};
+
+use crate::Parts;
+use crate::carry::carry_out;
+use crate::programs::init;
+use pv_model::{BootFault, Call, Outcome, StepFault};
+use pv_namei::{Lookup, PlainLookup};
+use pv_script::Next;
+use pv_tree::{Store, Tree};
+use std::alloc::Global;
+use std::marker::Model;
+
+/// What the next step of a process is.
+#[derive(Drop)]
+pub enum Fetched {
+    /// There is no such live process.
+    Gone,
+    /// An instruction on registers, or a jump.
+    Register,
+    /// A call.
+    Call(Call),
+}
+
+/// The kernel: the tree, the open files and the processes, and a lookup of names.
+///
+/// Between any two calls the state is one that a run may reach (`IsWhole`), and the lookup agrees with the tree.
+#[derive(Drop)]
+pub struct Kernel<L: Lookup + Drop> {
+    parts: Parts,
+    lookup: L,
+    walks: u8,
+}
+
+impl<L: Lookup + Drop> Model for Kernel<L> {
+    ghost use Rattle.pv_calls.specs.Changes.{StepsInside};
+    ghost use Rattle.pv_calls.specs.Kernel.{Running};
+
+    ghost Value = { Running };
+
+    ghost use Rattle.pv_laws.specs.States.{IsWhole};
+    ghost use Rattle.pv_model.specs.Tree.{find_entry};
+
+    ghost view = { λ k. record { state = k.parts; walks = k.walks } };
+
+    ghost invariant = { λ k. IsWhole k.parts × L.agrees k.lookup (find_entry k.parts.tree) };
+}
+
+impl Kernel<PlainLookup> {
+    /// The kernel before the first step on a tree, with a lookup that keeps nothing.
+    ///
+    /// # Errors
+    ///
+    /// As `boot_with`.
+    pub fn boot(alloc: Global, store: Store) -> Result<Kernel<PlainLookup>, BootFault>
+        requires { IsFirstTree store }
+        ensures booted { IfOk result (λ k. (booted store ≡ Ok k.state) × (k.walks ≡ 0)) }
+        ensures refused { IfErr result (λ fault. (fault ≡ BootFault.Memory) ⊎ (booted store ≡ Err fault)) }
+    {
+        Kernel::boot_with(alloc, store, PlainLookup)
+    }
+}
+
+impl<L: Lookup + Drop> Kernel<L> {
+    /// The kernel before the first step on a tree, with a lookup that agrees with it: process 1 has the program of the
+    /// file `init` in the root, or the program of no lines where that has no such name.
+    ///
+    /// # Errors
+    ///
+    /// `Init(0)` where `init` is no executable file, `Init(n)` where line n of its program is the least that is no
+    /// instruction, and `Memory` where memory was refused.
+    pub fn boot_with(alloc: Global, store: Store, lookup: L) -> Result<Kernel<L>, BootFault>
+        requires first { IsFirstTree store }
+        requires agrees { L.agrees lookup (find_entry store) }
+        ensures booted { IfOk result (λ k. (booted store ≡ Ok k.state) × (k.walks ≡ 0)) }
+        ensures refused { IfErr result (λ fault. (fault ≡ BootFault.Memory) ⊎ (booted store ≡ Err fault)) }
+    {
+        let program = match init(alloc, store.tree()) {
+            Ok(program) => program,
+            Err(fault) => return Err(fault),
+        };
+        let parts = Parts::new(alloc, store, program)?;
+        Ok(Kernel {
+            parts,
+            lookup,
+            walks: 0,
+        })
+    }
+
+    /// What comes next in a process.
+    pub fn fetch(&self, pid: u32) -> Fetched
+        ensures next { Fetches result self.now.state pid }
+        ensures callable { IsCallable result }
+    {
+        if !self.parts.processes().live(pid) {
+            return Fetched::Gone;
+        }
+        match self.parts.processes().next(pid) {
+            Next::Register => Fetched::Register,
+            Next::Call(call) => Fetched::Call(call),
+        }
+    }
+
+    /// Makes the instruction on registers, or the jump, that comes next in a live process.
+    pub fn register(&mut self, pid: u32)
+        requires { Fetches Fetched.Register self.old.state pid }
+        ensures state { (me : Process) → process_at self.old.state pid ≡ Some me → StepsInside self.old.state pid me self.new.state }
+        ensures walks { self.new.walks ≡ self.old.walks }
+    {
+        self.parts.register(pid);
+    }
+
+    /// Makes a call of a process: what it answers. `walks` then tells how many walks it began, and the bytes that an
+    /// outcome tells stand at the front of the process's buffer.
+    ///
+    /// # Errors
+    ///
+    /// `NoMemory` where memory was refused for the program of an execve(2); nothing has then changed.
+    pub fn call(&mut self, alloc: Global, pid: u32, call: &Call) -> Result<Outcome, StepFault>
+        requires { IsTrue (is_call call.now) }
+        ensures answered { IfOk result (λ outcome. answer program_of self.old.state pid call.now ≡ record { after = self.new.state; outcome = outcome; walks = self.new.walks }) }
+        ensures refused { OnErr result (self.new ≡ self.old) }
+    {
+        let answer = carry_out(alloc, &mut self.parts, &mut self.lookup, pid, call)?;
+        self.walks = answer.walks;
+        Ok(answer.outcome)
+    }
+
+    /// The 4,096 bytes of a process's buffer: none where it is not live.
+    pub fn buffer(&self, pid: u32) -> &[u8]
+        ensures value { result.now ≡ buffer_of (process_at self.now.state pid) }
+        ensures size { length result.now ≤ 4096 }
+    {
+        if !self.parts.processes().live(pid) {
+            return &[];
+        }
+        self.parts.record(pid).machine.buffer()
+    }
+
+    /// How many walks the last call that gave an outcome began: 0 before one.
+    pub fn walks(&self) -> u8
+        ensures { result ≡ self.now.walks }
+    {
+        self.walks
+    }
+
+    /// The tree.
+    pub fn tree(&self) -> &Tree
+        ensures { result.now.tree ≡ self.now.state.tree }
+    {
+        self.parts.tree()
+    }
+}

@@ -1,0 +1,37 @@
+//! What there is at a place, and what a want of room answers.
+ghost use Rattle.std.specs.Prelude.{◌≡◌, MatchOption, Some, None};
+ghost use Rattle.pv_calls.specs.Attempts.{space_errno};
+ghost use Rattle.pv_model.specs.Effect.{node_of, name_of};
+
+use pv_model::{Errno, Place};
+use pv_tree::Space;
+
+/// The node at a place.
+pub(crate) fn node_of(place: &Place) -> Option<u16>
+    ensures { result ≡ node_of place.now }
+{
+    match place {
+        Place::At { node, .. } => *node,
+        Place::Node(node) => Some(*node),
+    }
+}
+
+/// The directory and the name of a place that has one.
+pub(crate) fn name_of(place: &Place) -> Option<(u16, &[u8])>
+    ensures { MatchOption result (name_of place.now ≡ None) (λ p. name_of place.now ≡ Some (p.0, p.1.now)) }
+{
+    match place {
+        Place::At { dir, name, .. } => Some((*dir, name.as_slice())),
+        Place::Node(_) => None,
+    }
+}
+
+/// The error of a want of space.
+pub(crate) fn space_errno(space: Space) -> Errno
+    ensures { result ≡ space_errno space }
+{
+    match space {
+        Space::TooBig => Errno::EFBIG,
+        Space::Full => Errno::ENOSPC,
+    }
+}
