@@ -21,7 +21,6 @@ use Rattle.pv_tree_laws.proofs.Places.{list_all-weaker, IsGoodPlace, is_spelled,
 use Rattle.pv_tree_laws.proofs.Trees.{sound}
 use Rattle.pv_laws.proofs.Running.{IsReady}
 use Rattle.pv_laws.proofs.Whole.{has_room, solid, solid-with_process, table-same}
-
 -- ---- places
 
 pub use Rattle.pv_laws.specs.States.{IsFinePlace}

@@ -244,8 +244,7 @@ gains-opened program_of s pid n mode whole gains =
 
 pub gains-justified : (program_of : Bytes → Option Program) (s : State) (pid n : ℕ) (mode : Mode) → IsWhole s → Touches program_of s pid (gain_descriptor n mode) → IsExplained s pid (gain_descriptor n mode)
 gains-justified program_of s pid n mode whole gains =
-    let e = gains-opened program_of s pid n mode whole gains in
-    (
+    let e = gains-opened program_of s pid n mode whole gains in (
       e.me,
       e.call,
       e.at,

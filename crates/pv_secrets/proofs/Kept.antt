@@ -21,7 +21,7 @@ over-top t e _ up (above d next other at rest) apart is = above d next other at 
 module _ (t t' : Tree) (w : IsWellFormed t) (w' : IsWellFormed t') (f : ℕ)
     (stays : (d : ℕ) (name : Bytes) → find_entry t d name ≡ Some f → find_entry t' d name ≡ Some f)
     (above_stays : (d : ℕ) (name : Bytes) (e : ℕ) → find_entry t d name ≡ Some f → IsAtOrAbove t e d → is_directory_at t e ≡ true
-        → (up : ℕ) (word : Bytes) → find_entry t up word ≡ Some e → find_entry t' up word ≡ Some e)
+    → (up : ℕ) (word : Bytes) → find_entry t up word ≡ Some e → find_entry t' up word ≡ Some e)
     (was : (d : ℕ) (name : Bytes) → find_entry t' d name ≡ Some f → find_entry t d name ≡ Some f) where
   -- a directory of the file, or one above it
   record IsOver (e : ℕ) : Type 0 where
@@ -107,8 +107,7 @@ module _ (t t' : Tree) (w : IsWellFormed t) (w' : IsWellFormed t') (f : ℕ)
   -- what gives the file gave it
   pub gave-name : (s s' : State) (p q : Process) (table : Table) (test : Perms → Bool) (k : ℕ) → s.tree ≡ t → s'.tree ≡ t' → GivesName s' q f table test k → GivesName s p f table test k
   gave-name s s' p q table test k is is' gives =
-      let found : find_entry t gives.0 gives.1 ≡ Some f = was gives.0 gives.1 (ap (λ (u : Tree). find_entry u gives.0 gives.1) (sym is') ∙ gives.2) in
-      (
+      let found : find_entry t gives.0 gives.1 ≡ Some f = was gives.0 gives.1 (ap (λ (u : Tree). find_entry u gives.0 gives.1) (sym is') ∙ gives.2) in (
         gives.0,
         gives.1,
         ap (λ (u : Tree). find_entry u gives.0 gives.1) is ∙ found,
@@ -123,8 +122,7 @@ module _ (t t' : Tree) (w : IsWellFormed t) (w' : IsWellFormed t') (f : ℕ)
       let name = gives.1 in
       let e = gives.2 in
       let found : find_entry t d name ≡ Some f = was d name (ap (λ (u : Tree). find_entry u d name) (sym is') ∙ gives.3) in
-      let over = was-over e d (here d name found) (subst (λ (u : Tree). IsAtOrAbove u e d) is' gives.4) in
-      (
+      let over = was-over e d (here d name found) (subst (λ (u : Tree). IsAtOrAbove u e d) is' gives.4) in (
         d,
         name,
         e,

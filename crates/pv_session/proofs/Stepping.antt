@@ -1,0 +1,106 @@
+-- A step of the machine, by what is fetched and answered.
+use Rattle.std.proofs.Common.{◌≡◌, ◌∙◌, ℕ, ℤ, List, [], ap, sym, refl, Option, None, Some, Result, Ok, Err}
+use Rattle.std.specs.Prelude.{IfOk, OnOk}
+use Rattle.pv_calls.specs.declared.kernel.Fetched.TheVariants.{Register, Call as Calls}
+use Rattle.pv_calls.specs.Changes.{StepsInside}
+use Rattle.pv_calls.specs.Kernel.{Fetches, Running}
+use Rattle.pv_model.specs.declared.kernel_fault.StepFault.{StepFault}
+use Rattle.pv_model.specs.declared.call.Call.{Call}
+use Rattle.pv_model.specs.declared.call.Call.TheVariants.{Write}
+use Rattle.pv_model.specs.declared.outcome.Outcome.{Outcome}
+use Rattle.pv_model.specs.declared.outcome.Outcome.TheVariants.{Value, Text, Failed, Killed, Exited, Blocked, Gone}
+use Rattle.pv_model.specs.Answer.{Answered, answer}
+use Rattle.pv_model.specs.Grammar.Programs.{program_of}
+use Rattle.pv_model.specs.Program.{Next, inside, calls_for, next}
+use Rattle.pv_model.specs.State.{Process, State, process_at, with_process}
+use Rattle.pv_model.specs.Step.{Stepped, step, step_of, step_by}
+use Rattle.pv_model.specs.Trace.{Line, buffer_of, call_lines, gone_lines, moved_words}
+use Rattle.pv_model.specs.Bytes.{Bytes}
+use Rattle.std.proofs.lemmas.List.{append-nil}
+use Rattle.pv_session.specs.Running.{ToldLines, stepped}
+use Rattle.pv_session.proofs.Writes.{write-keeps}
+use Rattle.pv_trace.specs.Steps.{lines_by, moved_by}
+
+-- a step of a process that is not live
+pub step-gone : (s : State) (pid : ℕ) → process_at s pid ≡ None → stepped s pid ≡ record { after = s; outcome = Gone; lines = gone_lines pid }
+unfolding step
+step-gone s pid none = ap (step_of program_of s pid) none
+
+-- a step inside a process
+pub step-inside : (s : State) (pid : ℕ) (me after : Process) → process_at s pid ≡ Some me → next me ≡ inside after
+    → stepped s pid ≡ record { after = with_process s pid after; outcome = Value 0; lines = [] }
+unfolding step
+step-inside s pid me after at is = ap (step_of program_of s pid) at ∙ ap (step_by program_of s pid me) is
+
+-- what is said of moved bytes
+moved : (after : State) (pid : ℕ) (p : Process) (call : Call) (outcome : Outcome) → ((d n : ℤ) (k : ℕ) → call ≡ Write d n → outcome ≡ Value k → buffer_of (process_at after pid) ≡ p.buffer)
+    → moved_words after pid p call outcome ≡ moved_by (buffer_of (process_at after pid)) call outcome
+moved after pid p call (Text taken) keeps = refl
+moved after pid p (Write d n) (Value count) keeps = ap (λ front. moved_by front (Write d n) (Value count)) (sym (keeps d n count refl refl))
+moved after pid p _ (Value count) keeps = refl
+moved after pid p call (Failed e c) keeps = refl
+moved after pid p call (Killed q) keeps = refl
+moved after pid p call Exited keeps = refl
+moved after pid p call Blocked keeps = refl
+moved after pid p call Gone keeps = refl
+
+lines-of : (pid : ℕ) (p : Process) (call : Call) (a : Answered)
+    → moved_words a.after pid p call a.outcome ≡ moved_by (buffer_of (process_at a.after pid)) call a.outcome
+    → call_lines pid p call a ≡ lines_by pid (buffer_of (process_at a.after pid)) call a.outcome a.walks
+unfolding call_lines lines_by
+lines-of pid p call a same = rw same refl
+
+-- a step that makes a call
+pub step-called : (s : State) (pid : ℕ) (me : Process) (call : Call) (a : Answered) → process_at s pid ≡ Some me → next me ≡ calls_for call
+    → answer program_of s pid call ≡ a
+    → stepped s pid ≡ record { after = a.after; outcome = a.outcome; lines = lines_by pid (buffer_of (process_at a.after pid)) call a.outcome a.walks }
+unfolding step
+step-called s pid me call a at is answered =
+    ap (step_of program_of s pid) at ∙ ap (step_by program_of s pid me) is
+    ∙ ap (λ x. let it : Stepped = record { after = x.after; outcome = x.outcome; lines = call_lines pid me call x } in it) answered
+    ∙ ap (λ (ls : List Line). let it : Stepped = record { after = a.after; outcome = a.outcome; lines = ls } in it)
+    (lines-of pid me call a (moved a.after pid me call a.outcome keeps))
+  where
+    keeps : (d n : ℤ) (k : ℕ) → call ≡ Write d n → a.outcome ≡ Value k → buffer_of (process_at a.after pid) ≡ me.buffer
+    keeps d n k write value =
+        let same : answer program_of s pid (Write d n) ≡ a = ap (answer program_of s pid) (sym write) ∙ answered in
+        ap (λ (x : Answered). buffer_of (process_at x.after pid)) (sym same) ∙ write-keeps program_of s pid me d n at k (ap (λ (x : Answered). x.outcome) same ∙ value)
+
+-- ---- what is fetched
+
+module _ (s : State) (pid : ℕ) (new : State) (fetched : Fetches Register s pid) (steps : (me : Process) → process_at s pid ≡ Some me → StepsInside s pid me new) where
+  pub inside-is : stepped s pid ≡ record { after = new; outcome = Value 0; lines = [] }
+  inside-is =
+      let inner = steps fetched.0 fetched.1 in
+      step-inside s pid fetched.0 inner.after fetched.1 inner.step
+      ∙ ap (λ after. let it : Stepped = record { after = after; outcome = Value 0; lines = [] } in it) (sym inner.only)
+
+  pub inside-after : new ≡ (stepped s pid).after
+  inside-after = sym (ap (λ (x : Stepped). x.after) inside-is)
+
+  pub inside-outcome : Value 0 ≡ (stepped s pid).outcome
+  inside-outcome = sym (ap (λ (x : Stepped). x.outcome) inside-is)
+
+module _ (s : State) (pid : ℕ) (call : Call) (new : Running) where
+  -- a call that answered, as a step
+  pub called-is : (outcome : Outcome) → Fetches (Calls call) s pid → answer program_of s pid call ≡ record { after = new.state; outcome = outcome; walks = new.walks }
+      → stepped s pid ≡ record { after = new.state; outcome = outcome; lines = lines_by pid (buffer_of (process_at new.state pid)) call outcome new.walks }
+  called-is outcome fetched answered = step-called s pid fetched.0 call (record { after = new.state; outcome = outcome; walks = new.walks }) fetched.1 fetched.2 answered
+
+  pub called-after : (r : Result Outcome StepFault) → Fetches (Calls call) s pid → IfOk r (λ outcome. answer program_of s pid call ≡ record { after = new.state; outcome = outcome; walks = new.walks })
+      → OnOk r (new.state ≡ (stepped s pid).after)
+  called-after (Ok outcome) fetched answered = sym (ap (λ (x : Stepped). x.after) (called-is outcome fetched answered))
+  called-after (Err e) fetched answered = tt
+
+  pub called-outcome : (r : Result Outcome StepFault) → Fetches (Calls call) s pid → IfOk r (λ outcome. answer program_of s pid call ≡ record { after = new.state; outcome = outcome; walks = new.walks })
+      → IfOk r (λ outcome. outcome ≡ (stepped s pid).outcome)
+  called-outcome (Ok outcome) fetched answered = sym (ap (λ (x : Stepped). x.outcome) (called-is outcome fetched answered))
+  called-outcome (Err e) fetched answered = tt
+
+pub gone-lines : (s t : State) (pid : ℕ) → s ≡ t → process_at s pid ≡ None → (stepped t pid).lines ≡ gone_lines pid
+gone-lines s t pid same none = ap (λ x. (stepped x pid).lines) (sym same) ∙ ap (λ (x : Stepped). x.lines) (step-gone s pid none)
+
+-- nothing is told of no lines
+pub told-none : (told : Option Bytes) → ToldLines [] told told
+told-none None = refl
+told-none (Some had) = ap (λ (bs : Bytes). Some bs) (sym (append-nil had))

@@ -1,0 +1,89 @@
+-- Runs over the turns of a schedule, one turn more.
+use Rattle.std.proofs.Common.{◌≡◌, ◌<◌, ◌≤◌, ◌+◌, ◌-◌, ◌++◌, ◌∙◌, ap, sym, subst, ℕ, zero, suc, [], ◌∷◌, length, take, drop, get_or, length-append, add-one, arith, refl, Option}
+use Rattle.std.specs.Prelude.{replicate}
+use Rattle.std.proofs.lemmas.List.{take_more, take-append-drop, append-nil, replicate-append-replicate}
+use Rattle.std.proofs.lemmas.Grind.{flat_map-append}
+use Rattle.pv_model.specs.Bytes.{Bytes}
+use Rattle.pv_model.specs.Grammar.Programs.{program_of}
+use Rattle.pv_model.specs.State.{State}
+use Rattle.pv_model.specs.Step.{Run, Schedule, run, steps_of}
+use Rattle.pv_model.specs.Trace.{line_bytes, trace_bytes}
+use Rattle.pv_model.proofs.Runs.{run-append}
+use Rattle.pv_trace.specs.Streams.{and_all, TellsBeginning}
+use Rattle.pv_trace.proofs.Telling.{told_both, begins_first, begins_then}
+use Rattle.pv_session.specs.Running.{stepped, turn, run_of, run_of_first, ToldLines, BeginsLines}
+
+-- one copy more, at the end
+replicate_more : {X : Type 0} (n : ℕ) (x : X) → replicate (suc n) x ≡ replicate n x ++ x ∷ []
+replicate_more zero x = refl
+replicate_more (suc n) x = ap (λ xs. x ∷ xs) (replicate_more n x)
+
+abbrev pub behind : Run → Run → Run
+behind first next = record { lines = first.lines ++ next.lines; final = next.final }
+
+abbrev pub one_step : State → ℕ → Run
+one_step s pid = record { lines = (stepped s pid).lines; final = (stepped s pid).after }
+
+single : (s : State) (pid : ℕ) → run program_of (pid ∷ []) s ≡ one_step s pid
+single s pid = ap (λ ls. let it : Run = record { lines = ls; final = (stepped s pid).after } in it) (append-nil (stepped s pid).lines)
+
+-- one step more of a process
+pub turn_more : (s mid : State) (pid n : ℕ) → mid ≡ (turn s pid n).final → turn s pid (n + 1) ≡ behind (turn s pid n) (one_step mid pid)
+turn_more s mid pid n at =
+    ap (λ k. turn s pid k) (add-one n) ∙ ap (λ pids. run program_of pids s) (replicate_more n pid)
+    ∙ run-append program_of (replicate n pid) (pid ∷ []) s ∙ ap (λ r. behind (turn s pid n) r) (single (turn s pid n).final pid ∙ ap (λ m. one_step m pid) (sym at))
+
+steps_more : (schedule : Schedule) (i : ℕ) → i < length schedule
+    → steps_of (take (i + 1) schedule) ≡ steps_of (take i schedule) ++ replicate (get_or schedule i (0, 0)).1 (get_or schedule i (0, 0)).0
+steps_more schedule i within =
+    let entry = get_or schedule i (0, 0) in
+    ap steps_of (take_more schedule i (0, 0) within)
+    ∙ flat_map-append (λ e. replicate e.1 e.0) (take i schedule) (entry ∷ [])
+    ∙ ap (λ pids. steps_of (take i schedule) ++ pids) (append-nil (replicate entry.1 entry.0))
+
+-- one turn more of a schedule
+pub schedule_more : (s mid : State) (schedule : Schedule) (i : ℕ) → i < length schedule → mid ≡ (run_of_first s i schedule).final
+    → run_of_first s (i + 1) schedule ≡ behind (run_of_first s i schedule) (turn mid (get_or schedule i (0, 0)).0 (get_or schedule i (0, 0)).1)
+schedule_more s mid schedule i within at =
+    let entry = get_or schedule i (0, 0) in
+    ap (λ pids. run program_of pids s) (steps_more schedule i within)
+    ∙ run-append program_of (steps_of (take i schedule)) (replicate entry.1 entry.0) s
+    ∙ ap (λ m. behind (run_of_first s i schedule) (turn m entry.0 entry.1)) (sym at)
+
+-- a run, and another behind it
+module _ (first next : Run) where
+  text_of_both : trace_bytes (behind first next).lines ≡ trace_bytes first.lines ++ trace_bytes next.lines
+  text_of_both = flat_map-append line_bytes first.lines next.lines
+
+  -- what is told of a run is told of it and another behind it
+  pub told_behind : (before mid after : Option Bytes) → ToldLines first.lines before mid → ToldLines next.lines mid after → ToldLines (behind first next).lines before after
+  told_behind before mid after told more =
+      told_both (trace_bytes first.lines) (trace_bytes next.lines) before mid after told more ∙ ap (and_all before) (sym text_of_both)
+
+  -- a run that is told whole and a beginning of another are a beginning of both
+  pub begun_behind : (before mid after : Option Bytes) → ToldLines first.lines before mid → BeginsLines next.lines mid after → BeginsLines (behind first next).lines before after
+  begun_behind before mid after told begun =
+      subst (λ (bs : Bytes). TellsBeginning bs before after) (sym text_of_both) (begins_then (trace_bytes first.lines) (trace_bytes next.lines) before mid after told begun)
+
+  -- a beginning of a run is one of it and another behind it
+  pub begun_before : (before after : Option Bytes) → BeginsLines first.lines before after → BeginsLines (behind first next).lines before after
+  begun_before before after begun =
+      subst (λ (bs : Bytes). TellsBeginning bs before after) (sym text_of_both) (begins_first (trace_bytes first.lines) (trace_bytes next.lines) before after begun)
+
+-- some steps of a process, and then the others
+pub turn_rest : (s : State) (pid n count : ℕ) → n ≤ count → turn s pid count ≡ behind (turn s pid n) (turn (turn s pid n).final pid (count - n))
+turn_rest s pid n count within =
+    let all : count ≡ n + (count - n) = omega arith in
+    ap (λ k. turn s pid k) all ∙ ap (λ pids. run program_of pids s) (sym (replicate-append-replicate n (count - n) pid))
+    ∙ run-append program_of (replicate n pid) (replicate (count - n) pid) s
+
+-- some turns of a schedule, and then the others
+pub schedule_rest : (s : State) (schedule : Schedule) (n : ℕ) → run_of s schedule ≡ behind (run_of_first s n schedule) (run_of (run_of_first s n schedule).final (drop n schedule))
+schedule_rest s schedule n =
+    ap (λ sch. run_of s sch) (sym (take-append-drop n schedule))
+    ∙ ap (λ pids. run program_of pids s) (flat_map-append (λ e. replicate e.1 e.0) (take n schedule) (drop n schedule))
+    ∙ run-append program_of (steps_of (take n schedule)) (steps_of (drop n schedule)) s
+
+-- the lines of both
+pub lines_behind : (first next : Run) (n m : ℕ) → n ≡ length first.lines → m ≡ length next.lines → n + m ≡ length (behind first next).lines
+lines_behind first next n m before more = ap (λ k. k + m) before ∙ ap (λ k. length first.lines + k) more ∙ sym (length-append first.lines next.lines)

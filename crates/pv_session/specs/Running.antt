@@ -1,0 +1,40 @@
+-- What a step and a run of the machine leave and write.
+use Rattle.std.specs.Prelude.{◌≡◌, ℕ, List, take, replicate, Option}
+use Rattle.pv_model.specs.Bytes.{Bytes}
+use Rattle.pv_model.specs.Grammar.Programs.{program_of}
+use Rattle.pv_model.specs.State.{State}
+use Rattle.pv_model.specs.Step.{Run, Schedule, Stepped, run, step, steps_of}
+use Rattle.pv_model.specs.Trace.{Line, trace_bytes}
+use Rattle.pv_model.specs.Stream.{Rose}
+use Rattle.pv_session.specs.declared.session.Stop.{Stop}
+use Rattle.pv_session.specs.declared.session.Stop.TheVariants.{Memory, Write}
+use Rattle.pv_trace.specs.Streams.{and_all, TellsBeginning}
+
+-- a step of the machine, whose programs are what files spell
+abbrev pub stepped : State → ℕ → Stepped
+stepped s pid = step program_of s pid
+
+-- so many steps of a process
+abbrev pub turn : State → ℕ → ℕ → Run
+turn s pid count = run program_of (replicate count pid) s
+
+-- a run over the first turns of a schedule
+abbrev pub run_of_first : State → ℕ → Schedule → Run
+run_of_first s count schedule = run program_of (steps_of (take count schedule)) s
+
+-- a run over a schedule
+abbrev pub run_of : State → Schedule → Run
+run_of s schedule = run program_of (steps_of schedule) s
+
+-- the text of lines is told behind what was told before
+abbrev pub ToldLines : List Line → Option Bytes → Option Bytes → Type 0
+ToldLines lines before after = after ≡ and_all before (trace_bytes lines)
+
+-- a beginning of the text of lines is told
+abbrev pub BeginsLines : List Line → Option Bytes → Option Bytes → Type 0
+BeginsLines lines before after = TellsBeginning (trace_bytes lines) before after
+
+-- where a line could not be written a failure was counted, and where memory was refused none was
+abbrev pub FailsBy : Stop → ℕ → ℕ → Type 0
+FailsBy Memory before after = after ≡ before
+FailsBy Write before after = Rose before after

@@ -1,0 +1,71 @@
+//! Runs of the machine, whose lines are written step by step.
+ghost use Rattle.std.specs.Prelude.{◌≡◌, ◌*◌, ◌≤◌, length, IfOk, IfErr, OnOk, OnErr};
+ghost use Rattle.pv_model.specs.Step.{steps_of};
+ghost use Rattle.pv_session.specs.Running.{BeginsLines, FailsBy, ToldLines, stepped, turn, run_of};
+
+use crate::session::{Session, Stop};
+use pv_model::Sink;
+use std::alloc::Global;
+
+// Makes so many steps of a process and writes the lines of each before the next: answers how many.
+fn run_turn<W: Sink>(
+    alloc: Global,
+    session: &mut Session,
+    pid: u32,
+    count: u32,
+    trace: &mut W,
+) -> Result<u64, Stop>
+    ensures after { OnOk result (session.new ≡ (turn session.old pid count).final) }
+    ensures whole { OnOk result (ToldLines (turn session.old pid count).lines (W.told trace.old) (W.told trace.new)) }
+    ensures lines { IfOk result (λ n. n ≡ length (turn session.old pid count).lines) }
+    ensures few { IfOk result (λ n. n ≤ 7 * count) }
+    ensures beginning { OnErr result (BeginsLines (turn session.old pid count).lines (W.told trace.old) (W.told trace.new)) }
+    ensures failed { IfErr result (λ stop. FailsBy stop (W.failures trace.old) (W.failures trace.new)) }
+    ensures quiet { OnOk result (W.failures trace.new ≡ W.failures trace.old) }
+{
+    let mut lines = 0;
+    for made in 0..count {
+        lines += u64::from(session.trace_step(alloc, pid, trace)?);
+    }
+    Ok(lines)
+}
+
+/// Makes the steps of a schedule and writes the lines of each before the next: answers how many lines
+/// they are.
+///
+/// # Errors
+///
+/// `Write` where a write failed, `Memory` where memory was refused for a step: no step was made after it, and the
+/// sink was told a beginning of the lines.
+pub fn run_schedule<W: Sink>(
+    alloc: Global,
+    session: &mut Session,
+    schedule: &[(u32, u32)],
+    trace: &mut W,
+) -> Result<u64, Stop>
+    requires { length schedule.now ≤ 65536 }
+    ensures after { OnOk result (session.new ≡ (run_of session.old schedule.now).final) }
+    ensures whole { OnOk result (ToldLines (run_of session.old schedule.now).lines (W.told trace.old) (W.told trace.new)) }
+    ensures lines { IfOk result (λ n. n ≡ length (run_of session.old schedule.now).lines) }
+    ensures beginning { OnErr result (BeginsLines (run_of session.old schedule.now).lines (W.told trace.old) (W.told trace.new)) }
+    ensures failed { IfErr result (λ stop. FailsBy stop (W.failures trace.old) (W.failures trace.new)) }
+    ensures quiet { OnOk result (W.failures trace.new ≡ W.failures trace.old) }
+{
+    let mut lines = 0;
+    for turn in schedule {
+        lines += run_turn(alloc, session, turn.0, turn.1, trace)?;
+    }
+    Ok(lines)
+}
+
+/// How many steps a schedule makes.
+pub fn step_count(schedule: &[(u32, u32)]) -> u64
+    requires { length schedule.now ≤ 65536 }
+    ensures { result ≡ length (steps_of schedule.now) }
+{
+    let mut steps = 0;
+    for turn in schedule {
+        steps += u64::from(turn.1);
+    }
+    steps
+}

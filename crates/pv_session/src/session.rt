@@ -1,0 +1,149 @@
+//! The machine, step by step.
+ghost use Rattle.std.specs.Prelude.{◌≡◌, ◌⊎◌, ◌≤◌, IfOk, IfErr, OnOk, OnErr, Ok, Err, length};
+ghost use Rattle.pv_laws.specs.States.{IsFirstTree};
+ghost use Rattle.pv_model.specs.Start.{booted};
+ghost use Rattle.pv_model.specs.Trace.{buffer_of};
+ghost use Rattle.pv_model.specs.State.{process_at};
+ghost use Rattle.pv_session.specs.declared.session.Stop.TheVariants.{Memory, Write};
+ghost use Rattle.pv_session.specs.Running.{BeginsLines, FailsBy, ToldLines, stepped};
+
+use pv_calls::{Fetched, Kernel};
+use pv_model::{BootFault, Failed, Outcome, Sink, StepFault};
+use pv_namei::PlainLookup;
+use pv_trace::{write_call_lines, write_gone_line};
+use pv_tree::{Store, Tree};
+use std::alloc::Global;
+use std::marker::Model;
+
+/// Why a run stops before its end.
+#[derive(Clone, Copy, Debug, PartialEq, Eq)]
+pub enum Stop {
+    /// Memory was refused for a step, which was not made.
+    Memory,
+    /// A line could not be written.
+    Write,
+}
+
+impl From<StepFault> for Stop {
+    ghost from_gives = { λ _ e. e ≡ Memory };
+
+    fn from(_fault: StepFault) -> Stop {
+        Stop::Memory
+    }
+}
+
+impl From<Failed> for Stop {
+    ghost from_gives = { λ _ e. e ≡ Write };
+
+    fn from(_failed: Failed) -> Stop {
+        Stop::Write
+    }
+}
+
+/// The machine on a tree: its state, which `step` moves on.
+#[derive(Drop)]
+pub struct Session {
+    kernel: Kernel<PlainLookup>,
+}
+
+impl Model for Session {
+    ghost use Rattle.pv_model.specs.State.{State};
+
+    ghost Value = { State };
+
+    ghost view = { λ s. s.kernel.state };
+}
+
+impl Session {
+    /// The machine before its first step on a tree.
+    ///
+    /// # Errors
+    ///
+    /// `Init(0)` where the file `init` in the root is no executable file, `Init(n)` where line n of its program is the
+    /// least that is no instruction, and `Memory` where memory was refused.
+    pub fn new(alloc: Global, store: Store) -> Result<Session, BootFault>
+        requires { IsFirstTree store }
+        ensures booted { IfOk result (λ session. booted store ≡ Ok session) }
+        ensures refused { IfErr result (λ fault. (fault ≡ BootFault.Memory) ⊎ (booted store ≡ Err fault)) }
+    {
+        match Kernel::boot(alloc, store) {
+            Ok(kernel) => Ok(Session { kernel }),
+            Err(fault) => Err(fault),
+        }
+    }
+
+    /// Makes one step of a process: an instruction on registers, which answers 0, or a call. A process that is not live
+    /// answers `Gone`.
+    ///
+    /// # Errors
+    ///
+    /// `NoMemory` where memory was refused for the program of an execve(2); nothing has then changed.
+    pub fn step(&mut self, alloc: Global, pid: u32) -> Result<Outcome, StepFault>
+        ensures after { OnOk result (self.new ≡ (stepped self.old pid).after) }
+        ensures outcome { IfOk result (λ outcome. outcome ≡ (stepped self.old pid).outcome) }
+        ensures unchanged { OnErr result (self.new ≡ self.old) }
+    {
+        match self.kernel.fetch(pid) {
+            Fetched::Gone => Ok(Outcome::Gone),
+            Fetched::Register => {
+                self.kernel.register(pid);
+                Ok(Outcome::Value(0))
+            }
+            Fetched::Call(call) => self.kernel.call(alloc, pid, &call),
+        }
+    }
+
+    /// The 4,096 bytes of a process's buffer: none where it is not live. The bytes that an outcome tells stand at its
+    /// front.
+    pub fn buffer(&self, pid: u32) -> &[u8]
+        ensures value { result.now ≡ buffer_of (process_at self.now pid) }
+        ensures size { length result.now ≤ 4096 }
+    {
+        self.kernel.buffer(pid)
+    }
+
+    /// The tree.
+    pub fn tree(&self) -> &Tree
+        ensures { result.now.tree ≡ self.now.tree }
+    {
+        self.kernel.tree()
+    }
+
+    /// Makes a step of a process and writes its lines, which are at most seven: answers how many.
+    ///
+    /// # Errors
+    ///
+    /// `Memory` where memory was refused for the step, which was then not made, and nothing was written; `Write`
+    /// where a write failed: the sink was told a beginning of the lines.
+    pub fn trace_step<W: Sink>(
+        &mut self,
+        alloc: Global,
+        pid: u32,
+        trace: &mut W,
+    ) -> Result<u8, Stop>
+        ensures after { OnOk result (self.new ≡ (stepped self.old pid).after) }
+        ensures whole { OnOk result (ToldLines (stepped self.old pid).lines (W.told trace.old) (W.told trace.new)) }
+        ensures lines { IfOk result (λ n. n ≡ length (stepped self.old pid).lines) }
+        ensures few { IfOk result (λ n. n ≤ 7) }
+        ensures beginning { OnErr result (BeginsLines (stepped self.old pid).lines (W.told trace.old) (W.told trace.new)) }
+        ensures failed { IfErr result (λ stop. FailsBy stop (W.failures trace.old) (W.failures trace.new)) }
+        ensures quiet { OnOk result (W.failures trace.new ≡ W.failures trace.old) }
+    {
+        match self.kernel.fetch(pid) {
+            Fetched::Gone => {
+                write_gone_line(trace, pid)?;
+                Ok(1)
+            }
+            Fetched::Register => {
+                self.kernel.register(pid);
+                Ok(0)
+            }
+            Fetched::Call(call) => {
+                let outcome = self.kernel.call(alloc, pid, &call)?;
+                let front = self.kernel.buffer(pid);
+                let walks = self.kernel.walks();
+                Ok(write_call_lines(trace, pid, front, &call, outcome, walks)?)
+            }
+        }
+    }
+}
