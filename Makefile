@@ -3,7 +3,7 @@
 #   make          the proved program at bin/pvsim
 #   make demo     the main job at once, before any proof
 #   make try FILE=examples/held.bundle   any bundle, before any proof
-#   make examples every bundle of examples/, its trace compared, before any proof
+#   make examples every bundle of examples/ and cases/, its trace compared, before any proof
 #   make test     the gate: every proof from nothing, the wrong bodies, the tests, the program
 #   make check    every crate, over what earlier checks kept
 #   make bench    proves and runs the benchmark, and prints times

@@ -1,6 +1,7 @@
 -- What a run of the program reads and writes.
 use Rattle.std.specs.Prelude.{◌≡◌, ◌≢◌, ◌⊎◌, ⊤, ℕ, List, codes, Option, None, Result, Ok, Err, IfSome, OnOk, IfErr}
 use Rattle.pv_model.specs.Bytes.{Bytes}
+use Rattle.pv_model.specs.Start.{bundle_started}
 use Rattle.pv_model.specs.Stream.{Rose}
 use Rattle.pv_model.specs.declared.run_fault.RunFault.{RunFault}
 use Rattle.pv_model.specs.declared.run_fault.RunFault.TheVariants.{Read, WriteTrace}
@@ -31,9 +32,9 @@ IsOfCommand Words = ⊥
 pub record RunsBundle {S : Type 0} (remaining : S → Option Bytes) (failures : S → ℕ) (first last : S)
     (had has : Option Bytes) (failed fails : ℕ) (result : Result (Unit {0}) Fault) : Type 0 where
   -- done: the trace grew by just the text of the machine's run
-  pub ran : OnOk result (IfSome (remaining first) (λ bytes. (summary : Summary) × HasRun bytes had has summary))
+  pub ran : OnOk result (IfSome (remaining first) (λ bytes. (summary : Summary) × HasRun (bundle_started bytes) had has summary))
   -- refused: the first fault stands in the bytes, and nothing was written but where the trace could not be written whole
-  pub refused : IfErr result (IsOfRun (λ fault. IfSome (remaining first) (λ bytes. StandsIn bytes had has fault)))
+  pub refused : IfErr result (IsOfRun (λ fault. IfSome (remaining first) (λ bytes. StandsIn (bundle_started bytes) had has fault)))
   pub kind : IfErr result (IsOfRun IsBundleFault)
   pub unwritten : IfErr result (IsOfRun (TellsNothingUnlessCut had has))
   -- a failed read or write was counted

@@ -1,25 +1,45 @@
--- A run of a bundle whose text was cut.
-use Rattle.std.proofs.Common.{◌≡◌, subst, length, refl, Option, Some, Ok}
+-- A run that was made, whole or up to somewhere.
+use Rattle.std.proofs.Common.{◌≡◌, length, refl, ℕ, Option, Some, Result, Ok, Err, IfErr, OnErr, inr}
+use Rattle.pv_model.specs.declared.run_fault.RunFault.{RunFault}
+use Rattle.pv_model.specs.declared.run_fault.RunFault.TheVariants.{Read, Image, Manifest, Schedule as ScheduleLine, Init, Memory, WriteTrace, WriteImage}
 use Rattle.pv_model.specs.Bytes.{Bytes}
 use Rattle.pv_model.specs.Grammar.Programs.{program_of}
 use Rattle.pv_model.specs.State.{State}
 use Rattle.pv_model.specs.Step.{Schedule, boot, steps_of}
-use Rattle.pv_run.specs.Run.{HasBegun, started, started_from, text_of}
-use Rattle.pv_run.specs.Running.{BeginsLines, run_of}
+use Rattle.pv_model.specs.Start.{Started}
+use Rattle.pv_run.specs.Run.{HasBegun, HasRun, IsSummaryOf, StandsIn, StopsBy, started_from, text_of}
+use Rattle.pv_run.specs.declared.run.Summary.{Summary}
+use Rattle.pv_session.specs.Running.{BeginsLines, ToldLines, run_of}
 
-pub has_begun : (bytes : Bytes) (s : State) (schedule turns : Schedule) (before after : Option Bytes)
-    → started bytes ≡ Ok (started_from s schedule) → boot program_of s.tree ≡ Some s → turns ≡ schedule
-    → BeginsLines (run_of s turns).lines before after → HasBegun bytes before after
-has_begun bytes s schedule turns before after asked machine same begun = record {
-  text = text_of (started_from s schedule);
-  summary = record { steps = length (steps_of schedule); lines = length (run_of s schedule).lines };
-  is_run = record {
-    it = started_from s schedule;
-    is_asked = asked;
-    is_machine = machine;
-    text_is = refl;
-    steps = refl;
-    lines = refl;
-  };
-  told = subst (λ (ts : Schedule). BeginsLines (run_of s ts).lines before after) same begun;
-}
+module _ (asked : Result Started RunFault) (s : State) (schedule : Schedule) (is : asked ≡ Ok (started_from s schedule)) (machine : boot program_of s.tree ≡ Some s)
+    (before after : Option Bytes) where
+  pub has_run : (summary : Summary) → IsSummaryOf (started_from s schedule) summary → ToldLines (run_of s schedule).lines before after → HasRun asked before after summary
+  has_run summary counts told = record {
+    text = text_of (started_from s schedule);
+    is_run = record { it = started_from s schedule; is_asked = is; is_machine = machine; text_is = refl; counts = counts };
+    told = told;
+  }
+
+  pub has_begun : BeginsLines (run_of s schedule).lines before after → HasBegun asked before after
+  has_begun begun = record {
+    text = text_of (started_from s schedule);
+    summary = record { steps = length (steps_of schedule); lines = length (run_of s schedule).lines };
+    is_run = record { it = started_from s schedule; is_asked = is; is_machine = machine; text_is = refl; counts = record { steps = refl; lines = refl } };
+    told = begun;
+  }
+
+  -- a run that stopped before its end
+  pub stops : (fault : RunFault) (failures now : ℕ) → StopsBy fault failures now → BeginsLines (run_of s schedule).lines before after → StandsIn asked before after fault
+  stops Memory failures now why begun = inr (has_begun begun)
+  stops WriteTrace failures now why begun = has_begun begun
+  stops Read failures now why begun = elim why [ ]
+  stops (Image f) failures now why begun = elim why [ ]
+  stops (Manifest f) failures now why begun = elim why [ ]
+  stops (ScheduleLine n) failures now why begun = elim why [ ]
+  stops (Init n) failures now why begun = elim why [ ]
+  stops WriteImage failures now why begun = elim why [ ]
+
+  pub stands : (result : Result Summary RunFault) (failures now : ℕ) → OnErr result (BeginsLines (run_of s schedule).lines before after) → IfErr result (λ (fault : RunFault). StopsBy fault failures now)
+      → IfErr result (λ (fault : RunFault). StandsIn asked before after fault)
+  stands (Ok summary) failures now begun why = tt
+  stands (Err fault) failures now begun why = stops fault failures now why begun

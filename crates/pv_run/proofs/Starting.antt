@@ -1,88 +1,92 @@
--- What a bundle asks for, check by check.
-use Rattle.std.proofs.Common.{◌≡◌, ◌∙◌, ap, true, false, refl, Option, None, Some, Result, Ok, Err}
-use Rattle.std.specs.Prelude.{codes, option_map, option_and_then}
+-- What a run is asked, check by check.
+use Rattle.std.proofs.Common.{◌≡◌, ◌∙◌, ap, sym, refl, ℕ, ◌-◌, take, drop, length, arith, Some, Result, Ok, Err, List, ◌⊎◌, inl, inr}
 use Rattle.pv_model.specs.declared.fault.ManifestFault.{ManifestFault}
 use Rattle.pv_model.specs.declared.fault.ManifestFault.TheVariants.{Form, Size, Parent, Exists, Source, Room, Memory as ManifestMemory}
-use Rattle.pv_model.specs.declared.fault.ParseFault.{ParseFault}
 use Rattle.pv_model.specs.declared.fault.ScheduleFault.{ScheduleFault}
 use Rattle.pv_model.specs.declared.fault.ScheduleFault.TheVariants.{Line as ScheduleLine, Memory as ScheduleMemory}
+use Rattle.pv_model.specs.declared.kernel_fault.BootFault.{BootFault}
+use Rattle.pv_model.specs.declared.kernel_fault.BootFault.TheVariants.{Init as BootInit, Memory as BootMemory}
 use Rattle.pv_model.specs.declared.run_fault.RunFault.{RunFault}
-use Rattle.pv_model.specs.declared.run_fault.RunFault.TheVariants.{Read, Image, Manifest as ManifestRefused, Schedule as ScheduleRefused, Init, Memory, WriteTrace, WriteImage}
 use Rattle.pv_model.specs.Bytes.{Bytes}
 use Rattle.pv_model.specs.Grammar.Lines.{lines_of}
-use Rattle.pv_model.specs.Grammar.Manifests.{Manifest, tree_of}
+use Rattle.pv_model.specs.Grammar.Manifests.{Manifest, read_bundle, tree_of}
 use Rattle.pv_model.specs.Grammar.Programs.{program_of}
 use Rattle.pv_model.specs.Grammar.Schedules.{schedule_of_lines, read_schedule}
-use Rattle.pv_model.specs.RunFault.{of_manifest, of_program, of_schedule}
-use Rattle.pv_model.specs.State.{Program, first_state}
-use Rattle.pv_model.specs.Step.{Schedule, boot, init_program}
-use Rattle.pv_model.specs.Tree.{Node, directory_node, file_node, link_node, Tree, root, node_at, find_entry}
-use Rattle.pv_run.specs.Offered.{offered_bundle, offered_program}
-use Rattle.pv_image.specs.Reading.{RefusesManifest}
+use Rattle.pv_model.specs.RunFault.{of_boot, of_manifest, of_schedule}
+use Rattle.pv_model.specs.Start.{and_then, booted, bundle_started, init_of, program_in, started_on}
+use Rattle.pv_model.specs.State.{Program, State, first_state}
+use Rattle.pv_model.specs.Step.{Schedule, boot}
+use Rattle.pv_model.specs.Tree.{Tree}
+use Rattle.pv_image.specs.Reading.{RefusesManifest, manifest_before}
+use Rattle.pv_image.specs.declared.manifest.Manifest.{Manifest as ParsedManifest}
+use Rattle.pv_image_laws.proofs.Starts.{starts}
+use Rattle.pv_laws.specs.States.{IsFirstTree}
 use Rattle.pv_script.specs.Reading.{RefusesSchedule}
-use Rattle.pv_run.specs.Run.{RefusesStart, IsStartFault, and_then, program_in, first_program, started, started_with}
-use Rattle.pv_run.proofs.Offers.{program_of-offered}
+use Rattle.pv_tree.specs.Standing.{IsAtRest}
+use Rattle.pv_run.specs.Run.{RefusesStart, IsStartFault, started_from}
+use Rattle.std.proofs.lemmas.List.{take_all, length-drop}
+use Rattle.std.specs.Result.{result_ok}
 
--- ---- the checks in their order
+-- ---- the checks of a run on a tree: its schedule, and then the first program
 
-module _ (bytes : Bytes) (m : Manifest) (asked : offered_bundle bytes ≡ Ok m) where
-  module _ (t : Tree) (made : tree_of m ≡ Ok t) where
-    module _ (s : Schedule) (turns : schedule_of_lines m.listed.behind ≡ Ok s) where
-      pub started_whole : (p : Program) → first_program t ≡ Ok p → started bytes ≡ Ok (started_with t s p)
-      unfolding started
-      started_whole p first = rw (asked, made, turns, first) refl
+module _ (t : Tree) (lines : List Bytes) where
+  module _ (s : Schedule) (turns : schedule_of_lines lines ≡ Ok s) where
+    pub started-whole : (state : State) → booted t ≡ Ok state → started_on t lines ≡ Ok (started_from state s)
+    unfolding started_on
+    started-whole state first = rw (turns, first) refl
 
-      pub started_no_program : (f : RunFault) → first_program t ≡ Err f → started bytes ≡ Err f
-      unfolding started
-      started_no_program f first = rw (asked, made, turns, first) refl
+    started-no_boot : (f : BootFault) → booted t ≡ Err f → started_on t lines ≡ Err (of_boot f)
+    unfolding started_on
+    started-no_boot f first = rw (turns, first) refl
 
     -- a first program that is refused
-    module _ (s : Schedule) (turns : schedule_of_lines m.listed.behind ≡ Ok s) where
-      pub refuses_program : (f e : RunFault) → e ≡ f → RefusesStart f (first_program t) → RefusesStart e (started bytes)
-      refuses_program Read e is refused = rw is (started_no_program s turns Read refused)
-      refuses_program (Image g) e is refused = rw is (started_no_program s turns (Image g) refused)
-      refuses_program (ManifestRefused g) e is refused = rw is (started_no_program s turns (ManifestRefused g) refused)
-      refuses_program (ScheduleRefused n) e is refused = rw is (started_no_program s turns (ScheduleRefused n) refused)
-      refuses_program (Init n) e is refused = rw is (started_no_program s turns (Init n) refused)
-      refuses_program Memory e is refused = rw is tt
-      refuses_program WriteTrace e is refused = rw is (started_no_program s turns WriteTrace refused)
-      refuses_program WriteImage e is refused = rw is (started_no_program s turns WriteImage refused)
+    pub refuses_boot : (f : BootFault) (e : RunFault) → e ≡ of_boot f → (f ≡ BootMemory) ⊎ (booted t ≡ Err f) → RefusesStart e (started_on t lines)
+    refuses_boot (BootInit n) e is (inl wrong) = cc wrong
+    refuses_boot (BootInit n) e is (inr refused) = rw is (started-no_boot (BootInit n) refused)
+    refuses_boot BootMemory e is why = rw is tt
 
-    started_no_schedule : (f : ScheduleFault) → schedule_of_lines m.listed.behind ≡ Err f → started bytes ≡ Err (of_schedule f)
-    unfolding started
-    started_no_schedule f wrong = rw (asked, made, wrong) refl
+  started-no_schedule : (f : ScheduleFault) → schedule_of_lines lines ≡ Err f → started_on t lines ≡ Err (of_schedule f)
+  unfolding started_on
+  started-no_schedule f wrong = rw wrong refl
 
-    -- a schedule that is refused
-    pub refuses_schedule : (f : ScheduleFault) (e : RunFault) → e ≡ of_schedule f → RefusesSchedule f (schedule_of_lines m.listed.behind) → RefusesStart e (started bytes)
-    refuses_schedule (ScheduleLine n) e is refused = rw is (started_no_schedule (ScheduleLine n) refused)
-    refuses_schedule ScheduleMemory e is refused = rw is tt
+  -- a schedule that is refused
+  pub refuses_schedule : (f : ScheduleFault) (e : RunFault) → e ≡ of_schedule f → RefusesSchedule f (schedule_of_lines lines) → RefusesStart e (started_on t lines)
+  refuses_schedule (ScheduleLine n) e is refused = rw is (started-no_schedule (ScheduleLine n) refused)
+  refuses_schedule ScheduleMemory e is refused = rw is tt
 
-  started_no_tree : (f : ManifestFault) → tree_of m ≡ Err f → started bytes ≡ Err (of_manifest f)
-  unfolding started
-  started_no_tree f wrong = rw (asked, wrong) refl
+-- ---- the checks of a bundle: its manifest, and then the run on its tree
+
+module _ (bytes : Bytes) (m : Manifest) (asked : read_bundle bytes ≡ Ok m) where
+  pub on_tree : (t : Tree) → tree_of m ≡ Ok t → bundle_started bytes ≡ started_on t m.listed.behind
+  unfolding bundle_started
+  on_tree t made = rw (asked, made) refl
+
+  started-no_tree : (f : ManifestFault) → tree_of m ≡ Err f → bundle_started bytes ≡ Err (of_manifest f)
+  unfolding bundle_started
+  started-no_tree f wrong = rw (asked, wrong) refl
 
   -- an entry that is refused
-  pub refuses_tree : (f : ManifestFault) (e : RunFault) → e ≡ of_manifest f → RefusesManifest f (tree_of m) → RefusesStart e (started bytes)
-  refuses_tree (Form n) e is refused = rw is (started_no_tree (Form n) refused)
-  refuses_tree Size e is refused = rw is (started_no_tree Size refused)
-  refuses_tree (Parent n) e is refused = rw is (started_no_tree (Parent n) refused)
-  refuses_tree (Exists n) e is refused = rw is (started_no_tree (Exists n) refused)
-  refuses_tree (Source n) e is refused = rw is (started_no_tree (Source n) refused)
-  refuses_tree (Room n) e is refused = rw is (started_no_tree (Room n) refused)
+  pub refuses_tree : (f : ManifestFault) (e : RunFault) → e ≡ of_manifest f → RefusesManifest f (tree_of m) → RefusesStart e (bundle_started bytes)
+  refuses_tree (Form n) e is refused = rw is (started-no_tree (Form n) refused)
+  refuses_tree Size e is refused = rw is (started-no_tree Size refused)
+  refuses_tree (Parent n) e is refused = rw is (started-no_tree (Parent n) refused)
+  refuses_tree (Exists n) e is refused = rw is (started-no_tree (Exists n) refused)
+  refuses_tree (Source n) e is refused = rw is (started-no_tree (Source n) refused)
+  refuses_tree (Room n) e is refused = rw is (started-no_tree (Room n) refused)
   refuses_tree ManifestMemory e is refused = rw is tt
 
-started_no_manifest : (bytes : Bytes) (f : ManifestFault) → offered_bundle bytes ≡ Err f → started bytes ≡ Err (of_manifest f)
-unfolding started
-started_no_manifest bytes f wrong = rw wrong refl
+started-no_manifest : (bytes : Bytes) (f : ManifestFault) → read_bundle bytes ≡ Err f → bundle_started bytes ≡ Err (of_manifest f)
+unfolding bundle_started
+started-no_manifest bytes f wrong = rw wrong refl
 
 -- a manifest that is refused
-pub refuses_manifest : (bytes : Bytes) (f : ManifestFault) (e : RunFault) → e ≡ of_manifest f → RefusesManifest f (offered_bundle bytes) → RefusesStart e (started bytes)
-refuses_manifest bytes (Form n) e is refused = rw is (started_no_manifest bytes (Form n) refused)
-refuses_manifest bytes Size e is refused = rw is (started_no_manifest bytes Size refused)
-refuses_manifest bytes (Parent n) e is refused = rw is (started_no_manifest bytes (Parent n) refused)
-refuses_manifest bytes (Exists n) e is refused = rw is (started_no_manifest bytes (Exists n) refused)
-refuses_manifest bytes (Source n) e is refused = rw is (started_no_manifest bytes (Source n) refused)
-refuses_manifest bytes (Room n) e is refused = rw is (started_no_manifest bytes (Room n) refused)
+pub refuses_manifest : (bytes : Bytes) (f : ManifestFault) (e : RunFault) → e ≡ of_manifest f → RefusesManifest f (read_bundle bytes) → RefusesStart e (bundle_started bytes)
+refuses_manifest bytes (Form n) e is refused = rw is (started-no_manifest bytes (Form n) refused)
+refuses_manifest bytes Size e is refused = rw is (started-no_manifest bytes Size refused)
+refuses_manifest bytes (Parent n) e is refused = rw is (started-no_manifest bytes (Parent n) refused)
+refuses_manifest bytes (Exists n) e is refused = rw is (started-no_manifest bytes (Exists n) refused)
+refuses_manifest bytes (Source n) e is refused = rw is (started-no_manifest bytes (Source n) refused)
+refuses_manifest bytes (Room n) e is refused = rw is (started-no_manifest bytes (Room n) refused)
 refuses_manifest bytes ManifestMemory e is refused = rw is tt
 
 -- what comes of a manifest's or a schedule's fault is a fault of the start
@@ -99,8 +103,9 @@ pub schedule_fault : (f : ScheduleFault) (e : RunFault) → e ≡ of_schedule f 
 schedule_fault (ScheduleLine n) e is = rw is tt
 schedule_fault ScheduleMemory e is = rw is tt
 
-pub same_fault : (f e : RunFault) → e ≡ f → IsStartFault f → IsStartFault e
-same_fault f e is kind = rw is kind
+pub boot_fault : (f : BootFault) (e : RunFault) → e ≡ of_boot f → IsStartFault e
+boot_fault (BootInit n) e is = rw is tt
+boot_fault BootMemory e is = rw is tt
 
 pub refuses_text : (f : ScheduleFault) (text : Bytes) → RefusesSchedule f (read_schedule text) → RefusesSchedule f (schedule_of_lines (lines_of text))
 unfolding read_schedule
@@ -108,23 +113,39 @@ refuses_text f text refused = refused
 
 -- ---- the machine's first state
 
-by_program : (bytes : Bytes) (r : Result Program ParseFault) (p : Program) → offered_program bytes ≡ r → and_then of_program r (λ program. let it : Result Program RunFault = Ok program in it) ≡ Ok p → program_of bytes ≡ Some p
-by_program bytes (Err f) p read is = cc
-by_program bytes (Ok q) p read is = program_of-offered bytes q read ∙ (let same : q ≡ p = cc in ap Some same)
+-- a machine stands on the tree on which it was booted
+tree-by : (t : Tree) (s : State) (r : Result Program BootFault) → and_then (λ (f : BootFault). f) r (λ (program : Program). Ok (first_state t program)) ≡ Ok s → s.tree ≡ t
+tree-by t s (Ok program) is = cc is
+tree-by t s (Err fault) is = cc is
 
-by_node : (t : Tree) (node : Option Node) (p : Program) → program_in node ≡ Ok p → init_program program_of t node ≡ Some p
-by_node t None p is = cc
-by_node t (Some (file_node true bytes)) p is = by_program bytes (offered_program bytes) p refl is
-by_node t (Some (file_node false bytes)) p is = cc
-by_node t (Some (directory_node es)) p is = cc
-by_node t (Some (link_node text)) p is = cc
+booted-tree : (t : Tree) (s : State) → booted t ≡ Ok s → s.tree ≡ t
+unfolding booted
+booted-tree t s is = tree-by t s (program_in (init_of t)) is
 
--- the machine starts with the program that was read
-pub boots : (t : Tree) (p : Program) → first_program t ≡ Ok p → boot program_of t ≡ Some (first_state t p)
-unfolding first_program
-boots t p is = ap (option_map (first_state t)) (by_node t (option_and_then (node_at t) (find_entry t root (codes "init"))) p is)
+-- a machine that was booted starts by the programs that bytes spell
+pub boots : (t : Tree) (s : State) → booted t ≡ Ok s → boot program_of s.tree ≡ Some s
+boots t s is = ap (λ tree. boot program_of tree) (booted-tree t s is) ∙ (sym (starts t) ∙ ap result_ok is)
+
+-- what a store has is a tree to start from
+pub first-tree : (t : Tree) → IsAtRest t → IsFirstTree t
+first-tree t rest = record {
+  tree = record { well_formed = rest.well_formed; bytes = rest.bytes };
+  named = rest.named;
+  fits = rest.fits;
+  not_too_long = rest.short;
+}
 
 -- a schedule is that of its lines
 pub schedule_of_text : (text : Bytes) → read_schedule text ≡ schedule_of_lines (lines_of text)
 unfolding read_schedule
 schedule_of_text text = refl
+
+-- what stands behind a place is all that stands there
+pub rest-all : (text : Bytes) (n : ℕ) → take (length text - n) (drop n text) ≡ drop n text
+rest-all text n = take_all (length text - n) (drop n text) (omega (arith, length-drop n text))
+
+-- a bundle's run is that on its manifest's tree, by the text that begins where its schedule does
+pub bundle_on : (bytes : Bytes) (m : ParsedManifest) (at : ℕ) (t : Tree) → read_bundle bytes ≡ Ok (manifest_before m (lines_of (drop at bytes)))
+    → tree_of (manifest_before m (lines_of (drop at bytes))) ≡ Ok t → started_on t (lines_of (take (length bytes - at) (drop at bytes))) ≡ bundle_started bytes
+bundle_on bytes m at t asked made =
+    ap (λ (text : Bytes). started_on t (lines_of text)) (rest-all bytes at) ∙ sym (on_tree bytes (manifest_before m (lines_of (drop at bytes))) asked t made)

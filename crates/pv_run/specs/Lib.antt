@@ -1,15 +1,2 @@
-pub mod Bundles
-pub mod Ended
-pub mod Fetched
-pub mod Kernel
-pub mod Made
-pub mod Offered
-pub mod Owned
-pub mod Process
-pub mod Reading
-pub mod Rows
 pub mod Run
-pub mod Running
-pub mod Slots
 pub mod Streams
-pub mod Walk

@@ -1,19 +1,20 @@
 //! Runs of bundles.
-ghost use Rattle.std.specs.Prelude.{◌≡◌, ◌⊎◌, ◌≤◌, length, Some, IsTrue, IfOk, IfErr, IfSome};
+ghost use Rattle.std.specs.Prelude.{◌≡◌, ◌⊎◌, ◌≤◌, length, Some, Ok, IfOk, IfErr, IfSome, OnOk, OnErr};
 ghost use Rattle.pv_model.specs.Grammar.Programs.{program_of};
+ghost use Rattle.pv_model.specs.Grammar.Lines.{lines_of};
+ghost use Rattle.pv_model.specs.Start.{bundle_started, started_on};
+ghost use Rattle.pv_session.specs.Running.{BeginsLines, ToldLines, run_of};
 ghost use Rattle.pv_model.specs.Step.{boot};
 ghost use Rattle.pv_model.specs.Stream.{Rose};
-ghost use Rattle.std.specs.List.{list_all};
-ghost use Rattle.pv_run.specs.Offered.{is_offered_instruction};
-ghost use Rattle.pv_run.specs.Run.{HasRun, IsBundleFault, IsBytesFault, IsStartFault, RefusesStart, StandsIn, TellsNothingUnlessCut, first_program, started, started_from};
+ghost use Rattle.pv_run.specs.Run.{HasRun, IsBundleFault, IsBytesFault, IsStartFault, IsSummaryOf, RefusesStart, StandsIn, StopsBy, TellsNothingUnlessCut, started_from};
 ghost use Rattle.pv_run.specs.Streams.{GivesMoreThan};
 
-use crate::kernel::Kernel;
-use crate::reader::{build, bundle_of, read_program};
-use crate::running::{run_schedule, step_count};
 use crate::stream::{SOURCE_BYTES, read_whole};
-use pv_model::{Failed, Instruction, PlainNode, PlainTree, RunFault, Sink, Source};
+use pv_image::{Bundle, build};
+use pv_model::{RunFault, Sink, Source};
 use pv_script::Schedule;
+use pv_session::{Session, Stop, run_schedule, step_count};
+use pv_tree::Store;
 use std::alloc::Global;
 
 /// What a run did.
@@ -25,73 +26,68 @@ pub struct Summary {
     pub lines: u64,
 }
 
-/// A kernel at the start of a run, and the turns of its schedule.
+/// The machine at the start of a run, and the turns of its schedule.
 #[derive(Drop)]
 struct Ready {
-    kernel: Kernel,
+    session: Session,
     schedule: Schedule,
 }
 
-// The first program: that of the file `init` in the root.
-#[tactic(auto, unfolding(crate::specs::Run::first_program))]
-fn init(alloc: Global, tree: &PlainTree) -> Result<Vec<Instruction>, RunFault>
-    ensures program { IfOk result (λ p. first_program tree.now ≡ Ok p.items) }
-    ensures offered { IfOk result (λ p. IsTrue (list_all is_offered_instruction p.items)) }
-    ensures fault { IfErr result (λ f. RefusesStart f (first_program tree.now)) }
+// What a run on a tree starts from, by the text of its schedule.
+fn start_on(alloc: Global, store: Store, schedule: &[u8]) -> Result<Ready, RunFault>
+    requires { length schedule.now ≤ SOURCE_BYTES }
+    ensures asked { IfOk result (λ r. started_on store (lines_of schedule.now) ≡ Ok (started_from r.session r.schedule)) }
+    ensures machine { IfOk result (λ r. boot program_of r.session.tree ≡ Some r.session) }
+    ensures fault { IfErr result (λ f. RefusesStart f (started_on store (lines_of schedule.now))) }
     ensures kind { IfErr result IsStartFault }
 {
-    let Some(number) = tree.find(1, b"init") else {
-        return Ok(Vec::new(alloc));
-    };
-    match tree.node(number) {
-        None => Ok(Vec::new(alloc)),
-        Some(
-            PlainNode::File {
-                executable: true,
-                bytes,
-            },
-        ) => Ok(read_program(alloc, bytes)?),
-        Some(_) => Err(RunFault::Init(0)),
-    }
+    store.facts();
+    let schedule = Schedule::parse(alloc, schedule)?;
+    let session = Session::new(alloc, store)?;
+    Ok(Ready { session, schedule })
 }
 
 // What a bundle's run starts from.
-fn start(alloc: Global, bytes: &[u8]) -> Result<Ready, RunFault>
+fn start_bundle(alloc: Global, bytes: &[u8]) -> Result<Ready, RunFault>
     requires { length bytes.now ≤ SOURCE_BYTES }
-    ensures asked { IfOk result (λ r. started bytes.now ≡ Ok (started_from r.kernel r.schedule)) }
-    ensures machine { IfOk result (λ r. boot program_of r.kernel.tree ≡ Some r.kernel) }
-    ensures fault { IfErr result (λ f. RefusesStart f (started bytes.now)) }
+    ensures asked { IfOk result (λ r. bundle_started bytes.now ≡ Ok (started_from r.session r.schedule)) }
+    ensures machine { IfOk result (λ r. boot program_of r.session.tree ≡ Some r.session) }
+    ensures fault { IfErr result (λ f. RefusesStart f (bundle_started bytes.now)) }
     ensures kind { IfErr result IsStartFault }
 {
-    let bundle = bundle_of(alloc, bytes)?;
-    let behind = bundle.behind;
-    let tree = build(alloc, bundle)?;
-    let schedule = Schedule::parse(alloc, behind)?;
-    let program = init(alloc, &tree)?;
-    Ok(Ready {
-        kernel: Kernel::boot(tree, program),
-        schedule,
-    })
+    let bundle = Bundle::parse(alloc, bytes)?;
+    let store = build(alloc, &bundle.manifest)?;
+    start_on(alloc, store, &bytes[bundle.schedule_at..])
+}
+
+// Makes the turns of a schedule: the summary counts their steps and their lines.
+fn make_turns<W: Sink>(alloc: Global, ready: &mut Ready, trace: &mut W) -> Result<Summary, RunFault>
+    ensures after { OnOk result (ready.new.session ≡ (run_of ready.old.session ready.old.schedule).final) }
+    ensures ran { IfOk result (λ summary. IsSummaryOf (started_from ready.old.session ready.old.schedule) summary) }
+    ensures whole { OnOk result (ToldLines (run_of ready.old.session ready.old.schedule).lines (W.told trace.old) (W.told trace.new)) }
+    ensures quiet { OnOk result (W.failures trace.new ≡ W.failures trace.old) }
+    ensures beginning { OnErr result (BeginsLines (run_of ready.old.session ready.old.schedule).lines (W.told trace.old) (W.told trace.new)) }
+    ensures failed { IfErr result (λ fault. StopsBy fault (W.failures trace.old) (W.failures trace.new)) }
+{
+    let steps = step_count(ready.schedule.turns());
+    match run_schedule(alloc, &mut ready.session, ready.schedule.turns(), trace) {
+        Ok(lines) => Ok(Summary { steps, lines }),
+        Err(Stop::Memory) => Err(RunFault::Memory),
+        Err(Stop::Write) => Err(RunFault::WriteTrace),
+    }
 }
 
 // Runs what the bytes of a bundle ask for.
 fn run_bytes<W: Sink>(alloc: Global, bytes: &[u8], trace: &mut W) -> Result<Summary, RunFault>
     requires { length bytes.now ≤ SOURCE_BYTES }
-    ensures ran { IfOk result (λ summary. HasRun bytes.now (W.told trace.old) (W.told trace.new) summary) }
-    ensures refused { IfErr result (λ fault. StandsIn bytes.now (W.told trace.old) (W.told trace.new) fault) }
+    ensures ran { IfOk result (λ summary. HasRun (bundle_started bytes.now) (W.told trace.old) (W.told trace.new) summary) }
+    ensures refused { IfErr result (λ fault. StandsIn (bundle_started bytes.now) (W.told trace.old) (W.told trace.new) fault) }
     ensures kind { IfErr result IsBytesFault }
     ensures unwritten { IfErr result (TellsNothingUnlessCut (W.told trace.old) (W.told trace.new)) }
     ensures write { result ≡ Err RunFault.WriteTrace → Rose (W.failures trace.old) (W.failures trace.new) }
 {
-    let Ready {
-        mut kernel,
-        schedule,
-    } = start(alloc, bytes)?;
-    let steps = step_count(schedule.turns());
-    match run_schedule(&mut kernel, schedule.turns(), trace) {
-        Ok(lines) => Ok(Summary { steps, lines }),
-        Err(Failed) => Err(RunFault::WriteTrace),
-    }
+    let mut ready = start_bundle(alloc, bytes)?;
+    make_turns(alloc, &mut ready, trace)
 }
 
 /// Runs a bundle: a manifest, the line `schedule`, and a schedule.
@@ -106,18 +102,19 @@ fn run_bytes<W: Sink>(alloc: Global, bytes: &[u8], trace: &mut W) -> Result<Summ
 /// - `Read`: a read failed, or the source gave more than 67,108,864 bytes.
 /// - `Manifest`, `Schedule`, `Init`: the first fault of the bundle, in the order of the checks; each names
 ///   the least line of its kind.
-/// - `Memory`: memory was refused; nothing was written.
+/// - `Memory`: memory was refused. Before the first step nothing was written; where an execve(2) wants it for its
+///   program, the trace has grown by the lines of the steps before.
 /// - `WriteTrace`: a write failed; the trace has grown by a beginning of the text, and no step was made
 ///   after it.
 ///
-/// After each of them but `WriteTrace` nothing was written.
+/// After each other fault nothing was written.
 pub fn run_tree<S: Source, W: Sink>(
     alloc: Global,
     bundle: &mut S,
     trace: &mut W,
 ) -> Result<Summary, RunFault>
-    ensures ran { IfOk result (λ summary. IfSome (S.remaining bundle.old) (λ bytes. HasRun bytes (W.told trace.old) (W.told trace.new) summary)) }
-    ensures refused { IfErr result (λ fault. IfSome (S.remaining bundle.old) (λ bytes. StandsIn bytes (W.told trace.old) (W.told trace.new) fault)) }
+    ensures ran { IfOk result (λ summary. IfSome (S.remaining bundle.old) (λ bytes. HasRun (bundle_started bytes) (W.told trace.old) (W.told trace.new) summary)) }
+    ensures refused { IfErr result (λ fault. IfSome (S.remaining bundle.old) (λ bytes. StandsIn (bundle_started bytes) (W.told trace.old) (W.told trace.new) fault)) }
     ensures kind { IfErr result IsBundleFault }
 
     // Nothing is written but the text, and a fault of reading or writing was counted.

@@ -247,19 +247,19 @@ fn schedules_and_first_programs_are_refused(rt: HostRuntime) {
     );
     expect_fault(
         &rt,
-        b"image 8 8\nexec \"/init\" 2\ngetpid\nfork\nschedule\n1\n",
+        b"image 8 8\nexec \"/init\" 2\ngetpid\nfrok\nschedule\n1\n",
         RunFault::Init(2),
     );
     expect_fault(
         &rt,
-        b"image 8 8\nexec \"/init\" 1\nfork\nschedule\n0\n",
+        b"image 8 8\nexec \"/init\" 1\nfrok\nschedule\n0\n",
         RunFault::Schedule(1),
     );
 }
 
 #[test]
 fn manifests_are_refused(rt: HostRuntime) {
-    let cases: [(&[u8], ManifestFault); 10] = [
+    let cases: [(&[u8], ManifestFault); 11] = [
         (b"", ManifestFault::Form(1)),
         (b"image 1 1\nfoo\nschedule\n", ManifestFault::Form(2)),
         (b"image 1 1\nschedule\n", ManifestFault::Size),
@@ -279,8 +279,12 @@ fn manifests_are_refused(rt: HostRuntime) {
             ManifestFault::Exists(3),
         ),
         (
-            b"image 8 8\nlink \"/a\" \"b\"\nschedule\n",
+            b"image 8 8\nlink \"/a\" \"\"\nschedule\n",
             ManifestFault::Form(2),
+        ),
+        (
+            b"image 8 8\nname \"/a\" \"/b\"\nschedule\n",
+            ManifestFault::Source(2),
         ),
     ];
     for case in cases {
