@@ -2,7 +2,8 @@
 #
 #   make          the proved program at bin/pvsim
 #   make demo     the main job at once, before any proof
-#   make try FILE=examples/held.bundle   any bundle, before any proof
+#   make try FILE=examples/held.bundle       any bundle, before any proof
+#   make try SOURCE=examples/sources/held    any text that tools/bundle makes a bundle of
 #   make examples every bundle of examples/ and cases/, its trace compared, before any proof
 #   make test     the gate: every proof from nothing, the wrong bodies, the tests, the program
 #   make check    every crate, over what earlier checks kept
@@ -27,10 +28,13 @@ demo:
 	@echo '--- its trace:'
 	@cd crates/pv_cli && rt try < ../../examples/motd.bundle
 
+# The proved program runs it where bin/pvsim is there and as new as the code; else the unproved one is made, which takes about a minute.
 try:
-	@test -n "$(FILE)" || { echo 'usage: make try FILE=bundle'; exit 2; }
-	@test -r "$(FILE)" || { echo 'no file $(FILE)'; exit 2; }
-	@cd crates/pv_cli && rt try < "$(abspath $(FILE))"
+	@test -n "$(FILE)$(SOURCE)" || { echo 'usage: make try FILE=bundle, or make try SOURCE=source'; exit 2; }
+	@test -r "$(FILE)$(SOURCE)" || { echo 'no file $(FILE)$(SOURCE)'; exit 2; }
+	@bundle=$$(mktemp); trap 'rm -f $$bundle' EXIT; \
+	if [ -n "$(SOURCE)" ]; then tools/bundle "$(abspath $(SOURCE))"; else cat "$(abspath $(FILE))"; fi > $$bundle || exit 2; \
+	if $(MAKE) -sq bin/pvsim; then bin/pvsim run-tree $$bundle; else cd crates/pv_cli && rt try < $$bundle; fi
 
 examples:
 	@tools/examples
