@@ -8,11 +8,13 @@
 #   make test     the gate: every proof from nothing, the wrong bodies, the tests, the program
 #   make check    every crate, over what earlier checks kept
 #   make bench    proves and runs the benchmark, and prints times
-#   make install PREFIX=/usr/local
+#   make man      the manual pages, tried by mandoc(1)
+#   make install PREFIX=/usr/local       the program and its manual pages
 
 PREFIX ?= /usr/local
+MANDIR ?= $(PREFIX)/share/man
 
-.PHONY: all demo try examples test check bench install clean
+.PHONY: all demo try examples test check bench man install clean
 
 all: bin/pvsim
 
@@ -49,9 +51,15 @@ bench:
 	cd crates/pv_bench && rt run > /dev/null
 	crates/pv_bench/out/pv_bench full
 
+man:
+	cd man && mandoc -T lint pvsim.1 pvsim.5
+
 install: bin/pvsim
 	install -d $(DESTDIR)$(PREFIX)/bin
 	install -m 755 bin/pvsim $(DESTDIR)$(PREFIX)/bin/pvsim
+	install -d $(DESTDIR)$(MANDIR)/man1 $(DESTDIR)$(MANDIR)/man5
+	install -m 644 man/pvsim.1 $(DESTDIR)$(MANDIR)/man1/pvsim.1
+	install -m 644 man/pvsim.5 $(DESTDIR)$(MANDIR)/man5/pvsim.5
 
 clean:
 	rm -rf bin
