@@ -1,0 +1,4 @@
+pub mod Children
+pub mod Entries
+pub mod Waiting
+pub mod Parts

@@ -1,0 +1,30 @@
+use Rattle.std.proofs.Common.{◌+◌, ◌∙◌, ap, sym, subst, drop, take, length, arith}
+use Rattle.std.specs.Slice.{IsGetRangeResult}
+use Rattle.pv_model.specs.Bytes.{Bytes}
+use Rattle.pv_model.specs.Calls.Descriptors.{next_name}
+use Rattle.pv_model.specs.Tree.{entries_at}
+use Rattle.pv_tree_laws.proofs.Trees.{ordered}
+use Rattle.pv_listing.specs.Lines.{last_name}
+use Rattle.pv_listing.proofs.Children.{child-none, child-some, last-got}
+use Rattle.pv_listing.proofs.listing.next_child.Goals as goal
+
+pub returns-in_default-clause-next : goal.returns-in_default-clause-next
+returns-in_default-clause-next c =
+    let path = c.args.path.now.items in
+    let es = entries_at c.args.tree.now.tree c.args.directory in
+    let got = last-got path c.args.base c.get.result (omega (arith, c.requires.within, c.deref.ensures.len, ap length c.deref.ensures.value))
+    (subst (λ (bs : Bytes). IsGetRangeResult bs (c.args.base + 1) (length bs) c.get.result) c.deref.ensures.value c.get.ensures.lookup) in
+    child-none es (last_name (drop c.args.base path)) (take c.args.base path) c.truncate.new.self.items
+    (ap (λ last. next_name last es) (sym got) ∙ sym c.next_after-next.ensures.value ∙ c.in_default.is) c.truncate.ensures.items
+
+pub returns-clause-next : goal.returns-clause-next
+returns-clause-next c =
+    let path = c.args.path.now.items in
+    let es = entries_at c.args.tree.now.tree c.args.directory in
+    let got = last-got path c.args.base c.get.result (omega (arith, c.requires.within, c.deref.ensures.len, ap length c.deref.ensures.value))
+    (subst (λ (bs : Bytes). IsGetRangeResult bs (c.args.base + 1) (length bs) c.get.result) c.deref.ensures.value c.get.ensures.lookup) in
+    child-some es (last_name (drop c.args.base path)) (take c.args.base path) c.extend_from_slice.new.self.items c.in-Some.name c.find.result
+    (ordered c.args.tree.now.tree c.requires.well_formed.each_node c.args.directory)
+    (ap (λ last. next_name last es) (sym got) ∙ sym c.in-Some.ensures.value)
+    (c.find.ensures ∙ ap (Rattle.pv_model.specs.Tree.find_entry c.args.tree.now.tree c.args.directory) c.as_slice-2.ensures.value)
+    (cc (c.in_ok-extend_from_slice.ensures.items, c.in_ok-push.ensures.items, c.truncate.ensures.items, c.as_slice.ensures.value))

@@ -1,0 +1,34 @@
+-- Parts of a line, and the names of a directory one after the other.
+use Rattle.std.specs.Prelude.{◌≡◌, ℕ, [], ◌∷◌, ◌++◌, codes, filter, Option, None, Some}
+use Rattle.std.specs.Fmt.{decimal}
+use Rattle.pv_model.specs.declared.sort.Sort.{Sort}
+use Rattle.pv_model.specs.declared.sort.Sort.TheVariants.{Directory, File, Executable, Symlink}
+use Rattle.pv_model.specs.Bytes.{Bytes}
+use Rattle.pv_model.specs.Calls.Descriptors.{is_behind}
+use Rattle.pv_model.specs.Tree.{Entries}
+
+-- the letter of what a node is
+abbrev pub letter_of : Sort → Bytes
+letter_of Directory = codes "d"
+letter_of File = codes "f"
+letter_of Executable = codes "x"
+letter_of Symlink = codes "l"
+
+-- what stands before the path of a line
+abbrev pub line_front : Sort → ℕ → ℕ → Bytes
+line_front sort node size = letter_of sort ++ codes " " ++ decimal node ++ codes " " ++ decimal size ++ codes " "
+
+-- the name behind a slash, if there is one
+abbrev pub last_name : Bytes → Option Bytes
+last_name [] = None
+last_name (slash ∷ name) = Some name
+
+-- the entries whose names come behind the last one
+abbrev pub entries_behind : Option Bytes → Entries → Entries
+entries_behind last es = filter (λ e. is_behind last e.0) es
+
+-- the first of these entries, and a path that ends in its name behind a directory's; where there is none, the directory's path
+abbrev pub IsNextChild : Entries → Option Bytes → Bytes → Option ℕ → Bytes → Type 0
+IsNextChild es last directory None path = (entries_behind last es ≡ []) × (path ≡ directory)
+IsNextChild es last directory (Some child) path =
+    (name : Bytes) × (entries_behind last es ≡ (name, child) ∷ entries_behind (Some name) es) × (path ≡ directory ++ codes "/" ++ name)

@@ -1,0 +1,210 @@
+//! Listings, and sinks that take little.
+ghost use Rattle.std.specs.Prelude.{◌≤◌, IsTrue, None};
+ghost use Rattle.pv_model.specs.declared.version.Version.{Version};
+ghost use Rattle.pv_model.specs.Tree.{is_node};
+ghost use Rattle.pv_tree.specs.Changes.{new_node};
+
+use crate::{ListStop, write_listing};
+use pv_model::{Failed, Kind, Sink, Sort, Version, is_name};
+use pv_tree::{Store, Tree};
+use std::alloc::{AllocError, Global};
+use std::process::Abort;
+use std::test::Fail;
+
+// A sink that takes so many bytes, at most so many a write.
+#[derive(Drop)]
+struct Narrow {
+    bytes: Vec<u8>,
+    room: usize,
+    width: usize,
+    failures: u64,
+}
+
+impl Sink for Narrow {
+    ghost told = { λ _. None };
+
+    ghost failures = { λ s. s.failures };
+
+    fn write(&mut self, buffer: &[u8]) -> Result<usize, Failed> {
+        let count = buffer.len().min(self.room).min(self.width);
+        if count > 0 && self.bytes.extend_from_slice(&buffer[..count]).is_ok() {
+            self.room -= count;
+            return Ok(count);
+        }
+        self.failures = self.failures.saturating_add(1);
+        Err(Failed)
+    }
+}
+
+fn sink_of<R: AllocGlobal>(rt: &R, room: usize, width: usize) -> Narrow {
+    Narrow {
+        bytes: Vec::new(rt.alloc()),
+        room,
+        width,
+        failures: 0,
+    }
+}
+
+// A tree of the root alone, in an image of 16 inodes and 30 data blocks.
+fn small_tree(alloc: Global) -> Result<Tree, AllocError> {
+    let zeros = vec![in alloc; 0; 512 * 32]?;
+    Ok(Store::empty(zeros, 32, 16, Version::V1).into_tree())
+}
+
+// A tree of the root alone, in the greatest image of version 1.
+fn great_tree(alloc: Global) -> Result<Tree, AllocError> {
+    let zeros = vec![in alloc; 0; 512 * 8_192]?;
+    Ok(Store::empty(zeros, 8_192, 4_096, Version::V1).into_tree())
+}
+
+// Puts a new node under a name of a directory.
+fn make(rt: &impl Abort, tree: &mut Tree, directory: u16, name: &[u8], kind: Kind) -> u16
+    requires { (v : Version) → IsTrue (is_node v (new_node kind)) }
+{
+    assert!(rt; tree.is_directory(directory));
+    assert!(rt; tree.parent(directory).is_some());
+    assert!(rt; tree.find(directory, name).is_none());
+    assert!(rt; is_name(tree.sizes().version, name));
+    tree.make(directory, name, kind).expect(rt, "there is room")
+}
+
+// Puts a node that is no directory under one more name.
+fn link(rt: &impl Abort, tree: &mut Tree, directory: u16, name: &[u8], node: u16) {
+    assert!(rt; tree.is_directory(directory));
+    assert!(rt; tree.parent(directory).is_some());
+    assert!(rt; tree.find(directory, name).is_none());
+    assert!(rt; tree.is_used(node));
+    assert!(rt; !tree.is_directory(node));
+    assert!(rt; is_name(tree.sizes().version, name));
+    assert!(rt; tree.link(directory, name, node).is_ok());
+}
+
+fn write(rt: &impl Abort, tree: &mut Tree, node: u16, bytes: &[u8]) {
+    assert!(rt; tree.is_used(node));
+    assert!(rt; tree.kind(node) == Sort::File);
+    assert!(rt; tree.write_at(node, 0, bytes).is_ok());
+}
+
+// A chain of so many directories below the root, each with this name.
+fn make_chain(rt: &impl Abort, tree: &mut Tree, count: u16, name: &[u8]) {
+    let mut directory = 1;
+    for _made in 0..count {
+        directory = make(rt, tree, directory, name, Kind::Directory);
+    }
+}
+
+// Two directories with a file of two names, an executable file and a link.
+fn make_some(rt: &impl Abort, tree: &mut Tree) {
+    assert!(rt; make(rt, tree, 1, b"d", Kind::Directory) == 2);
+    assert!(rt; make(rt, tree, 2, b"f", Kind::File) == 3);
+    assert!(rt; make(rt, tree, 1, b"x", Kind::Executable) == 4);
+    assert!(rt; make(rt, tree, 1, b"l", Kind::Symlink(b"d/f")) == 5);
+    assert!(rt; make(rt, tree, 2, b"e", Kind::Directory) == 6);
+    assert!(rt; make(rt, tree, 6, b"g", Kind::File) == 7);
+    write(rt, tree, 3, b"bytes");
+    link(rt, tree, 1, b"d.", 3);
+}
+
+const SOME: &[u8] =
+    b"d 1 4 \"/\"\nd 2 2 \"/d\"\nd 6 1 \"/d/e\"\nf 7 0 \"/d/e/g\"\nf 3 5 \"/d/f\"\nf 3 5 \"/d.\"\nl 5 3 \"/l\"\nx 4 0 \"/x\"\n";
+
+#[test]
+fn the_root_alone_has_one_line(rt: HostRuntime) -> Result<(), Fail> {
+    let tree = small_tree(rt.alloc())?;
+    let mut out = sink_of(&rt, 1_000, 1_000);
+    assert_eq!(rt; write_listing(rt.alloc(), &tree, &mut out), Ok(()));
+    assert!(rt; out.bytes.as_slice() == b"d 1 0 \"/\"\n".as_slice());
+    Ok(())
+}
+
+#[test]
+fn a_directory_is_followed_by_all_that_is_in_it(rt: HostRuntime) -> Result<(), Fail> {
+    let mut tree = small_tree(rt.alloc())?;
+    make_some(&rt, &mut tree);
+    for width in [1, 7, 1_000] {
+        let mut out = sink_of(&rt, 1_000, width);
+        assert_eq!(rt; write_listing(rt.alloc(), &tree, &mut out), Ok(()));
+        assert!(rt; out.bytes.as_slice() == SOME);
+    }
+    Ok(())
+}
+
+#[test]
+fn names_are_quoted(rt: HostRuntime) -> Result<(), Fail> {
+    let mut tree = small_tree(rt.alloc())?;
+    make(&rt, &mut tree, 1, b"\"\\ ~\x01\x7f\xff", Kind::File);
+    let mut out = sink_of(&rt, 1_000, 1_000);
+    assert_eq!(rt; write_listing(rt.alloc(), &tree, &mut out), Ok(()));
+    let wanted = b"d 1 1 \"/\"\nf 2 0 \"/\\x22\\x5c ~\\x01\\x7f\\xff\"\n";
+    assert!(rt; out.bytes.as_slice() == wanted.as_slice());
+    Ok(())
+}
+
+#[test]
+fn a_full_sink_has_a_beginning_of_the_listing(rt: HostRuntime) -> Result<(), Fail> {
+    let mut tree = small_tree(rt.alloc())?;
+    make_some(&rt, &mut tree);
+    for room in 0..SOME.len() {
+        for width in [1, 7, 1_000] {
+            let mut out = sink_of(&rt, room, width);
+            assert_eq!(rt;
+                write_listing(rt.alloc(), &tree, &mut out),
+                Err(ListStop::Write)
+            );
+            assert!(rt; out.bytes.as_slice() == &SOME[..room]);
+            assert!(rt; out.failures == 1);
+        }
+    }
+    Ok(())
+}
+
+// The path of the last node of a chain, as a program writes it.
+fn chain_path(alloc: Global, count: usize, piece: &[u8]) -> Result<Vec<u8>, AllocError> {
+    let mut path = Vec::from_slice(alloc, b"\"")?;
+    for _piece in 0..count {
+        path.extend_from_slice(piece)?;
+    }
+    path.extend_from_slice(b"\"\n")?;
+    Ok(path)
+}
+
+#[test]
+fn a_path_may_be_longer_than_one_that_is_walked(rt: HostRuntime) -> Result<(), Fail> {
+    let mut tree = great_tree(rt.alloc())?;
+    make_chain(&rt, &mut tree, 20, &[255; 60]);
+    let mut piece = Vec::from_slice(rt.alloc(), b"/")?;
+    for _byte in 0..60 {
+        piece.extend_from_slice(b"\\xff")?;
+    }
+    let path = chain_path(rt.alloc(), 20, piece.as_slice())?;
+    let mut whole = sink_of(&rt, 1_000_000, 1_000_000);
+    assert_eq!(rt; write_listing(rt.alloc(), &tree, &mut whole), Ok(()));
+    assert!(rt; whole.bytes.ends_with(path.as_slice()));
+    assert!(rt; path.len() == 4_823);
+    for room in [0, 4_095, 4_096, 4_097, 20_000] {
+        let mut out = sink_of(&rt, room, 1_000_000);
+        assert_eq!(rt;
+            write_listing(rt.alloc(), &tree, &mut out),
+            Err(ListStop::Write)
+        );
+        assert!(rt; whole.bytes.starts_with(out.bytes.as_slice()));
+        assert!(rt; out.bytes.len() == room);
+    }
+    Ok(())
+}
+
+#[test]
+fn the_deepest_tree_is_listed(rt: HostRuntime) -> Result<(), Fail> {
+    let mut tree = great_tree(rt.alloc())?;
+    make_chain(&rt, &mut tree, 4_095, b"d");
+    let path = chain_path(rt.alloc(), 4_095, b"/d")?;
+    let mut out = sink_of(&rt, 100_000_000, 100_000_000);
+    assert_eq!(rt; write_listing(rt.alloc(), &tree, &mut out), Ok(()));
+    assert!(rt;
+        out.bytes
+            .starts_with(b"d 1 1 \"/\"\nd 2 1 \"/d\"\nd 3 1 \"/d/d\"\n")
+    );
+    assert!(rt; out.bytes.ends_with(path.as_slice()));
+    assert!(rt; out.bytes.iter().filter(|byte| **byte == b'\n').count() == 4_096);
+    Ok(())
+}
