@@ -1,0 +1,10 @@
+pub mod Passed
+pub mod Ranges
+pub mod Directories
+pub mod Inodes
+pub mod Nodes
+pub mod Names
+pub mod Blocks
+pub mod Places
+pub mod Trees
+pub mod Images
