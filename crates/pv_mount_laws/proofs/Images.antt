@@ -134,7 +134,7 @@ module _ (v : Version) (bytes : Bytes) (is : IsPassed v bytes) where
         data_blocks = omega (arith, some);
         each_inode = holds;
         in_data = subst (AllByRecursion (IsData v bytes)) (sym blocks-used) (all-data v bytes (blocks v bytes is));
-        used_once = subst (IsDistinct ◌==◌) (sym blocks-used) (once-distinct (used_first v bytes last) (all-once v bytes last (blocks v bytes is)));
+        used_once = subst (IsDistinct ◌==◌) (sym blocks-used) (once-distinct ◌==◌ (used_first v bytes last) (all-once v bytes last (blocks v bytes is)));
         well_formed = well_formed-in v bytes is;
         each_named = unnamed-root v bytes is;
       }

@@ -8,3 +8,8 @@ pub mod Blocks
 pub mod Places
 pub mod Trees
 pub mod Images
+pub mod Held
+pub mod Listed
+pub mod Reached
+pub mod Entries
+pub mod Back

@@ -72,10 +72,10 @@ module _ (v : Version) (bytes : Bytes) (is : EachOnce v bytes) where
   -- ---- what is reached
 
   -- a step on from a node that is reached
-  abbrev steps_to : ℕ → ℕ → ℕ → Bool
+  abbrev pub steps_to : ℕ → ℕ → ℕ → Bool
   steps_to steps n d = has_slot_for v bytes n d && is_reached_within v bytes steps d
 
-  further : (steps n : ℕ) → is_reached_within v bytes (suc steps) n ≡ ((n == root) || list_any (steps_to steps n) (range_with_len 1 last))
+  pub further : (steps n : ℕ) → is_reached_within v bytes (suc steps) n ≡ ((n == root) || list_any (steps_to steps n) (range_with_len 1 last))
   further steps n = ap (λ b. (n == root) || b) (any_filter (has_slot_for v bytes n) (is_reached_within v bytes steps) (range_with_len 1 last))
 
   pub within-reached : (steps n : ℕ) → is_reached_within v bytes steps n ≡ true → IsReached t n

@@ -103,15 +103,16 @@ range_each P from (suc k) all n low high =
 
 -- ---- once
 
-pub once-distinct : (xs : List ℕ) → stands_twice ◌==◌ xs ≡ false → IsDistinct ◌==◌ xs
-unfolding IsDistinct
-once-distinct [] once = tt
-once-distinct (x ∷ xs) once = let parts = or_parts (list_any (λ y. x == y) xs) (stands_twice ◌==◌ xs) once in (none_any (λ y. x == y) xs parts.0, once-distinct xs parts.1)
+module _ {X : Type 0} (same : X → X → Bool) where
+  pub once-distinct : (xs : List X) → stands_twice same xs ≡ false → IsDistinct same xs
+  unfolding IsDistinct
+  once-distinct [] once = tt
+  once-distinct (x ∷ xs) once = let parts = or_parts (list_any (same x) xs) (stands_twice same xs) once in (none_any (same x) xs parts.0, once-distinct xs parts.1)
 
-pub distinct-once : (xs : List ℕ) → IsDistinct ◌==◌ xs → stands_twice ◌==◌ xs ≡ false
-unfolding IsDistinct
-distinct-once [] once = refl
-distinct-once (x ∷ xs) once = or_from (list_any (λ y. x == y) xs) (stands_twice ◌==◌ xs) (any_none (λ y. x == y) xs once.0) (distinct-once xs once.1)
+  pub distinct-once : (xs : List X) → IsDistinct same xs → stands_twice same xs ≡ false
+  unfolding IsDistinct
+  distinct-once [] once = refl
+  distinct-once (x ∷ xs) once = or_from (list_any (same x) xs) (stands_twice same xs) (any_none (same x) xs once.0) (distinct-once xs once.1)
 
 -- whether a number stands in both
 abbrev pub in_both : List ℕ → List ℕ → Bool

@@ -73,7 +73,7 @@ not_empty : (bs : Bytes) → 1 ≤ length bs → not (is_empty bs) ≡ true
 not_empty [] some = absurd (omega (arith, some))
 not_empty (b ∷ bs) some = refl
 
-directory-node : (o : Option Node) → is_directory o ≡ true → (es : Entries) × (o ≡ Some (directory_node es))
+pub directory-node : (o : Option Node) → is_directory o ≡ true → (es : Entries) × (o ≡ Some (directory_node es))
 directory-node None is = cc is
 directory-node (Some (directory_node es)) is = (es, refl)
 directory-node (Some (file_node executable bytes)) is = cc is

@@ -1,10 +1,14 @@
 -- Bytes that mount, and the tree of an image.
-use Rattle.std.specs.Prelude.{◌≡◌, Ok}
+use Rattle.std.specs.Prelude.{◌≡◌, ◌↔◌, Ok}
 use Rattle.pv_model.specs.Bytes.{Bytes}
 use Rattle.pv_model.specs.Image.{IsImageOf}
 use Rattle.pv_model.specs.Mount.{mounted}
 use Rattle.pv_model.specs.Tree.{Tree}
 
--- bytes that mount are an image of the tree that they hold
-abbrev pub MountedIsImage : Type 0
-MountedIsImage = (bytes : Bytes) (t : Tree) → mounted bytes ≡ Ok t → IsImageOf bytes t
+-- bytes mount exactly where they are an image of a tree, and as that tree
+abbrev pub MountsImages : Type 0
+MountsImages = (bytes : Bytes) (t : Tree) → (mounted bytes ≡ Ok t) ↔ IsImageOf bytes t
+
+-- so an image holds one tree
+abbrev pub HoldsOneTree : Type 0
+HoldsOneTree = (bytes : Bytes) (t u : Tree) → IsImageOf bytes t → IsImageOf bytes u → t ≡ u

@@ -1,9 +1,14 @@
-//! Laws of mounting: bytes mount exactly where they are an image of a tree, with that tree, and a machine may start on it.
+//! Laws of mounting: bytes mount exactly where they are an image of a tree, and as that tree.
 #![tactic(auto)]
 
-ghost use Rattle.pv_mount_laws.specs.Mounts.{MountedIsImage};
+ghost use Rattle.pv_mount_laws.specs.Mounts.{MountsImages, HoldsOneTree};
 
-/// Bytes that mount are an image of the tree that they hold.
-pub fn mounted_is_image()
-    ensures { MountedIsImage }
+/// Bytes mount exactly where they are an image of a tree, and then as that tree.
+pub fn images_mount()
+    ensures { MountsImages }
+{}
+
+/// So no bytes are an image of two trees.
+pub fn images_hold_one_tree()
+    ensures { HoldsOneTree }
 {}
