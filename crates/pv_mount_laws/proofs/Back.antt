@@ -11,17 +11,18 @@ use Rattle.pv_model.specs.Image.{inode_blocks, used_blocks, Holds, HoldsAny, IsI
 use Rattle.pv_model.specs.Mount.{stands_twice, block_number, inode_number, kind, is_free, name_count, is_reached_within, may_be_named, node_in, tree_in, mounted, HasSizes}
 use Rattle.pv_model.specs.Numbered.{Numbered, at_number}
 use Rattle.pv_model.specs.Tree.{Node, directory_node, file_node, link_node, Tree, root, node_at, is_directory, is_directory_at, find_entry, names_of, IsReached, from_root}
+use Rattle.pv_image_laws.specs.Inodes.{AreFineBlocks, IsData, IsFinePlace, is_placed}
 use Rattle.pv_tree_laws.proofs.Numbered.{at_number-below, same_numbered}
 use Rattle.pv_mount_laws.proofs.Passed.{IsPassed, passed-mounted}
-use Rattle.pv_mount_laws.proofs.Blocks.{IsData, used_first, AreFine, fine-all, fine-blocks, used-all}
+use Rattle.pv_image_laws.proofs.Blocks.{used_first, fine-all, fine-blocks, used-all}
 use Rattle.pv_mount_laws.proofs.Entries.{image-fine, image-node, image-content, image-once, some-node}
 use Rattle.pv_mount_laws.proofs.Held.{node-held}
-use Rattle.pv_mount_laws.proofs.Inodes.{fine-inode}
-use Rattle.pv_mount_laws.proofs.Names.{as_many_names, counted-entry}
-use Rattle.pv_mount_laws.proofs.Nodes.{node_at-in, fine-content}
-use Rattle.pv_mount_laws.proofs.Places.{is_placed, IsFinePlace, fine-place, named-root, directory-named, other-named}
-use Rattle.pv_mount_laws.proofs.Ranges.{each_weaker, distinct-once, past-made}
-use Rattle.pv_mount_laws.proofs.Reached.{reached-within}
+use Rattle.pv_image_laws.proofs.Inodes.{fine-inode}
+use Rattle.pv_image_laws.proofs.Names.{as_many_names, counted-entry}
+use Rattle.pv_image_laws.proofs.Nodes.{node_at-in, fine-content}
+use Rattle.pv_image_laws.proofs.Places.{fine-place, named-root, directory-named, other-named}
+use Rattle.pv_image_laws.proofs.Ranges.{each_weaker, distinct-once, past-made}
+use Rattle.pv_image_laws.proofs.Reached.{reached-within}
 use Rattle.pv_mount_laws.proofs.Trees.{AreSizes, sizes-has, directory-node}
 
 -- past the end there is nothing
@@ -87,7 +88,7 @@ module _ (bytes : Bytes) (t : Tree) (is : IsImageOf bytes t) where
   used-same : used_first v bytes last ≡ used_blocks bytes t
   used-same = sym (used-all v bytes (λ n low high. (image-fine bytes t is n low high).kinds)) ∙ ap (used_blocks bytes) tree-same
 
-  blocks-fine : (n : ℕ) → 1 ≤ n → n ≤ last → AreFine v bytes n
+  blocks-fine : (n : ℕ) → 1 ≤ n → n ≤ last → AreFineBlocks v bytes n
   blocks-fine =
       let same = ap (inode_blocks v) is.all_inodes in
       fine-all v bytes (ap (stands_twice ◌==◌) used-same ∙ distinct-once ◌==◌ (used_blocks bytes t) is.used_once)
@@ -103,7 +104,7 @@ module _ (bytes : Bytes) (t : Tree) (is : IsImageOf bytes t) where
   named-within d name n found = let there = some-node bytes t is n (is.well_formed.entries_are_nodes d name n (found-same d name n found)) in (there.0, there.1)
 
   reached-in : (n : ℕ) → IsReached t n → is_reached_within v bytes last n ≡ true
-  reached-in n reached = reached-within v bytes (image-once bytes t is) image-sizes.some_inodes named-within n (subst (λ u. IsReached u n) (sym tree-same) reached)
+  reached-in n reached = reached-within v bytes (image-once bytes t is) (record { some = image-sizes.some_inodes; entries = named-within }) n (subst (λ u. IsReached u n) (sym tree-same) reached)
 
   count-same : (n : ℕ) → name_count v bytes n ≡ length (names_of t n)
   count-same n = sym (as_many_names v bytes (image-once bytes t is) n) ∙ ap (λ u. length (names_of u n)) tree-same

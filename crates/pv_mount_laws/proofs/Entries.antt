@@ -13,15 +13,14 @@ use Rattle.pv_model.specs.Image.{size, content, Holds, HoldsAny, IsImageOf}
 use Rattle.pv_model.specs.Mount.{slots_of, slot_name, stands_twice, inode_number, kind, is_free, slots_at, entries_in, node_in}
 use Rattle.pv_model.specs.Room.{entry_length}
 use Rattle.pv_model.specs.Tree.{Entries, Node, directory_node, file_node, link_node, Tree, node_at, entries_of, is_directory, is_name_byte, is_name, greatest_name, is_link_text}
+use Rattle.pv_image_laws.specs.Inodes.{EachOnce, IsFineContent, IsFineInode, IsFineSlot}
 use Rattle.pv_image_laws.specs.Slots.{slot_entry, IsMeasured}
 use Rattle.pv_image_laws.proofs.Slots.{read}
 use Rattle.pv_tree_laws.proofs.Entries.{by_name}
-use Rattle.pv_mount_laws.proofs.Directories.{permuted, sorted-put_all}
+use Rattle.pv_image_laws.proofs.Directories.{permuted, sorted-put_all}
 use Rattle.pv_mount_laws.proofs.Held.{node-within, node-held}
-use Rattle.pv_mount_laws.proofs.Inodes.{IsFine}
 use Rattle.pv_mount_laws.proofs.Listed.{entry_name, each-found, permuted-once, one-order}
-use Rattle.pv_mount_laws.proofs.Names.{EachOnce}
-use Rattle.pv_mount_laws.proofs.Nodes.{node_of, slots-directory, slots-other, IsFineSlot, IsFineContent}
+use Rattle.pv_image_laws.proofs.Nodes.{node_of, slots-directory, slots-other}
 
 -- ---- lengths and lists
 
@@ -96,7 +95,7 @@ module _ (bytes : Bytes) (t : Tree) (is : IsImageOf bytes t) where
 
   -- ---- kinds and sizes
 
-  kind_fine : (n : ℕ) (o : Option Node) → IsHeld n o → IsFine v (kind v bytes n) (size v bytes n)
+  kind_fine : (n : ℕ) (o : Option Node) → IsHeld n o → IsFineInode v (kind v bytes n) (size v bytes n)
   kind_fine n None (at, free) = record {
     kinds = omega (arith, free);
     allowed = λ used. absurd (used free);
@@ -140,7 +139,7 @@ module _ (bytes : Bytes) (t : Tree) (is : IsImageOf bytes t) where
         text = λ four. (omega (arith, long, some), omega (arith, long, few));
       }
 
-  pub image-fine : (n : ℕ) → 1 ≤ n → n ≤ last → IsFine v (kind v bytes n) (size v bytes n)
+  pub image-fine : (n : ℕ) → 1 ≤ n → n ≤ last → IsFineInode v (kind v bytes n) (size v bytes n)
   image-fine n low high = kind_fine n (node_at t n) (held n low high)
 
   -- a node's inode is in use

@@ -10,15 +10,16 @@ use Rattle.pv_model.specs.Image.{stored_count, size, inode, inode_blocks, conten
 use Rattle.pv_model.specs.Mount.{slots_of, slot_length, block_number, inode_number, kind, slots_at, entries_in, tree_in, mounted}
 use Rattle.pv_model.specs.Room.{entry_length}
 use Rattle.pv_model.specs.Tree.{directory_node, Tree, node_at, names_of, greatest_name}
+use Rattle.pv_image_laws.specs.Inodes.{IsData, IsFineSlot}
 use Rattle.pv_image_laws.specs.Slots.{slot_entry, IsMeasured}
 use Rattle.pv_image_laws.proofs.Slots.{stand}
 use Rattle.pv_mount_laws.proofs.Passed.{IsPassed, mounted-passed}
-use Rattle.pv_mount_laws.proofs.Directories.{permuted, length-put_all}
-use Rattle.pv_mount_laws.proofs.Nodes.{by_kind, node_of, node_at-in, slots-directory, IsFineSlot}
-use Rattle.pv_mount_laws.proofs.Names.{as_many_names}
-use Rattle.pv_mount_laws.proofs.Blocks.{IsData, used_first, all-once, all-data, used-all}
+use Rattle.pv_image_laws.proofs.Directories.{permuted, length-put_all}
+use Rattle.pv_image_laws.proofs.Nodes.{by_kind, node_of, node_at-in, slots-directory}
+use Rattle.pv_image_laws.proofs.Names.{as_many_names}
+use Rattle.pv_image_laws.proofs.Blocks.{used_first, all-once, all-data, used-all}
 use Rattle.pv_mount_laws.proofs.Trees.{sizes, fine, blocks, contents, each_once, place, content-long, unnamed-root, well_formed-in}
-use Rattle.pv_mount_laws.proofs.Ranges.{once-distinct}
+use Rattle.pv_image_laws.proofs.Ranges.{once-distinct}
 
 -- ---- slots
 

@@ -1,15 +1,8 @@
 pub mod Passed
-pub mod Ranges
-pub mod Directories
-pub mod Inodes
-pub mod Nodes
-pub mod Names
-pub mod Blocks
-pub mod Places
 pub mod Trees
 pub mod Images
 pub mod Held
 pub mod Listed
-pub mod Reached
 pub mod Entries
 pub mod Back
+pub mod Accepted

@@ -11,7 +11,7 @@ use Rattle.pv_model.specs.Bytes.{Bytes}
 use Rattle.pv_model.specs.Mount.{stands_twice}
 use Rattle.pv_model.specs.Tree.{Entries}
 use Rattle.pv_tree_laws.proofs.Entries.{by_name, ties-bytes_eq, tied-same, tied_itself, bytes_eq-same, tell, find_behind}
-use Rattle.pv_mount_laws.proofs.Ranges.{once-distinct, distinct-once, each_weaker}
+use Rattle.pv_image_laws.proofs.Ranges.{once-distinct, distinct-once, each_weaker}
 
 abbrev pub entry_name : Bytes × ℕ → Bytes
 entry_name e = e.0

@@ -11,16 +11,17 @@ use Rattle.pv_model.specs.Bytes.{Bytes, is_empty}
 use Rattle.pv_model.specs.Image.{inode_blocks, greatest_blocks, size, used_index, used_content, content}
 use Rattle.pv_model.specs.Mount.{slot_number, slot_name, block_number, inode_number, are_image_sizes, has_sizes, kind, is_free, slots_at, name_count, entries_in, node_in, tree_in}
 use Rattle.pv_model.specs.Tree.{Entries, Node, directory_node, file_node, link_node, Tree, root, node_at, is_directory, is_directory_at, find_entry, names_of, is_name, is_node, is_link_text, IsWellFormed}
+use Rattle.pv_image_laws.specs.Inodes.{AreFineBlocks, EachOnce, IsFineContent, IsFineInode, IsFinePlace, IsFineSlot}
 use Rattle.pv_tree_laws.proofs.Entries.{by_name}
 use Rattle.pv_tree_laws.proofs.Trees.{parent-none_named}
 use Rattle.pv_mount_laws.proofs.Passed.{IsPassed}
-use Rattle.pv_mount_laws.proofs.Inodes.{IsFine, inode-fine, length-content}
-use Rattle.pv_mount_laws.proofs.Nodes.{by_kind, node_of, node_at-in, node-there, IsFineSlot, IsFineContent, content-fine}
-use Rattle.pv_mount_laws.proofs.Names.{EachOnce, as_many_names, entry-within, entry-slot, counted-entry, within-reached}
-use Rattle.pv_mount_laws.proofs.Blocks.{AreFine, blocks-fine, used-kind, some-used}
-use Rattle.pv_mount_laws.proofs.Directories.{sorted-put_all, tested-put_all}
-use Rattle.pv_mount_laws.proofs.Places.{IsFinePlace, place-fine, root-named, directory-named, other-named}
-use Rattle.pv_mount_laws.proofs.Ranges.{each_weaker, append_each, each_at}
+use Rattle.pv_image_laws.proofs.Inodes.{inode-fine, length-content}
+use Rattle.pv_image_laws.proofs.Nodes.{by_kind, node_of, node_at-in, node-there, content-fine}
+use Rattle.pv_image_laws.proofs.Names.{as_many_names, entry-within, entry-slot, counted-entry, within-reached}
+use Rattle.pv_image_laws.proofs.Blocks.{blocks-fine, used-kind, some-used}
+use Rattle.pv_image_laws.proofs.Directories.{sorted-put_all, tested-put_all}
+use Rattle.pv_image_laws.proofs.Places.{place-fine, root-named, directory-named, other-named}
+use Rattle.pv_image_laws.proofs.Ranges.{each_weaker, append_each, each_at}
 
 -- ---- the sizes
 
@@ -86,10 +87,10 @@ module _ (v : Version) (bytes : Bytes) (is : IsPassed v bytes) where
   abbrev last : ℕ
   last = inode_number bytes
 
-  pub fine : (n : ℕ) → 1 ≤ n → n ≤ last → IsFine v (kind v bytes n) (size v bytes n)
+  pub fine : (n : ℕ) → 1 ≤ n → n ≤ last → IsFineInode v (kind v bytes n) (size v bytes n)
   fine n low high = inode-fine v bytes n (is.inodes n low high)
 
-  pub blocks : (n : ℕ) → 1 ≤ n → n ≤ last → AreFine v bytes n
+  pub blocks : (n : ℕ) → 1 ≤ n → n ≤ last → AreFineBlocks v bytes n
   blocks n low high = blocks-fine v bytes n (is.blocks n low high)
 
   pub contents : (n : ℕ) → 1 ≤ n → n ≤ last → IsFineContent v bytes n

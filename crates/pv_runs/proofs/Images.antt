@@ -16,8 +16,8 @@ use Rattle.pv_model.specs.Room.{node_length, need, greatest_length, fits, is_too
 use Rattle.pv_model.specs.Tree.{Entries, Node, directory_node, file_node, link_node, Tree, root, node_at, entries_of, names_in, named_numbers}
 use Rattle.pv_laws.specs.States.{is_byte, are_bytes, has_bytes, IsFirstTree}
 use Rattle.pv_mount_laws.proofs.Held.{node-held}
-use Rattle.pv_mount_laws.proofs.Inodes.{need-used}
-use Rattle.pv_mount_laws.proofs.Ranges.{each_weaker, distinct-within}
+use Rattle.pv_image_laws.proofs.Inodes.{need-used}
+use Rattle.pv_image_laws.proofs.Ranges.{each_weaker, distinct-within}
 use Rattle.pv_runs.proofs.Entries.{join-bytes, split-bytes}
 
 -- ---- bytes

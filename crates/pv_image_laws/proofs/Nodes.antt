@@ -1,7 +1,7 @@
 -- The nodes of the tree that inodes hold, by the kinds of the inodes.
 use Rattle.std.proofs.Common.{◌≡◌, ◌≢◌, ℕ, zero, suc, ◌+◌, ◌/◌, ◌<◌, ◌≤◌, Bool, true, false, not, ◌&&◌, ◌||◌, ◌==◌, nat_lt, nat_le, List, [], map, Option, None, Some, bytes_eq, ap, sym, ◌∙◌, refl, arith, ⊎_elim, ◌⊎◌, inl, inr}
 use Rattle.std.specs.Prelude.{if◌then◌else◌}
-use Rattle.std.specs.List.{AllByRecursion, list_any}
+use Rattle.std.specs.List.{list_any}
 use Rattle.std.proofs.lemmas.Bool.{and_parts, and_from, or_parts, or_from, eq-eqb, ne_eqb, ltb-true, ltb-false, le-ltb, leb-true, le-leb}
 use Rattle.pv_model.specs.declared.version.Version.{Version}
 use Rattle.pv_model.specs.Bytes.{Bytes}
@@ -9,8 +9,9 @@ use Rattle.pv_model.specs.Image.{size, content}
 use Rattle.pv_model.specs.Mount.{slots_of, slot_number, slot_length, slot_name, stands_twice, inode_number, kind, is_free, slots_at, is_bad_slot, has_bad_content, entries_in, node_in, tree_in}
 use Rattle.pv_model.specs.Room.{entry_length}
 use Rattle.pv_model.specs.Tree.{Entries, Node, directory_node, file_node, link_node, node_at, entries_of, entries_at, is_name, greatest_name}
-use Rattle.pv_mount_laws.proofs.Inodes.{under_false, over_false}
-use Rattle.pv_mount_laws.proofs.Ranges.{at-made, past-made, none_any, any_none, each_weaker}
+use Rattle.pv_image_laws.specs.Inodes.{IsFineContent, IsFineSlot}
+use Rattle.pv_image_laws.proofs.Inodes.{under_false, over_false}
+use Rattle.pv_image_laws.proofs.Ranges.{at-made, past-made, none_any, any_none, each_weaker}
 
 -- what holds of the five kinds
 pub by_kind : (P : ℕ → Type 0) → P 0 → P 1 → P 2 → P 3 → P 4 → (k : ℕ) → k ≤ 4 → P k
@@ -86,13 +87,6 @@ module _ (v : Version) (bytes : Bytes) where
 
   -- ---- slots without a fault
 
-  pub record IsFineSlot (slot : Bytes) : Type 0 where
-    pub from_one : 1 ≤ slot_number slot
-    pub in_table : slot_number slot ≤ inode_number bytes
-    pub used : is_free v bytes (slot_number slot) ≡ false
-    pub short : slot_length slot ≤ greatest_name v
-    pub named : is_name v (slot_name slot) ≡ true
-
   abbrev numbered_test : Bytes → Bool
   numbered_test slot = nat_le 1 (slot_number slot) && nat_le (slot_number slot) (inode_number bytes)
 
@@ -100,7 +94,7 @@ module _ (v : Version) (bytes : Bytes) where
   is_not true is = refl
   is_not false is = cc is
 
-  slot-fine : (slot : Bytes) → is_bad_slot v bytes slot ≡ false → IsFineSlot slot
+  slot-fine : (slot : Bytes) → is_bad_slot v bytes slot ≡ false → IsFineSlot v bytes slot
   slot-fine slot none =
       let a = or_parts (not (numbered_test slot) || is_free v bytes (slot_number slot) || nat_lt (greatest_name v) (slot_length slot)) (not (is_name v (slot_name slot))) none in
       let b = or_parts (not (numbered_test slot) || is_free v bytes (slot_number slot)) (nat_lt (greatest_name v) (slot_length slot)) a.0 in
@@ -114,7 +108,7 @@ module _ (v : Version) (bytes : Bytes) where
         named = is_not (is_name v (slot_name slot)) a.1;
       }
 
-  fine-slot : (slot : Bytes) → IsFineSlot slot → is_bad_slot v bytes slot ≡ false
+  fine-slot : (slot : Bytes) → IsFineSlot v bytes slot → is_bad_slot v bytes slot ≡ false
   fine-slot slot is =
       or_from (not (numbered_test slot) || is_free v bytes (slot_number slot) || nat_lt (greatest_name v) (slot_length slot)) (not (is_name v (slot_name slot)))
       (or_from (not (numbered_test slot) || is_free v bytes (slot_number slot)) (nat_lt (greatest_name v) (slot_length slot))
@@ -124,27 +118,21 @@ module _ (v : Version) (bytes : Bytes) where
       (le-ltb (greatest_name v) (slot_length slot) is.short))
       (ap not is.named)
 
-  -- a content without a fault
-  pub record IsFineContent (n : ℕ) : Type 0 where
-    pub slots : AllByRecursion IsFineSlot (slots_at v bytes n)
-    pub once : stands_twice bytes_eq (map slot_name (slots_at v bytes n)) ≡ false
-    pub text : (kind v bytes n == 4) ≡ true → list_any (λ b. b == 0) (content v bytes n) ≡ false
-
-  pub content-fine : (n : ℕ) → has_bad_content v bytes n ≡ false → IsFineContent n
+  pub content-fine : (n : ℕ) → has_bad_content v bytes n ≡ false → IsFineContent v bytes n
   unfolding has_bad_content
   content-fine n none =
       let a = or_parts (list_any (is_bad_slot v bytes) (slots_at v bytes n) || stands_twice bytes_eq (map slot_name (slots_at v bytes n))) ((kind v bytes n == 4) && list_any (λ b. b == 0) (content v bytes n)) none in
       let b = or_parts (list_any (is_bad_slot v bytes) (slots_at v bytes n)) (stands_twice bytes_eq (map slot_name (slots_at v bytes n))) a.0 in
       record {
-        slots = each_weaker (λ slot. is_bad_slot v bytes slot ≡ false) IsFineSlot slot-fine (slots_at v bytes n) (none_any (is_bad_slot v bytes) (slots_at v bytes n) b.0);
+        slots = each_weaker (λ slot. is_bad_slot v bytes slot ≡ false) (IsFineSlot v bytes) slot-fine (slots_at v bytes n) (none_any (is_bad_slot v bytes) (slots_at v bytes n) b.0);
         once = b.1;
         text = under_false (kind v bytes n == 4) (list_any (λ b. b == 0) (content v bytes n)) a.1;
       }
 
-  pub fine-content : (n : ℕ) → IsFineContent n → has_bad_content v bytes n ≡ false
+  pub fine-content : (n : ℕ) → IsFineContent v bytes n → has_bad_content v bytes n ≡ false
   unfolding has_bad_content
   fine-content n is =
       or_from (list_any (is_bad_slot v bytes) (slots_at v bytes n) || stands_twice bytes_eq (map slot_name (slots_at v bytes n))) ((kind v bytes n == 4) && list_any (λ b. b == 0) (content v bytes n))
       (or_from (list_any (is_bad_slot v bytes) (slots_at v bytes n)) (stands_twice bytes_eq (map slot_name (slots_at v bytes n)))
-      (any_none (is_bad_slot v bytes) (slots_at v bytes n) (each_weaker IsFineSlot (λ slot. is_bad_slot v bytes slot ≡ false) fine-slot (slots_at v bytes n) is.slots)) is.once)
+      (any_none (is_bad_slot v bytes) (slots_at v bytes n) (each_weaker (IsFineSlot v bytes) (λ slot. is_bad_slot v bytes slot ≡ false) fine-slot (slots_at v bytes n) is.slots)) is.once)
       (over_false (kind v bytes n == 4) (list_any (λ b. b == 0) (content v bytes n)) is.text)

@@ -10,6 +10,7 @@ use Rattle.pv_model.specs.Bytes.{Bytes}
 use Rattle.pv_model.specs.Image.{pointers, block, index_pointers, inode, size, block_count, used_index, used_content, content}
 use Rattle.pv_model.specs.Mount.{kind, has_bad_inode}
 use Rattle.pv_model.specs.Room.{rounded_up, entry_length, greatest_length, index_blocks, need}
+use Rattle.pv_image_laws.specs.Inodes.{IsFineInode}
 
 -- ---- tests
 
@@ -38,13 +39,6 @@ free_not k is same = let zero_too = ap not (eq-eqb k 0 same) in cc
 
 -- ---- kinds and sizes
 
--- a kind, and a size that it may have
-pub record IsFine (v : Version) (k s : ℕ) : Type 0 where
-  pub kinds : k ≤ 4
-  pub allowed : k ≢ 0 → s ≤ greatest_length v
-  pub whole : k ≡ 1 → s % entry_length v ≡ 0
-  pub text : k ≡ 4 → (1 ≤ s) × (s ≤ LINK_TEXT)
-
 module _ (v : Version) (k s : ℕ) where
   abbrev text_test : Bool
   text_test = nat_le 1 s && nat_le s LINK_TEXT
@@ -68,7 +62,7 @@ module _ (v : Version) (k s : ℕ) where
       let c = or_parts (nat_lt 4 k) (nat_lt (greatest_length v) s) b.0 in
       record { kinds = c.0; allowed = c.1; whole = b.1; text = a.1 }
 
-  used_fine : (k ≢ 0 → bad_used ≡ false) → IsFine v k s
+  used_fine : (k ≢ 0 → bad_used ≡ false) → IsFineInode v k s
   used_fine none = record {
     kinds = by k refl;
     allowed = λ used. ltb-false (greatest_length v) s (all_fail (none used)).allowed;
@@ -82,7 +76,7 @@ module _ (v : Version) (k s : ℕ) where
       by zero is = omega (arith, is)
       by (suc j) is = ltb-false 4 k (all_fail (none (λ no. absurd (omega (arith, is, no))))).kinds
 
-  fine_used : IsFine v k s → k ≢ 0 → bad_used ≡ false
+  fine_used : IsFineInode v k s → k ≢ 0 → bad_used ≡ false
   fine_used is used =
       or_from (nat_lt 4 k || nat_lt (greatest_length v) s || ((k == 1) && not whole_test)) ((k == 4) && not text_test)
       (or_from (nat_lt 4 k || nat_lt (greatest_length v) s) ((k == 1) && not whole_test)
@@ -91,11 +85,11 @@ module _ (v : Version) (k s : ℕ) where
       (over (k == 4) text_test (λ four. let both = is.text (eqb-true k 4 four) in and_from (nat_le 1 s) (nat_le s LINK_TEXT) (le-leb 1 s both.0) (le-leb s LINK_TEXT both.1)))
 
 module _ (v : Version) (bytes : Bytes) (n : ℕ) where
-  pub inode-fine : has_bad_inode v bytes n ≡ false → IsFine v (kind v bytes n) (size v bytes n)
+  pub inode-fine : has_bad_inode v bytes n ≡ false → IsFineInode v (kind v bytes n) (size v bytes n)
   unfolding has_bad_inode
   inode-fine is = used_fine v (kind v bytes n) (size v bytes n) (λ used. under_false _ _ is (not_free (kind v bytes n) used))
 
-  pub fine-inode : IsFine v (kind v bytes n) (size v bytes n) → has_bad_inode v bytes n ≡ false
+  pub fine-inode : IsFineInode v (kind v bytes n) (size v bytes n) → has_bad_inode v bytes n ≡ false
   unfolding has_bad_inode
   fine-inode is = over_false _ _ (λ used. fine_used v (kind v bytes n) (size v bytes n) is (free_not (kind v bytes n) used))
 

@@ -5,9 +5,10 @@ use Rattle.std.proofs.lemmas.Bool.{and_parts, and_from, or_parts, or_from, eqb-t
 use Rattle.pv_model.specs.declared.version.Version.{Version}
 use Rattle.pv_model.specs.Bytes.{Bytes}
 use Rattle.pv_model.specs.Image.{stored_count, inode}
-use Rattle.pv_model.specs.Mount.{inode_number, kind, is_free, name_count, may_be_named, is_reached_within, has_bad_place}
+use Rattle.pv_model.specs.Mount.{inode_number, kind, name_count, may_be_named, is_reached_within, has_bad_place}
 use Rattle.pv_model.specs.Tree.{root}
-use Rattle.pv_mount_laws.proofs.Inodes.{under_false, over_false}
+use Rattle.pv_image_laws.specs.Inodes.{IsFinePlace, is_placed}
+use Rattle.pv_image_laws.proofs.Inodes.{under_false, over_false}
 
 is_not : (b : Bool) → not b ≡ false → b ≡ true
 is_not true is = refl
@@ -17,19 +18,10 @@ module _ (v : Version) (bytes : Bytes) where
   abbrev count : ℕ → ℕ
   count = name_count v bytes
 
-  -- whether an inode has a place
-  abbrev pub is_placed : ℕ → Bool
-  is_placed n = (n == root) || not (is_free v bytes n)
-
-  pub record IsFinePlace (n : ℕ) : Type 0 where
-    pub named : may_be_named v bytes n (count n) ≡ true
-    pub stored : stored_count v (inode v bytes n) ≡ count n
-    pub reached : is_reached_within v bytes (inode_number bytes) n ≡ true
-
-  pub place-fine : (n : ℕ) → has_bad_place v bytes n ≡ false → is_placed n ≡ true → IsFinePlace n
+  pub place-fine : (n : ℕ) → has_bad_place v bytes n ≡ false → is_placed v bytes n ≡ true → IsFinePlace v bytes n
   unfolding has_bad_place
   place-fine n none placed =
-      let bad = under_false (is_placed n) (not (may_be_named v bytes n (count n)) || not (stored_count v (inode v bytes n) == count n) || not (is_reached_within v bytes (inode_number bytes) n)) none placed in
+      let bad = under_false (is_placed v bytes n) (not (may_be_named v bytes n (count n)) || not (stored_count v (inode v bytes n) == count n) || not (is_reached_within v bytes (inode_number bytes) n)) none placed in
       let a = or_parts (not (may_be_named v bytes n (count n)) || not (stored_count v (inode v bytes n) == count n)) (not (is_reached_within v bytes (inode_number bytes) n)) bad in
       let b = or_parts (not (may_be_named v bytes n (count n))) (not (stored_count v (inode v bytes n) == count n)) a.0 in
       record {
@@ -38,10 +30,10 @@ module _ (v : Version) (bytes : Bytes) where
         reached = is_not (is_reached_within v bytes (inode_number bytes) n) a.1;
       }
 
-  pub fine-place : (n : ℕ) → (is_placed n ≡ true → IsFinePlace n) → has_bad_place v bytes n ≡ false
+  pub fine-place : (n : ℕ) → (is_placed v bytes n ≡ true → IsFinePlace v bytes n) → has_bad_place v bytes n ≡ false
   unfolding has_bad_place
   fine-place n fine =
-      over_false (is_placed n) (not (may_be_named v bytes n (count n)) || not (stored_count v (inode v bytes n) == count n) || not (is_reached_within v bytes (inode_number bytes) n))
+      over_false (is_placed v bytes n) (not (may_be_named v bytes n (count n)) || not (stored_count v (inode v bytes n) == count n) || not (is_reached_within v bytes (inode_number bytes) n))
       (λ placed.
       or_from (not (may_be_named v bytes n (count n)) || not (stored_count v (inode v bytes n) == count n)) (not (is_reached_within v bytes (inode_number bytes) n))
       (or_from (not (may_be_named v bytes n (count n))) (not (stored_count v (inode v bytes n) == count n))

@@ -9,6 +9,7 @@ use Rattle.std.proofs.lemmas.List.FromFn.{length-range_with_len}
 use Rattle.std.proofs.lemmas.Map.Made.{length-le_from_is_member}
 use Rattle.pv_model.specs.Mount.{stands_twice}
 use Rattle.pv_model.specs.Numbered.{at_number, numbered_from}
+use Rattle.pv_image_laws.specs.Inodes.{in_both}
 
 -- ---- ranges
 
@@ -113,15 +114,6 @@ module _ {X : Type 0} (same : X → X → Bool) where
   unfolding IsDistinct
   distinct-once [] once = refl
   distinct-once (x ∷ xs) once = or_from (list_any (same x) xs) (stands_twice same xs) (any_none (same x) xs once.0) (distinct-once xs once.1)
-
--- whether a number stands in both
-abbrev pub in_both : List ℕ → List ℕ → Bool
-in_both xs ys = list_any (λ k. list_any (λ other. other == k) xs) ys
-
-record IsApart (xs ys : List ℕ) : Type 0 where
-  pub front : stands_twice ◌==◌ xs ≡ false
-  pub back : stands_twice ◌==◌ ys ≡ false
-  pub both : in_both xs ys ≡ false
 
 any_append : (test : ℕ → Bool) (xs ys : List ℕ) → list_any test xs ≡ false → list_any test ys ≡ false → list_any test (xs ++ ys) ≡ false
 any_append test [] ys front back = back

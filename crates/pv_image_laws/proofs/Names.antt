@@ -1,27 +1,24 @@
 -- The names and the places of the nodes of the tree that inodes hold, where no directory has a name twice.
-use Rattle.std.proofs.Common.{◌≡◌, ℕ, zero, suc, ◌+◌, ◌<◌, ◌≤◌, Bool, true, false, ◌&&◌, ◌||◌, ◌==◌, map, filter, flat_map, length, Option, None, Some, bytes_eq, ap, sym, subst, ◌∙◌, refl, arith, ⊎_elim}
+use Rattle.std.proofs.Common.{◌≡◌, ℕ, zero, suc, ◌+◌, ◌<◌, ◌≤◌, Bool, true, ◌&&◌, ◌||◌, ◌==◌, map, filter, flat_map, length, Option, None, Some, ap, sym, subst, ◌∙◌, refl, arith, ⊎_elim}
 use Rattle.std.specs.FinMap.Entries.{find}
 use Rattle.std.specs.List.{list_any, range_with_len}
 use Rattle.std.proofs.lemmas.Bool.{and_parts, or_cases, eqb-true}
 use Rattle.std.proofs.lemmas.List.Sorted.{list_any-IsPermutation}
 use Rattle.pv_model.specs.declared.version.Version.{Version}
 use Rattle.pv_model.specs.Bytes.{Bytes}
-use Rattle.pv_model.specs.Mount.{slot_number, slot_name, stands_twice, inode_number, slots_at, has_slot_for, name_count, is_reached_within, entries_in, node_in, tree_in}
+use Rattle.pv_model.specs.Mount.{slot_number, inode_number, slots_at, has_slot_for, name_count, is_reached_within, entries_in, node_in, tree_in}
 use Rattle.pv_model.specs.Tree.{Node, Tree, root, node_at, entries_of, find_entry, names_in, names_of, names_node, IsReached, from_root, by_entry}
+use Rattle.pv_image_laws.specs.Inodes.{EachOnce}
 use Rattle.pv_image_laws.specs.Slots.{slot_entry}
 use Rattle.pv_tree_laws.proofs.Entries.{by_name, find-names_node, names_node-find}
-use Rattle.pv_mount_laws.proofs.Directories.{sorted-put_all, permuted, named-put_all}
-use Rattle.pv_mount_laws.proofs.Nodes.{node-there, entries-node, entries_at-in}
-use Rattle.pv_mount_laws.proofs.Ranges.{each_in_range, flat-made, as_many_flat, any_map, any_filter, any_in_range, some_left, any_flat}
+use Rattle.pv_image_laws.proofs.Directories.{sorted-put_all, permuted, named-put_all}
+use Rattle.pv_image_laws.proofs.Nodes.{node-there, entries-node, entries_at-in}
+use Rattle.pv_image_laws.proofs.Ranges.{each_in_range, flat-made, as_many_flat, any_map, any_filter, any_in_range, some_left, any_flat}
 
 -- a directory that has entries is there
 some-entries : (o : Option Node) (name : Bytes) (n : ℕ) → find by_name name (entries_of o) ≡ Some n → (node : Node) × (o ≡ Some node)
 some-entries None name n is = cc is
 some-entries (Some node) name n is = (node, refl)
-
--- no directory has a name twice
-pub record EachOnce (v : Version) (bytes : Bytes) : Type 0 where
-  pub once : (d : ℕ) → 1 ≤ d → d ≤ inode_number bytes → stands_twice bytes_eq (map slot_name (slots_at v bytes d)) ≡ false
 
 module _ (v : Version) (bytes : Bytes) (is : EachOnce v bytes) where
   abbrev t : Tree

@@ -1,5 +1,5 @@
 -- The blocks that the nodes of the tree that inodes hold use.
-use Rattle.std.proofs.Common.{◌≡◌, ◌≢◌, ℕ, zero, suc, ◌-◌, ◌<◌, ◌≤◌, Bool, true, false, not, ◌||◌, ◌==◌, nat_lt, List, [], ◌∷◌, ◌++◌, flat_map, None, Some, ap, sym, subst, ◌∙◌, refl, arith, append-nil, ⊎_elim}
+use Rattle.std.proofs.Common.{◌≡◌, ◌≢◌, ℕ, zero, suc, ◌-◌, ◌≤◌, Bool, true, false, not, ◌||◌, ◌==◌, nat_lt, List, [], ◌∷◌, ◌++◌, flat_map, None, Some, ap, sym, subst, ◌∙◌, refl, arith, append-nil, ⊎_elim}
 use Rattle.std.specs.Prelude.{if◌then◌else◌}
 use Rattle.std.specs.List.{AllByRecursion, list_any, range_with_len}
 use Rattle.std.proofs.lemmas.Bool.{and_parts, and_from, or_parts, or_from, eq-eqb, ne_eqb, ltb-true, lt-ltb, cases_eq}
@@ -9,13 +9,11 @@ use Rattle.pv_model.specs.Bytes.{Bytes}
 use Rattle.pv_model.specs.Image.{inode_blocks, used_index, used_content, content, used_blocks}
 use Rattle.pv_model.specs.Mount.{stands_twice, block_number, inode_number, kind, is_data_block, used_by, used_before, slots_at, has_bad_block, entries_in, node_in, tree_in}
 use Rattle.pv_model.specs.Tree.{Node}
-use Rattle.pv_mount_laws.proofs.Nodes.{by_kind, node_of}
-use Rattle.pv_mount_laws.proofs.Ranges.{each_weaker, none_any, any_none, in_both, apart-once, once-apart, each_in_range, range_each, each_flat, flat_each, flat-made, last_of_range}
+use Rattle.pv_image_laws.specs.Inodes.{AreFineBlocks, IsData, in_both}
+use Rattle.pv_image_laws.proofs.Nodes.{by_kind, node_of}
+use Rattle.pv_image_laws.proofs.Ranges.{each_weaker, none_any, any_none, apart-once, once-apart, each_in_range, range_each, each_flat, flat_each, flat-made, last_of_range}
 
 module _ (v : Version) (bytes : Bytes) where
-  abbrev pub IsData : ℕ → Type 0
-  IsData k = (inode_blocks v (inode_number bytes) < k) × (k < block_number bytes)
-
   abbrev used : ℕ → List ℕ
   used = used_by v bytes
 
@@ -23,39 +21,33 @@ module _ (v : Version) (bytes : Bytes) where
   abbrev pub used_first : ℕ → List ℕ
   used_first m = flat_map used (range_with_len 1 m)
 
-  data-block : (k : ℕ) → not (is_data_block v bytes k) ≡ false → IsData k
+  data-block : (k : ℕ) → not (is_data_block v bytes k) ≡ false → IsData v bytes k
   data-block k is = by (is_data_block v bytes k) refl is
     where
-      by : (b : Bool) → is_data_block v bytes k ≡ b → not b ≡ false → IsData k
+      by : (b : Bool) → is_data_block v bytes k ≡ b → not b ≡ false → IsData v bytes k
       by true at h = let parts = and_parts (nat_lt (inode_blocks v (inode_number bytes)) k) (nat_lt k (block_number bytes)) at in (ltb-true _ k parts.0, ltb-true k _ parts.1)
       by false at h = cc h
 
-  block-data : (k : ℕ) → IsData k → not (is_data_block v bytes k) ≡ false
+  block-data : (k : ℕ) → IsData v bytes k → not (is_data_block v bytes k) ≡ false
   block-data k is = ap not (and_from (nat_lt (inode_blocks v (inode_number bytes)) k) (nat_lt k (block_number bytes)) (lt-ltb _ k is.0) (lt-ltb k _ is.1))
 
-  -- used blocks without a fault
-  pub record AreFine (n : ℕ) : Type 0 where
-    pub in_data : AllByRecursion IsData (used n)
-    pub once : stands_twice ◌==◌ (used n) ≡ false
-    pub apart : in_both (used_before v bytes n) (used n) ≡ false
-
-  pub blocks-fine : (n : ℕ) → has_bad_block v bytes n ≡ false → AreFine n
+  pub blocks-fine : (n : ℕ) → has_bad_block v bytes n ≡ false → AreFineBlocks v bytes n
   unfolding has_bad_block
   blocks-fine n none =
       let a = or_parts (list_any (λ k. not (is_data_block v bytes k)) (used n) || stands_twice ◌==◌ (used n)) (in_both (used_before v bytes n) (used n)) none in
       let b = or_parts (list_any (λ k. not (is_data_block v bytes k)) (used n)) (stands_twice ◌==◌ (used n)) a.0 in
       record {
-        in_data = each_weaker (λ k. not (is_data_block v bytes k) ≡ false) IsData data-block (used n) (none_any (λ k. not (is_data_block v bytes k)) (used n) b.0);
+        in_data = each_weaker (λ k. not (is_data_block v bytes k) ≡ false) (IsData v bytes) data-block (used n) (none_any (λ k. not (is_data_block v bytes k)) (used n) b.0);
         once = b.1;
         apart = a.1;
       }
 
-  pub fine-blocks : (n : ℕ) → AreFine n → has_bad_block v bytes n ≡ false
+  pub fine-blocks : (n : ℕ) → AreFineBlocks v bytes n → has_bad_block v bytes n ≡ false
   unfolding has_bad_block
   fine-blocks n is =
       or_from (list_any (λ k. not (is_data_block v bytes k)) (used n) || stands_twice ◌==◌ (used n)) (in_both (used_before v bytes n) (used n))
       (or_from (list_any (λ k. not (is_data_block v bytes k)) (used n)) (stands_twice ◌==◌ (used n))
-      (any_none (λ k. not (is_data_block v bytes k)) (used n) (each_weaker IsData (λ k. not (is_data_block v bytes k) ≡ false) block-data (used n) is.in_data)) is.once)
+      (any_none (λ k. not (is_data_block v bytes k)) (used n) (each_weaker (IsData v bytes) (λ k. not (is_data_block v bytes k) ≡ false) block-data (used n) is.in_data)) is.once)
       is.apart
 
   used_next : (m : ℕ) → used_first (suc m) ≡ used_first m ++ used (suc m)
@@ -66,7 +58,7 @@ module _ (v : Version) (bytes : Bytes) where
   before-next m = ap used_first (let e : suc m - 1 ≡ m = omega arith in e)
 
   -- different inodes use different blocks
-  pub all-once : (m : ℕ) → ((n : ℕ) → 1 ≤ n → n ≤ m → AreFine n) → stands_twice ◌==◌ (used_first m) ≡ false
+  pub all-once : (m : ℕ) → ((n : ℕ) → 1 ≤ n → n ≤ m → AreFineBlocks v bytes n) → stands_twice ◌==◌ (used_first m) ≡ false
   all-once zero fine = refl
   all-once (suc m) fine =
       let here = fine (suc m) (omega arith) (omega arith) in
@@ -89,17 +81,17 @@ module _ (v : Version) (bytes : Bytes) where
   abbrev all_used : List ℕ
   all_used = used_first (inode_number bytes)
 
-  pub fine-all : stands_twice ◌==◌ all_used ≡ false → AllByRecursion IsData all_used → (n : ℕ) → 1 ≤ n → n ≤ inode_number bytes → AreFine n
+  pub fine-all : stands_twice ◌==◌ all_used ≡ false → AllByRecursion (IsData v bytes) all_used → (n : ℕ) → 1 ≤ n → n ≤ inode_number bytes → AreFineBlocks v bytes n
   fine-all once there n low high =
       let here = once-all (inode_number bytes) once n low high in
       record {
-        in_data = range_each (λ n. AllByRecursion IsData (used n)) 1 (inode_number bytes) (flat_each IsData used (range_with_len 1 (inode_number bytes)) there) n low (omega (arith, high));
+        in_data = range_each (λ n. AllByRecursion (IsData v bytes) (used n)) 1 (inode_number bytes) (flat_each (IsData v bytes) used (range_with_len 1 (inode_number bytes)) there) n low (omega (arith, high));
         once = here.once;
         apart = here.apart;
       }
 
-  pub all-data : ((n : ℕ) → 1 ≤ n → n ≤ inode_number bytes → AreFine n) → AllByRecursion IsData all_used
-  all-data fine = each_flat IsData used (range_with_len 1 (inode_number bytes)) (each_in_range (λ n. AllByRecursion IsData (used n)) 1 (inode_number bytes) (λ n low high. (fine n low (omega (arith, high))).in_data))
+  pub all-data : ((n : ℕ) → 1 ≤ n → n ≤ inode_number bytes → AreFineBlocks v bytes n) → AllByRecursion (IsData v bytes) all_used
+  all-data fine = each_flat (IsData v bytes) used (range_with_len 1 (inode_number bytes)) (each_in_range (λ n. AllByRecursion (IsData v bytes) (used n)) 1 (inode_number bytes) (λ n low high. (fine n low (omega (arith, high))).in_data))
 
   -- the blocks of the nodes are those of the inodes
   used-free : (n : ℕ) → kind v bytes n ≡ 0 → used n ≡ []

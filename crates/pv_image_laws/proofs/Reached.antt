@@ -1,14 +1,15 @@
 -- What is reached from the root is reached in no more steps than there are inodes.
-use Rattle.std.proofs.Common.{◌≡◌, ℕ, zero, suc, ◌+◌, ◌<◌, ◌≤◌, Bool, true, false, not, ◌&&◌, ◌==◌, cond, List, [], ◌∷◌, filter, length, Some, ap, sym, ◌∙◌, refl, arith, ⊎_elim, ◌⊎◌, inl, inr, true≢false}
+use Rattle.std.proofs.Common.{◌≡◌, ℕ, zero, suc, ◌+◌, ◌<◌, ◌≤◌, Bool, true, false, not, ◌&&◌, ◌==◌, cond, List, [], ◌∷◌, filter, length, ap, sym, ◌∙◌, refl, arith, ⊎_elim, ◌⊎◌, inl, inr, true≢false}
 use Rattle.std.specs.List.{list_any, range_with_len}
 use Rattle.std.proofs.lemmas.Bool.{and_parts, and_from, or_cases, or_left, or_right, cases_Bool}
 use Rattle.std.proofs.lemmas.List.FromFn.{length-range_with_len}
 use Rattle.pv_model.specs.declared.version.Version.{Version}
 use Rattle.pv_model.specs.Bytes.{Bytes}
 use Rattle.pv_model.specs.Mount.{inode_number, has_slot_for, is_reached_within, tree_in}
-use Rattle.pv_model.specs.Tree.{root, find_entry, IsReached, from_root, by_entry}
-use Rattle.pv_mount_laws.proofs.Names.{EachOnce, steps_to, further, entry-within, entry-slot}
-use Rattle.pv_mount_laws.proofs.Ranges.{any_in_range, range_any}
+use Rattle.pv_model.specs.Tree.{root, IsReached, from_root, by_entry}
+use Rattle.pv_image_laws.specs.Inodes.{EachOnce, HasInodes}
+use Rattle.pv_image_laws.proofs.Names.{steps_to, further, entry-within, entry-slot}
+use Rattle.pv_image_laws.proofs.Ranges.{any_in_range, range_any}
 
 -- ---- how many of a list pass
 
@@ -130,9 +131,9 @@ module _ (v : Version) (bytes : Bytes) (is : EachOnce v bytes) where
   enough-last some =
       ⊎_elim (λ enough. enough) (λ more. absurd (omega (arith, more, few_left (within last) (range_with_len 1 last), length-range_with_len 1 last))) (enough-or_more some last)
 
-  pub reached-within : 1 ≤ last → ((d : ℕ) (name : Bytes) (n : ℕ) → find_entry (tree_in v bytes) d name ≡ Some n → (1 ≤ n) × (n ≤ last)) → (n : ℕ) → IsReached (tree_in v bytes) n → within last n ≡ true
-  reached-within some there _ from_root = at_root last root refl
-  reached-within some there _ (by_entry d name n reached found) =
+  pub reached-within : HasInodes v bytes → (n : ℕ) → IsReached (tree_in v bytes) n → within last n ≡ true
+  reached-within has _ from_root = at_root last root refl
+  reached-within has _ (by_entry d name n reached found) =
       let from = entry-within v bytes is n d name found in
-      let to = there d name n found in
-      enough-last some n to.0 to.1 (step-on last n d from.0 from.1 (entry-slot v bytes is n d name found) (reached-within some there d reached))
+      let to = has.entries d name n found in
+      enough-last has.some n to.0 to.1 (step-on last n d from.0 from.1 (entry-slot v bytes is n d name found) (reached-within has d reached))
