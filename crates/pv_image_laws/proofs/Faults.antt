@@ -102,7 +102,7 @@ module _ (v : Version) (bytes : Bytes) where
       let high = it.high in
       record { from_one = it.low; in_table = omega (arith, high); passes = it.passes; least = it.least }
 
-  none-found : (test : ℕ → Bool) → least_with v bytes test ≡ None → PassesNone bytes test
+  pub none-found : (test : ℕ → Bool) → least_with v bytes test ≡ None → PassesNone bytes test
   none-found test is n low high = none_found test 1 (inode_number bytes) is n low (omega (arith, high))
 
   least-finds : (test : ℕ → Bool) (n : ℕ) → PassesLeast bytes test n → least_with v bytes test ≡ Some n
@@ -110,7 +110,7 @@ module _ (v : Version) (bytes : Bytes) where
       let high = is.in_table in
       find_least test 1 (inode_number bytes) n (record { low = is.from_one; high = omega (arith, high); passes = is.passes; least = is.least })
 
-  none-finds : (test : ℕ → Bool) → PassesNone bytes test → least_with v bytes test ≡ None
+  pub none-finds : (test : ℕ → Bool) → PassesNone bytes test → least_with v bytes test ≡ None
   none-finds test none = find_none test 1 (inode_number bytes) (λ m low high. none m low (omega (arith, high)))
 
   -- the first fault of the inodes is one of the bytes
@@ -168,7 +168,7 @@ version_of-magic bytes v is = ap by_front is ∙ front_of v
 same_bytes : (a b : Bytes) → bytes_eq a b ≡ true → a ≡ b
 same_bytes a b is = (bytes_eq-Decides a b).0 is
 
-magic-version_of : (bytes : Bytes) (v : Version) → version_of bytes ≡ Some v → take 8 bytes ≡ magic v
+pub magic-version_of : (bytes : Bytes) (v : Version) → version_of bytes ≡ Some v → take 8 bytes ≡ magic v
 magic-version_of bytes v is =
     elim (bytes_eq (take 8 bytes) (magic V1)) as (λ b. bytes_eq (take 8 bytes) (magic V1) ≡ b
     → (if b then Some V1 else if bytes_eq (take 8 bytes) (magic V2) then Some V2 else None) ≡ Some v → take 8 bytes ≡ magic v) [
@@ -205,7 +205,7 @@ long-mounted : (bytes : Bytes) → BLOCK ≤ length bytes → mounted bytes ≡ 
 unfolding mounted
 long-mounted bytes long = ap (λ b. if b then Err Short else mounted_as (version_of bytes) bytes) (le-ltb (length bytes) BLOCK long)
 
-sized-mounted : (bytes : Bytes) (v : Version) → HasSizes bytes v → mounted bytes ≡ or_tree v bytes (inode_fault v bytes)
+pub sized-mounted : (bytes : Bytes) (v : Version) → HasSizes bytes v → mounted bytes ≡ or_tree v bytes (inode_fault v bytes)
 sized-mounted bytes v is =
     long-mounted bytes is.long_enough ∙ ap (λ o. mounted_as o bytes) (version_of-magic bytes v is.has_magic) ∙ ap (λ b. if b then or_tree v bytes (inode_fault v bytes) else Err Size) is.sizes
 

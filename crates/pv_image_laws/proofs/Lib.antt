@@ -1,3 +1,11 @@
 pub mod Faults
 pub mod Slots
 pub mod Starts
+pub mod Ranges
+pub mod Directories
+pub mod Inodes
+pub mod Nodes
+pub mod Names
+pub mod Blocks
+pub mod Places
+pub mod Reached

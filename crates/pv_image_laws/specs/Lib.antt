@@ -1,3 +1,4 @@
 pub mod Faults
 pub mod Slots
 pub mod Starts
+pub mod Inodes

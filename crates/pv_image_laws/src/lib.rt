@@ -2,6 +2,7 @@
 #![tactic(auto)]
 
 ghost use Rattle.pv_image_laws.specs.Faults.{FirstFaultIsNamed};
+ghost use Rattle.pv_image_laws.specs.Inodes.{InodesAreTested, BlocksAreTested, ContentsAreTested, PlacesAreTested, NamesAreSlots, ReachedInFewSteps};
 ghost use Rattle.pv_image_laws.specs.Slots.{SlotsAreRead};
 ghost use Rattle.pv_image_laws.specs.Starts.{StartsWhereInitSpells};
 
@@ -20,4 +21,38 @@ pub fn first_fault_is_named()
 /// fault is that of the program.
 pub fn machine_starts_where_init_spells()
     ensures { StartsWhereInitSpells }
+{}
+
+/// An inode passes the test of its kind and size exactly where the kind is one of the five, and the size one that it may
+/// have.
+pub fn inodes_are_tested()
+    ensures { InodesAreTested }
+{}
+
+/// An inode passes the test of its blocks exactly where they are data blocks, no two of them the same, and none of them
+/// a lesser inode's.
+pub fn blocks_are_tested()
+    ensures { BlocksAreTested }
+{}
+
+/// An inode passes the test of its content exactly where each slot has the number of an inode in use and a name, no name
+/// stands twice, and a link's text has no byte 00.
+pub fn contents_are_tested()
+    ensures { ContentsAreTested }
+{}
+
+/// An inode passes the test of its place exactly where it is free and not the root's, or has as many names as its sort
+/// may have, they are as many as it says, and slots lead to it from the root.
+pub fn places_are_tested()
+    ensures { PlacesAreTested }
+{}
+
+/// Where no directory has a name twice, a node has as many names as there are slots for its inode.
+pub fn names_are_slots()
+    ensures { NamesAreSlots }
+{}
+
+/// There too, what entries lead to from the root is reached in as many steps as there are inodes.
+pub fn reached_in_few_steps()
+    ensures { ReachedInFewSteps }
 {}

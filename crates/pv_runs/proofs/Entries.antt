@@ -35,10 +35,10 @@ text-no_zero value word is =
     (and_parts (nat_le (length value) 1100) (list_all is_text_byte value) (text-spelled value word is)).1
 
 -- the lines of bytes are bytes
-join-bytes : (a b : Bytes) → are_bytes a ≡ true → are_bytes b ≡ true → are_bytes (a ++ b) ≡ true
+pub join-bytes : (a b : Bytes) → are_bytes a ≡ true → are_bytes b ≡ true → are_bytes (a ++ b) ≡ true
 join-bytes a b first second = list_all-append is_byte a b ∙ and_from (are_bytes a) (are_bytes b) first second
 
-split-bytes : (a b : Bytes) → are_bytes (a ++ b) ≡ true → (are_bytes a ≡ true) × (are_bytes b ≡ true)
+pub split-bytes : (a b : Bytes) → are_bytes (a ++ b) ≡ true → (are_bytes a ≡ true) × (are_bytes b ≡ true)
 split-bytes a b all = and_parts (are_bytes a) (are_bytes b) (sym (list_all-append is_byte a b) ∙ all)
 
 ended-bytes : (lines : List Bytes) → list_all are_bytes lines ≡ true → are_bytes (ended lines) ≡ true

@@ -16,7 +16,7 @@ makes = record { are_bytes = refl; manifest = _; read = inl refl; tree = refl }
 pub secrets-happen : SecretsHappen
 unfolding machine_on_literals read_manifest entry_by add_entry read_program instruction_by text_at flags_of
 secrets-happen = record {
-  reached = record { tree = tree; made = makes; first = first_state tree program; boots = refl; pids = 1 ∷ 1 ∷ 1 ∷ 1 ∷ []; reaches = refl };
+  reached = record { tree = tree; given = inl makes; first = first_state tree program; boots = refl; pids = 1 ∷ 1 ∷ 1 ∷ 1 ∷ []; reaches = refl };
   exposed = refl;
   sealed = record { file = refl; sealed = refl };
   not_frozen = refl;

@@ -11,7 +11,8 @@ use Rattle.pv_laws.specs.States.{is_program, SpellsPrograms, IsFirstTree, IsWhol
 use Rattle.pv_laws.proofs.BySteps.{first-whole, run-keeps_whole}
 use Rattle.pv_grammar.proofs.WholeManifests.{SpellsManifest-whole}
 use Rattle.pv_runs.specs.Runs.{IsReachedFrom}
-use Rattle.pv_runs.specs.Starts.{MakesTree}
+use Rattle.pv_runs.specs.Starts.{MakesTree, HoldsTree, GivesTree}
+use Rattle.pv_runs.proofs.Images.{image-first}
 use Rattle.pv_runs.proofs.Ranges.{program_of-spells}
 use Rattle.pv_runs.proofs.Trees.{manifest-first}
 
@@ -22,6 +23,12 @@ read-first bytes t m all read made =
 
 pub made-first : (bytes : Bytes) (t : Tree) → MakesTree bytes t → IsFirstTree t
 made-first bytes t is = read-first bytes t is.manifest is.are_bytes is.read is.tree
+
+pub held-first : (bytes : Bytes) (t : Tree) → HoldsTree bytes t → IsFirstTree t
+held-first bytes t is = image-first bytes t is.is_image is.are_bytes
+
+given-first : (bytes : Bytes) (t : Tree) → GivesTree bytes t → IsFirstTree t
+given-first bytes t given = ⊎_elim (made-first bytes t) (held-first bytes t) given
 
 init-program : (t : Tree) (o : Option Node) (program : Program) → init_program program_of t o ≡ Some program → is_program program ≡ true
 init-program t None program is = let same : [] ≡ program = cc is in ap is_program (sym same)
@@ -41,4 +48,4 @@ boot-whole t s first is = by (init_program program_of t (option_and_then (node_a
 
 pub reached-whole : (bytes : Bytes) (s : State) → IsReachedFrom bytes s → IsWhole s
 reached-whole bytes s is =
-    subst IsWhole is.reaches (run-keeps_whole program_of program_of-spells is.pids is.first (boot-whole is.tree is.first (made-first bytes is.tree is.made) is.boots))
+    subst IsWhole is.reaches (run-keeps_whole program_of program_of-spells is.pids is.first (boot-whole is.tree is.first (given-first bytes is.tree is.given) is.boots))

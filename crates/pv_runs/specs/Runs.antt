@@ -1,20 +1,21 @@
 -- Laws of every run that an accepted input starts.
-use Rattle.std.specs.Prelude.{◌≡◌, ◌≢◌, ℕ, List, length, Some}
+use Rattle.std.specs.Prelude.{◌≡◌, ◌≢◌, ℕ, IsTrue, List, length, Some, Ok}
 use Rattle.pv_model.specs.Bytes.{Bytes}
 use Rattle.pv_model.specs.Grammar.Programs.{program_of}
+use Rattle.pv_model.specs.Start.{Started, image_started, bundle_started, IsAccepted}
 use Rattle.pv_model.specs.State.{Process, State, process_at}
 use Rattle.pv_model.specs.Step.{boot, step, run}
 use Rattle.pv_model.specs.Touch.{file_bytes, IsJustified}
 use Rattle.pv_model.specs.Tree.{Tree}
-use Rattle.pv_laws.specs.States.{IsWhole}
+use Rattle.pv_laws.specs.States.{are_bytes, IsWhole}
 use Rattle.pv_rights.specs.Growth.{MayDoNoMore, IsLeftAlone, StaysInImage}
 use Rattle.pv_secrets.specs.Sealing.{IsSealedFile, IsFrozenFile, IsLeftFrozen, TellsNothing}
-use Rattle.pv_runs.specs.Starts.{MakesTree}
+use Rattle.pv_runs.specs.Starts.{GivesTree}
 
--- a state that a run reaches, whoever's steps it has, from the first one of the tree that bytes make
+-- a state that a run reaches, whoever's steps it has, from the first one of the tree that bytes give
 pub record IsReachedFrom (bytes : Bytes) (s : State) : Type 0 where
   pub tree : Tree
-  pub made : MakesTree bytes tree
+  pub given : GivesTree bytes tree
   pub first : State
   pub boots : boot program_of tree ≡ Some first
   pub pids : List ℕ
@@ -50,3 +51,15 @@ SealedTellsNothing =
 abbrev pub FrozenIsLeft : Type 0
 FrozenIsLeft =
     (bytes : Bytes) (s : State) (pids : List ℕ) (f : ℕ) → IsReachedFrom bytes s → IsFrozenFile s f → IsLeftFrozen f s (run program_of pids s).final
+
+-- an accepted image starts in such a state
+abbrev pub AcceptedImagesStart : Type 0
+AcceptedImagesStart = (image : Bytes) (accepted : IsAccepted image) → IsTrue (are_bytes image) → IsReachedFrom image accepted.state
+
+-- and so does a run on an image
+abbrev pub ImagesStart : Type 0
+ImagesStart = (image schedule : Bytes) (started : Started) → IsTrue (are_bytes image) → image_started image schedule ≡ Ok started → IsReachedFrom image started.state
+
+-- or of a bundle
+abbrev pub BundlesStart : Type 0
+BundlesStart = (bytes : Bytes) (started : Started) → IsTrue (are_bytes bytes) → bundle_started bytes ≡ Ok started → IsReachedFrom bytes started.state

@@ -2,7 +2,7 @@
 //!
 //! Each function has an empty body: its contract is the law, which the check proves.
 //!
-//! - `starts`: what bytes spell, the tree of a manifest, and the state in which a machine starts meet the premises of the laws
+//! - `starts`: what bytes spell, the tree of a manifest or of an image, and the state in which a machine starts meet the premises of the laws
 //!   of states.
 //! - `runs`: what holds along every run from there, whoever's steps it has.
 //! - `examples`: a run with a sealed and a frozen file.

@@ -1,6 +1,21 @@
 //! Laws of every run that an accepted input starts.
 
-ghost use Rattle.pv_runs.specs.Runs.{ReachedIsWhole, RunsAreJust, RunsNeverLoosen, RunsKeepOthers, SealedTellsNothing, FrozenIsLeft};
+ghost use Rattle.pv_runs.specs.Runs.{ReachedIsWhole, RunsAreJust, RunsNeverLoosen, RunsKeepOthers, SealedTellsNothing, FrozenIsLeft, AcceptedImagesStart, ImagesStart, BundlesStart};
+
+/// An accepted image starts in a state of these laws.
+pub fn accepted_images_start()
+    ensures { AcceptedImagesStart }
+{}
+
+/// A run on an image, that is one to start, starts in a state of these laws.
+pub fn images_start()
+    ensures { ImagesStart }
+{}
+
+/// So does the run of a bundle.
+pub fn bundles_start()
+    ensures { BundlesStart }
+{}
 
 /// Every state that a run reaches is whole.
 pub fn reached_is_whole()
