@@ -12,18 +12,14 @@ use Rattle.pv_model.specs.RunFault.{of_init}
 use Rattle.pv_model.specs.Start.{and_then, program_in, init_of, booted}
 use Rattle.pv_model.specs.State.{Program, Process, State, first_state, process_at, with_process}
 use Rattle.pv_model.specs.Tree.{Tree, Node, directory_node, file_node, link_node}
-use Rattle.pv_calls.specs.Counts.{processes_of}
+use Rattle.pv_parts.specs.Counts.{processes_of}
+use Rattle.pv_parts.proofs.Alone.{some-at}
 use Rattle.pv_procs.specs.ProcessTable.{ProcessTable, process_in}
 use Rattle.pv_laws.specs.States.{IsFirstTree, IsWhole, is_program, is_call}
 use Rattle.pv_laws.proofs.BySteps.{IsGoodNext, good-next, first-whole}
 use Rattle.pv_laws.proofs.Running.{whole-inside}
 use Rattle.pv_runs.proofs.Ranges.{program_of-spells}
 use Rattle.std.specs.Result.{result_ok}
-
--- a live process is there
-pub live-there : (o : Option Process) → is_some o ≡ true → (me : Process) × (o ≡ Some me)
-live-there None e = absurd cc
-live-there (Some me) e = (me, refl)
 
 -- a call that comes next in a process of a whole state may be made
 pub callable : (s : State) (pid : ℕ) (me : Process) (call : Call) → IsWhole s → process_at s pid ≡ Some me → next me ≡ calls_for call → is_call call ≡ true
@@ -39,7 +35,7 @@ inside-whole s pid me after whole at is =
 pub live-in : (s : State) (ps qs : ProcessTable) (pid : ℕ) → ps ≡ processes_of s → qs ≡ processes_of s → true ≡ is_some (process_in ps pid)
     → (me : Process) × (process_at s pid ≡ Some me) × (process_in qs pid ≡ Some me)
 live-in s ps qs pid one two live =
-    let found = live-there (process_at s pid) (ap (λ x. is_some (process_in x pid)) (sym one) ∙ sym live) in
+    let found = some-at (process_at s pid) (ap (λ x. is_some (process_in x pid)) (sym one) ∙ sym live) in
     (found.0, found.1, ap (λ x. process_in x pid) two ∙ found.1)
 
 -- ---- the first state

@@ -13,7 +13,7 @@ use Rattle.pv_model.specs.Effect.{waits}
 use Rattle.std.specs.FinMap.Entries.{is_sorted}
 use Rattle.std.specs.Ordering.{nat_cmp}
 use Rattle.pv_calls.proofs.Waiting.{waits-next}
-use Rattle.pv_model.specs.Calls.Processes.{end_process, wait}
+use Rattle.pv_model.specs.Calls.Processes.{end_process, wait, with_result}
 use Rattle.pv_model.specs.Grammar.Programs.{program_of}
 use Rattle.pv_model.specs.Held.{trim}
 use Rattle.pv_model.specs.Needs.{needs}
@@ -21,16 +21,15 @@ use Rattle.pv_model.specs.Promises.{Promises, is_lenient, missing_promise}
 use Rattle.pv_model.specs.State.{Process, State, process_at, with_process}
 use Rattle.pv_promises.specs.Decision.{unless_missing, decision}
 use Rattle.pv_promises.specs.declared.pledge.Decision.TheVariants.{Allowed, Kill, Refuse}
-use Rattle.pv_calls.specs.declared.answer.Answer.{Answer}
+use Rattle.pv_rows.specs.declared.answer.Answer.{Answer}
 use Rattle.pv_calls.specs.Calls.{IsCarriedOut, IsBlocked, goes_on}
-use Rattle.pv_calls.specs.declared.answer.Refused.{Refused}
-use Rattle.pv_calls.specs.Rows.{answered, IsAnswered}
+use Rattle.pv_rows.specs.declared.answer.Refused.{Refused}
+use Rattle.pv_rows.specs.Rows.{answered, IsAnswered}
 use Rattle.pv_laws.specs.States.{IsWhole}
 use Rattle.pv_laws.proofs.Processes.{process_at-same, update-is, tree-update}
 use Rattle.pv_laws.proofs.Replies.{whole-at_call}
 use Rattle.pv_laws.proofs.Trim.{tree-trim, held_after}
 use Rattle.pv_model.specs.Bytes.{Bytes}
-use Rattle.pv_model.specs.Calls.Processes.{with_result}
 use Rattle.pv_model.specs.Errno.{errno_number}
 use Rattle.pv_model.specs.Tree.{find_entry, IsWellFormed}
 use Rattle.pv_procs.specs.declared.record.Record.{Record}
@@ -39,8 +38,8 @@ use Rattle.pv_promises.specs.declared.pledge.Decision.{Decision}
 use Rattle.pv_tree_laws.specs.Kept.{wanted}
 use Rattle.pv_tree_laws.proofs.Keeping.{find-only, wanted-covers}
 use Rattle.pv_tree_laws.proofs.Trees.{sound}
-use Rattle.pv_calls.proofs.Booting.{live-there}
-use Rattle.pv_calls.specs.Counts.{processes_of}
+use Rattle.pv_parts.proofs.Alone.{some-at}
+use Rattle.pv_parts.specs.Counts.{processes_of}
 use Rattle.pv_laws.proofs.Ending.{tree-end}
 use Rattle.pv_model.specs.declared.kernel_fault.StepFault.{StepFault}
 use Rattle.pv_procs.specs.ProcessTable.{ProcessTable, process_in}
@@ -97,13 +96,13 @@ end-next_line s pid me status = refl
 -- a process that goes on is live, and its state is whole
 pub next-live : (s s1 : State) (pid : ℕ) → s1 ≡ update s pid at_next_line → IsSome (process_at s pid) → IsSome (process_at s1 pid)
 next-live s s1 pid is live =
-    let me = live-there (process_at s pid) live in
+    let me = some-at (process_at s pid) live in
     subst (λ x. IsSome (process_at x pid)) (sym (is ∙ update-is s pid at_next_line me.0 me.1))
     (subst IsSome (sym (process_at-same s pid (at_next_line me.0))) refl)
 
 pub next-whole : (s s1 : State) (pid : ℕ) → s1 ≡ update s pid at_next_line → IsSome (process_at s pid) → IsWhole s → IsWhole s1
 next-whole s s1 pid is live whole =
-    let me = live-there (process_at s pid) live in
+    let me = some-at (process_at s pid) live in
     subst IsWhole (sym (is ∙ update-is s pid at_next_line me.0 me.1)) (whole-at_call s pid me.0 whole me.1)
 
 -- the row of a process that went on is what the call comes to
@@ -141,7 +140,7 @@ find-trim s well d name =
 
 pub next-goes_on : (s s1 : State) (pid : ℕ) (call : Call) → s1 ≡ update s pid at_next_line → IsSome (process_at s pid) → is_sorted nat_cmp s.processes ≡ true → goes_on s pid call → goes_on s1 pid call
 next-goes_on s s1 pid Wait is live sorted on = λ x at-x waits-x.
-    let me = live-there (process_at s pid) live in
+    let me = some-at (process_at s pid) live in
     let same : s1 ≡ with_process s pid (at_next_line me.0) = is ∙ update-is s pid at_next_line me.0 me.1 in
     let here : x ≡ at_next_line me.0 = some_is (sym at-x ∙ ap (λ y. process_at y pid) same ∙ process_at-same s pid (at_next_line me.0)) in
     on me.0 me.1 ((waits-next s pid me.0 sorted me.1).0 (subst (λ y. wait y pid (at_next_line me.0) ≡ give (y, waits)) same (subst (λ m. wait s1 pid m ≡ give (s1, waits)) here waits-x)))

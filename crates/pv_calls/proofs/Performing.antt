@@ -6,14 +6,14 @@ use Rattle.std.proofs.lemmas.Bool.{leb-true}
 use Rattle.std.proofs.lemmas.Int.{to_z-of_z}
 use Rattle.pv_model.specs.declared.errno.Errno.{Errno}
 use Rattle.pv_laws.proofs.Replies.{IsEffect}
-use Rattle.pv_calls.specs.declared.answer.Answer.{Answer}
-use Rattle.pv_calls.specs.declared.answer.Done.{Done}
-use Rattle.pv_calls.specs.declared.answer.Refused.{Refused}
-use Rattle.pv_calls.specs.Attempts.{plainly, trimmed}
+use Rattle.pv_rows.specs.declared.answer.Answer.{Answer}
+use Rattle.pv_rows.specs.declared.answer.Done.{Done}
+use Rattle.pv_rows.specs.declared.answer.Refused.{Refused}
+use Rattle.pv_parts.specs.Attempts.{plainly, trimmed}
 use Rattle.pv_calls.specs.Calls.{is_process_row, is_on_processes, is_descriptor_row, is_on_descriptors}
-use Rattle.pv_calls.specs.Rows.{attempt_of, answered}
+use Rattle.pv_rows.specs.Rows.{attempt_of, answered}
 use Rattle.pv_calls.proofs.Carrying.{find-trim}
-use Rattle.pv_calls.proofs.Telling.{process_at-trim}
+use Rattle.pv_rows.proofs.Telling.{process_at-trim}
 use Rattle.pv_laws.specs.States.{IsWhole, is_word}
 use Rattle.pv_laws.proofs.Attempts.{Leads, leads-bind, leads-then, leads-demand, leads-room, leads-any}
 use Rattle.pv_laws.proofs.Ending.{tree-end}
@@ -80,30 +80,6 @@ descriptor-rest call is no_read no_fstat no_getdents = is
 pub word-back : (z : ℤ) → is_word z ≡ true → to_z w32 (of_z w32 z) ≡ z
 word-back (pos n) is = let low : n ≤ 2147483647 = leb-true n 2147483647 is in to_z-of_z w32 (pos n) (search rules)
 word-back (negsuc n) is = let low : n ≤ 2147483647 = leb-true n 2147483647 is in to_z-of_z w32 (negsuc n) (search rules)
-
--- what a row that is done answers is small
-pub small-row : (s new : State) (r : Result ℕ Errno) (a : Attempt Effect) → trimmed a ≡ plainly new r → Leads (IsEffect s) a → IfOk r (λ n. n ≤ 2147483647)
-small-row s new (Ok value) (done walks (after, returns n)) is good =
-    let pair : ◌≡◌ {A = Effect} (trim after, returns n) (new, returns value) = cc in
-    let reply : returns n ≡ returns value = ap (λ (x : Effect). x.1) pair in
-    let number : n ≡ value = cc in
-    subst (λ k. k ≤ 2147483647) number good.1
-small-row s new (Ok value) (done walks (after, returns_bytes n bytes)) is good =
-    let pair : ◌≡◌ {A = Effect} (trim after, returns_bytes n bytes) (new, returns value) = cc in
-    let reply : returns_bytes n bytes ≡ returns value = ap (λ (x : Effect). x.1) pair in cc
-small-row s new (Ok value) (done walks (after, ends status)) is good =
-    let pair : ◌≡◌ {A = Effect} (trim after, ends status) (new, returns value) = cc in
-    let reply : ends status ≡ returns value = ap (λ (x : Effect). x.1) pair in cc
-small-row s new (Ok value) (done walks (after, waits)) is good =
-    let pair : ◌≡◌ {A = Effect} (trim after, waits) (new, returns value) = cc in
-    let reply : waits ≡ returns value = ap (λ (x : Effect). x.1) pair in cc
-small-row s new (Ok value) (refused walks errno cause) is good = cc
-small-row s new (Err errno) a is good = tt
-
-pub plain-small : (r : Result ℕ Errno) (row : Result Done Refused) → MatchResult r (λ value. row ≡ Ok (record { walks = 0; value = value }))
-    (λ errno. row ≡ Err (record { walks = 0; errno = errno; cause = Plain })) → IfOk r (λ n. n ≤ 2147483647) → IfOk row (λ d. d.value ≤ 2147483647)
-plain-small (Ok value) row is small = subst (λ x. IfOk x (λ d. d.value ≤ 2147483647)) (sym is) small
-plain-small (Err errno) row is small = subst (λ x. IfOk x (λ d. d.value ≤ 2147483647)) (sym is) tt
 
 -- ---- names
 

@@ -1,10 +1,2 @@
-pub mod Attempts
 pub mod Calls
-pub mod Changes
-pub mod Counts
-pub mod Execve
 pub mod Kernel
-pub mod Moving
-pub mod Opening
-pub mod Releasing
-pub mod Rows

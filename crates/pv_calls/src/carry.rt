@@ -1,30 +1,30 @@
 //! What a call answers, from its promises on.
 ghost use Rattle.std.specs.Prelude.{◌≡◌, ◌≢◌, ◌≤◌, IfOk, OnErr, IsTrue, IsSome, Some, true, false};
-ghost use Rattle.pv_calls.specs.Attempts.{trimmed};
 ghost use Rattle.pv_calls.specs.Calls.{goes_on, is_process_row, is_on_processes, is_descriptor_row, is_on_descriptors, is_path_row, is_on_paths, IsBlocked, is_execve, IsCarriedOut};
-ghost use Rattle.pv_calls.specs.Rows.{answered, attempt_of, IsAnswered};
 ghost use Rattle.pv_laws.specs.States.{IsWhole, is_call};
 ghost use Rattle.pv_model.specs.Answer.{answer, effect};
 ghost use Rattle.pv_model.specs.Grammar.Programs.{program_of};
 ghost use Rattle.pv_model.specs.State.{Process, process_at};
 ghost use Rattle.pv_model.specs.Tree.{find_entry};
+ghost use Rattle.pv_parts.specs.Attempts.{trimmed};
+ghost use Rattle.pv_rows.specs.Rows.{answered, attempt_of, IsAnswered};
 
-use crate::Parts;
-use crate::answer::{Answer, Done, Refused, tell};
-use crate::rows::descriptors::{close, dup, dup2, fchdir};
-use crate::rows::execve::{ExecveFault, execve};
-use crate::rows::files::{fstat, ftruncate, getdents, lseek, read, write};
-use crate::rows::looking::{lstat, readlink, stat};
-use crate::rows::names::{link, mkdir, rmdir, symlink, unlink};
-use crate::rows::opening::open_at;
-use crate::rows::paths::chdir;
-use crate::rows::processes::{exit_status, fork, getpid, getppid, wait, would_wait};
-use crate::rows::rename::rename;
-use crate::rows::restraints::pledge;
-use crate::rows::unveil::unveil;
 use pv_model::{Call, Cause, Errno, Outcome, Start, StepFault, Text};
 use pv_namei::Lookup;
+use pv_parts::Parts;
+use pv_paths::execve::{ExecveFault, execve};
+use pv_paths::looking::{lstat, readlink, stat};
+use pv_paths::names::{link, mkdir, rmdir, symlink, unlink};
+use pv_paths::opening::open_at;
+use pv_paths::paths::chdir;
+use pv_paths::rename::rename;
+use pv_paths::unveil::unveil;
 use pv_promises::Decision;
+use pv_rows::answer::{Answer, Done, Refused, tell};
+use pv_rows::descriptors::{close, dup, dup2, fchdir};
+use pv_rows::files::{fstat, ftruncate, getdents, lseek, read, write};
+use pv_rows::processes::{exit_status, fork, getpid, getppid, wait, would_wait};
+use pv_rows::restraints::pledge;
 use std::alloc::Global;
 
 // What a call on processes and restraints comes to, where its row answers a number.

@@ -1,6 +1,5 @@
 //! The kernel: the parts of the system, and the calls on them.
 ghost use Rattle.std.specs.Prelude.{◌≡◌, ◌⊎◌, ◌≤◌, ℕ, IfOk, IfErr, OnErr, IsOk, IsSome, IsTrue, Ok, Err, Some, length, List, Option};
-ghost use Rattle.pv_calls.specs.Changes.{StepsInside};
 ghost use Rattle.pv_calls.specs.Kernel.{Fetches, IsCallable};
 ghost use Rattle.pv_laws.specs.States.{IsFirstTree, is_call};
 ghost use Rattle.pv_model.specs.Answer.{answer};
@@ -9,12 +8,13 @@ ghost use Rattle.pv_model.specs.Start.{booted};
 ghost use Rattle.pv_model.specs.State.{Process, process_at};
 ghost use Rattle.pv_model.specs.Trace.{buffer_of};
 ghost use Rattle.pv_model.specs.Tree.{find_entry};
+ghost use Rattle.pv_parts.specs.Changes.{StepsInside};
 
-use crate::Parts;
 use crate::carry::carry_out;
-use crate::programs::init;
 use pv_model::{BootFault, Call, Outcome, StepFault};
 use pv_namei::{Lookup, PlainLookup};
+use pv_parts::Parts;
+use pv_paths::programs::init;
 use pv_script::Next;
 use pv_tree::{Store, Tree};
 use std::alloc::Global;
@@ -42,7 +42,7 @@ pub struct Kernel<L: Lookup + Drop> {
 }
 
 impl<L: Lookup + Drop> Model for Kernel<L> {
-    ghost use Rattle.pv_calls.specs.Changes.{StepsInside};
+    ghost use Rattle.pv_parts.specs.Changes.{StepsInside};
     ghost use Rattle.pv_calls.specs.Kernel.{Running};
 
     ghost Value = { Running };

@@ -1,14 +1,9 @@
-//! The calls of the machine over its parts.
+//! The kernel: the calls of the machine, from their promises to their answers.
+//!
+//! `kernel` has `Kernel`; `carry` goes from a call's promise over its row to what its process is told.
 #![tactic(auto)]
 
-mod answer;
 mod carry;
 pub mod kernel;
-pub mod parts;
-mod places;
-mod programs;
-mod reach;
-mod rows;
 
 pub use kernel::{Fetched, Kernel};
-pub use parts::Parts;

@@ -2,7 +2,7 @@
 use Rattle.std.proofs.Common.{◌≡◌, ◌∙◌, ℕ, ℤ, List, [], ap, sym, refl, Option, None, Some, Result, Ok, Err}
 use Rattle.std.specs.Prelude.{IfOk, OnOk}
 use Rattle.pv_calls.specs.declared.kernel.Fetched.TheVariants.{Register, Call as Calls}
-use Rattle.pv_calls.specs.Changes.{StepsInside}
+use Rattle.pv_parts.specs.Changes.{StepsInside}
 use Rattle.pv_calls.specs.Kernel.{Fetches, Running}
 use Rattle.pv_model.specs.declared.kernel_fault.StepFault.{StepFault}
 use Rattle.pv_model.specs.declared.call.Call.{Call}

@@ -3,8 +3,8 @@ use Rattle.std.proofs.lemmas.Bool.{and_parts}
 use Rattle.pv_laws.specs.States.{is_call, is_word}
 use Rattle.pv_model.specs.Answer.{effect}
 use Rattle.pv_model.specs.Calls.Descriptors.{close, dup, dup2, write, lseek, ftruncate, fchdir}
-use Rattle.pv_calls.specs.Attempts.{trimmed}
-use Rattle.pv_calls.specs.Rows.{attempt_of}
+use Rattle.pv_parts.specs.Attempts.{trimmed}
+use Rattle.pv_rows.specs.Rows.{attempt_of}
 use Rattle.pv_calls.proofs.Performing.{word-back}
 use Rattle.pv_calls.proofs.carry.descriptor_row.Goals as goal
 

@@ -6,9 +6,9 @@ use Rattle.pv_model.specs.Calls.Processes.{execve}
 use Rattle.pv_model.specs.Grammar.Programs.{program_of}
 use Rattle.pv_model.specs.State.{process_at, with_process}
 use Rattle.pv_laws.proofs.Processes.{update-is}
-use Rattle.pv_calls.specs.Attempts.{trimmed}
-use Rattle.pv_calls.specs.Execve.{Executes}
-use Rattle.pv_calls.proofs.Booting.{live-there}
+use Rattle.pv_parts.specs.Attempts.{trimmed}
+use Rattle.pv_paths.specs.Execve.{Executes}
+use Rattle.pv_parts.proofs.Alone.{some-at}
 use Rattle.pv_calls.proofs.Carrying.{next-live}
 use Rattle.pv_calls.proofs.Executing.{execve-next}
 use Rattle.pv_calls.proofs.Living.{lives-execve}
@@ -18,7 +18,7 @@ use Rattle.pv_calls.proofs.carry.execute.Goals as goal
 pub tell-requires-clause-live : goal.tell-requires-clause-live
 tell-requires-clause-live g c =
     let s = c.args.parts.now in
-    let mine = live-there (process_at s c.args.pid) c.requires.live in
+    let mine = some-at (process_at s c.args.pid) c.requires.live in
     row-live s c.execve.new.parts c.args.pid (Ok c.in-Ok.told) (execve s c.args.pid mine.0 program_of c.as_slice.result.now) (c.in-Ok.ensures.row mine.0 mine.1) tt c.requires.live
     (lives-execve s c.args.pid mine.0 mine.1 c.as_slice.result.now)
 

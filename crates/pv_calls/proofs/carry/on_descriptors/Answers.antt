@@ -3,10 +3,10 @@ use Rattle.std.proofs.lemmas.Bool.{and_parts}
 use Rattle.pv_laws.specs.States.{is_call, is_word}
 use Rattle.pv_model.specs.Answer.{answer_by_attempt, effect}
 use Rattle.pv_model.specs.Calls.Descriptors.{fstat, getdents, read}
-use Rattle.pv_calls.specs.Rows.{answered}
+use Rattle.pv_rows.specs.Rows.{answered}
 use Rattle.pv_model.specs.Grammar.Programs.{program_of}
 use Rattle.pv_model.specs.State.{process_at}
-use Rattle.pv_calls.proofs.Booting.{live-there}
+use Rattle.pv_parts.proofs.Alone.{some-at}
 use Rattle.pv_calls.proofs.Performing.{descriptor-rest, row-live, lives-descriptor, word-back}
 use Rattle.pv_calls.proofs.carry.on_descriptors.Goals as goal
 
@@ -38,7 +38,7 @@ returns-in-Getdents c = record {
 pub tell-requires-clause-live : goal.tell-requires-clause-live
 tell-requires-clause-live c =
     let s = c.args.parts.now in
-    let mine = live-there (process_at s c.args.pid) c.requires.live in
+    let mine = some-at (process_at s c.args.pid) c.requires.live in
     row-live s c.descriptor_row-row.new.parts c.args.pid c.descriptor_row-row.result (effect program_of s c.args.pid mine.0 c.args.call.now) (c.descriptor_row-row.ensures.row mine.0 mine.1) c.descriptor_row-row.ensures.unchanged c.requires.live
     (lives-descriptor s c.args.pid mine.0 c.requires.whole mine.1 c.args.call.now (descriptor-rest c.args.call.now c.requires.group c.in_default.not-Read c.in_default.not-Fstat c.in_default.not-Getdents))
 

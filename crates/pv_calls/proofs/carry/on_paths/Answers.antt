@@ -4,8 +4,8 @@ use Rattle.pv_model.specs.Bytes.{Bytes}
 use Rattle.pv_model.specs.Calls.Paths.{stat, lstat, readlink}
 use Rattle.pv_model.specs.Grammar.Programs.{program_of}
 use Rattle.pv_model.specs.State.{process_at}
-use Rattle.pv_calls.specs.Rows.{answered}
-use Rattle.pv_calls.proofs.Booting.{live-there}
+use Rattle.pv_rows.specs.Rows.{answered}
+use Rattle.pv_parts.proofs.Alone.{some-at}
 use Rattle.pv_calls.proofs.Living.{lives-path, path-rest}
 use Rattle.pv_calls.proofs.Performing.{row-live}
 use Rattle.pv_calls.proofs.carry.on_paths.Goals as goal
@@ -13,7 +13,7 @@ use Rattle.pv_calls.proofs.carry.on_paths.Goals as goal
 pub tell-requires : goal.tell-requires
 tell-requires g c =
     let s = c.args.parts.now in
-    let mine = live-there (process_at s c.args.pid) c.requires.live in
+    let mine = some-at (process_at s c.args.pid) c.requires.live in
     record {
       live = row-live s c.path_row-row.new.parts c.args.pid c.path_row-row.result (effect program_of s c.args.pid mine.0 c.args.call.now) (c.path_row-row.ensures.row mine.0 mine.1) c.path_row-row.ensures.unchanged c.requires.live
           (lives-path s c.args.pid mine.0 mine.1 c.args.call.now (path-rest c.args.call.now c.requires.group c.in_default.not-Stat c.in_default.not-Lstat c.in_default.not-Readlink));

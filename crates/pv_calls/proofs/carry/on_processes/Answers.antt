@@ -5,7 +5,7 @@ use Rattle.pv_model.specs.Answer.{effect}
 use Rattle.pv_model.specs.Grammar.Programs.{program_of}
 use Rattle.pv_model.specs.State.{process_at}
 use Rattle.pv_calls.specs.Calls.{goes_on}
-use Rattle.pv_calls.proofs.Booting.{live-there}
+use Rattle.pv_parts.proofs.Alone.{some-at}
 use Rattle.pv_calls.proofs.Performing.{exited, process-rest, row-live, lives-process, word-back}
 use Rattle.pv_calls.proofs.carry.on_processes.Goals as goal
 
@@ -22,7 +22,7 @@ returns-in-Wait c = record { row = λ before me at. rw c.in-Wait.is (c.wait.ensu
 pub tell-requires-clause-live : goal.tell-requires-clause-live
 tell-requires-clause-live c =
     let s = c.args.parts.now in
-    let mine = live-there (process_at s c.args.pid) c.requires.live in
+    let mine = some-at (process_at s c.args.pid) c.requires.live in
     row-live s c.process_row-row.new.parts c.args.pid c.process_row-row.result (effect program_of s c.args.pid mine.0 c.args.call.now) (c.process_row-row.ensures.row mine.0 mine.1) c.process_row-row.ensures.unchanged c.requires.live
     (lives-process s c.args.pid mine.0 c.requires.whole mine.1 c.args.call.now (process-rest c.args.call.now c.requires.group c.in_default.not-Exit c.in_default.not-Wait))
 

@@ -4,8 +4,8 @@ use Rattle.pv_model.specs.Answer.{effect}
 use Rattle.pv_model.specs.Bytes.{Bytes}
 use Rattle.pv_model.specs.Calls.Descriptors.{open_at}
 use Rattle.pv_model.specs.Calls.Paths.{chdir, mkdir, symlink, link, unlink, rmdir, rename}
-use Rattle.pv_calls.specs.Attempts.{trimmed}
-use Rattle.pv_calls.specs.Rows.{attempt_of}
+use Rattle.pv_parts.specs.Attempts.{trimmed}
+use Rattle.pv_rows.specs.Rows.{attempt_of}
 use Rattle.pv_calls.proofs.carry.path_row.Goals as goal
 
 pub returns-in-Unveil-clause-row : goal.returns-in-Unveil-clause-row

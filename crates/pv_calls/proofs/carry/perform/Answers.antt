@@ -8,7 +8,7 @@ use Rattle.pv_model.specs.Answer.{effect}
 use Rattle.pv_model.specs.Grammar.Programs.{program_of}
 use Rattle.pv_model.specs.State.{process_at}
 use Rattle.pv_model.specs.Tree.{find_entry}
-use Rattle.pv_calls.proofs.Booting.{live-there}
+use Rattle.pv_parts.proofs.Alone.{some-at}
 use Rattle.pv_calls.proofs.Performing.{quiet-answer, quiet-descriptor, quiet-process}
 use Rattle.pv_calls.proofs.carry.perform.Goals as goal
 
@@ -23,7 +23,7 @@ any-process call is = ⊎_elim (λ h. ap is_on_processes h.1) (⊎_elim (λ h. a
 pub returns-in-Close-clause-agrees : goal.returns-in-Close-clause-agrees
 returns-in-Close-clause-agrees g c =
     let s = c.args.parts.now in
-    let mine = live-there (process_at s c.args.pid) c.requires.live in
+    let mine = some-at (process_at s c.args.pid) c.requires.live in
     g.met.L.Lookup.same_answers c.args.lookup.now (find_entry s.tree) (find_entry c.on_descriptors.new.parts.tree) c.requires.agrees
     (quiet-answer s c.on_descriptors.new.parts c.args.pid mine.0 c.on_descriptors.result (effect program_of s c.args.pid mine.0 c.args.call.now)
     (quiet-descriptor s c.args.pid mine.0 c.requires.whole mine.1 c.args.call.now (any-descriptor c.args.call.now c.in-Close.is)) (c.on_descriptors.ensures.row s mine.0 mine.1))
@@ -31,7 +31,7 @@ returns-in-Close-clause-agrees g c =
 pub returns-in-Exit-clause-agrees : goal.returns-in-Exit-clause-agrees
 returns-in-Exit-clause-agrees g c =
     let s = c.args.parts.now in
-    let mine = live-there (process_at s c.args.pid) c.requires.live in
+    let mine = some-at (process_at s c.args.pid) c.requires.live in
     g.met.L.Lookup.same_answers c.args.lookup.now (find_entry s.tree) (find_entry c.on_processes.new.parts.tree) c.requires.agrees
     (quiet-answer s c.on_processes.new.parts c.args.pid mine.0 c.on_processes.result (effect program_of s c.args.pid mine.0 c.args.call.now)
     (quiet-process s c.args.pid mine.0 c.requires.whole mine.1 c.args.call.now (any-process c.args.call.now c.in-Exit.is)) (c.on_processes.ensures.row s mine.0 mine.1))

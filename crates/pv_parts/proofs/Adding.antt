@@ -1,0 +1,131 @@
+-- What a table's targets hold with another entry, or with other letters.
+use Rattle.std.proofs.Common.{◌≡◌, ℕ, ◌+◌, ◌⊎◌, inl, inr, Bool, true, false, ◌==◌, nat_le, nat_lt, List, [], ◌∷◌, ◌++◌, length, Option, None, Some, refl, ap, sym, subst, ap₂, ◌∙◌, ⊎_elim, arith}
+use Rattle.std.specs.Prelude.{if◌then◌else◌}
+use Rattle.std.specs.Option.{IsSomeAnd}
+use Rattle.std.proofs.Math.Seq.{map-set_same}
+use Rattle.std.proofs.lemmas.Bool.{and_parts, cases_eq, ne_eqb, ltb-true, ltb-false}
+use Rattle.std.proofs.lemmas.List.{length-set, length_push, map-append}
+use Rattle.std.proofs.lemmas.List.Quantifiers.{position-Some}
+use Rattle.pv_model.specs.declared.errno.Errno.TheVariants.{EPERM, E2BIG}
+use Rattle.pv_model.specs.declared.limits.TheConstants.{UNVEILS}
+use Rattle.pv_model.specs.declared.outcome.Cause.TheVariants.{Unveil as ByUnveil}
+use Rattle.pv_model.specs.declared.perms.Perms.{Perms}
+use Rattle.pv_model.specs.declared.target.Target.{Target}
+use Rattle.pv_model.specs.declared.target.Target.TheVariants.{Directory, Name}
+use Rattle.pv_model.specs.Attempt.{refused, refuse, give}
+use Rattle.pv_model.specs.Calls.Restraints.{add_entry, entries_of_table}
+use Rattle.pv_model.specs.Held.{held_by_table}
+use Rattle.pv_model.specs.Perms.{covers}
+use Rattle.pv_model.specs.State.{State, Process}
+use Rattle.pv_model.specs.Unveil.{Table, same_target, entry_for, letters_at, with_letters, target_directory}
+use Rattle.pv_procs.specs.ProcessTable.{ProcessTable, with_process, update, state_with}
+use Rattle.pv_tree.specs.Holding.{HeldTree, holds_at}
+use Rattle.pv_unveil.specs.Added.{put_in, add_to}
+use Rattle.pv_unveil.specs.Unveiled.{Unveiled}
+use Rattle.pv_files.specs.Counted.{Counted}
+use Rattle.pv_parts.specs.Changes.{Unveils, unveiled_of, with_unveiled, with_table}
+use Rattle.pv_parts.specs.Counts.{state_of, times, IsCountedUp}
+use Rattle.pv_parts.proofs.Attempts.{after_none}
+use Rattle.pv_parts.proofs.Changing.{IsBefore, updated, counted-changed, state-put}
+use Rattle.pv_parts.proofs.Targets.{of_entry, directories, held-entries}
+use Rattle.pv_parts.proofs.Trimming.{times-append, times-cons}
+
+same-number : (m n : ℕ) → (m == n) ≡ true → m ≡ n
+same-number m n is = ⊎_elim (λ same. same) (λ other. let isnt = ne_eqb m n other in cc) (cases_eq m n)
+
+same-directory : (a b : Target) → same_target a b ≡ true → target_directory a ≡ target_directory b
+same-directory (Directory d) (Directory e) is = same-number d e is
+same-directory (Directory d) (Name e name) is = cc
+same-directory (Name d name) (Directory e) is = cc
+same-directory (Name d name) (Name e other) is = same-number d e (and_parts _ _ is).0
+
+-- the directory that comes with a new entry
+abbrev pub if_new : Bool → ℕ → List ℕ
+if_new is_new directory = if is_new then directory ∷ [] else []
+
+-- a table with an entry for a target: as long as before and with the same directories, or longer by one
+abbrev Holds : Table → Target → Table → Type 0
+Holds old target table =
+    ((length table ≡ length old) × ((n : ℕ) → times n (directories table) ≡ times n (directories old)))
+    ⊎ ((length table ≡ length old + 1) × ((n : ℕ) → times n (directories table) ≡ times n (directories old) + times n (target_directory target ∷ [])))
+
+module _ (old : Table) (target : Target) (letters : Perms) where
+  other-letters : (k : ℕ) → entry_for old target ≡ Some k → Holds old target (with_letters old k target letters)
+  other-letters k found =
+      let place = position-Some (λ e. same_target e.0 target) old k (target, letters) found in
+      let same : directories (with_letters old k target letters) ≡ directories old =
+      map-set_same of_entry old k (target, letters) (target, letters) (sym (same-directory _ target place.1)) in
+      inl (length-set old k (target, letters), λ n. ap (times n) same)
+
+  new-entry : Holds old target (old ++ (target, letters) ∷ [])
+  new-entry =
+      inr (length_push old (target, letters), λ n. ap (times n) (map-append of_entry old ((target, letters) ∷ [])) ∙ times-append n (directories old) (target_directory target ∷ []))
+
+  entry-holds : (table : Table) (place : Option ℕ) → entry_for old target ≡ place → add_entry old target letters place ≡ give table → Holds old target table
+  entry-holds table (Some k) found is = by (covers (letters_at old k) letters) is
+    where
+      by : (b : Bool) → (if b then give (with_letters old k target letters) else refused 0 EPERM (ByUnveil (Some k))) ≡ give table → Holds old target table
+      by true is = let eq : with_letters old k target letters ≡ table = cc is in subst (Holds old target) eq (other-letters k found)
+      by false is = cc
+  entry-holds table None found is = by (nat_le UNVEILS (length old)) is
+    where
+      by : (b : Bool) → (if b then refuse E2BIG else give (old ++ (target, letters) ∷ [])) ≡ give table → Holds old target table
+      by true is = cc
+      by false is = let eq : old ++ (target, letters) ∷ [] ≡ table = cc is in subst (Holds old target) eq new-entry
+
+added-holds : (table : Option Table) (locked : Bool) (target : Target) (letters : Perms) (new : Table) → add_to (record { table = table; locked = locked }) target letters ≡ give new
+    → Holds (entries_of_table table) target new
+added-holds table true target letters new is = cc
+added-holds table false target letters new is =
+    entry-holds (entries_of_table table) target letters new _ refl (sym (after_none (put_in (entries_of_table table) target letters)) ∙ is)
+
+-- what is held more where an entry is added: its directory, if the table is longer
+pub added-times : (u : Unveiled) (target : Target) (letters : Perms) (new : Table) → add_to u target letters ≡ give new → (n : ℕ)
+    → times n (directories new) ≡ times n (directories (entries_of_table u.table)) + times n (if_new (nat_lt (length (entries_of_table u.table)) (length new)) (target_directory target))
+added-times u target letters new is n =
+    by (nat_lt (length (entries_of_table u.table)) (length new)) refl (added-holds u.table u.locked target letters new is)
+  where
+    by : (b : Bool) → nat_lt (length (entries_of_table u.table)) (length new) ≡ b → Holds (entries_of_table u.table) target new
+        → times n (directories new) ≡ times n (directories (entries_of_table u.table)) + times n (if_new b (target_directory target))
+    by true longer (inl same) = absurd (omega (arith, same.0, ltb-true _ _ longer))
+    by true longer (inr more) = more.1 n
+    by false longer (inl same) = omega (arith, same.1 n)
+    by false longer (inr more) = absurd (omega (arith, more.0, ltb-false _ _ longer))
+
+some-and : {P : Table → Type 0} (o : Option Table) → IsSomeAnd o P → (table : Table) × (o ≡ Some table) × P table
+some-and None is = absurd is
+some-and (Some table) is = (table, refl, is)
+
+-- a process whose table has another entry, or other letters
+module _ (t : HeldTree) (c : Counted) (ps : ProcessTable) (pid : ℕ) (me : Process) (is : IsBefore t c ps pid me) (target : Target) (letters : Perms) (u v : Unveiled)
+    (own : u ≡ unveiled_of me) (added : IsSomeAnd v.table (λ table. add_to u target letters ≡ give table)) (lock : v.locked ≡ u.locked) (h : HeldTree) (qs : ProcessTable)
+    (put : qs ≡ update ps pid (with_unveiled v)) where
+  new-times : (n : ℕ) → times n (held_by_table v.table)
+      ≡ times n (held_by_table me.table) + times n (if_new (nat_lt (length (entries_of_table u.table)) (length (entries_of_table v.table))) (target_directory target))
+  new-times n =
+      let found = some-and v.table added in
+      let entries : entries_of_table v.table ≡ found.0 = ap entries_of_table found.1 in
+      ap (times n) (held-entries v.table) ∙ ap (λ x. times n (directories x)) entries ∙ added-times u target letters found.0 found.2 n
+      ∙ ap₂ (λ a b. times n a + times n (if_new (nat_lt (length (entries_of_table u.table)) (length b)) (target_directory target)))
+      (sym (held-entries u.table) ∙ ap (λ (x : Unveiled). held_by_table x.table) own) (sym entries)
+
+  put-unveiled : qs ≡ with_process ps pid (with_unveiled v me)
+  put-unveiled = put ∙ updated t c ps pid me is (with_unveiled v)
+
+  pub added-up : (is_new : Bool) (directory : ℕ) → is_new ≡ nat_lt (length (entries_of_table u.table)) (length (entries_of_table v.table)) → directory ≡ target_directory target
+      → ((n : ℕ) → holds_at h n ≡ holds_at t n + times n (if_new is_new directory)) → IsCountedUp h c qs
+  added-up is_new directory longer dir more =
+      counted-changed t c ps pid me is h c qs (with_unveiled v me) put-unveiled (λ k. refl)
+      (λ n. omega (arith, more n, new-times n, ap₂ (λ b d. times n (if_new b d)) longer dir, times-cons n me.directory (held_by_table me.table), times-cons n me.directory (held_by_table v.table)))
+
+  pub added-state : (s : State) → state_of t c ps ≡ s → h.tree ≡ t.tree → Unveils s pid me target letters (state_of h c qs)
+  added-state s view nodes =
+      let found = some-and v.table added in
+      let same : with_unveiled v me ≡ with_table found.0 me = ap₂ (λ x y. record me { table = x; locked = y }) found.1 (lock ∙ ap (λ (x : Unveiled). x.locked) own) in
+      record {
+        table = found.0;
+        added = ap (λ x. add_to x target letters) (sym own) ∙ found.2;
+        only = ap (λ x. state_with x c.files qs) nodes
+            ∙ ap (λ x. state_with t.tree c.files x) (put-unveiled ∙ ap (with_process ps pid) same)
+            ∙ state-put t c ps pid me is s (with_table found.0 me) view;
+      }

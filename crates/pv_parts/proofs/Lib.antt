@@ -1,0 +1,16 @@
+pub mod Adding
+pub mod Alone
+pub mod Attempts
+pub mod Beginning
+pub mod Changing
+pub mod Counting
+pub mod Descriptors
+pub mod Ends
+pub mod Growing
+pub mod Opening
+pub mod Reaping
+pub mod Releasing
+pub mod Sharing
+pub mod Targets
+pub mod Trimming
+pub mod Writing

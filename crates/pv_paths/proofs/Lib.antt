@@ -1,0 +1,7 @@
+pub mod LookRows
+pub mod NameRows
+pub mod Naming
+pub mod OpenRows
+pub mod Reaching
+pub mod Renaming
+pub mod UnveilRows

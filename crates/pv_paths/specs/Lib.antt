@@ -1,0 +1,4 @@
+pub mod Execve
+pub mod Moving
+pub mod Opening
+pub mod Reached

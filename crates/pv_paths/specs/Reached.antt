@@ -1,0 +1,42 @@
+-- Where a walk with its judgement leads, or what refuses it.
+use Rattle.std.specs.Prelude.{◌≡◌, ℕ}
+use Rattle.pv_laws.specs.States.{IsFinePlace}
+use Rattle.pv_model.specs.declared.errno.Errno.TheVariants.{ENOENT}
+use Rattle.pv_model.specs.declared.follow.Follow.{Follow}
+use Rattle.pv_model.specs.declared.perms.Perms.{Perms}
+use Rattle.pv_model.specs.declared.place.Place.{Place}
+use Rattle.pv_model.specs.Attempt.{Attempt, done, refused, after_walks, demand, give, ◌>>=◌, ◌>>◌}
+use Rattle.pv_model.specs.Bytes.{Bytes}
+use Rattle.pv_model.specs.Effect.{Effect, walk_from, judge_for, node_of}
+use Rattle.pv_model.specs.State.{Process, State}
+use Rattle.pv_rows.specs.declared.answer.Refused.{Refused}
+
+-- a walk that the table allows leads to a place
+pub record IsReached (s : State) (me : Process) (start : ℕ) (follow : Follow) (path : Bytes) (needed : Perms) (place : Place) : Type 0 where
+  pub walked : walk_from s start follow path ≡ done 1 place
+  pub judged : judge_for s me place needed ≡ give tt
+  pub fine : IsFinePlace s.tree place
+
+-- a walk, or the judgement at its end, is refused, and so is all that begins with it
+abbrev pub IsStopped : State → Process → ℕ → Follow → Bytes → Perms → Refused → Type 0
+IsStopped s me start follow path needed r =
+    (rest : Place → Attempt Effect)
+    → (walk_from s start follow path >>= (λ place. judge_for s me place needed >> rest place)) ≡ refused r.walks r.errno r.cause
+
+-- the same behind a first walk, which counts too
+abbrev pub IsStoppedSecond : State → Process → ℕ → Follow → Bytes → Perms → Refused → Type 0
+IsStoppedSecond s me start follow path needed r =
+    (rest : Place → Attempt Effect)
+    → after_walks 1 (walk_from s start follow path >>= (λ place. judge_for s me place needed >> rest place)) ≡ refused r.walks r.errno r.cause
+
+-- a walk that the table allows leads to a node, and what begins with it goes on with the node
+abbrev pub IsFound : State → Process → ℕ → Follow → Bytes → Perms → ℕ → Type 0
+IsFound s me start follow path needed n =
+    (rest : ℕ → Attempt Effect)
+    → (walk_from s start follow path >>= (λ place. judge_for s me place needed >> (demand ENOENT (node_of place) >>= rest))) ≡ after_walks 1 (rest n)
+
+-- a walk, its judgement, or that nothing is at its end, refuses all that begins with it
+abbrev pub IsMissed : State → Process → ℕ → Follow → Bytes → Perms → Refused → Type 0
+IsMissed s me start follow path needed r =
+    (rest : ℕ → Attempt Effect)
+    → (walk_from s start follow path >>= (λ place. judge_for s me place needed >> (demand ENOENT (node_of place) >>= rest))) ≡ refused r.walks r.errno r.cause

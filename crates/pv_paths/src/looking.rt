@@ -1,0 +1,127 @@
+//! Calls that tell what is at a path: stat(2), lstat(2), readlink(2).
+ghost use Rattle.std.specs.Prelude.{◌≡◌, IfErr, IfOk, IsSome, IsTrue, Some};
+ghost use Rattle.pv_laws.specs.States.{IsWhole, is_text};
+ghost use Rattle.pv_model.specs.Calls.Paths.{lstat, readlink, stat, stat_at};
+ghost use Rattle.pv_model.specs.Perms.{letter_r};
+ghost use Rattle.pv_model.specs.State.{Process, process_at};
+ghost use Rattle.pv_model.specs.Tree.{find_entry, node_at};
+ghost use Rattle.pv_model.specs.Walks.{from_here};
+ghost use Rattle.pv_paths.specs.Reached.{IsFound, IsMissed};
+ghost use Rattle.pv_rows.specs.Rows.{IsAnswered};
+
+use crate::opening::is_link;
+use crate::places::node_of;
+use crate::reach::reach;
+use pv_model::limits::LINK_TEXT;
+use pv_model::{Errno, Follow, Perms};
+use pv_namei::Lookup;
+use pv_parts::Parts;
+use pv_rows::answer::{Answer, Done, Refused, refusal, tell, tell_bytes};
+use pv_rows::status::status;
+
+// The node at the end of a walk that asks for r: `ENOENT` where nothing is.
+fn find<L: Lookup>(
+    parts: &Parts,
+    lookup: &mut L,
+    pid: u32,
+    follow: Follow,
+    path: &[u8],
+) -> Result<u16, Refused>
+    requires whole { IsWhole parts.now }
+    requires live { IsSome (process_at parts.now pid) }
+    requires text { IsTrue (is_text path.now) }
+    requires agrees { L.agrees lookup.old (find_entry parts.now.tree) }
+    ensures found { IfOk result (λ n. (me : Process) → process_at parts.now pid ≡ Some me → IsFound parts.now me me.directory follow path.now letter_r n) }
+    ensures missed { IfErr result (λ r. (me : Process) → process_at parts.now pid ≡ Some me → IsMissed parts.now me me.directory follow path.now letter_r r) }
+    ensures there { IfOk result (λ n. IsSome (node_at parts.now.tree n)) }
+    ensures agrees { L.agrees lookup.new (find_entry parts.now.tree) }
+{
+    let place = reach(parts, lookup, pid, follow, path, Perms::R)?;
+    match node_of(&place) {
+        Some(node) => Ok(node),
+        None => Err(refusal(1, Errno::ENOENT)),
+    }
+}
+
+// Tells what is at the end of a walk.
+fn stat_at<L: Lookup>(
+    parts: &mut Parts,
+    lookup: &mut L,
+    pid: u32,
+    follow: Follow,
+    path: &[u8],
+) -> Answer
+    requires whole { IsWhole parts.old }
+    requires live { IsSome (process_at parts.old pid) }
+    requires text { IsTrue (is_text path.now) }
+    requires agrees { L.agrees lookup.old (find_entry parts.old.tree) }
+    ensures row { IsAnswered (λ s me. stat_at s pid me (from_here follow path.now letter_r)) parts.old pid parts.new result }
+    ensures agrees { L.agrees lookup.new (find_entry parts.new.tree) }
+{
+    match find(parts, lookup, pid, follow, path) {
+        Ok(node) => {
+            parts.facts();
+            let bytes = status(parts.tree(), node);
+            tell_bytes(parts, pid, Done { walks: 1, value: 0 }, &bytes)
+        }
+        Err(refused) => tell(parts, pid, Err(refused)),
+    }
+}
+
+/// Tells eight bytes of what is at a path, behind a final link, stat(2): they come to the front of the buffer, and the
+/// answer is 0.
+///
+/// An error of the walk refuses it, then one of its judgement, and `ENOENT` where nothing is there.
+pub fn stat<L: Lookup>(parts: &mut Parts, lookup: &mut L, pid: u32, path: &[u8]) -> Answer
+    requires whole { IsWhole parts.old }
+    requires live { IsSome (process_at parts.old pid) }
+    requires text { IsTrue (is_text path.now) }
+    requires agrees { L.agrees lookup.old (find_entry parts.old.tree) }
+    ensures row { IsAnswered (λ s me. stat s pid me path.now) parts.old pid parts.new result }
+    ensures agrees { L.agrees lookup.new (find_entry parts.new.tree) }
+{
+    stat_at(parts, lookup, pid, Follow::Last, path)
+}
+
+/// The same of a final link itself, lstat(2).
+///
+/// It is refused as `stat` is.
+pub fn lstat<L: Lookup>(parts: &mut Parts, lookup: &mut L, pid: u32, path: &[u8]) -> Answer
+    requires whole { IsWhole parts.old }
+    requires live { IsSome (process_at parts.old pid) }
+    requires text { IsTrue (is_text path.now) }
+    requires agrees { L.agrees lookup.old (find_entry parts.old.tree) }
+    ensures row { IsAnswered (λ s me. lstat s pid me path.now) parts.old pid parts.new result }
+    ensures agrees { L.agrees lookup.new (find_entry parts.new.tree) }
+{
+    stat_at(parts, lookup, pid, Follow::Keep, path)
+}
+
+/// Reads the text of a link, readlink(2): it comes to the front of the buffer, and the answer is its length.
+///
+/// An error of the walk refuses it, then one of its judgement, `ENOENT` where nothing is there, and `EINVAL` where no
+/// link is.
+pub fn readlink<L: Lookup>(parts: &mut Parts, lookup: &mut L, pid: u32, path: &[u8]) -> Answer
+    requires whole { IsWhole parts.old }
+    requires live { IsSome (process_at parts.old pid) }
+    requires text { IsTrue (is_text path.now) }
+    requires agrees { L.agrees lookup.old (find_entry parts.old.tree) }
+    ensures row { IsAnswered (λ s me. readlink s pid me path.now) parts.old pid parts.new result }
+    ensures agrees { L.agrees lookup.new (find_entry parts.new.tree) }
+{
+    let node = match find(parts, lookup, pid, Follow::Keep, path) {
+        Ok(node) => node,
+        Err(refused) => return tell(parts, pid, Err(refused)),
+    };
+    if !is_link(parts.tree(), node) {
+        return tell(parts, pid, Err(refusal(1, Errno::EINVAL)));
+    }
+    let mut text = [0; LINK_TEXT];
+    let length = parts.tree().read_at(node, 0, &mut text);
+    parts.facts();
+    let told = Done {
+        walks: 1,
+        value: length as u32,
+    };
+    tell_bytes(parts, pid, told, &text[..length])
+}

@@ -1,0 +1,241 @@
+//! Calls that make, take away or change names: mkdir(2), symlink(2), link(2), unlink(2), rmdir(2).
+ghost use Rattle.std.specs.Prelude.{◌≡◌, ◌≤◌, IfOk, IsSome, IsTrue, OnErr, Some};
+ghost use Rattle.pv_laws.specs.States.{IsWhole, is_text};
+ghost use Rattle.pv_model.specs.Calls.Paths.{make, mkdir, symlink, link, unlink, rmdir};
+ghost use Rattle.pv_model.specs.Perms.{letter_c};
+ghost use Rattle.pv_model.specs.State.{Process, process_at};
+ghost use Rattle.pv_model.specs.Tree.{find_entry, is_node};
+ghost use Rattle.pv_model.specs.Walks.{from_here};
+ghost use Rattle.pv_parts.specs.Attempts.{trimmed};
+ghost use Rattle.pv_rows.specs.Rows.{attempt_of};
+ghost use Rattle.pv_tree.specs.Changes.{new_node};
+
+use crate::places::{name_of, node_of};
+use crate::reach::{reach, reach_second};
+use pv_model::limits::LINK_TEXT;
+use pv_model::{Errno, Follow, Kind, Perms};
+use pv_namei::{Lookup, ends_in_dot};
+use pv_parts::Parts;
+use pv_rows::answer::{Done, Refused, answer_of, refusal, space_errno};
+
+// A new node at a place where there is none: the answer is 0.
+fn make<L: Lookup>(
+    parts: &mut Parts,
+    lookup: &mut L,
+    pid: u32,
+    follow: Follow,
+    path: &[u8],
+    kind: Kind,
+) -> Result<Done, Refused>
+    requires whole { IsWhole parts.old }
+    requires live { IsSome (process_at parts.old pid) }
+    requires text { IsTrue (is_text path.now) }
+    requires node { IsTrue (is_node parts.old.tree.version (new_node kind)) }
+    requires agrees { L.agrees lookup.old (find_entry parts.old.tree) }
+    ensures row { (me : Process) → process_at parts.old pid ≡ Some me → trimmed (make parts.old pid me (from_here follow path.now letter_c) (new_node kind.entry)) ≡ attempt_of parts.new result }
+    ensures unchanged { OnErr result (parts.new ≡ parts.old) }
+    ensures small { IfOk result (λ d. d.value ≤ 2147483647) }
+    ensures agrees { L.agrees lookup.new (find_entry parts.new.tree) }
+{
+    let place = reach(parts, lookup, pid, follow, path, Perms::C)?;
+    if node_of(&place).is_some() {
+        return Err(refusal(1, Errno::EEXIST));
+    }
+    let Some((directory, name)) = name_of(&place) else {
+        return Err(refusal(1, Errno::EEXIST));
+    };
+    if let Err(space) = parts.make(directory, name, kind) {
+        return Err(refusal(1, space_errno(space)));
+    }
+    // Its sizes tell with them that the tree has room.
+    let _ = parts.tree().sizes();
+    lookup.changed(directory, name);
+    answer_of(1, 0)
+}
+
+/// Makes a directory, mkdir(2): the answer is 0.
+///
+/// # Errors
+///
+/// An error of the walk, then of its judgement; `EEXIST` where something is there, or the path leads to no name; then
+/// `EFBIG` and `ENOSPC` for want of room.
+pub fn mkdir<L: Lookup>(
+    parts: &mut Parts,
+    lookup: &mut L,
+    pid: u32,
+    path: &[u8],
+) -> Result<Done, Refused>
+    requires whole { IsWhole parts.old }
+    requires live { IsSome (process_at parts.old pid) }
+    requires text { IsTrue (is_text path.now) }
+    requires agrees { L.agrees lookup.old (find_entry parts.old.tree) }
+    ensures row { (me : Process) → process_at parts.old pid ≡ Some me → trimmed (mkdir parts.old pid me path.now) ≡ attempt_of parts.new result }
+    ensures unchanged { OnErr result (parts.new ≡ parts.old) }
+    ensures small { IfOk result (λ d. d.value ≤ 2147483647) }
+    ensures agrees { L.agrees lookup.new (find_entry parts.new.tree) }
+{
+    make(
+        parts,
+        lookup,
+        pid,
+        Follow::KeepTrimmed,
+        path,
+        Kind::Directory,
+    )
+}
+
+/// Makes a symbolic link with a text, symlink(2): the answer is 0.
+///
+/// # Errors
+///
+/// `ENOENT` where the text is empty, and `ENAMETOOLONG` where it has more than 1,023 bytes; else as `mkdir`.
+pub fn symlink<L: Lookup>(
+    parts: &mut Parts,
+    lookup: &mut L,
+    pid: u32,
+    text: &[u8],
+    path: &[u8],
+) -> Result<Done, Refused>
+    requires whole { IsWhole parts.old }
+    requires live { IsSome (process_at parts.old pid) }
+    requires link { IsTrue (is_text text.now) }
+    requires text { IsTrue (is_text path.now) }
+    requires agrees { L.agrees lookup.old (find_entry parts.old.tree) }
+    ensures row { (me : Process) → process_at parts.old pid ≡ Some me → trimmed (symlink parts.old pid me text.now path.now) ≡ attempt_of parts.new result }
+    ensures unchanged { OnErr result (parts.new ≡ parts.old) }
+    ensures small { IfOk result (λ d. d.value ≤ 2147483647) }
+    ensures agrees { L.agrees lookup.new (find_entry parts.new.tree) }
+{
+    if text.is_empty() {
+        return Err(refusal(0, Errno::ENOENT));
+    }
+    if text.len() > LINK_TEXT {
+        return Err(refusal(0, Errno::ENAMETOOLONG));
+    }
+    make(parts, lookup, pid, Follow::Keep, path, Kind::Symlink(text))
+}
+
+/// Gives the node at a path, which is no directory, a further name, link(2): the answer is 0.
+///
+/// # Errors
+///
+/// An error of the first walk, then of its judgement, and the same of the second; `ENOENT` where nothing is at the
+/// first place, and `EPERM` where a directory is; `EEXIST` where something is at the second, or it is no name; then
+/// `EFBIG` and `ENOSPC` for want of room.
+pub fn link<L: Lookup>(
+    parts: &mut Parts,
+    lookup: &mut L,
+    pid: u32,
+    path: &[u8],
+    new: &[u8],
+) -> Result<Done, Refused>
+    requires whole { IsWhole parts.old }
+    requires live { IsSome (process_at parts.old pid) }
+    requires text { IsTrue (is_text path.now) }
+    requires other { IsTrue (is_text new.now) }
+    requires agrees { L.agrees lookup.old (find_entry parts.old.tree) }
+    ensures row { (me : Process) → process_at parts.old pid ≡ Some me → trimmed (link parts.old pid me path.now new.now) ≡ attempt_of parts.new result }
+    ensures unchanged { OnErr result (parts.new ≡ parts.old) }
+    ensures small { IfOk result (λ d. d.value ≤ 2147483647) }
+    ensures agrees { L.agrees lookup.new (find_entry parts.new.tree) }
+{
+    let old_place = reach(parts, lookup, pid, Follow::Last, path, Perms::R)?;
+    let new_place = reach_second(parts, lookup, pid, Follow::Keep, new, Perms::C)?;
+    let Some(node) = node_of(&old_place) else {
+        return Err(refusal(2, Errno::ENOENT));
+    };
+    if parts.tree().is_directory(node) {
+        return Err(refusal(2, Errno::EPERM));
+    }
+    if node_of(&new_place).is_some() {
+        return Err(refusal(2, Errno::EEXIST));
+    }
+    let Some((directory, name)) = name_of(&new_place) else {
+        return Err(refusal(2, Errno::EEXIST));
+    };
+    if let Err(space) = parts.link(directory, name, node) {
+        return Err(refusal(2, space_errno(space)));
+    }
+    // Its sizes tell with them that the tree has room.
+    let _ = parts.tree().sizes();
+    lookup.changed(directory, name);
+    answer_of(2, 0)
+}
+
+/// Takes the name that a path leads to away from its node, which is no directory, unlink(2): the answer is 0.
+///
+/// # Errors
+///
+/// An error of the walk, then of its judgement; `ENOENT` where nothing is there, and `EPERM` where a directory is.
+pub fn unlink<L: Lookup>(
+    parts: &mut Parts,
+    lookup: &mut L,
+    pid: u32,
+    path: &[u8],
+) -> Result<Done, Refused>
+    requires whole { IsWhole parts.old }
+    requires live { IsSome (process_at parts.old pid) }
+    requires text { IsTrue (is_text path.now) }
+    requires agrees { L.agrees lookup.old (find_entry parts.old.tree) }
+    ensures row { (me : Process) → process_at parts.old pid ≡ Some me → trimmed (unlink parts.old pid me path.now) ≡ attempt_of parts.new result }
+    ensures unchanged { OnErr result (parts.new ≡ parts.old) }
+    ensures small { IfOk result (λ d. d.value ≤ 2147483647) }
+    ensures agrees { L.agrees lookup.new (find_entry parts.new.tree) }
+{
+    let place = reach(parts, lookup, pid, Follow::Keep, path, Perms::C)?;
+    let Some(node) = node_of(&place) else {
+        return Err(refusal(1, Errno::ENOENT));
+    };
+    if parts.tree().is_directory(node) {
+        return Err(refusal(1, Errno::EPERM));
+    }
+    let Some((directory, name)) = name_of(&place) else {
+        return Err(refusal(1, Errno::EPERM));
+    };
+    parts.unlink(directory, name);
+    lookup.changed(directory, name);
+    answer_of(1, 0)
+}
+
+/// Removes the directory at a path, which has no entries, rmdir(2): the answer is 0.
+///
+/// # Errors
+///
+/// `EINVAL` where the path ends in `.` or `..`; an error of the walk, then of its judgement; `ENOENT` where nothing is
+/// there, `ENOTDIR` where no directory is, `EBUSY` where the path leads to no name, and `ENOTEMPTY` where the directory
+/// has an entry.
+pub fn rmdir<L: Lookup>(
+    parts: &mut Parts,
+    lookup: &mut L,
+    pid: u32,
+    path: &[u8],
+) -> Result<Done, Refused>
+    requires whole { IsWhole parts.old }
+    requires live { IsSome (process_at parts.old pid) }
+    requires text { IsTrue (is_text path.now) }
+    requires agrees { L.agrees lookup.old (find_entry parts.old.tree) }
+    ensures row { (me : Process) → process_at parts.old pid ≡ Some me → trimmed (rmdir parts.old pid me path.now) ≡ attempt_of parts.new result }
+    ensures unchanged { OnErr result (parts.new ≡ parts.old) }
+    ensures small { IfOk result (λ d. d.value ≤ 2147483647) }
+    ensures agrees { L.agrees lookup.new (find_entry parts.new.tree) }
+{
+    if ends_in_dot(path) {
+        return Err(refusal(0, Errno::EINVAL));
+    }
+    let place = reach(parts, lookup, pid, Follow::Keep, path, Perms::C)?;
+    let Some(node) = node_of(&place) else {
+        return Err(refusal(1, Errno::ENOENT));
+    };
+    if !parts.tree().is_directory(node) {
+        return Err(refusal(1, Errno::ENOTDIR));
+    }
+    let Some((directory, name)) = name_of(&place) else {
+        return Err(refusal(1, Errno::EBUSY));
+    };
+    if !parts.tree().is_empty(node) {
+        return Err(refusal(1, Errno::ENOTEMPTY));
+    }
+    parts.unlink(directory, name);
+    lookup.changed(directory, name);
+    answer_of(1, 0)
+}

@@ -1,0 +1,129 @@
+//! unveil(2).
+ghost use Rattle.std.specs.Prelude.{◌≡◌, ◌≤◌, IfOk, IsSome, IsTrue, OnErr, Some};
+ghost use Rattle.pv_laws.specs.States.{IsWhole, is_text, is_text_or_none};
+ghost use Rattle.pv_model.specs.Attempt.{refused};
+ghost use Rattle.pv_model.specs.Calls.Restraints.{unveil};
+ghost use Rattle.pv_model.specs.State.{Process, process_at};
+ghost use Rattle.pv_model.specs.Tree.{find_entry};
+ghost use Rattle.pv_model.specs.Unveil.{target_of};
+ghost use Rattle.pv_parts.specs.Attempts.{trimmed};
+ghost use Rattle.pv_rows.specs.Rows.{attempt_of};
+ghost use Rattle.pv_unveil.specs.Added.{refusal as refusal_of};
+
+use crate::reach::walks_begun;
+use pv_model::{Cause, Errno, Follow, Perms, Place, Target, Text};
+use pv_namei::{Lookup, resolve};
+use pv_parts::Parts;
+use pv_rows::answer::{Done, Refused, answer_of, refusal};
+use pv_tree::Tree;
+use pv_unveil::AddFault;
+
+// What an unveiled place is for: the directory that is there, or the name.
+fn target_of(tree: &Tree, place: Place) -> Target
+    ensures { result ≡ target_of tree.now.tree place }
+{
+    match place {
+        Place::Node(node) => Target::Directory(node),
+        Place::At { dir, name, node } => match node {
+            Some(node) if tree.is_directory(node) => Target::Directory(node),
+            _ => Target::Name { dir, name },
+        },
+    }
+}
+
+// The error and the cause that a fault answers, behind so many walks.
+fn answer_to(walks: u8, fault: AddFault) -> Refused
+    ensures walks { result.walks ≡ walks }
+    ensures fault { refusal_of fault ≡ refused 0 result.errno result.cause }
+{
+    match fault {
+        AddFault::Locked => Refused {
+            walks,
+            errno: Errno::EPERM,
+            cause: Cause::Locked,
+        },
+        AddFault::Increase(entry) => Refused {
+            walks,
+            errno: Errno::EPERM,
+            cause: Cause::Unveil(Some(entry)),
+        },
+        AddFault::Many => refusal(walks, Errno::E2BIG),
+    }
+}
+
+// An entry for what a path leads to, with the letters of a text: no table judges the place.
+fn unveil_path<L: Lookup>(
+    parts: &mut Parts,
+    lookup: &mut L,
+    pid: u32,
+    path: &[u8],
+    letters: &[u8],
+) -> Result<Done, Refused>
+    requires whole { IsWhole parts.old }
+    requires live { IsSome (process_at parts.old pid) }
+    requires text { IsTrue (is_text path.now) }
+    requires agrees { L.agrees lookup.old (find_entry parts.old.tree) }
+    ensures row { (me : Process) → process_at parts.old pid ≡ Some me → trimmed (unveil parts.old pid me (Some path.now) (Some letters.now)) ≡ attempt_of parts.new result }
+    ensures unchanged { OnErr result (parts.new ≡ parts.old) }
+    ensures small { IfOk result (λ d. d.value ≤ 2147483647) }
+    ensures agrees { L.agrees lookup.new (find_entry parts.new.tree) }
+{
+    let Some(letters) = Perms::read(letters) else {
+        return Err(refusal(0, Errno::EINVAL));
+    };
+    let record = parts.record(pid);
+    if record.unveiled.is_locked() {
+        return Err(answer_to(0, AddFault::Locked));
+    }
+    let start = record.directory;
+    let walks = walks_begun(path);
+    let place = match resolve(parts.tree(), lookup, start, path, Follow::Last) {
+        Ok(place) => place,
+        Err(errno) => return Err(refusal(walks, errno)),
+    };
+    let target = target_of(parts.tree(), place);
+    match parts.unveil(pid, target, letters) {
+        Ok(()) => {
+            // Its facts tell with them that nothing is left to trim.
+            parts.facts();
+            answer_of(1, 0)
+        }
+        Err(fault) => Err(answer_to(1, fault)),
+    }
+}
+
+/// Adds an entry for what a path leads to, or takes letters from the one that is there; two nulls lock the table,
+/// unveil(2). The answer is 0.
+///
+/// # Errors
+///
+/// `EINVAL` for one null beside a text, and for another letter; `EPERM` under the lock; an error of the walk; `EPERM`
+/// where the entry that is there lacks a letter; `E2BIG` where there are 64 entries, and it would be another.
+pub fn unveil<L: Lookup>(
+    parts: &mut Parts,
+    lookup: &mut L,
+    pid: u32,
+    path: &Option<Text>,
+    letters: &Option<Text>,
+) -> Result<Done, Refused>
+    requires whole { IsWhole parts.old }
+    requires live { IsSome (process_at parts.old pid) }
+    requires text { IsTrue (is_text_or_none path.now) }
+    requires agrees { L.agrees lookup.old (find_entry parts.old.tree) }
+    ensures row { (me : Process) → process_at parts.old pid ≡ Some me → trimmed (unveil parts.old pid me path.now letters.now) ≡ attempt_of parts.new result }
+    ensures unchanged { OnErr result (parts.new ≡ parts.old) }
+    ensures small { IfOk result (λ d. d.value ≤ 2147483647) }
+    ensures agrees { L.agrees lookup.new (find_entry parts.new.tree) }
+{
+    match (path, letters) {
+        (None, None) => {
+            parts.lock(pid);
+            parts.facts();
+            answer_of(0, 0)
+        }
+        (Some(path), Some(letters)) => {
+            unveil_path(parts, lookup, pid, path.as_slice(), letters.as_slice())
+        }
+        _ => Err(refusal(0, Errno::EINVAL)),
+    }
+}

@@ -1,0 +1,25 @@
+use Rattle.std.proofs.Common.{◌≡◌, ◌∙◌, Some, ap₂, sym, w32}
+use Rattle.std.proofs.lemmas.Int.{to_z-of_z}
+use Rattle.pv_parts.specs.Attempts.{trimmed}
+use Rattle.pv_rows.specs.Rows.{attempt_of}
+use Rattle.pv_model.specs.Calls.Descriptors.{dup2}
+use Rattle.pv_model.specs.State.{Process, process_at}
+use Rattle.pv_laws.proofs.ByProcess.{good-dup2}
+use Rattle.pv_parts.proofs.Alone.{some-at}
+use Rattle.pv_rows.proofs.Plain.{low-row, plain-row}
+use Rattle.pv_rows.proofs.descriptors.dup2.Goals as goal
+
+row : (c : goal.After-plain) (me : Process) → process_at c.args.parts.now c.args.pid ≡ Some me
+    → trimmed (dup2 c.args.parts.now c.args.pid me c.args.d c.args.e) ≡ attempt_of c.dup2.new.self c.plain.result
+row c me at =
+    plain-row c.dup2.new.self (dup2 c.args.parts.now c.args.pid me c.args.d c.args.e) c.dup2.result c.plain.result c.plain.ensures
+    (ap₂ (λ d e. trimmed (dup2 c.args.parts.now c.args.pid me d e)) (sym (to_z-of_z w32 c.args.d c.ranges.d)) (sym (to_z-of_z w32 c.args.e c.ranges.e)) ∙ c.dup2.ensures.row me at)
+
+pub returns-clause-row : goal.returns-clause-row
+returns-clause-row c = λ me at. row c me at
+
+pub returns-clause-small : goal.returns-clause-small
+returns-clause-small c =
+    let s = c.args.parts.now in
+    let found = some-at (process_at s c.args.pid) c.requires.live in
+    low-row s c.dup2.new.self (dup2 s c.args.pid found.0 c.args.d c.args.e) c.plain.result (good-dup2 s c.args.pid found.0 c.requires.whole found.1 c.args.d c.args.e) (row c found.0 found.1)
