@@ -378,7 +378,7 @@ calls-along program_of s pid me (TheCall.Rename path new) is = by-rename s pid m
 
 -- ---- the place at which a call is refused
 
-begins-found : (t : Tree) (follow : Follow) (start : ℕ) (path : Bytes) (place : Place) → resolve t follow start path ≡ Ok place → begins_walk path ≡ true
+pub begins-found : (t : Tree) (follow : Follow) (start : ℕ) (path : Bytes) (place : Place) → resolve t follow start path ≡ Ok place → begins_walk path ≡ true
 unfolding resolve
 begins-found t follow start path place is =
     by (Rattle.pv_model.specs.Walk.walk t (follows_last follow) 32 (pieces path) (end_mark follow path) (if is_absolute path then root else start)) (is_empty path) refl (nat_lt 1023 (length path)) refl is
@@ -558,7 +558,7 @@ refusals-named program_of s pid me call errno entry at =
 
 module _ (s : State) (me : Process) where
   -- no walk is refused by the lock
-  along-free : (ws : List Walk) (walks : ℕ) (errno : Errno) → along s me ws ≡ refused walks errno Locked → ⊥
+  pub along-free : (ws : List Walk) (walks : ℕ) (errno : Errno) → along s me ws ≡ refused walks errno Locked → ⊥
   along-free [] walks errno is = cc is
   along-free (w ∷ ws) walks errno is = by (λ k e refusal. along-free ws k e refusal) (end_of s me w) is
     where

@@ -1,0 +1,3 @@
+pub mod Tables
+pub mod Promises
+pub mod Examples
