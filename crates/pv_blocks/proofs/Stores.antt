@@ -7,7 +7,7 @@ use Rattle.pv_model.specs.Image.{block}
 use Rattle.pv_blocks.specs.declared.block_set.BlockSet.{BlockSet}
 use Rattle.pv_blocks.specs.BlockSet.{is_member, AllMembers}
 use Rattle.pv_blocks.specs.BlockStore.{blocks_of, free_outside, free_from}
-use Rattle.std.proofs.lemmas.Bool.{cases_eq, cases_lt, cases_order, eq-eqb, ne_eqb, lt-ltb, le-ltb, lt-leb, le-leb}
+use Rattle.std.proofs.lemmas.Bool.{cases_eq, cases_lt, cases_order, eq-eqb, ne_eqb, lt-ltb, le-ltb, lt-leb, le-leb, not-true}
 use Rattle.std.proofs.lemmas.Bool.Decides.{nat_tests}
 use Rattle.std.proofs.lemmas.Option.{slice_get-get_or, get_or_from_slice_get, slice_get_within}
 use Rattle.std.proofs.lemmas.List.{same_lists, get_or-set_same, get_or-set_other, length-set, length-append, length-take, length-drop, drop-take}
@@ -142,6 +142,22 @@ takes old new count k within absent after =
       flags = flags;
       counted = ap (λ (fs : List Bool). count_by (λ f. f) fs + 1) flags ∙ count-cleared (free_outside old count) k (rw length_old within) (flag false);
     }
+
+-- a block whose flag is set is not in the set, and may be put into it
+pub takes_free : (old new : BlockSet) (count k : ℕ) → slice_get (free_outside old count) k ≡ Some true → ((j : ℕ) → is_member new j ≡ (eqb j k || is_member old j)) → Takes old new count k
+takes_free old new count k was after =
+    let within : k < count = omega (arith, length-free_outside old count, slice_get_within (free_outside old count) k true was) in
+    let flag : not (is_member old k) ≡ true = sym (get_or-free_outside old count k false within) ∙ get_or_from_slice_get (free_outside old count) k true false was in
+    takes old new count k within (not-true (is_member old k) flag) after
+
+-- a block that is not in the set has its flag set, so that some block is free
+pub free_flag : (taken : BlockSet) (count k : ℕ) → k < count → is_member taken k ≡ false → slice_get (free_outside taken count) k ≡ Some true
+free_flag taken count k within absent =
+    slice_get-get_or (free_outside taken count) k true (rw (length-free_outside taken count) within) ∙ ap Some (get_or-free_outside taken count k true within ∙ ap not absent)
+
+pub some_free : (taken : BlockSet) (count k : ℕ) → k < count → is_member taken k ≡ false → 0 < count_by (λ f. f) (free_outside taken count)
+some_free taken count k within absent =
+    omega (arith, count-cleared (free_outside taken count) k (rw (length-free_outside taken count) within) (get_or-free_outside taken count k false within ∙ ap not absent))
 
 -- no block is free where each is in the set
 pub count-all_taken : (taken : BlockSet) (count : ℕ) → AllMembers taken 0 count → count_by (λ f. f) (free_outside taken count) ≡ 0

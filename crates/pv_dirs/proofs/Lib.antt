@@ -1,11 +1,14 @@
 pub mod Adding
 pub mod Closing
 pub mod Contents
+pub mod Counts
 pub mod Emptiness
 pub mod Entries
+pub mod Images
 pub mod Mapped
 pub mod Next
 pub mod Outcomes
+pub mod Permuted
 pub mod Removing
 pub mod SlotBytes
 pub mod Stored

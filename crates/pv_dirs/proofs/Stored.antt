@@ -9,7 +9,7 @@ use Rattle.pv_model.specs.Room.{entry_length}
 use Rattle.pv_model.specs.Tree.{Entries}
 use Rattle.pv_dirs.specs.Slots.{slot_at, slot_count, slot_name, slot_number, slot_entries, IsSlotted}
 use Rattle.pv_dirs.proofs.SlotBytes.{length-slot_entries, get_or-slot_entries, slot_at-is, slot_at-same}
-use Rattle.pv_dirs.proofs.Strides.{slot_some, slot_least, no_entries, none_left, piece_within, pieces_of, pieces_more, whole_more, whole_is}
+use Rattle.pv_dirs.proofs.Strides.{slot_some, slot_least, no_entries, none_counted, none_left, piece_within, pieces_of, pieces_more, whole_more, whole_is}
 
 -- ---- one slot in front
 
@@ -111,3 +111,21 @@ slots_spell v (suc m) bytes long measured =
 
 pub entries_spelled : (v : Version) (bytes : Bytes) → IsSlotted v bytes → AreSlots v bytes (slot_entries v bytes)
 entries_spelled v bytes s = slots_spell v (slot_count v bytes) bytes (whole_is (entry_length v) (slot_some v) (length bytes) s.whole) s.measured
+
+-- each name that is spelled has the length that stands before it
+measured_slot : (v : Version) (slot name : Bytes) (n : ℕ) → IsSlot v slot name n → slice_index slot 2 ≡ length (slot_name slot)
+measured_slot v slot name n s = told s.number s.two_bytes s.is_spelled ∙ ap length (sym (slot_spelled v slot name n s).0)
+  where
+    told : (number : Bytes) → length number ≡ 2 → slot ≡ number ++ length name ∷ s.unread ∷ name ++ s.left → slice_index slot 2 ≡ length name
+    told [] two is = absurd (omega arith)
+    told (a ∷ []) two is = absurd (omega arith)
+    told (a ∷ b ∷ []) two is = ap (λ (xs : Bytes). slice_index xs 2) is
+    told (a ∷ b ∷ c ∷ more) two is = absurd (omega arith)
+
+pub measured_are : (v : Version) (bytes : Bytes) (es : Entries) → AreSlots v bytes es → (k : ℕ) → k < slot_count v bytes → slice_index (slot_at v bytes k) 2 ≡ length (slot_name (slot_at v bytes k))
+measured_are v _ _ no_slot k within = absurd (omega (arith, none_counted v))
+measured_are v _ _ (one_more slot rest name n others is behind) zero within =
+    ap (λ (s : Bytes). slice_index s 2) (first v slot rest is.is_whole) ∙ measured_slot v slot name n is ∙ ap (λ (s : Bytes). length (slot_name s)) (sym (first v slot rest is.is_whole))
+measured_are v _ _ (one_more slot rest name n others is behind) (suc k) within =
+    let less : k < slot_count v rest = omega (arith, count_front v slot rest is.is_whole) in
+    ap (λ (s : Bytes). slice_index s 2) (later v slot rest is.is_whole k less) ∙ measured_are v rest others behind k less ∙ ap (λ (s : Bytes). length (slot_name s)) (sym (later v slot rest is.is_whole k less))

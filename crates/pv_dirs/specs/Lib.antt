@@ -1,3 +1,5 @@
+pub mod Counts
+pub mod Images
 pub mod Listing
 pub mod Slots
 pub mod Stored

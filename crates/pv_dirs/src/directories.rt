@@ -10,6 +10,9 @@ ghost use Rattle.pv_model.specs.Tree.{node_at, entries_at, is_directory_at, find
 ghost use Rattle.pv_dirs.specs.Listing.{IsNextName};
 ghost use Rattle.pv_dirs.specs.Trees.{sort_of, new_node, bytes_at, written, cut, without_node, total_need, LacksRoom, grown_length};
 
+mod counting;
+mod image;
+
 use crate::scan::{count, least_behind, place, slot, start};
 use crate::slot::Slot;
 use pv_inodes::{Inodes, Space};

@@ -1,5 +1,5 @@
 -- The contents of inodes, byte by byte.
-use Rattle.std.proofs.Common.{◌≡◌, ℕ, zero, suc, ◌+◌, ◌/◌, ◌<◌, ◌≤◌, ◌≢◌, List, [], ◌∷◌, map, length, get_or, set, Option, None, Some, refl, sym, ap, ap₂, ◌∙◌, inl, inr, arith}
+use Rattle.std.proofs.Common.{◌≡◌, ℕ, zero, suc, ◌+◌, ◌/◌, ◌%◌, ◌<◌, ◌≤◌, ◌≢◌, List, [], ◌∷◌, map, length, get_or, set, Option, None, Some, refl, sym, ap, ap₂, ◌∙◌, inl, inr, arith}
 use Rattle.std.specs.List.{range_with_len, sum_by}
 use Rattle.std.proofs.lemmas.Bool.{cases_eq, cases_lt, le-leb, lt-leb, eq-eqb, ne_eqb}
 use Rattle.std.proofs.lemmas.List.{same_lists, length-set, get_or-set_same, get_or-set_other}
@@ -178,3 +178,8 @@ sum_by-map_range version bs a (suc n) allowed =
 pub room-nodes_in : (version : Version) (bs : List Bytes) (inodes : ℕ) → ((s : ℕ) → s < inodes → 0 < kind_at version bs s → size_at version bs s ≤ greatest_length version) → sum_by (room_of version) (present (nodes_in version bs inodes)) ≡ sum_over inodes (owned_count version bs)
 unfolding nodes_in sum_over
 room-nodes_in version bs inodes allowed = sum_by-present version (map (node_at version bs) (range_with_len 0 inodes)) ∙ sum_by-map_range version bs 0 inodes (λ s below. allowed s (omega arith))
+
+-- a byte of the content by its block
+pub content_byte-is : (version : Version) (bs : List Bytes) (s x : ℕ) → content_byte version bs s x ≡ get_or (block_at bs (owned_at version bs s (place_of (x / 512)))) (x % 512) 0
+unfolding content_byte
+content_byte-is version bs s x = refl

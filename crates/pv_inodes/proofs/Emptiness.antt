@@ -21,11 +21,11 @@ use Rattle.pv_inodes.proofs.Layouts.{home-below, inode-fits, pointers-fit}
 abbrev weight : Bool → ℕ
 weight f = cond f 1 0
 
-abbrev free_test : ℕ → BlockSet → ℕ → Bool
+abbrev pub free_test : ℕ → BlockSet → ℕ → Bool
 free_test first used k = leb first k && not (is_member used k)
 
 -- all blocks from the first on are free
-count_from : (used : BlockSet) (first : ℕ) → ((k : ℕ) → is_member used k ≡ false) → (n : ℕ) → count_by (λ f. f) (free_from first used n) ≡ n - first
+pub count_from : (used : BlockSet) (first : ℕ) → ((k : ℕ) → is_member used k ≡ false) → (n : ℕ) → count_by (λ f. f) (free_from first used n) ≡ n - first
 count_from used first none zero = omega arith
 count_from used first none (suc n) =
     let next : n + 1 ≡ suc n = omega arith in
@@ -39,7 +39,7 @@ count_from used first none (suc n) =
           omega (arith, more, one, count_from used first none n)
     ]
 
-sum_zeros : (f : ℕ → ℕ) (a n : ℕ) → ((s : ℕ) → a ≤ s → s < a + n → f s ≡ 0) → sum_by f (range_with_len a n) ≡ 0
+pub sum_zeros : (f : ℕ → ℕ) (a n : ℕ) → ((s : ℕ) → a ≤ s → s < a + n → f s ≡ 0) → sum_by f (range_with_len a n) ≡ 0
 sum_zeros f a zero nothing = refl
 sum_zeros f a (suc n) nothing =
     omega (arith, sum_by-cons f a (range_with_len (a + 1) n), nothing a (omega arith) (omega arith), sum_zeros f (a + 1) n (λ s from below. nothing s (omega arith) (omega arith)))

@@ -156,3 +156,8 @@ pub place_of-next : (n : ℕ) → n % 512 ≡ 0 → place_of (n / 512) ≢ wante
 place_of-next n full differs =
     let blocks : (n + 511) / 512 ≡ n / 512 = omega arith in
     omega (arith, wanted-is n, place_of-is (n / 512), blocks, differs)
+
+-- an index block has the pointer behind those of the ones before it
+pub pointer_of-index_block : (i : ℕ) → (i + 247) % 257 ≡ 0 → pointer_of i ≡ 10 + (i - 10) / 257
+unfolding pointer_of
+pointer_of-index_block i index = omega arith

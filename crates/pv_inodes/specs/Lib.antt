@@ -1,4 +1,5 @@
 pub mod Files
+pub mod Images
 pub mod Layout
 pub mod Owning
 pub mod Sound

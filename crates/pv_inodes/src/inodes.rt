@@ -6,6 +6,8 @@ ghost use Rattle.pv_model.specs.Room.{greatest_length};
 ghost use Rattle.pv_inodes.specs.Layout.{place_of, wanted};
 ghost use Rattle.pv_inodes.specs.Files.{held, IsUsed, bytes_at, sort_at, sort_of, sort_number, total_room, HasRoom, LacksRoom, with_bytes, written, cut, with_new, without, new_number};
 
+mod image;
+
 use crate::Space;
 use crate::fields::{get, put, put_zeros};
 use crate::layout::{BLOCK_LENGTH, place, room};

@@ -1,11 +1,15 @@
 //! The fields of an inode, and the blocks that it owns. Inodes are counted from 0 here.
 ghost use Rattle.std.specs.Prelude.{◌≡◌, ◌<◌, ◌≤◌, ◌≢◌, length};
 ghost use Rattle.pv_blocks.specs.BlockStore.{free_count, IsFree, with_block};
-ghost use Rattle.pv_inodes.specs.Layout.{home, kind_at, size_at, pointer_at, pointer_count, pointer_of, behind_index, most_owned, owned_at, place_of, with_kind, with_size, with_owned, zeros};
+ghost use Rattle.pv_model.specs.declared.version.Version.TheVariants.{V2};
+ghost use Rattle.pv_model.specs.Room.{greatest_length};
+ghost use Rattle.pv_inodes.specs.Layout.{home, kind_at, size_at, pointer_at, pointer_count, pointer_of, behind_index, most_owned, owned_at, owned_count, place_of, with_kind, with_size, with_owned, zeros};
 ghost use Rattle.pv_inodes.specs.Sound.{pushed};
 
 use crate::fields::{byte_at, put, put_u16, put_u32, u16_at, u32_at};
-use crate::layout::{DIRECT, POINTED, POINTERS, SIZE, behind_index, home, offset, pointer_of};
+use crate::layout::{
+    DIRECT, POINTED, POINTERS, SIZE, behind_index, home, offset, pointer_of, room,
+};
 use pv_blocks::Blocks;
 use pv_model::Version;
 
@@ -25,6 +29,20 @@ pub(crate) fn size_of(blocks: &Blocks, version: Version, slot: u16) -> u32
     ensures { result ≡ size_at version blocks.now.blocks slot }
 {
     u32_at(blocks, home(version, slot), offset(version, slot) + SIZE)
+}
+
+/// How many blocks an inode owns, its index blocks among them; a free one owns none.
+#[tactic(auto, unfolding(crate::specs::Layout::owned_count))]
+pub(crate) fn owned_count(blocks: &Blocks, version: Version, slot: u16) -> u16
+    requires block { home version slot < length blocks.now.blocks }
+    requires allowed { 0 < kind_at version blocks.now.blocks slot → size_at version blocks.now.blocks slot ≤ greatest_length V2 }
+    ensures { result ≡ owned_count version blocks.now.blocks slot }
+{
+    if kind_of(blocks, version, slot) == 0 {
+        0
+    } else {
+        room(size_of(blocks, version, slot))
+    }
 }
 
 /// A pointer in an inode: ten to blocks of content, then those to index blocks.

@@ -1,0 +1,13 @@
+-- Bytes that are an image.
+use Rattle.std.specs.Prelude.{◌≡◌, ℕ}
+use Rattle.pv_model.specs.declared.version.Version.{Version}
+use Rattle.pv_model.specs.Bytes.{Bytes}
+use Rattle.pv_model.specs.Image.{IsImageOf}
+use Rattle.pv_model.specs.Tree.{Tree}
+
+-- the bytes are an image of this version, with so many inodes
+pub record IsImage (v : Version) (inodes : ℕ) (bytes : Bytes) : Type 0 where
+  pub tree : Tree
+  pub is_image : IsImageOf bytes tree
+  pub of_version : tree.version ≡ v
+  pub has_inodes : tree.inodes ≡ inodes

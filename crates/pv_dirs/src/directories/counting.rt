@@ -1,0 +1,27 @@
+//! How often the entries of a directory are for a node.
+ghost use Rattle.std.specs.Prelude.{◌≡◌, ℕ, ◌+◌, ◌<◌, ◌≤◌, if◌then◌else◌, nat_lt, length, slice_index, IsTrue, Some};
+ghost use Rattle.pv_model.specs.Bytes.{Bytes};
+ghost use Rattle.pv_model.specs.Tree.{entries_at, is_directory_at, find_entry};
+ghost use Rattle.pv_dirs.specs.Counts.{count_in};
+
+use super::Directories;
+use crate::scan::{count, slot};
+
+impl Directories {
+    /// Counts the entries of a directory by the nodes that they are for, in one pass. Where so many are for
+    /// node `n`, `counts[n]` grows by that, and where one is, `parents[n]` becomes the directory.
+    pub fn count_entries(&self, directory: u16, counts: &mut [u32], parents: &mut [u16])
+        requires directory { IsTrue (is_directory_at self.now directory) }
+        requires nodes { (name : Bytes) (n : ℕ) → find_entry self.now directory name ≡ Some n → n < length counts.old }
+        requires places { length parents.old ≡ length counts.old }
+        requires room { (n : ℕ) → slice_index counts.old n + 2540 ≤ u32.MAX }
+        ensures counts { (n : ℕ) → slice_index counts.new n ≡ slice_index counts.old n + count_in n (entries_at self.now directory) }
+        ensures parents { (n : ℕ) → slice_index parents.new n ≡ (if nat_lt 0 (count_in n (entries_at self.now directory)) then directory else slice_index parents.old n) }
+    {
+        for k in 0..count(&self.inodes, directory) {
+            let node = slot(&self.inodes, directory, k).inode() as usize;
+            counts[node] += 1;
+            parents[node] = directory;
+        }
+    }
+}

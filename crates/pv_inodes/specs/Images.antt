@@ -1,0 +1,33 @@
+-- The files that the bytes of an image hold. Inodes are counted from 1 here, as an image counts them.
+use Rattle.std.specs.Prelude.{ℕ, ◌+◌, ◌-◌, ◌/◌, ◌<◌, ◌≤◌, if◌then◌else◌, ◌==◌, List, ◌∷◌, map, length, flat_map, Option, None, Some}
+use Rattle.std.specs.List.{AllByRecursion, IsDistinct, range_with_len}
+use Rattle.pv_model.specs.declared.version.Version.{Version}
+use Rattle.pv_model.specs.Bytes.{Bytes}
+use Rattle.pv_model.specs.Image.{inode_blocks, size, content}
+use Rattle.pv_model.specs.Mount.{kind, is_free, used_by}
+use Rattle.pv_model.specs.Room.{greatest_length}
+use Rattle.pv_inodes.specs.Files.{Contained, Files, sort_of}
+
+-- the blocks that so many inodes use
+abbrev pub all_used : Version → Bytes → ℕ → List ℕ
+all_used v bytes inodes = flat_map (used_by v bytes) (range_with_len 1 inodes)
+
+-- each of so many inodes has a kind, and a size that its content may have; each block that one of them uses is a data
+-- block, and no block is used twice
+pub record AreInodes (v : Version) (bytes : Bytes) (inodes : ℕ) : Type 0 where
+  pub kinds : (n : ℕ) → 1 ≤ n → n ≤ inodes → kind v bytes n ≤ 4
+  pub sizes : (n : ℕ) → 1 ≤ n → n ≤ inodes → 0 < kind v bytes n → size v bytes n ≤ greatest_length v
+  pub in_data : AllByRecursion (λ k. (inode_blocks v inodes < k) × (k < length bytes / 512)) (all_used v bytes inodes)
+  pub used_once : IsDistinct ◌==◌ (all_used v bytes inodes)
+
+-- what an inode holds, if it is not free
+abbrev pub contained : Version → Bytes → ℕ → Option Contained
+contained v bytes n = if is_free v bytes n then None else Some (record { sort = sort_of (kind v bytes n); bytes = content v bytes n })
+
+-- the files that so many inodes hold
+unfoldable pub files_in : Version → Bytes → ℕ → Files
+files_in v bytes inodes = record {
+  version = v;
+  nodes = None ∷ map (contained v bytes) (range_with_len 1 inodes);
+  blocks = length bytes / 512 - (inode_blocks v inodes + 1);
+}
