@@ -181,5 +181,5 @@ no_slots v = record {
 pub tree_of-with_new : (f : Files) (n : ℕ) (sort : Sort) → n < length f.nodes → tree_of (with_new f n sort) ≡ with_node (tree_of f) n (new_node sort)
 tree_of-with_new f n sort within = tree_of-with_number f n (record { sort = sort; bytes = [] }) within ∙ ap (with_node (tree_of f) n) (is_new f.version sort)
 
-pub holding-with_new : (f : Files) (b n : ℕ) (sort : Sort) → IsHolding f b → IsHolding (with_new f n sort) b
-holding-with_new f b n sort h = holding-with_number f b n (record { sort = sort; bytes = [] }) h (λ e. no_slots f.version)
+pub holding-with_new : (f : Files) (b n : ℕ) (sort : Sort) → n < length f.nodes → IsHolding f b → IsHolding (with_new f n sort) b
+holding-with_new f b n sort within h = holding-with_number f b n (record { sort = sort; bytes = [] }) within h (λ e. no_slots f.version)

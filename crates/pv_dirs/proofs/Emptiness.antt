@@ -1,8 +1,9 @@
 -- The tree of an image without nodes.
-use Rattle.std.proofs.Common.{◌≡◌, ℕ, suc, ◌+◌, ◌∷◌, length, map, replicate, None, ap, ◌∙◌, arith}
+use Rattle.std.proofs.Common.{◌≡◌, ℕ, suc, ◌+◌, ◌-◌, ◌≤◌, ◌∷◌, length, map, replicate, Option, None, ap, sym, subst, ◌∙◌, arith}
 use Rattle.std.specs.Prelude.{option_map}
 use Rattle.std.specs.List.{sum_by}
 use Rattle.std.proofs.lemmas.List.{length-replicate}
+use Rattle.pv_model.specs.Image.{inode_blocks, greatest_blocks}
 use Rattle.pv_model.specs.Numbered.{Numbered, at_number, present}
 use Rattle.pv_inodes.specs.Files.{Contained, Files, room_of, total_room}
 use Rattle.pv_dirs.specs.Trees.{node_of, tree_of, IsHolding}
@@ -10,11 +11,14 @@ use Rattle.pv_dirs.proofs.Mapped.{at_number-none, present-none, map-none}
 use Rattle.pv_dirs.proofs.TreeOf.{nodes-tree_of, inodes-tree_of}
 
 module _ (f : Files) (k : ℕ) (none : f.nodes ≡ None ∷ replicate k None) where
-  pub holding-empty : (b : ℕ) → b + total_room f ≡ f.blocks → IsHolding f b
-  holding-empty b left =
+  pub holding-empty : (b all : ℕ) → b + total_room f ≡ f.blocks → f.blocks + inode_blocks f.version k + 1 ≡ all → all ≤ greatest_blocks f.version → IsHolding f b
+  holding-empty b all left whole few =
       let no_room : total_room f ≡ 0 = ap (λ (xs : Numbered Contained). sum_by (room_of f.version) (present xs)) none ∙ ap (sum_by (room_of f.version)) (present-none (suc k)) in
       record {
         sized = omega arith;
+        allowed =
+            let long : length f.nodes - 1 ≡ k = omega (arith, ap length none, length-replicate {A = Option Contained} k None) in
+            subst (λ j. inode_blocks f.version j + 1 + b ≤ greatest_blocks f.version) (sym long) (omega arith);
         slotted = λ n c there. let nothing = ap (λ (xs : Numbered Contained). at_number xs n) none ∙ at_number-none (suc k) n in absurd (cc);
       }
 

@@ -11,9 +11,9 @@ pub on_ok : {E P Q : Type 0} (r : Result (Unit {0}) E) → OnOk r P → (P → Q
 on_ok (Ok u) p f = f p
 on_ok (Err e) p f = p
 
-pub either_number : {X : Type 0} (P : X → Type 0) (r : Option ℕ) (old new : X) (after : ℕ → X) → IfNone r (new ≡ old) → IfSome r (λ n. new ≡ after n) → P old → ((n : ℕ) → P (after n)) → P new
-either_number P None old new after none some p q = subst P (sym none) p
-either_number P (Some n) old new after none some p q = subst P (sym some) (q n)
+pub either_number : {X : Type 0} (P : X → Type 0) (Q : ℕ → Type 0) (r : Option ℕ) (old new : X) (after : ℕ → X) → IfNone r (new ≡ old) → IfSome r Q → IfSome r (λ n. new ≡ after n) → P old → ((n : ℕ) → Q n → P (after n)) → P new
+either_number P Q None old new after none within some p q = subst P (sym none) p
+either_number P Q (Some n) old new after none within some p q = subst P (sym some) (q n within)
 
 pub if_some_both : (r : Option ℕ) (P Q R : ℕ → Type 0) → IfSome r P → IfSome r Q → ((n : ℕ) → P n → Q n → R n) → IfSome r R
 if_some_both None P Q R p q f = p

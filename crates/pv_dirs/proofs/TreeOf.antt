@@ -1,5 +1,5 @@
 -- The tree of files.
-use Rattle.std.proofs.Common.{◌≡◌, ℕ, suc, ◌-◌, ◌*◌, ◌<◌, true, length, drop, map, Option, None, Some, is_some, refl, sym, ap, subst, ◌∙◌, arith}
+use Rattle.std.proofs.Common.{◌≡◌, ℕ, suc, ◌+◌, ◌-◌, ◌*◌, ◌<◌, ◌≤◌, true, length, drop, map, Option, None, Some, is_some, refl, sym, ap, subst, ◌∙◌, arith}
 use Rattle.std.specs.Prelude.{option_map, IsSome}
 use Rattle.std.specs.FinMap.Entries.{find}
 use Rattle.std.proofs.lemmas.List.{length-map, drop-map}
@@ -7,7 +7,8 @@ use Rattle.pv_model.specs.declared.sort.Sort.{Sort}
 use Rattle.pv_model.specs.declared.sort.Sort.TheVariants.{Directory, File, Executable, Symlink}
 use Rattle.pv_model.specs.declared.version.Version.{Version}
 use Rattle.pv_model.specs.Bytes.{Bytes}
-use Rattle.pv_model.specs.Numbered.{Numbered, with_number, least_free}
+use Rattle.pv_model.specs.Image.{inode_blocks, greatest_blocks}
+use Rattle.pv_model.specs.Numbered.{Numbered, with_number, without_number, least_free}
 use Rattle.pv_model.specs.Room.{entry_length, node_length, need}
 use Rattle.pv_model.specs.Tree.{Node, entries_of, node_at, is_directory, is_directory_at, entries_at, find_entry, with_node, new_number as new_number_in}
 use Rattle.pv_inodes.specs.Files.{bytes_of, Contained, Files, held, IsUsed, bytes_at, room_of, total_room, with_bytes, without, new_number}
@@ -35,6 +36,10 @@ inodes-tree_of f n long = omega arith
 pub version-tree_of : (f : Files) → (tree_of f).version ≡ f.version
 unfolding tree_of
 version-tree_of f = refl
+
+pub sizes-tree_of : (f : Files) (b : ℕ) → IsHolding f b → inode_blocks (tree_of f).version (tree_of f).inodes + 1 + b ≤ greatest_blocks (tree_of f).version
+unfolding tree_of
+sizes-tree_of f b h = h.allowed
 
 pub length-tree_of : (f : Files) → length (tree_of f).nodes ≡ length f.nodes
 length-tree_of f = ap length (nodes-tree_of f) ∙ length-map f.nodes (option_map (node_of f.version))
@@ -76,23 +81,32 @@ tree_of-without f n =
 pub tree_of-with_bytes : (f : Files) (n : ℕ) (c : Contained) (xs : Bytes) → held f n ≡ Some c → tree_of (with_bytes f n xs) ≡ with_node (tree_of f) n (node_from f.version c.sort xs)
 tree_of-with_bytes f n c xs there = ap tree_of (with_bytes-is f n c xs there) ∙ tree_of-with_number f n (record c { bytes = xs }) (at_number-within f.nodes n c there)
 
+-- as many inodes take as many blocks
+allowed-alike : (f : Files) (b : ℕ) (xs : Numbered Contained) → length xs ≡ length f.nodes → IsHolding f b → inode_blocks f.version (length xs - 1) + 1 + b ≤ greatest_blocks f.version
+allowed-alike f b xs long h = subst (λ k. inode_blocks f.version (k - 1) + 1 + b ≤ greatest_blocks f.version) (sym long) h.allowed
+
 -- what is held keeps what directories keep
 HoldsWell : Version → Contained → Type 0
 HoldsWell v c = c.sort ≡ Directory → IsSlotted v c.bytes
 
-pub holding-with_number : (f : Files) (b n : ℕ) (c : Contained) → IsHolding f b → (c.sort ≡ Directory → IsSlotted f.version c.bytes) → IsHolding (record f { nodes = with_number f.nodes n c }) b
+pub holding-with_number : (f : Files) (b n : ℕ) (c : Contained) → n < length f.nodes → IsHolding f b → (c.sort ≡ Directory → IsSlotted f.version c.bytes) → IsHolding (record f { nodes = with_number f.nodes n c }) b
 unfolding HoldsWell
-holding-with_number f b n c h new = record {
+holding-with_number f b n c within h new = record {
   sized = h.sized;
+  allowed = allowed-alike f b (with_number f.nodes n c) (length-with_number f.nodes n c within) h;
   slotted = each-with_number (HoldsWell f.version) f.nodes n c h.slotted (λ y is. let same : c ≡ y = cc in subst (HoldsWell f.version) same new);
 }
 
 pub holding-without : (f : Files) (b n : ℕ) → IsHolding f b → IsHolding (without f n) b
 unfolding HoldsWell
-holding-without f b n h = record { sized = h.sized; slotted = each-without_number (HoldsWell f.version) f.nodes n h.slotted }
+holding-without f b n h = record {
+  sized = h.sized;
+  allowed = allowed-alike f b (without_number f.nodes n) (length-without_number f.nodes n) h;
+  slotted = each-without_number (HoldsWell f.version) f.nodes n h.slotted;
+}
 
 pub holding-with_bytes : (f : Files) (b n : ℕ) (c : Contained) (xs : Bytes) → IsHolding f b → held f n ≡ Some c → (c.sort ≡ Directory → IsSlotted f.version xs) → IsHolding (with_bytes f n xs) b
-holding-with_bytes f b n c xs h there new = rw (with_bytes-is f n c xs there) (holding-with_number f b n (record c { bytes = xs }) h new)
+holding-with_bytes f b n c xs h there new = rw (with_bytes-is f n c xs there) (holding-with_number f b n (record c { bytes = xs }) (at_number-within f.nodes n c there) h new)
 
 -- ---- room
 

@@ -1,10 +1,11 @@
 -- The tree that files hold, and how it changes.
-use Rattle.std.specs.Prelude.{◌≡◌, ℕ, ◌*◌, ◌-◌, ◌<◌, suc, true, false, map, length, sum_by, [], ◌∷◌, Option, None, Some, option_map}
+use Rattle.std.specs.Prelude.{◌≡◌, ℕ, ◌+◌, ◌*◌, ◌-◌, ◌<◌, ◌≤◌, suc, true, false, map, length, sum_by, [], ◌∷◌, Option, None, Some, option_map}
 use Rattle.pv_model.specs.declared.sort.Sort.{Sort}
 use Rattle.pv_model.specs.declared.sort.Sort.TheVariants.{Directory, File, Executable, Symlink}
 use Rattle.pv_model.specs.declared.version.Version.{Version}
 use Rattle.pv_model.specs.Bytes.{Bytes}
 use Rattle.pv_model.specs.Effect.{overwrite, resize}
+use Rattle.pv_model.specs.Image.{inode_blocks, greatest_blocks}
 use Rattle.pv_model.specs.Numbered.{without_number, present}
 use Rattle.pv_model.specs.Room.{entry_length, node_length, need}
 use Rattle.pv_model.specs.Tree.{Node, directory_node, file_node, link_node, Tree, node_at, entries_at, with_node}
@@ -26,9 +27,10 @@ node_of v c = node_from v c.sort c.bytes
 unfoldable pub tree_of : Files → Tree
 tree_of f = record { nodes = map (option_map (node_of f.version)) f.nodes; blocks = f.blocks; inodes = length f.nodes - 1; version = f.version }
 
--- each directory has the bytes of one, and there are so many data blocks
+-- each directory has the bytes of one, and there are so many data blocks, as an image may have
 pub record IsHolding (f : Files) (blocks : ℕ) : Type 0 where
   pub sized : f.blocks ≡ blocks
+  pub allowed : inode_blocks f.version (length f.nodes - 1) + 1 + blocks ≤ greatest_blocks f.version
   pub slotted : (n : ℕ) (c : Contained) → held f n ≡ Some c → c.sort ≡ Directory → IsSlotted f.version c.bytes
 
 -- what a node is

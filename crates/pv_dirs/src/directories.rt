@@ -69,9 +69,10 @@ impl Directories {
         self.inodes.inodes()
     }
 
-    /// How many data blocks the image has.
+    /// How many data blocks the image has: with its others they are no more than an image may have.
     pub fn blocks(&self) -> u16
-        ensures { result ≡ self.now.blocks }
+        ensures value { result ≡ self.now.blocks }
+        ensures allowed { inode_blocks self.now.version self.now.inodes + 1 + result ≤ greatest_blocks self.now.version }
     {
         self.block_count
     }

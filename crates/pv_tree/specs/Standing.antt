@@ -1,9 +1,10 @@
 -- What a kept tree is, and what is stored beside it.
-use Rattle.std.specs.Prelude.{◌≡◌, ℕ, suc, ◌<◌, ◌≤◌, IsTrue, IsFalse, List, length, slice_index, Option, None, Some, is_some}
+use Rattle.std.specs.Prelude.{◌≡◌, ℕ, suc, ◌+◌, ◌<◌, ◌≤◌, IsTrue, IsFalse, List, length, slice_index, Option, None, Some, is_some}
 use Rattle.std.specs.Cmp.Lexicographic.{slice_cmp}
 use Rattle.std.specs.FinMap.Entries.{is_sorted}
 use Rattle.std.specs.Ordering.{nat_cmp}
 use Rattle.pv_model.specs.declared.limits.TheConstants.{INODES}
+use Rattle.pv_model.specs.Image.{inode_blocks, greatest_blocks}
 use Rattle.pv_model.specs.Room.{is_too_long, fits}
 use Rattle.pv_model.specs.Tree.{Tree, node_at, entries_at, is_directory_at, names_of, parent, IsWellFormed}
 use Rattle.pv_tree_laws.specs.Kept.{EachIsNamed}
@@ -14,6 +15,7 @@ use Rattle.pv_tree.specs.Holding.{HeldTree, holds_at, trimmed}
 pub record IsStanding (h : HeldTree) : Type 0 where
   pub well_formed : IsWellFormed h.tree
   pub few : h.tree.inodes ≤ INODES
+  pub allowed : inode_blocks h.tree.version h.tree.inodes + 1 + h.tree.blocks ≤ greatest_blocks h.tree.version
   pub fits : IsTrue (fits h.tree)
   pub short : IsFalse (is_too_long h.tree)
   pub bytes : AllBytes h.tree
@@ -25,6 +27,7 @@ pub record IsStanding (h : HeldTree) : Type 0 where
 pub record IsAtRest (t : Tree) : Type 0 where
   pub well_formed : IsWellFormed t
   pub few : t.inodes ≤ INODES
+  pub allowed : inode_blocks t.version t.inodes + 1 + t.blocks ≤ greatest_blocks t.version
   pub fits : IsTrue (fits t)
   pub short : IsFalse (is_too_long t)
   pub bytes : AllBytes t

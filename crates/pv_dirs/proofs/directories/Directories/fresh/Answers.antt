@@ -18,8 +18,9 @@ long c = ap (λ (t : Tree). length t.nodes) (sym c.self.view_is) ∙ length-tree
 
 pub invariant_of-self : goal.invariant_of-self
 invariant_of-self c =
-    either_number (λ (f : Files). IsHolding f c.self.inside.block_count) c.fresh.result c.self.inside.inodes c.fresh.new.self (λ n. with_new c.self.inside.inodes n c.args.sort)
-    c.fresh.ensures.none c.fresh.ensures.after c.self.invariant (λ n. holding-with_new c.self.inside.inodes c.self.inside.block_count n c.args.sort c.self.invariant)
+    either_number (λ (f : Files). IsHolding f c.self.inside.block_count) (λ n. n < length c.self.inside.inodes.nodes) c.fresh.result c.self.inside.inodes c.fresh.new.self (λ n. with_new c.self.inside.inodes n c.args.sort)
+    c.fresh.ensures.none c.fresh.ensures.within c.fresh.ensures.after c.self.invariant
+    (λ n within. holding-with_new c.self.inside.inodes c.self.inside.block_count n c.args.sort within c.self.invariant)
 
 pub returns-clause-full : goal.returns-clause-full
 returns-clause-full c = (λ is. number c ∙ c.fresh.ensures.full.0 is ∙ sym (long c), λ is. c.fresh.ensures.full.1 (sym (number c) ∙ is ∙ long c))

@@ -11,6 +11,7 @@ returns c =
     record {
       well_formed = s.well_formed;
       few = s.few;
+      allowed = s.allowed;
       fits = s.fits;
       short = s.short;
       bytes = s.bytes;
