@@ -10,7 +10,7 @@ ghost use Rattle.pv_session.specs.Running.{BeginsLines, FailsBy, ToldLines, step
 use pv_calls::{Fetched, Kernel};
 use pv_model::{BootFault, Failed, Outcome, Sink, StepFault};
 use pv_namei::PlainLookup;
-use pv_trace::{write_call_lines, write_gone_line};
+use pv_trace::{Sheet, write_call_lines, write_gone_line};
 use pv_tree::{Store, Tree};
 use std::alloc::Global;
 use std::marker::Model;
@@ -44,6 +44,8 @@ impl From<Failed> for Stop {
 #[derive(Drop)]
 pub struct Session {
     kernel: Kernel<PlainLookup>,
+    // What the lines of a trace are made on.
+    sheet: Sheet,
 }
 
 impl Model for Session {
@@ -67,7 +69,10 @@ impl Session {
         ensures refused { IfErr result (λ fault. (fault ≡ BootFault.Memory) ⊎ (booted store ≡ Err fault)) }
     {
         match Kernel::boot(alloc, store) {
-            Ok(kernel) => Ok(Session { kernel }),
+            Ok(kernel) => Ok(Session {
+                kernel,
+                sheet: Sheet::new(),
+            }),
             Err(fault) => Err(fault),
         }
     }
@@ -131,7 +136,7 @@ impl Session {
     {
         match self.kernel.fetch(pid) {
             Fetched::Gone => {
-                write_gone_line(trace, pid)?;
+                write_gone_line(trace, &mut self.sheet, pid)?;
                 Ok(1)
             }
             Fetched::Register => {
@@ -142,7 +147,8 @@ impl Session {
                 let outcome = self.kernel.call(alloc, pid, &call)?;
                 let front = self.kernel.buffer(pid);
                 let walks = self.kernel.walks();
-                Ok(write_call_lines(trace, pid, front, &call, outcome, walks)?)
+                let sheet = &mut self.sheet;
+                Ok(write_call_lines(trace, sheet, pid, front, &call, outcome, walks)?)
             }
         }
     }

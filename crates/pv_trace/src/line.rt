@@ -119,29 +119,28 @@ fn begin_line(out: &mut Sheet, pid: u32, word: &Word)
     put(out, b"  ");
 }
 
-// The sheet with a line.
+// Makes a line on a sheet.
 #[tactic(auto, unfolding(pv_model::specs::Trace::text_line))]
-fn sheet_of(line: &Line) -> Sheet
-    ensures { result.items ≡ line_bytes line.now }
+fn make_line(out: &mut Sheet, line: &Line)
+    ensures { out.new.items ≡ line_bytes line.now }
 {
-    let mut out = Sheet::new();
-    begin_line(&mut out, line.pid, &line.word);
-    put_word(&mut out, &line.word);
-    put(&mut out, b"\n");
-    out
+    out.clear();
+    begin_line(out, line.pid, &line.word);
+    put_word(out, &line.word);
+    put(out, b"\n");
 }
 
-/// Writes a line. It takes no memory.
+/// Writes a line that is made on a sheet, whatever that had. It takes no memory.
 ///
 /// # Errors
 ///
 /// `Failed` where a write failed: the sink was told a beginning of the line.
-pub fn write_line<W: Sink>(out: &mut W, line: &Line) -> Result<(), Failed>
+pub fn write_line<W: Sink>(out: &mut W, sheet: &mut Sheet, line: &Line) -> Result<(), Failed>
     ensures whole { OnOk result (W.told out.new ≡ and_all (W.told out.old) (line_bytes line.now)) }
     ensures beginning { OnErr result (TellsBeginning (line_bytes line.now) (W.told out.old) (W.told out.new)) }
     ensures failed { OnErr result (Rose (W.failures out.old) (W.failures out.new)) }
     ensures quiet { OnOk result (W.failures out.new ≡ W.failures out.old) }
 {
-    let sheet = sheet_of(line);
+    make_line(sheet, line);
     write_whole(out, sheet.as_slice())
 }

@@ -12,10 +12,10 @@ use itoa::Buffer;
 use pv_model::{Perms, Text};
 
 /// Bytes of a sheet: more than any line has.
-pub(crate) const SHEET: usize = 9_216;
+pub const SHEET: usize = 9_216;
 
-/// A line while it is made.
-pub(crate) type Sheet = ArrayVec<u8, SHEET>;
+/// What a line is made on: one sheet serves for any number of lines.
+pub type Sheet = ArrayVec<u8, SHEET>;
 
 pub(crate) fn put(out: &mut Sheet, bytes: &[u8])
     requires { length out.old.items + length bytes.now ≤ SHEET }

@@ -11,6 +11,7 @@ ghost use Rattle.pv_trace.specs.Words.{word_of, promise_verdict_of, HasFewBytes}
 ghost use Rattle.pv_trace.specs.declared.steps.TheConstants.{STEP_LINES};
 
 use crate::line::{Line, PromiseVerdict, Returned, UnveilVerdict, Way, Word, write_line};
+use crate::sheet::Sheet;
 use arrayvec::ArrayVec;
 use pv_model::{Call, Cause, Errno, Failed, Outcome, Perms, Sink, Text};
 
@@ -259,19 +260,19 @@ fn lines_of<'a>(pid: u32, front: &'a [u8], call: &'a Call, outcome: Outcome, wal
 
 // Writes lines in their order.
 #[tactic(auto)]
-fn write_lines<W: Sink>(out: &mut W, lines: &[Line]) -> Result<(), Failed>
+fn write_lines<W: Sink>(out: &mut W, sheet: &mut Sheet, lines: &[Line]) -> Result<(), Failed>
     ensures whole { OnOk result (W.told out.new ≡ and_all (W.told out.old) (trace_bytes lines.now)) }
     ensures beginning { OnErr result (TellsBeginning (trace_bytes lines.now) (W.told out.old) (W.told out.new)) }
     ensures failed { OnErr result (Rose (W.failures out.old) (W.failures out.new)) }
     ensures quiet { OnOk result (W.failures out.new ≡ W.failures out.old) }
 {
     for line in lines {
-        write_line(out, line)?;
+        write_line(out, sheet, line)?;
     }
     Ok(())
 }
 
-/// Writes the lines of a call, line by line, and answers how many they are, at most seven.
+/// Writes the lines of a call, line by line, and answers how many they are, at most seven. Each is made on the sheet.
 ///
 /// `front` has the bytes that the call gave or took at its front: the buffer of its process, at most 4,096
 /// bytes. `walks` is how many walks the call began.
@@ -281,6 +282,7 @@ fn write_lines<W: Sink>(out: &mut W, lines: &[Line]) -> Result<(), Failed>
 /// `Failed` where a write failed: the sink was told a beginning of the lines' text.
 pub fn write_call_lines<W: Sink>(
     out: &mut W,
+    sheet: &mut Sheet,
     pid: u32,
     front: &[u8],
     call: &Call,
@@ -296,16 +298,16 @@ pub fn write_call_lines<W: Sink>(
     ensures quiet { OnOk result (W.failures out.new ≡ W.failures out.old) }
 {
     let lines = lines_of(pid, front, call, outcome, walks);
-    write_lines(out, lines.as_slice())?;
+    write_lines(out, sheet, lines.as_slice())?;
     Ok(lines.len() as u8)
 }
 
-/// Writes the one line of a step by a process that is not live.
+/// Writes the one line of a step by a process that is not live, which is made on the sheet.
 ///
 /// # Errors
 ///
 /// `Failed` where a write failed: the sink was told a beginning of the line.
-pub fn write_gone_line<W: Sink>(out: &mut W, pid: u32) -> Result<(), Failed>
+pub fn write_gone_line<W: Sink>(out: &mut W, sheet: &mut Sheet, pid: u32) -> Result<(), Failed>
     ensures whole { OnOk result (W.told out.new ≡ and_all (W.told out.old) (trace_bytes (gone_lines pid))) }
     ensures beginning { OnErr result (TellsBeginning (trace_bytes (gone_lines pid)) (W.told out.old) (W.told out.new)) }
     ensures failed { OnErr result (Rose (W.failures out.old) (W.failures out.new)) }
@@ -315,5 +317,5 @@ pub fn write_gone_line<W: Sink>(out: &mut W, pid: u32) -> Result<(), Failed>
         pid,
         word: Word::Gone,
     };
-    write_line(out, &line)
+    write_line(out, sheet, &line)
 }

@@ -3,8 +3,8 @@ ghost use Rattle.std.specs.Prelude.{None};
 ghost use Rattle.pv_trace.specs.Words.{HasFewBytes};
 
 use crate::{
-    Line, PromiseVerdict, Returned, UnveilVerdict, Way, Word, write_call_lines, write_gone_line,
-    write_line,
+    Line, PromiseVerdict, Returned, Sheet, UnveilVerdict, Way, Word, write_call_lines,
+    write_gone_line, write_line,
 };
 use pv_model::{
     Call, Cause, Errno, Failed, Mode, OpenFlags, Outcome, Perms, Promise, Sink, Start, Taken, Text,
@@ -68,7 +68,7 @@ fn expect_line<R: Abort + AllocGlobal>(rt: &R, word: Word, wanted: &[u8])
 {
     let mut out = sink_of(rt, 20_000, 20_000);
     let line = Line { pid: 1, word };
-    assert!(rt; write_line(&mut out, &line).is_ok());
+    assert!(rt; write_line(&mut out, &mut Sheet::new(), &line).is_ok());
     assert!(rt; out.bytes.as_slice() == wanted);
     assert!(rt; out.writes == 1);
 }
@@ -174,7 +174,7 @@ fn longest_lines_are_written_at_once(rt: HostRuntime) -> Result<(), Fail> {
         pid: 4_294_967_295,
         word: Word::Call(&call),
     };
-    assert!(rt; write_line(&mut out, &line).is_ok());
+    assert!(rt; write_line(&mut out, &mut Sheet::new(), &line).is_ok());
     assert!(rt; out.writes == 1);
     assert!(rt; out.bytes.len() == 17 + 7 + 2 * 4_402 + 2 + 1 + 1);
     let mut out = sink_of(&rt, 20_000, 20_000);
@@ -182,7 +182,7 @@ fn longest_lines_are_written_at_once(rt: HostRuntime) -> Result<(), Fail> {
         pid: 1,
         word: Word::Gio(Way::Took, &[171; 4_096]),
     };
-    assert!(rt; write_line(&mut out, &line).is_ok());
+    assert!(rt; write_line(&mut out, &mut Sheet::new(), &line).is_ok());
     assert!(rt; out.writes == 1);
     assert!(rt; out.bytes.len() == 12 + 11 + 2 * 4_096 + 1);
     assert!(rt; out.bytes.ends_with(b"abab\n"));
@@ -197,12 +197,12 @@ fn hidden_open_has_four_lines(rt: HostRuntime) -> Result<(), Fail> {
     let call = Call::Open(Text::new(b"/a\"\x01").ok_or("text")?, FOR_READING);
     let outcome = Outcome::Failed(Errno::ENOENT, Cause::Unveil(None));
     let mut out = sink_of(&rt, 1_000, 1_000);
-    let lines = write_call_lines(&mut out, 1, b"", &call, outcome, 1);
+    let lines = write_call_lines(&mut out, &mut Sheet::new(), 1, b"", &call, outcome, 1);
     assert!(rt; matches!(lines, Ok(4)));
     assert!(rt; out.writes == 4);
     assert!(rt; out.bytes.as_slice() == HIDDEN);
     let mut out = sink_of(&rt, 1_000, 1);
-    assert!(rt; write_call_lines(&mut out, 1, b"", &call, outcome, 1).is_ok());
+    assert!(rt; write_call_lines(&mut out, &mut Sheet::new(), 1, b"", &call, outcome, 1).is_ok());
     assert!(rt; out.bytes.as_slice() == HIDDEN);
     Ok(())
 }
@@ -214,7 +214,9 @@ fn full_sink_has_a_beginning_of_the_text(rt: HostRuntime) -> Result<(), Fail> {
     for room in 0..HIDDEN.len() {
         for width in [1, 7, 1_000] {
             let mut out = sink_of(&rt, room, width);
-            assert!(rt; write_call_lines(&mut out, 1, b"", &call, outcome, 1).is_err());
+            assert!(rt;
+                write_call_lines(&mut out, &mut Sheet::new(), 1, b"", &call, outcome, 1).is_err()
+            );
             assert!(rt; out.bytes.as_slice() == &HIDDEN[..room]);
             assert!(rt; out.failures == 1);
         }
@@ -226,7 +228,15 @@ fn full_sink_has_a_beginning_of_the_text(rt: HostRuntime) -> Result<(), Fail> {
 fn read_shows_the_bytes_it_gave(rt: HostRuntime) {
     let mut out = sink_of(&rt, 1_000, 1_000);
     let outcome = Outcome::Text(Taken { value: 3, len: 3 });
-    let lines = write_call_lines(&mut out, 99_999, b"abcdef", &Call::Read(0, -1), outcome, 0);
+    let lines = write_call_lines(
+        &mut out,
+        &mut Sheet::new(),
+        99_999,
+        b"abcdef",
+        &Call::Read(0, -1),
+        outcome,
+        0,
+    );
     assert!(rt; matches!(lines, Ok(3)));
     let wanted = b"99999 CALL  read(0, -1)\n99999 GIO   read 3 616263\n99999 RET   read 3\n";
     assert!(rt; out.bytes.as_slice() == wanted.as_slice());
@@ -236,7 +246,15 @@ fn read_shows_the_bytes_it_gave(rt: HostRuntime) {
 fn write_shows_the_bytes_it_took(rt: HostRuntime) {
     let mut out = sink_of(&rt, 1_000, 1_000);
     let call = Call::Write(0, 2);
-    let lines = write_call_lines(&mut out, 1, b"abcdef", &call, Outcome::Value(2), 0);
+    let lines = write_call_lines(
+        &mut out,
+        &mut Sheet::new(),
+        1,
+        b"abcdef",
+        &call,
+        Outcome::Value(2),
+        0,
+    );
     assert!(rt; matches!(lines, Ok(3)));
     let wanted = b"    1 CALL  write(0, 2)\n    1 GIO   wrote 2 6162\n    1 RET   write 2\n";
     assert!(rt; out.bytes.as_slice() == wanted.as_slice());
@@ -249,7 +267,7 @@ fn killed_call_ends_with_its_signal(rt: HostRuntime) -> Result<(), Fail> {
     let outcome = Outcome::Killed(Promise::Unveil);
     assert!(rt;
         matches!(
-            write_call_lines(&mut out, 12, b"", &call, outcome, 0),
+            write_call_lines(&mut out, &mut Sheet::new(), 12, b"", &call, outcome, 0),
             Ok(3)
         )
     );
@@ -267,13 +285,23 @@ fn rename_tells_the_walks_that_it_began(rt: HostRuntime) -> Result<(), Fail> {
     );
     let refused = Outcome::Failed(Errno::EACCES, Cause::Unveil(Some(1)));
     let mut out = sink_of(&rt, 1_000, 1_000);
-    assert!(rt; matches!(write_call_lines(&mut out, 1, b"", &call, refused, 2), Ok(5)));
+    assert!(rt;
+        matches!(
+            write_call_lines(&mut out, &mut Sheet::new(), 1, b"", &call, refused, 2),
+            Ok(5)
+        )
+    );
     let wanted =
         b"    1 CALL  rename(\"/a\", \"/b\")\n    1 NAMI  \"/a\"\n    1 NAMI  \"/b\"\n    1 UNVL  entry 1, needs c\n    1 RET   rename -1 errno 13 EACCES\n";
     assert!(rt; out.bytes.as_slice() == wanted.as_slice());
     let mut out = sink_of(&rt, 1_000, 1_000);
     let empty = Outcome::Failed(Errno::ENOENT, Cause::Plain);
-    assert!(rt; matches!(write_call_lines(&mut out, 1, b"", &call, empty, 1), Ok(3)));
+    assert!(rt;
+        matches!(
+            write_call_lines(&mut out, &mut Sheet::new(), 1, b"", &call, empty, 1),
+            Ok(3)
+        )
+    );
     Ok(())
 }
 
@@ -282,7 +310,15 @@ fn exit_has_its_call_alone(rt: HostRuntime) {
     let mut out = sink_of(&rt, 1_000, 1_000);
     assert!(rt;
         matches!(
-            write_call_lines(&mut out, 1, b"", &Call::Exit(0), Outcome::Exited, 0),
+            write_call_lines(
+                &mut out,
+                &mut Sheet::new(),
+                1,
+                b"",
+                &Call::Exit(0),
+                Outcome::Exited,
+                0
+            ),
             Ok(1)
         )
     );
@@ -292,9 +328,9 @@ fn exit_has_its_call_alone(rt: HostRuntime) {
 #[test]
 fn step_of_a_process_that_is_gone_has_one_line(rt: HostRuntime) {
     let mut out = sink_of(&rt, 1_000, 1_000);
-    assert!(rt; write_gone_line(&mut out, 2).is_ok());
+    assert!(rt; write_gone_line(&mut out, &mut Sheet::new(), 2).is_ok());
     assert!(rt; out.bytes.as_slice() == b"    2 GONE  no such process\n".as_slice());
     let mut out = sink_of(&rt, 11, 2);
-    assert!(rt; write_gone_line(&mut out, 2).is_err());
+    assert!(rt; write_gone_line(&mut out, &mut Sheet::new(), 2).is_err());
     assert!(rt; out.bytes.as_slice() == b"    2 GONE  ".as_slice().split_at(11).0);
 }

@@ -26,7 +26,7 @@ returns-in_err-write_call_lines-in-Call-clause-beginning g c =
 
 pub returns-in_ok-write_gone_line-in-Gone-clause-after : goal.returns-in_ok-write_gone_line-in-Gone-clause-after
 returns-in_ok-write_gone_line-in-Gone-clause-after g c =
-    sym c.self.view_is ∙ sym (ap (λ (x : Stepped). x.after) (step-gone c.self.inside.kernel.state c.args.pid c.in-Gone.ensures.next)) ∙ ap (λ s. (stepped s c.args.pid).after) c.self.view_is
+    sym (ap (λ (x : Stepped). x.after) (step-gone c.self.inside.kernel.state c.args.pid c.in-Gone.ensures.next)) ∙ ap (λ s. (stepped s c.args.pid).after) c.self.view_is
 
 pub returns-in_ok-write_gone_line-in-Gone-clause-whole : goal.returns-in_ok-write_gone_line-in-Gone-clause-whole
 returns-in_ok-write_gone_line-in-Gone-clause-whole g c =
