@@ -284,11 +284,16 @@ module _ (bytes : Bytes) (t : Tree) (is : IsImageOf bytes t) where
           let both : Some (record { sort = sort_of (sort_number node); bytes = content v bytes n }) ≡ Some c = sym (contained_node v bytes n node told.kind) ∙ h.2 in
           slotted_as n node c told.has_content (valid n node at) (some_once both) sort
 
+  numbers : t.inodes ≡ suc (length (map (contained v bytes) (range_with_len 1 t.inodes))) - 1
+  numbers = let told = length-map-range_with_len (contained v bytes) 1 t.inodes in omega (arith, told)
+
   pub holding : (block_count : ℕ) → block_count ≡ t.blocks → IsHolding (files_in v bytes t.inodes) block_count
   unfolding files_in
   holding block_count counted = record {
     sized = omega (arith, count_is, is.data_blocks);
     slotted = slotted;
+    allowed =
+    subst (λ n. inode_blocks v n + 1 + block_count ≤ greatest_blocks v) numbers (omega (arith, counted, is.data_blocks, is.blocks_allowed.1));
   }
 
 -- ---- the same of an image of this version
