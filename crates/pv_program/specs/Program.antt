@@ -5,7 +5,7 @@ use Rattle.pv_model.specs.Start.{bundle_started}
 use Rattle.pv_model.specs.Stream.{Rose}
 use Rattle.pv_model.specs.declared.run_fault.RunFault.{RunFault}
 use Rattle.pv_model.specs.declared.run_fault.RunFault.TheVariants.{Read, WriteTrace}
-use Rattle.pv_run.specs.declared.run.Summary.{Summary}
+use Rattle.pv_run.specs.declared.turns.Summary.{Summary}
 use Rattle.pv_run.specs.declared.stream.TheConstants.{SOURCE_BYTES}
 use Rattle.pv_run.specs.Run.{HasRun, IsBundleFault, StandsIn, TellsNothingUnlessCut}
 use Rattle.pv_run.specs.Streams.{GivesMoreThan}

@@ -8,7 +8,7 @@ use Rattle.pv_model.specs.State.{State}
 use Rattle.pv_model.specs.Step.{Schedule, boot, steps_of}
 use Rattle.pv_model.specs.Start.{Started}
 use Rattle.pv_run.specs.Run.{HasBegun, HasRun, IsSummaryOf, StandsIn, StopsBy, started_from, text_of}
-use Rattle.pv_run.specs.declared.run.Summary.{Summary}
+use Rattle.pv_run.specs.declared.turns.Summary.{Summary}
 use Rattle.pv_session.specs.Running.{BeginsLines, ToldLines, run_of}
 
 module _ (asked : Result Started RunFault) (s : State) (schedule : Schedule) (is : asked ≡ Ok (started_from s schedule)) (machine : boot program_of s.tree ≡ Some s)

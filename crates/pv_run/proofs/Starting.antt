@@ -1,19 +1,23 @@
 -- What a run is asked, check by check.
-use Rattle.std.proofs.Common.{◌≡◌, ◌∙◌, ap, sym, refl, ℕ, ◌-◌, take, drop, length, arith, Some, Result, Ok, Err, List, ◌⊎◌, inl, inr}
+use Rattle.std.proofs.Common.{◌≡◌, ◌∙◌, ap, sym, refl, ℕ, ◌-◌, take, drop, length, arith, Some, Result, Ok, Err, IfErr, List, ◌⊎◌, inl, inr}
 use Rattle.pv_model.specs.declared.fault.ManifestFault.{ManifestFault}
 use Rattle.pv_model.specs.declared.fault.ManifestFault.TheVariants.{Form, Size, Parent, Exists, Source, Room, Memory as ManifestMemory}
+use Rattle.pv_model.specs.declared.fault.ImageFault.{ImageFault}
+use Rattle.pv_model.specs.declared.fault.ImageFault.TheVariants.{Short, Magic, Size as ImageSize, Inode, Block, Dir, Tree as NoTree, Memory as ImageMemory}
 use Rattle.pv_model.specs.declared.fault.ScheduleFault.{ScheduleFault}
 use Rattle.pv_model.specs.declared.fault.ScheduleFault.TheVariants.{Line as ScheduleLine, Memory as ScheduleMemory}
 use Rattle.pv_model.specs.declared.kernel_fault.BootFault.{BootFault}
 use Rattle.pv_model.specs.declared.kernel_fault.BootFault.TheVariants.{Init as BootInit, Memory as BootMemory}
 use Rattle.pv_model.specs.declared.run_fault.RunFault.{RunFault}
+use Rattle.pv_model.specs.declared.run_fault.RunFault.TheVariants.{Read, Image as RunImage, Manifest as RunManifest, Schedule as RunSchedule, Init as RunInit, Memory as RunMemory, WriteTrace, WriteImage}
 use Rattle.pv_model.specs.Bytes.{Bytes}
 use Rattle.pv_model.specs.Grammar.Lines.{lines_of}
 use Rattle.pv_model.specs.Grammar.Manifests.{Manifest, read_bundle, tree_of}
 use Rattle.pv_model.specs.Grammar.Programs.{program_of}
 use Rattle.pv_model.specs.Grammar.Schedules.{schedule_of_lines, read_schedule}
-use Rattle.pv_model.specs.RunFault.{of_boot, of_manifest, of_schedule}
-use Rattle.pv_model.specs.Start.{and_then, booted, bundle_started, init_of, program_in, started_on}
+use Rattle.pv_model.specs.Mount.{mounted}
+use Rattle.pv_model.specs.RunFault.{of_boot, of_image, of_manifest, of_schedule}
+use Rattle.pv_model.specs.Start.{and_then, booted, bundle_started, image_started, init_of, program_in, started_on}
 use Rattle.pv_model.specs.State.{Program, State, first_state}
 use Rattle.pv_model.specs.Step.{Schedule, boot}
 use Rattle.pv_model.specs.Tree.{Tree}
@@ -23,7 +27,8 @@ use Rattle.pv_image_laws.proofs.Starts.{starts}
 use Rattle.pv_laws.specs.States.{IsFirstTree}
 use Rattle.pv_script.specs.Reading.{RefusesSchedule}
 use Rattle.pv_tree.specs.Standing.{IsAtRest}
-use Rattle.pv_run.specs.Run.{RefusesStart, IsStartFault, started_from}
+use Rattle.pv_run.specs.Images.{IsImageFault}
+use Rattle.pv_run.specs.Run.{RefusesStart, IsFaultOnTree, IsStartFault, started_from}
 use Rattle.std.proofs.lemmas.List.{take_all, length-drop}
 use Rattle.std.specs.Result.{result_ok}
 
@@ -149,3 +154,62 @@ pub bundle_on : (bytes : Bytes) (m : ParsedManifest) (at : ℕ) (t : Tree) → r
     → tree_of (manifest_before m (lines_of (drop at bytes))) ≡ Ok t → started_on t (lines_of (take (length bytes - at) (drop at bytes))) ≡ bundle_started bytes
 bundle_on bytes m at t asked made =
     ap (λ (text : Bytes). started_on t (lines_of text)) (rest-all bytes at) ∙ sym (on_tree bytes (manifest_before m (lines_of (drop at bytes))) asked t made)
+
+-- ---- the checks of an image: what it holds, and then the run on its tree
+
+module _ (image schedule : Bytes) where
+  pub image_on : (t : Tree) → mounted image ≡ Ok t → started_on t (lines_of schedule) ≡ image_started image schedule
+  unfolding image_started
+  image_on t held = rw held refl
+
+  started-no_image : (f : ImageFault) → mounted image ≡ Err f → image_started image schedule ≡ Err (of_image f)
+  unfolding image_started
+  started-no_image f wrong = rw wrong refl
+
+  -- an image that is refused
+  pub refuses_image : (f : ImageFault) (e : RunFault) → e ≡ of_image f → (f ≡ ImageMemory) ⊎ (mounted image ≡ Err f) → RefusesStart e (image_started image schedule)
+  refuses_image ImageMemory e is why = rw is tt
+  refuses_image Short e is (inr refused) = rw is (started-no_image Short refused)
+  refuses_image Magic e is (inr refused) = rw is (started-no_image Magic refused)
+  refuses_image ImageSize e is (inr refused) = rw is (started-no_image ImageSize refused)
+  refuses_image (Inode n) e is (inr refused) = rw is (started-no_image (Inode n) refused)
+  refuses_image (Block n) e is (inr refused) = rw is (started-no_image (Block n) refused)
+  refuses_image (Dir n) e is (inr refused) = rw is (started-no_image (Dir n) refused)
+  refuses_image (NoTree n) e is (inr refused) = rw is (started-no_image (NoTree n) refused)
+  refuses_image Short e is (inl wrong) = cc wrong
+  refuses_image Magic e is (inl wrong) = cc wrong
+  refuses_image ImageSize e is (inl wrong) = cc wrong
+  refuses_image (Inode n) e is (inl wrong) = cc wrong
+  refuses_image (Block n) e is (inl wrong) = cc wrong
+  refuses_image (Dir n) e is (inl wrong) = cc wrong
+  refuses_image (NoTree n) e is (inl wrong) = cc wrong
+
+-- what the start on a tree answers is a fault of the start
+pub start_fault : (f : RunFault) → IsFaultOnTree f → IsStartFault f
+start_fault (RunSchedule n) it = tt
+start_fault (RunInit n) it = tt
+start_fault RunMemory it = tt
+start_fault Read it = elim it [ ]
+start_fault (RunImage f) it = elim it [ ]
+start_fault (RunManifest f) it = elim it [ ]
+start_fault WriteTrace it = elim it [ ]
+start_fault WriteImage it = elim it [ ]
+
+pub image_fault : (f : RunFault) → IsFaultOnTree f → IsImageFault f
+image_fault (RunSchedule n) it = tt
+image_fault (RunInit n) it = tt
+image_fault RunMemory it = tt
+image_fault Read it = elim it [ ]
+image_fault (RunImage f) it = elim it [ ]
+image_fault (RunManifest f) it = elim it [ ]
+image_fault WriteTrace it = elim it [ ]
+image_fault WriteImage it = elim it [ ]
+
+-- under a result
+pub start_faults : {A : Type 0} → (result : Result A RunFault) → IfErr result IsFaultOnTree → IfErr result IsStartFault
+start_faults (Ok done) it = tt
+start_faults (Err f) it = start_fault f it
+
+pub image_faults : {A : Type 0} → (result : Result A RunFault) → IfErr result IsFaultOnTree → IfErr result IsImageFault
+image_faults (Ok done) it = tt
+image_faults (Err f) it = image_fault f it

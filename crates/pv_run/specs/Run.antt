@@ -12,7 +12,7 @@ use Rattle.pv_model.specs.Stream.{Rose}
 use Rattle.pv_model.specs.Trace.{trace_bytes}
 use Rattle.pv_session.specs.Running.{run_of}
 use Rattle.pv_trace.specs.Streams.{and_all, TellsBeginning}
-use Rattle.pv_run.specs.declared.run.Summary.{Summary}
+use Rattle.pv_run.specs.declared.turns.Summary.{Summary}
 
 -- what a run starts from
 abbrev pub started_from : State → Schedule → Started
@@ -62,7 +62,14 @@ StandsIn asked before after Read = ⊤
 StandsIn asked before after Memory = (after ≡ before) ⊎ HasBegun asked before after
 StandsIn asked before after fault = asked ≡ Err fault
 
--- what a start may answer: want of memory is told as such
+-- what the start on a tree may answer
+abbrev pub IsFaultOnTree : RunFault → Type 0
+IsFaultOnTree (ScheduleLine n) = ⊤
+IsFaultOnTree (Init n) = ⊤
+IsFaultOnTree Memory = ⊤
+IsFaultOnTree fault = ⊥
+
+-- what the start of a bundle's run may answer: want of memory is told as such
 abbrev pub IsStartFault : RunFault → Type 0
 IsStartFault (Manifest ManifestMemory) = ⊥
 IsStartFault (Manifest fault) = ⊤

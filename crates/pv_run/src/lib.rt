@@ -1,9 +1,13 @@
 //! Runs of the machine, from bytes to bytes.
 #![tactic(auto)]
 
-pub mod run;
+pub mod bundle;
+pub mod image;
 pub mod stream;
 #[cfg(test)]
 mod tests;
+pub mod turns;
 
-pub use run::{Summary, run_tree};
+pub use bundle::run_tree;
+pub use image::run;
+pub use turns::Summary;

@@ -1,0 +1,14 @@
+pub mod BadContents
+pub mod Counting
+pub mod FieldNumbers
+pub mod HeaderSizes
+pub mod InodeBlocks
+pub mod InodeContents
+pub mod Joining
+pub mod Mounted
+pub mod PointerRows
+pub mod Reaching
+pub mod Refusals
+pub mod SlotRows
+pub mod SlotTargets
+pub mod SortedNames

@@ -1,0 +1,27 @@
+//! Images that are put into use.
+ghost use Rattle.std.specs.Prelude.{◌≡◌, ◌⊎◌, Ok, Err, IfOk, IfErr};
+ghost use Rattle.pv_model.specs.Mount.{mounted};
+
+use crate::check;
+use crate::fields::u16_at;
+use pv_model::ImageFault;
+use pv_tree::Store;
+use std::alloc::Global;
+
+// Where the first block has the number of inodes.
+const INODES_AT: usize = 10;
+
+/// The store of the tree that the bytes of an image hold: the bytes are its blocks from then on, and nothing is copied.
+///
+/// # Errors
+///
+/// As `check`: the first fault in the order of `ImageFault`'s variants, with the number of the least inode that has it;
+/// `Memory` where memory was refused.
+pub fn mount(alloc: Global, bytes: Vec<u8>) -> Result<Store, ImageFault>
+    ensures mounted { IfOk result (λ store. mounted bytes.items ≡ Ok store) }
+    ensures refused { IfErr result (λ fault. (fault ≡ ImageFault.Memory) ⊎ (mounted bytes.items ≡ Err fault)) }
+{
+    let version = check(alloc, &bytes)?;
+    let inodes = u16_at(&bytes, INODES_AT);
+    Ok(Store::of_image(bytes, inodes, version))
+}

@@ -1,0 +1,74 @@
+-- A run on an image, and the image that it leaves.
+use Rattle.std.proofs.Common.{◌≡◌, ◌∙◌, ap, sym, subst, arith, length, refl, ℕ, Option, Some, Result, Ok, Err, inr}
+use Rattle.std.proofs.lemmas.List.{take_all}
+use Rattle.pv_model.specs.declared.run_fault.RunFault.{RunFault}
+use Rattle.pv_model.specs.declared.run_fault.RunFault.TheVariants.{Read, Image, Manifest, Schedule as ScheduleLine, Init, Memory, WriteTrace, WriteImage}
+use Rattle.pv_model.specs.Bytes.{Bytes}
+use Rattle.pv_model.specs.Grammar.Programs.{program_of}
+use Rattle.pv_model.specs.State.{State}
+use Rattle.pv_model.specs.Start.{Started}
+use Rattle.pv_model.specs.Step.{Schedule, boot}
+use Rattle.pv_model.specs.Tree.{Tree}
+use Rattle.pv_run.proofs.Begun.{has_begun}
+use Rattle.pv_run.specs.Images.{BeginsImage, HasRunOn, HasRunUncut, IsWriteFault, StandsOn, ToldImage, last_tree}
+use Rattle.pv_run.specs.Run.{HasBegun, IsSummaryOf, IsTextOf, StopsBy, started_from, text_of}
+use Rattle.pv_run.specs.declared.turns.Summary.{Summary}
+use Rattle.pv_session.specs.Running.{BeginsLines, ToldLines, run_of}
+use Rattle.pv_trace.specs.Streams.{TellsBeginning, and_all}
+
+-- what was told whole was told from its beginning
+whole_begins : (text : Bytes) (before after : Option Bytes) → after ≡ and_all before text → TellsBeginning text before after
+whole_begins text before after told = (length text, told ∙ ap (and_all before) (sym (take_all (length text) text (omega arith))))
+
+-- an answer that is this fault
+abbrev pub answered : RunFault → Result (Unit {0}) RunFault
+answered fault = Err fault
+
+module _ (asked : Result Started RunFault) (s : State) (schedule : Schedule) (is : asked ≡ Ok (started_from s schedule)) (machine : boot program_of s.tree ≡ Some s)
+    (tb ta ib ia : Option Bytes) where
+  abbrev is_text : (summary : Summary) → IsSummaryOf (started_from s schedule) summary → IsTextOf asked (text_of (started_from s schedule)) summary
+  is_text summary counts = record { it = started_from s schedule; is_asked = is; is_machine = machine; text_is = refl; counts = counts }
+
+  -- the tree of what stands after the run
+  module _ (t : Tree) (after : State) (same : t ≡ after.tree) (left : after ≡ (run_of s schedule).final) (summary : Summary) (counts : IsSummaryOf (started_from s schedule) summary)
+      (told : ToldLines (run_of s schedule).lines tb ta) where
+    is_last : t ≡ last_tree (started_from s schedule)
+    is_last = same ∙ ap (λ (x : State). x.tree) left
+
+    pub has_run_on : ToldImage t ib ia → HasRunOn asked tb ta ib ia summary
+    has_run_on written = record {
+      text = text_of (started_from s schedule);
+      is_run = is_text summary counts;
+      told = told;
+      written = subst (λ (x : Tree). ToldImage x ib ia) is_last written;
+    }
+
+    -- a run whose image was not written whole
+    pub unwritten : (f e : RunFault) → e ≡ f → IsWriteFault f → (answered f ≡ Err WriteImage → BeginsImage t ib ia) → (answered f ≡ Err Memory → ia ≡ ib)
+        → StandsOn asked tb ta ib ia e
+    unwritten WriteImage e same_fault kind cut memory = rw same_fault (record {
+      text = text_of (started_from s schedule);
+      summary = summary;
+      is_run = is_text summary counts;
+      told = told;
+      begun = subst (λ (x : Tree). BeginsImage x ib ia) is_last (cut refl);
+    })
+    unwritten Memory e same_fault kind cut memory =
+        rw same_fault (inr (has_begun asked s schedule is machine tb ta (whole_begins (text_of (started_from s schedule)) tb ta told)), memory refl)
+    unwritten Read e same_fault kind cut memory = elim kind [ ]
+    unwritten (Image f) e same_fault kind cut memory = elim kind [ ]
+    unwritten (Manifest f) e same_fault kind cut memory = elim kind [ ]
+    unwritten (ScheduleLine n) e same_fault kind cut memory = elim kind [ ]
+    unwritten (Init n) e same_fault kind cut memory = elim kind [ ]
+    unwritten WriteTrace e same_fault kind cut memory = elim kind [ ]
+
+  -- a run that stopped before its end writes no image
+  pub stops_on : (f e : RunFault) → e ≡ f → (failures now : ℕ) → StopsBy f failures now → BeginsLines (run_of s schedule).lines tb ta → StandsOn asked tb ta ib ib e
+  stops_on Memory e same failures now why begun = rw same (inr (has_begun asked s schedule is machine tb ta begun), refl)
+  stops_on WriteTrace e same failures now why begun = rw same (has_begun asked s schedule is machine tb ta begun, refl)
+  stops_on Read e same failures now why begun = elim why [ ]
+  stops_on (Image f) e same failures now why begun = elim why [ ]
+  stops_on (Manifest f) e same failures now why begun = elim why [ ]
+  stops_on (ScheduleLine n) e same failures now why begun = elim why [ ]
+  stops_on (Init n) e same failures now why begun = elim why [ ]
+  stops_on WriteImage e same failures now why begun = elim why [ ]

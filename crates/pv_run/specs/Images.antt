@@ -1,0 +1,79 @@
+-- What a run on an image leaves.
+use Rattle.std.specs.Prelude.{◌≡◌, ◌⊎◌, ⊤, Option, Result, Err}
+use Rattle.pv_model.specs.declared.run_fault.RunFault.{RunFault}
+use Rattle.pv_model.specs.declared.fault.ImageFault.TheVariants.{Memory as ImageMemory}
+use Rattle.pv_model.specs.declared.run_fault.RunFault.TheVariants.{Read, Image, Manifest, Schedule as ScheduleLine, Init, Memory, WriteTrace, WriteImage}
+use Rattle.pv_model.specs.Bytes.{Bytes}
+use Rattle.pv_model.specs.Held.{named_tree}
+use Rattle.pv_model.specs.Image.{IsWrittenImageOf}
+use Rattle.pv_model.specs.Start.{Started}
+use Rattle.pv_model.specs.Tree.{Tree}
+use Rattle.pv_run.specs.Run.{HasBegun, IsTextOf}
+use Rattle.pv_run.specs.declared.turns.Summary.{Summary}
+use Rattle.pv_session.specs.Running.{run_of}
+use Rattle.pv_trace.specs.Streams.{and_all, TellsBeginning}
+
+-- what was told grew by bytes that hold a tree: its root and its named nodes
+pub record ToldImage (t : Tree) (before after : Option Bytes) : Type 0 where
+  pub image : Bytes
+  pub holds : IsWrittenImageOf image (named_tree t)
+  pub told : after ≡ and_all before image
+
+-- bytes that hold a tree were told up to somewhere
+pub record BeginsImage (t : Tree) (before after : Option Bytes) : Type 0 where
+  pub image : Bytes
+  pub holds : IsWrittenImageOf image (named_tree t)
+  pub told : TellsBeginning image before after
+
+-- the tree that a run leaves
+abbrev pub last_tree : Started → Tree
+last_tree it = (run_of it.state it.schedule).final.tree
+
+-- a run was made: the trace grew by just its text, and the image by bytes that hold the tree that it leaves
+pub record HasRunOn (asked : Result Started RunFault) (trace_before trace_after image_before image_after : Option Bytes) (summary : Summary) : Type 0 where
+  pub text : Bytes
+  pub is_run : IsTextOf asked text summary
+  pub told : trace_after ≡ and_all trace_before text
+  pub written : ToldImage (last_tree is_run.it) image_before image_after
+
+-- a run was made, and the tree that it leaves was told up to somewhere
+pub record HasRunUncut (asked : Result Started RunFault) (trace_before trace_after image_before image_after : Option Bytes) : Type 0 where
+  pub text : Bytes
+  pub summary : Summary
+  pub is_run : IsTextOf asked text summary
+  pub told : trace_after ≡ and_all trace_before text
+  pub begun : BeginsImage (last_tree is_run.it) image_before image_after
+
+-- a refusal stands in what is asked, before any other, and then nothing was written; no image was written of a run that stopped
+abbrev pub StandsOn : Result Started RunFault → Option Bytes → Option Bytes → Option Bytes → Option Bytes → RunFault → Type 0
+StandsOn asked tb ta ib ia WriteImage = HasRunUncut asked tb ta ib ia
+StandsOn asked tb ta ib ia WriteTrace = HasBegun asked tb ta × (ia ≡ ib)
+StandsOn asked tb ta ib ia Memory = ((ta ≡ tb) ⊎ HasBegun asked tb ta) × (ia ≡ ib)
+StandsOn asked tb ta ib ia Read = (ta ≡ tb) × (ia ≡ ib)
+StandsOn asked tb ta ib ia fault = (asked ≡ Err fault) × (ta ≡ tb) × (ia ≡ ib)
+
+-- what the start of a run on an image may answer: want of memory is told as such
+abbrev pub IsImageFault : RunFault → Type 0
+IsImageFault (Image ImageMemory) = ⊥
+IsImageFault (Image fault) = ⊤
+IsImageFault (ScheduleLine n) = ⊤
+IsImageFault (Init n) = ⊤
+IsImageFault Memory = ⊤
+IsImageFault fault = ⊥
+
+-- what the writing of an image may answer
+abbrev pub IsWriteFault : RunFault → Type 0
+IsWriteFault Memory = ⊤
+IsWriteFault WriteImage = ⊤
+IsWriteFault fault = ⊥
+
+-- what the run of an image's bytes may answer
+abbrev pub IsImageRunFault : RunFault → Type 0
+IsImageRunFault WriteTrace = ⊤
+IsImageRunFault WriteImage = ⊤
+IsImageRunFault fault = IsImageFault fault
+
+-- what a run on an image may answer
+abbrev pub IsRunFault : RunFault → Type 0
+IsRunFault Read = ⊤
+IsRunFault fault = IsImageRunFault fault

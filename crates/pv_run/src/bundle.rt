@@ -1,0 +1,76 @@
+//! Runs of bundles.
+ghost use Rattle.std.specs.Prelude.{◌≡◌, ◌⊎◌, ◌≤◌, length, Some, Ok, IfOk, IfErr, IfSome};
+ghost use Rattle.pv_model.specs.Grammar.Programs.{program_of};
+ghost use Rattle.pv_model.specs.Start.{bundle_started};
+ghost use Rattle.pv_model.specs.Step.{boot};
+ghost use Rattle.pv_model.specs.Stream.{Rose};
+ghost use Rattle.pv_run.specs.Run.{HasRun, IsBundleFault, IsBytesFault, IsStartFault, RefusesStart, StandsIn, TellsNothingUnlessCut, started_from};
+ghost use Rattle.pv_run.specs.Streams.{GivesMoreThan};
+
+use crate::stream::{SOURCE_BYTES, read_whole};
+use crate::turns::{Ready, Summary, make_turns, start_on};
+use pv_image::{Bundle, build};
+use pv_model::{RunFault, Sink, Source};
+use std::alloc::Global;
+
+// What a bundle's run starts from.
+fn start_bundle(alloc: Global, bytes: &[u8]) -> Result<Ready, RunFault>
+    requires { length bytes.now ≤ SOURCE_BYTES }
+    ensures asked { IfOk result (λ r. bundle_started bytes.now ≡ Ok (started_from r.session r.schedule)) }
+    ensures machine { IfOk result (λ r. boot program_of r.session.tree ≡ Some r.session) }
+    ensures fault { IfErr result (λ f. RefusesStart f (bundle_started bytes.now)) }
+    ensures kind { IfErr result IsStartFault }
+{
+    let bundle = Bundle::parse(alloc, bytes)?;
+    let store = build(alloc, &bundle.manifest)?;
+    start_on(alloc, store, &bytes[bundle.schedule_at..])
+}
+
+// Runs what the bytes of a bundle ask for.
+fn run_bytes<W: Sink>(alloc: Global, bytes: &[u8], trace: &mut W) -> Result<Summary, RunFault>
+    requires { length bytes.now ≤ SOURCE_BYTES }
+    ensures ran { IfOk result (λ summary. HasRun (bundle_started bytes.now) (W.told trace.old) (W.told trace.new) summary) }
+    ensures refused { IfErr result (λ fault. StandsIn (bundle_started bytes.now) (W.told trace.old) (W.told trace.new) fault) }
+    ensures kind { IfErr result IsBytesFault }
+    ensures unwritten { IfErr result (TellsNothingUnlessCut (W.told trace.old) (W.told trace.new)) }
+    ensures write { result ≡ Err RunFault.WriteTrace → Rose (W.failures trace.old) (W.failures trace.new) }
+{
+    let mut ready = start_bundle(alloc, bytes)?;
+    make_turns(alloc, &mut ready, trace)
+}
+
+/// Runs a bundle: a manifest, the line `schedule`, and a schedule.
+///
+/// The bundle is read whole. Then its manifest, the manifest's entries, the schedule and the program of
+/// `init` are checked in this order, and nothing is written before all of them have passed. Then the lines
+/// of each step are written before the next step is made. Where the answer is `Ok`, the trace has grown by
+/// just the text of the machine's run on the manifest's tree, and the summary counts its steps and its lines.
+///
+/// # Errors
+///
+/// - `Read`: a read failed, or the source gave more than 67,108,864 bytes.
+/// - `Manifest`, `Schedule`, `Init`: the first fault of the bundle, in the order of the checks; each names
+///   the least line of its kind.
+/// - `Memory`: memory was refused. Before the first step nothing was written; where an execve(2) wants it for its
+///   program, the trace has grown by the lines of the steps before.
+/// - `WriteTrace`: a write failed; the trace has grown by a beginning of the text, and no step was made
+///   after it.
+///
+/// After each other fault nothing was written.
+pub fn run_tree<S: Source, W: Sink>(
+    alloc: Global,
+    bundle: &mut S,
+    trace: &mut W,
+) -> Result<Summary, RunFault>
+    ensures ran { IfOk result (λ summary. IfSome (S.remaining bundle.old) (λ bytes. HasRun (bundle_started bytes) (W.told trace.old) (W.told trace.new) summary)) }
+    ensures refused { IfErr result (λ fault. IfSome (S.remaining bundle.old) (λ bytes. StandsIn (bundle_started bytes) (W.told trace.old) (W.told trace.new) fault)) }
+    ensures kind { IfErr result IsBundleFault }
+
+    // Nothing is written but the text, and a fault of reading or writing was counted.
+    ensures unwritten { IfErr result (TellsNothingUnlessCut (W.told trace.old) (W.told trace.new)) }
+    ensures read { result ≡ Err RunFault.Read → Rose (S.failures bundle.old) (S.failures bundle.new) ⊎ GivesMoreThan SOURCE_BYTES (S.remaining bundle.old) }
+    ensures write { result ≡ Err RunFault.WriteTrace → Rose (W.failures trace.old) (W.failures trace.new) }
+{
+    let bytes = read_whole(alloc, bundle)?;
+    run_bytes(alloc, &bytes, trace)
+}

@@ -1,0 +1,111 @@
+//! Runs on images.
+ghost use Rattle.std.specs.Prelude.{◌≡◌, ◌⊎◌, ◌≤◌, length, Some, Ok, Err, IfOk, IfErr, IfSome, OnOk, OnErr};
+ghost use Rattle.pv_model.specs.Grammar.Programs.{program_of};
+ghost use Rattle.pv_model.specs.Start.{image_started};
+ghost use Rattle.pv_model.specs.Step.{boot};
+ghost use Rattle.pv_model.specs.Stream.{Rose};
+ghost use Rattle.pv_run.specs.Images.{BeginsImage, HasRunOn, IsImageFault, IsImageRunFault, IsRunFault, IsWriteFault, StandsOn, ToldImage};
+ghost use Rattle.pv_run.specs.Run.{IsStartFault, RefusesStart, started_from};
+ghost use Rattle.pv_run.specs.Streams.{GivesMoreThan};
+
+use crate::stream::{SOURCE_BYTES, read_whole};
+use crate::turns::{Ready, Summary, make_turns, start_on};
+use pv_model::{Failed, RunFault, Sink, Source};
+use pv_mount::mount;
+use pv_trace::write_whole;
+use pv_tree::Tree;
+use pv_writer::to_bytes;
+use std::alloc::Global;
+
+// What a run on an image starts from, by the text of its schedule.
+fn start_image(alloc: Global, image: Vec<u8>, schedule: &[u8]) -> Result<Ready, RunFault>
+    requires { length schedule.now ≤ SOURCE_BYTES }
+    ensures asked { IfOk result (λ r. image_started image.items schedule.now ≡ Ok (started_from r.session r.schedule)) }
+    ensures machine { IfOk result (λ r. boot program_of r.session.tree ≡ Some r.session) }
+    ensures fault { IfErr result (λ f. RefusesStart f (image_started image.items schedule.now)) }
+    ensures kind { IfErr result IsImageFault }
+{
+    let store = mount(alloc, image)?;
+    start_on(alloc, store, schedule)
+}
+
+// Writes an image of a tree.
+fn write_image<O: Sink>(alloc: Global, tree: &Tree, image: &mut O) -> Result<(), RunFault>
+    ensures whole { OnOk result (ToldImage tree.now.tree (O.told image.old) (O.told image.new)) }
+    ensures cut { result ≡ Err RunFault.WriteImage → BeginsImage tree.now.tree (O.told image.old) (O.told image.new) }
+    ensures failed { result ≡ Err RunFault.WriteImage → Rose (O.failures image.old) (O.failures image.new) }
+    ensures memory { result ≡ Err RunFault.Memory → O.told image.new ≡ O.told image.old }
+    ensures kind { IfErr result IsWriteFault }
+{
+    let bytes = to_bytes(alloc, tree)?;
+    match write_whole(image, &bytes) {
+        Ok(()) => Ok(()),
+        Err(Failed) => Err(RunFault::WriteImage),
+    }
+}
+
+// Runs the bytes of an image and of a schedule, and writes an image of what is left.
+fn run_image<W: Sink, O: Sink>(
+    alloc: Global,
+    bytes: Vec<u8>,
+    schedule: &[u8],
+    trace: &mut W,
+    image: &mut O,
+) -> Result<Summary, RunFault>
+    requires { length schedule.now ≤ SOURCE_BYTES }
+    ensures ran { IfOk result (λ summary. HasRunOn (image_started bytes.items schedule.now) (W.told trace.old) (W.told trace.new) (O.told image.old) (O.told image.new) summary) }
+    ensures refused { IfErr result (λ fault. StandsOn (image_started bytes.items schedule.now) (W.told trace.old) (W.told trace.new) (O.told image.old) (O.told image.new) fault) }
+    ensures kind { IfErr result IsImageRunFault }
+    ensures write_trace { result ≡ Err RunFault.WriteTrace → Rose (W.failures trace.old) (W.failures trace.new) }
+    ensures write_image { result ≡ Err RunFault.WriteImage → Rose (O.failures image.old) (O.failures image.new) }
+{
+    let mut ready = start_image(alloc, bytes, schedule)?;
+    let summary = make_turns(alloc, &mut ready, trace)?;
+    write_image(alloc, ready.session.tree(), image)?;
+    Ok(summary)
+}
+
+/// Runs a schedule on an image.
+///
+/// The image and the schedule are read whole. Then the image, the schedule and the program of `init` are
+/// checked in this order, and nothing is written before all of them have passed. Then the lines of each step
+/// are written before the next step is made, and at the end an image of the tree that is left: its root and
+/// its nodes that have a name, under their numbers, with the sizes and the version of the image. Where the
+/// answer is `Ok`, the trace has grown by just the text of the machine's run on the image's tree, `image` by
+/// bytes that hold that machine's last tree, and the summary counts the steps and the lines.
+///
+/// # Errors
+///
+/// - `Read`: a read failed, or a source gave more than 67,108,864 bytes.
+/// - `Image`, `Schedule`, `Init`: the first fault, in the order of the checks; each names the least inode, or
+///   the least line, of its kind.
+/// - `Memory`: memory was refused. Before the first step nothing was written; later the trace has grown by the
+///   lines of the steps before. No image was written.
+/// - `WriteTrace`: a write failed; the trace has grown by a beginning of the text, no step was made after it,
+///   and no image was written.
+/// - `WriteImage`: a write failed; the trace is whole, and `image` has grown by a beginning of the bytes.
+///
+/// After each other fault nothing was written.
+pub fn run<I: Source, S: Source, W: Sink, O: Sink>(
+    alloc: Global,
+    bytes: &mut I,
+    schedule: &mut S,
+    trace: &mut W,
+    image: &mut O,
+) -> Result<Summary, RunFault>
+    ensures ran { IfOk result (λ summary. IfSome (I.remaining bytes.old) (λ b. IfSome (S.remaining schedule.old) (λ turns.
+        HasRunOn (image_started b turns) (W.told trace.old) (W.told trace.new) (O.told image.old) (O.told image.new) summary))) }
+    ensures refused { IfErr result (λ fault. IfSome (I.remaining bytes.old) (λ b. IfSome (S.remaining schedule.old) (λ turns.
+        StandsOn (image_started b turns) (W.told trace.old) (W.told trace.new) (O.told image.old) (O.told image.new) fault))) }
+    ensures kind { IfErr result IsRunFault }
+
+    // A fault of reading or writing was counted.
+    ensures read { result ≡ Err RunFault.Read → (Rose (I.failures bytes.old) (I.failures bytes.new) ⊎ GivesMoreThan SOURCE_BYTES (I.remaining bytes.old))
+        ⊎ (Rose (S.failures schedule.old) (S.failures schedule.new) ⊎ GivesMoreThan SOURCE_BYTES (S.remaining schedule.old)) }
+    ensures write_trace { result ≡ Err RunFault.WriteTrace → Rose (W.failures trace.old) (W.failures trace.new) }
+    ensures write_image { result ≡ Err RunFault.WriteImage → Rose (O.failures image.old) (O.failures image.new) }
+{
+    let bytes = read_whole(alloc, bytes)?;
+    let schedule = read_whole(alloc, schedule)?;
+    run_image(alloc, bytes, &schedule, trace, image)
+}
