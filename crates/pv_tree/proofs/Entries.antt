@@ -1,11 +1,12 @@
 -- Lemmas on the entries of one directory.
-use Rattle.std.proofs.Common.{◌≡◌, ℕ, suc, ◌+◌, ◌≤◌, true, false, cond, ◌==◌, [], ◌∷◌, filter, length, None, Some, is_some, ap, sym, ◌∙◌, arith, ⊎_elim}
-use Rattle.std.specs.FinMap.Entries.{find, put, where_key, is_sorted, by_order, same_entries, is_sorted-put, is_sorted-where_key, length-put}
+use Rattle.std.proofs.Common.{◌≡◌, ℕ, suc, ◌+◌, true, cond, length, None, Some, is_some, ap, sym, ◌∙◌, arith, ⊎_elim}
+use Rattle.std.specs.FinMap.Entries.{find, put, where_key, is_sorted, same_entries, is_sorted-put, is_sorted-where_key, length-put}
 use Rattle.std.specs.Ordering.{is_eq}
-use Rattle.std.specs.declared.cmp.Ordering.TheVariants.{Less, Equal, Greater}
 use Rattle.std.proofs.lemmas.Cmp.{nat_list_cmp_total}
 use Rattle.pv_model.specs.Bytes.{Bytes}
 use Rattle.pv_model.specs.Tree.{Entries}
+pub use Rattle.pv_dirs.specs.Counts.{count_in}
+pub use Rattle.pv_dirs.proofs.Counts.{one_if, count-cons, count-put, count-most}
 use Rattle.pv_tree_laws.proofs.Changes.{cases_name}
 use Rattle.pv_tree_laws.proofs.Entries.{by_name, is_other, tied-same, find-put_same, find-put_other, find-without_same, find-without_other, told, tell}
 
@@ -48,32 +49,8 @@ length_more name n es sorted none =
 
 -- ---- the entries for a node
 
-abbrev pub count_in : ℕ → Entries → ℕ
-count_in n es = length (filter (λ e. e.1 == n) es)
-
--- one, for a node itself
-abbrev pub one_if : ℕ → ℕ → ℕ
-one_if m n = cond (m == n) 1 0
-
-pub count-cons : (n : ℕ) (e : Bytes × ℕ) (es : Entries) → count_in n (e ∷ es) ≡ one_if e.1 n + count_in n es
-count-cons n e es = elim (e.1 == n) as (λ b. length (cond b (e ∷ filter (λ e. e.1 == n) es) (filter (λ e. e.1 == n) es)) ≡ cond b 1 0 + count_in n es) [ true ↦ omega arith | false ↦ omega arith ]
-
-pub count-put : (n : ℕ) (name : Bytes) (m : ℕ) (es : Entries) → find by_name name es ≡ None → count_in n (put by_name name m es) ≡ one_if m n + count_in n es
-count-put n name m [] none = count-cons n (name, m) []
-count-put n name m (e ∷ es) none =
-    elim (by_name name e.0) as (λ o. cond (is_eq o) (Some e.1) (find by_name name es) ≡ None
-    → count_in n (by_order o ((name, m) ∷ e ∷ es) ((e.0, m) ∷ es) (e ∷ put by_name name m es)) ≡ one_if m n + count_in n (e ∷ es)) [
-      | Less ↦ λ _. count-cons n (name, m) (e ∷ es)
-      | Equal ↦ λ is. cc is
-      | Greater ↦ λ is. omega (arith, count-cons n e (put by_name name m es), count-cons n e es, count-put n name m es is)
-    ] none
-
 pub count-without : (n : ℕ) (name : Bytes) (m : ℕ) (es : Entries) → is_sorted by_name es ≡ true → find by_name name es ≡ Some m
     → one_if m n + count_in n (where_key by_name (is_other name) es) ≡ count_in n es
 count-without n name m es sorted found =
     let less = where_key by_name (is_other name) es in
     sym (count-put n name m less (find-without_same name es)) ∙ ap (count_in n) (put_back name m es sorted found)
-
-pub count-most : (n : ℕ) (es : Entries) → count_in n es ≤ length es
-count-most n [] = omega arith
-count-most n (e ∷ es) = elim (e.1 == n) as (λ b. length (cond b (e ∷ filter (λ e. e.1 == n) es) (filter (λ e. e.1 == n) es)) ≤ suc (length es)) [ true ↦ omega (arith, count-most n es) | false ↦ omega (arith, count-most n es) ]

@@ -13,3 +13,5 @@ pub mod Moving
 pub mod Elsewhere
 pub mod Beginning
 pub mod Contents
+pub mod Gathering
+pub mod Spelling

@@ -19,14 +19,14 @@ use Rattle.pv_tree.proofs.Entries.{count_in, one_if, count-put, count-without, c
 abbrev pub name_count : Tree → ℕ → ℕ
 name_count t n = length (names_of t n)
 
-abbrev names_from : ℕ → ℕ → Numbered Node → List (ℕ × Bytes)
+abbrev pub names_from : ℕ → ℕ → Numbered Node → List (ℕ × Bytes)
 names_from n k xs = flat_map (λ d. names_in n (entries_of (Some d.1)) d.0) (numbered_from k xs)
 
 length-names_in : (n : ℕ) (es : Entries) (d : ℕ) → length (names_in n es d) ≡ count_in n es
 length-names_in n es d = length-map {B = ℕ × Bytes} (filter (λ e. e.1 == n) es) (λ e. (d, e.0))
 
 -- a node's names stand in the first place, or behind it
-names-cons : (n k : ℕ) (o : Option Node) (xs : Numbered Node) → length (names_from n k (o ∷ xs)) ≡ count_in n (entries_of o) + length (names_from n (suc k) xs)
+pub names-cons : (n k : ℕ) (o : Option Node) (xs : Numbered Node) → length (names_from n k (o ∷ xs)) ≡ count_in n (entries_of o) + length (names_from n (suc k) xs)
 names-cons n k None xs = omega arith
 names-cons n k (Some node) xs =
     omega (arith, length-append (names_in n (entries_of (Some node)) k) (names_from n (suc k) xs), length-names_in n (entries_of (Some node)) k)
@@ -123,7 +123,7 @@ names-most_from n k [] few = omega arith
 names-most_from n k (o ∷ xs) few =
     omega (arith, names-cons n k o xs, count-most n (entries_of o), few 0, names-most_from n (suc k) xs (λ d. few (suc d)))
 
-entries-most : (t : Tree) → is_too_long t ≡ false → (d : ℕ) → length (entries_at t d) ≤ 2540
+pub entries-most : (t : Tree) → is_too_long t ≡ false → (d : ℕ) → length (entries_at t d) ≤ 2540
 entries-most t short d = by (node_at t d) refl
   where
     by : (o : Option Node) → node_at t d ≡ o → length (entries_of o) ≤ 2540

@@ -5,8 +5,9 @@
 //! its image. Blocks, pointers and slots stand below; the parent of each directory, and how many names and
 //! holders each node has, are stored, and stand in the invariant alone.
 //!
-//! `tree` has `Tree` and what it answers; below it `making` has new nodes, `names` links, unlinks and
-//! renames, `holding` holders, and `contents` the bytes of files. `store` has `Store`, a tree before boot.
+//! `tree` has `Tree` and what it answers; below it `image` has the tree of an image that was written before,
+//! `making` new nodes, `names` links, unlinks and renames, `holding` holders, and `contents` the bytes of
+//! files. `store` has `Store`, a tree before boot.
 #![tactic(auto)]
 
 mod store;

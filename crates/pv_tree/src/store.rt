@@ -1,7 +1,9 @@
 //! A tree before boot.
 ghost use Rattle.std.specs.Prelude.{◌≡◌, ◌+◌, ◌-◌, ◌*◌, ◌≤◌, vec_len, All};
 ghost use Rattle.pv_model.specs.declared.limits.TheConstants.{INODES};
-ghost use Rattle.pv_model.specs.Image.{inode_blocks, greatest_blocks};
+ghost use Rattle.pv_model.specs.Image.{inode_blocks, greatest_blocks, IsImageOf};
+ghost use Rattle.pv_model.specs.Tree.{Tree as Nodes};
+ghost use Rattle.pv_dirs.specs.Images.{IsImage};
 ghost use Rattle.pv_tree.specs.Changes.{root_alone};
 ghost use Rattle.pv_tree.specs.Holding.{IsUnheld};
 ghost use Rattle.pv_tree.specs.Standing.{IsAtRest};
@@ -41,6 +43,17 @@ impl Store {
     {
         Store {
             tree: Tree::empty(zeros, blocks, inodes, version),
+        }
+    }
+
+    /// The tree of the image that these bytes are, of this version and with so many inodes. The bytes are its
+    /// blocks from then on: nothing is copied, and no memory is taken.
+    pub fn of_image(bytes: Vec<u8>, inodes: u16, version: Version) -> Store
+        requires { IsImage version inodes bytes.items }
+        ensures { (t : Nodes) → IsImageOf bytes.items t → result ≡ t }
+    {
+        Store {
+            tree: Tree::of_image(bytes, inodes, version),
         }
     }
 

@@ -16,6 +16,7 @@ ghost use Rattle.pv_tree.specs.Standing.{IsStanding};
 
 mod contents;
 mod holding;
+mod image;
 mod making;
 mod names;
 #[cfg(test)]
