@@ -1,0 +1,8 @@
+-- Numbers of inodes.
+use Rattle.std.specs.Prelude.{ℕ, ◌≤◌}
+use Rattle.pv_model.specs.Bytes.{Bytes}
+use Rattle.pv_model.specs.Mount.{inode_number}
+
+-- the number of an inode of the image
+abbrev pub IsNumber : Bytes → ℕ → Type 0
+IsNumber bytes n = (1 ≤ n) × (n ≤ inode_number bytes)

@@ -1,0 +1,9 @@
+//! The check of an image: what is at fault in bytes, if anything is.
+//!
+//! `fields` reads numbers that stand in bytes; `image` has `Image`, bytes whose sizes are in order; `inodes` tests
+//! the sorts and sizes of inodes.
+#![tactic(auto)]
+
+mod fields;
+mod image;
+mod inodes;
