@@ -1,1 +1,4 @@
+pub mod Claims
 pub mod Numbers
+pub mod Rows
+pub mod Slots

@@ -1,7 +1,7 @@
 //! Bytes whose sizes are in order, and the fields of their inodes.
-ghost use Rattle.std.specs.Prelude.{◌≡◌, ◌+◌, ◌*◌, ◌≤◌, length, IfOk, IfErr};
-ghost use Rattle.pv_model.specs.Image.{greatest_blocks, inode, inode_blocks, inode_length, size, stored_count};
-ghost use Rattle.pv_model.specs.Mount.{are_image_sizes, block_number, has_sizes, inode_number, kind, version_of, HasSizes, IsFaultOf};
+ghost use Rattle.std.specs.Prelude.{◌≡◌, ◌+◌, ◌*◌, ◌<◌, ◌≤◌, length, IfOk, IfErr};
+ghost use Rattle.pv_model.specs.Image.{block, greatest_blocks, inode, inode_blocks, inode_length, size, stored_count};
+ghost use Rattle.pv_model.specs.Mount.{are_image_sizes, block_number, has_sizes, inode_number, is_data_block, kind, version_of, HasSizes, IsFaultOf};
 ghost use Rattle.pv_mount.specs.Numbers.{IsNumber};
 
 use crate::fields::{u8_at, u16_at, u32_at};
@@ -126,5 +126,22 @@ impl<'a> Image<'a> {
             Version::V1 => u16_at(self.inode(n), 2) as u32,
             Version::V2 => u32_at(self.inode(n), 38),
         }
+    }
+
+    /// The bytes of a block.
+    pub(crate) fn block(&self, k: u16) -> &'a [u8]
+        requires { k < block_number self.now.bytes.now }
+        ensures bytes { result.now ≡ block self.now.bytes.now k }
+        ensures length { length result.now ≡ 512 }
+    {
+        let start = BLOCK * k as usize;
+        &self.bytes[start..start + BLOCK]
+    }
+
+    /// Whether a block is a data block.
+    pub(crate) fn is_data_block(&self, k: u16) -> bool
+        ensures { result ≡ is_data_block self.now.version self.now.bytes.now k }
+    {
+        inode_blocks(self.version, self.inodes) < k as usize && k < self.blocks
     }
 }

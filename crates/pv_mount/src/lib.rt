@@ -4,6 +4,9 @@
 //! the sorts and sizes of inodes.
 #![tactic(auto)]
 
+mod contents;
 mod fields;
 mod image;
 mod inodes;
+mod slots;
+mod used_blocks;

@@ -1,0 +1,91 @@
+-- The slots of a directory's content, one by one.
+use Rattle.std.proofs.Common.{◌≡◌, ℕ, zero, suc, ◌+◌, ◌*◌, ◌/◌, ◌≤◌, ◌<◌, List, [], ◌∷◌, ◌++◌, length, take, drop, get_or, map, Bool, true, false, ap, sym, subst, ◌∙◌, refl, arith, ltb-false}
+use Rattle.std.proofs.lemmas.Bool.{or_from, or_parts}
+use Rattle.std.proofs.lemmas.List.{drop-drop, map-append}
+use Rattle.std.proofs.lemmas.List.Folds.{list_any-append, list_any_at}
+use Rattle.std.specs.Prelude.{not, ◌&&◌, ◌||◌, nat_le, nat_lt}
+use Rattle.std.specs.List.{list_any}
+use Rattle.pv_model.specs.declared.version.Version.{Version}
+use Rattle.pv_model.specs.declared.version.Version.TheVariants.{V1, V2}
+use Rattle.pv_model.specs.Bytes.{Bytes}
+use Rattle.pv_model.specs.Mount.{inode_number, is_bad_slot, is_free, slot_length, slot_name, slot_number, slots_of}
+use Rattle.pv_model.specs.Room.{entry_length}
+use Rattle.pv_model.specs.Tree.{greatest_name, is_name}
+use Rattle.pv_mount.proofs.InodeContents.{none_at}
+use Rattle.pv_mount.specs.Slots.{slot_at}
+
+-- a slot is within the content
+pub slot_within : (v : Version) (i len : ℕ) → i < len / entry_length v → entry_length v * i + entry_length v ≤ len
+slot_within V1 i len less = omega arith
+slot_within V2 i len less = omega arith
+
+pub length_slots : (v : Version) (k : ℕ) (content : Bytes) → length (slots_of v k content) ≡ k
+length_slots v zero content = refl
+length_slots v (suc k) content = ap suc (length_slots v k (drop (entry_length v) content))
+
+slot_behind : (v : Version) (i : ℕ) (content : Bytes) → slot_at v (drop (entry_length v) content) i ≡ slot_at v content (suc i)
+slot_behind v i content =
+    let long = entry_length v in
+    let same : long + long * i ≡ long * suc i = omega arith in
+    ap (take long) (drop-drop (long * i) long content ∙ ap (λ m. drop m content) same)
+
+slot_first : (v : Version) (content : Bytes) → take (entry_length v) content ≡ slot_at v content 0
+slot_first v content =
+    let none : 0 ≡ entry_length v * 0 = omega arith in
+    ap (λ m. take (entry_length v) (drop m content)) none
+
+pub slots_more : (v : Version) (k : ℕ) (content : Bytes) → slots_of v (k + 1) content ≡ slots_of v k content ++ slot_at v content k ∷ []
+slots_more v zero content = ap (λ s. s ∷ []) (slot_first v content)
+slots_more v (suc k) content =
+    let plus : suc k + 1 ≡ suc (k + 1) = omega arith in
+    ap (λ m. slots_of v m content) plus
+    ∙ ap (λ ss. take (entry_length v) content ∷ ss) (slots_more v k (drop (entry_length v) content) ∙ ap (λ s. slots_of v k (drop (entry_length v) content) ++ s ∷ []) (slot_behind v k content))
+
+pub get_or-slots : (v : Version) (k i : ℕ) (content : Bytes) → i < k → get_or (slots_of v k content) i [] ≡ slot_at v content i
+get_or-slots v zero i content less = absurd (omega arith)
+get_or-slots v (suc k) zero content less = slot_first v content
+get_or-slots v (suc k) (suc i) content less = get_or-slots v k i (drop (entry_length v) content) (omega arith) ∙ slot_behind v i content
+
+-- ---- a test on slots
+
+module _ (p : Bytes → Bool) (v : Version) (content : Bytes) where
+  pub any_slot_more : (k : ℕ) → list_any p (slots_of v k content) ≡ false → p (slot_at v content k) ≡ false → list_any p (slots_of v (k + 1) content) ≡ false
+  any_slot_more k before here =
+      ap (list_any p) (slots_more v k content) ∙ list_any-append p (slots_of v k content) (slot_at v content k ∷ [])
+      ∙ or_from (list_any p (slots_of v k content)) (p (slot_at v content k) || false) before (or_from (p (slot_at v content k)) false here refl)
+
+  pub any_slot_at : (k i : ℕ) → i < k → p (slot_at v content i) ≡ true → list_any p (slots_of v k content) ≡ true
+  any_slot_at k i less is =
+      let within : i < length (slots_of v k content) = subst (λ m. i < m) (sym (length_slots v k content)) less in
+      list_any_at p (slots_of v k content) i [] within (ap p (get_or-slots v k i content less) ∙ is)
+
+  pub no_slot_at : (k i : ℕ) → i < k → list_any p (slots_of v k content) ≡ false → p (slot_at v content i) ≡ false
+  no_slot_at k i less none =
+      let within : i < length (slots_of v k content) = subst (λ m. i < m) (sym (length_slots v k content)) less in
+      sym (ap p (get_or-slots v k i content less)) ∙ none_at p (slots_of v k content) i [] none within
+
+-- ---- names
+
+longest_fits : (v : Version) → 4 + greatest_name v ≤ entry_length v
+longest_fits V1 = omega arith
+longest_fits V2 = omega arith
+
+-- the name is within its slot
+pub name_within : (v : Version) (slot : Bytes) → length slot ≡ entry_length v → slot_length slot ≤ greatest_name v → 4 + slot_length slot ≤ length slot
+name_within v slot whole short = let most = longest_fits v in omega (arith, most, whole, short)
+
+pub name_short : (v : Version) (bytes slot : Bytes) → is_bad_slot v bytes slot ≡ false → slot_length slot ≤ greatest_name v
+name_short v bytes slot fine =
+    let no_number = not (nat_le 1 (slot_number slot) && nat_le (slot_number slot) (inode_number bytes)) in
+    let free = is_free v bytes (slot_number slot) in
+    let long = nat_lt (greatest_name v) (slot_length slot) in
+    let no_name = not (is_name v (slot_name slot)) in
+    let first = or_parts (no_number || free || long) no_name fine in
+    ltb-false (greatest_name v) (slot_length slot) (or_parts (no_number || free) long first.0).1
+
+pub names_more : {X : Type 0} (now : X → Bytes) (v : Version) (content : Bytes) (k : ℕ) (names new : List X) (name : X)
+    → map now names ≡ map slot_name (slots_of v k content) → new ≡ names ++ name ∷ [] → now name ≡ slot_name (slot_at v content k)
+    → map now new ≡ map slot_name (slots_of v (k + 1) content)
+names_more now v content k names new name before more is =
+    ap (map now) more ∙ map-append now names (name ∷ []) ∙ ap (λ l. l ++ now name ∷ []) before ∙ ap (λ x. map slot_name (slots_of v k content) ++ x ∷ []) is
+    ∙ sym (ap (map slot_name) (slots_more v k content) ∙ map-append slot_name (slots_of v k content) (slot_at v content k ∷ []))

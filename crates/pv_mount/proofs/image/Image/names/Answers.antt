@@ -1,0 +1,26 @@
+use Rattle.std.proofs.Common.{◌≡◌, ◌<◌, ◌/◌, ℕ, List, Bor, length, map, ap, subst, ◌∙◌, arith}
+use Rattle.pv_model.specs.Mount.{is_bad_slot, slot_name, slots_of}
+use Rattle.pv_model.specs.Room.{entry_length}
+use Rattle.pv_mount.proofs.SlotRows.{name_short, name_within, names_more, no_slot_at}
+use Rattle.pv_mount.proofs.image.Image.names.Goals as goal
+
+pub slot_name-requires : goal.slot_name-requires
+slot_name-requires c =
+    let v = c.args.self.now.version in
+    let bad = is_bad_slot v c.args.self.now.bytes.now in
+    let slot = c.slot.result.now in
+    let count = length c.args.content.now / entry_length v in
+    let less : c.loop-i.i < count = subst (λ m. c.loop-i.i < m) c.slot_count-i-end.ensures c.loop-i-test.true in
+    name_within v slot c.slot.ensures.length
+    (name_short v c.args.self.now.bytes.now slot (ap bad c.slot.ensures.bytes ∙ no_slot_at bad v c.args.content.now count c.loop-i.i less c.requires))
+
+pub loop-i-preserved : goal.loop-i-preserved
+loop-i-preserved c =
+    names_more (λ (name : Bor (List ℕ)). name.now) c.args.self.now.version c.args.content.now c.loop-i.i c.loop-i.names.items c.push.new.self.items c.slot_name.result
+    c.loop-i.invariant c.in_ok-push.ensures.items (c.slot_name.ensures ∙ ap slot_name c.slot.ensures.bytes)
+
+pub returns : goal.returns
+returns c =
+    let v = c.args.self.now.version in
+    let all : c.loop-i.i ≡ c.slot_count-i-end.result = omega arith in
+    subst (λ m. map (λ (name : Bor (List ℕ)). name.now) c.loop-i.names.items ≡ map slot_name (slots_of v m c.args.content.now)) (all ∙ c.slot_count-i-end.ensures) c.loop-i.invariant
