@@ -1,5 +1,5 @@
 -- What is at fault in a content, by what its inode is.
-use Rattle.std.proofs.Common.{◌≡◌, ℕ, ◌/◌, List, [], map, Bool, true, false, cond, ap, ◌∙◌, refl, arith}
+use Rattle.std.proofs.Common.{◌≡◌, ℕ, ◌/◌, List, [], map, Bool, true, false, cond, ap, ◌∙◌, arith}
 use Rattle.std.proofs.lemmas.Bool.{or_left}
 use Rattle.std.proofs.lemmas.Bool.Decides.{nat_tests}
 use Rattle.std.specs.Prelude.{◌&&◌, ◌||◌, ◌==◌, bytes_eq}
@@ -9,12 +9,10 @@ use Rattle.pv_model.specs.Bytes.{Bytes}
 use Rattle.pv_model.specs.Image.{content, size}
 use Rattle.pv_model.specs.Mount.{has_bad_content, is_bad_slot, is_free, kind, slot_name, slots_of, stands_twice}
 use Rattle.pv_model.specs.Room.{entry_length}
+use Rattle.pv_mount.proofs.InodeBlocks.{or_none}
 use Rattle.pv_mount.specs.Slots.{are_bad_slots}
 
-or_none : (b : Bool) → (b || false) ≡ b
-or_none b = elim b as (λ b. (b || false) ≡ b) [ true ↦ refl | false ↦ refl ]
-
-other : (a b : ℕ) → (a ≡ b → ⊥) → (a == b) ≡ false
+pub other : (a b : ℕ) → (a ≡ b → ⊥) → (a == b) ≡ false
 other a b differs = grind (arith, nat_tests)
 
 module _ (v : Version) (bytes : Bytes) where

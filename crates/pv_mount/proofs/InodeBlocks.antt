@@ -32,7 +32,7 @@ one_fails p (x ∷ xs) is =
       | false ↦ λ here rest. refl
     ] refl is
 
-same_tests : (p q : ℕ → Bool) → ((k : ℕ) → p k ≡ q k) → (xs : List ℕ) → list_any p xs ≡ list_any q xs
+pub same_tests : (p q : ℕ → Bool) → ((k : ℕ) → p k ≡ q k) → (xs : List ℕ) → list_any p xs ≡ list_any q xs
 same_tests p q same [] = refl
 same_tests p q same (x ∷ xs) = ap (λ b. b || list_any p xs) (same x) ∙ ap (λ b. q x || b) (same_tests p q same xs)
 
@@ -46,7 +46,10 @@ range_more from (suc k) =
 and_rest : (f x : Bool) → f ≡ false → (not f && x) ≡ false → x ≡ false
 and_rest f x never is = ap (λ b. not b && x) (sym never) ∙ is
 
-or_flips : (a b : Bool) → (a || b) ≡ (b || a)
+pub or_none : (b : Bool) → (b || false) ≡ b
+or_none b = elim b as (λ b. (b || false) ≡ b) [ true ↦ refl | false ↦ refl ]
+
+pub or_flips : (a b : Bool) → (a || b) ≡ (b || a)
 or_flips a b = elim a as (λ a. (a || b) ≡ (b || a)) [ true ↦ sym (or_right b true refl) | false ↦ elim b as (λ b. b ≡ (b || false)) [ true ↦ refl | false ↦ refl ] ]
 
 -- ---- inodes

@@ -1,8 +1,13 @@
 pub mod BadContents
+pub mod Counting
 pub mod FieldNumbers
+pub mod HeaderSizes
 pub mod InodeBlocks
 pub mod InodeContents
+pub mod Joining
 pub mod PointerRows
+pub mod Reaching
 pub mod Refusals
 pub mod SlotRows
+pub mod SlotTargets
 pub mod SortedNames

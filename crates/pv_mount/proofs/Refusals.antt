@@ -8,7 +8,7 @@ use Rattle.std.specs.List.{list_any}
 use Rattle.pv_model.specs.Mount.{stands_twice}
 use Rattle.pv_mount.specs.Claims.{is_refused, is_taken_by}
 
-eq_flips : (a b : ℕ) → (a == b) ≡ (b == a)
+pub eq_flips : (a b : ℕ) → (a == b) ≡ (b == a)
 eq_flips a b = grind (arith, nat_tests)
 
 moved : (b a t : Bool) → (b || (a || t)) ≡ ((a || b) || t)

@@ -1,4 +1,5 @@
 pub mod Claims
 pub mod Numbers
+pub mod Places
 pub mod Rows
 pub mod Slots
