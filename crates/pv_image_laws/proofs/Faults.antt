@@ -10,7 +10,7 @@ use Rattle.pv_model.specs.declared.version.Version.{Version}
 use Rattle.pv_model.specs.declared.version.Version.TheVariants.{V1, V2}
 use Rattle.pv_model.specs.Bytes.{Bytes}
 use Rattle.pv_model.specs.Image.{magic}
-use Rattle.pv_model.specs.Mount.{version_of, inode_number, has_sizes, has_bad_inode, has_bad_block, has_bad_content, has_bad_place, least_with, or_fault, inode_fault, or_tree, mounted_as, mounted, PassesNone, PassesLeast, HasSizes, IsFaultOf, short, other_magic, other_sizes, bad_inode, bad_block, bad_content, bad_place}
+use Rattle.pv_model.specs.Mount.{version_of, inode_number, has_sizes, has_bad_inode, has_bad_block, has_bad_content, has_bad_place, least_with, or_fault, inode_fault, tree_in, or_tree, mounted_as, mounted, PassesNone, PassesLeast, HasSizes, IsFaultOf, short, other_magic, other_sizes, bad_inode, bad_block, bad_content, bad_place}
 use Rattle.pv_model.specs.Tree.{Tree}
 
 -- ---- the least number that passes a test
@@ -162,7 +162,7 @@ front_of : (v : Version) → by_front (magic v) ≡ Some v
 front_of V1 = refl
 front_of V2 = refl
 
-version_of-magic : (bytes : Bytes) (v : Version) → take 8 bytes ≡ magic v → version_of bytes ≡ Some v
+pub version_of-magic : (bytes : Bytes) (v : Version) → take 8 bytes ≡ magic v → version_of bytes ≡ Some v
 version_of-magic bytes v is = ap by_front is ∙ front_of v
 
 same_bytes : (a b : Bytes) → bytes_eq a b ≡ true → a ≡ b
@@ -247,3 +247,10 @@ answered bytes _ (bad_content v n sizes inodes blocks at) =
 answered bytes _ (bad_place v n sizes inodes blocks contents at) =
     by_least bytes v sizes None None None (Some n)
     (none-finds v bytes (has_bad_inode v bytes) inodes) (none-finds v bytes (has_bad_block v bytes) blocks) (none-finds v bytes (has_bad_content v bytes) contents) (least-finds v bytes (has_bad_place v bytes) n at)
+
+-- bytes without a fault hold a tree
+pub accepted : (bytes : Bytes) (v : Version) → HasSizes bytes v → PassesNone bytes (has_bad_inode v bytes) → PassesNone bytes (has_bad_block v bytes)
+    → PassesNone bytes (has_bad_content v bytes) → PassesNone bytes (has_bad_place v bytes) → mounted bytes ≡ Ok (tree_in v bytes)
+accepted bytes v sizes inodes blocks contents places =
+    by_least bytes v sizes None None None None
+    (none-finds v bytes (has_bad_inode v bytes) inodes) (none-finds v bytes (has_bad_block v bytes) blocks) (none-finds v bytes (has_bad_content v bytes) contents) (none-finds v bytes (has_bad_place v bytes) places)

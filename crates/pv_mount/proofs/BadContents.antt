@@ -1,5 +1,5 @@
 -- What is at fault in a content, by what its inode is.
-use Rattle.std.proofs.Common.{◌≡◌, ℕ, ◌/◌, List, [], map, Bool, true, false, cond, ap, ◌∙◌, refl, arith}
+use Rattle.std.proofs.Common.{◌≡◌, ℕ, ◌/◌, List, [], map, Bool, true, false, cond, ap, ◌∙◌, arith}
 use Rattle.std.proofs.lemmas.Bool.{or_left}
 use Rattle.std.proofs.lemmas.Bool.Decides.{nat_tests}
 use Rattle.std.specs.Prelude.{◌&&◌, ◌||◌, ◌==◌, bytes_eq}

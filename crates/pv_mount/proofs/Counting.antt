@@ -1,7 +1,6 @@
 -- Counting numbers, and the names of inodes.
-use Rattle.std.proofs.Common.{◌≡◌, ◌≢◌, ℕ, zero, suc, ◌+◌, ◌-◌, ◌*◌, ◌≤◌, ◌<◌, List, [], ◌∷◌, ◌++◌, length, get_or, set, take, replicate, Bool, true, false, ap, sym, subst, ◌∙◌, refl, arith, get_or-set_same, get_or-set_other, ltb-true, ltb-false}
+use Rattle.std.proofs.Common.{◌≡◌, ◌≢◌, ℕ, ◌+◌, ◌-◌, ◌*◌, ◌≤◌, ◌<◌, List, [], ◌∷◌, ◌++◌, length, get_or, set, take, replicate, true, false, ap, sym, subst, ◌∙◌, refl, arith, get_or-set_same, get_or-set_other, ltb-true, ltb-false}
 use Rattle.std.proofs.lemmas.Bool.{eqb-true, eqb-false}
-use Rattle.std.proofs.lemmas.Bool.Decides.{nat_tests}
 use Rattle.std.proofs.lemmas.Grind.{flat_map-append}
 use Rattle.std.proofs.lemmas.List.{append-nil, get_or-replicate, get_or_past, length-replicate, length-take-le}
 use Rattle.std.proofs.lemmas.List.Sums.{count_by-le-length, count_by_more_no, count_by_more_yes, sum_by-append}
@@ -9,7 +8,7 @@ use Rattle.std.specs.Prelude.{◌==◌, ◌^◌, cond, flat_map, nat_lt}
 use Rattle.std.specs.List.{range_with_len}
 use Rattle.pv_model.specs.declared.version.Version.{Version}
 use Rattle.pv_model.specs.Bytes.{Bytes}
-use Rattle.pv_model.specs.Mount.{inode_number, inode_numbers, name_count}
+use Rattle.pv_model.specs.Mount.{inode_number, name_count}
 use Rattle.pv_mount.proofs.InodeBlocks.{range_more}
 use Rattle.pv_mount.proofs.SlotTargets.{name_count-times}
 use Rattle.pv_mount.specs.Places.{targets_of, times}

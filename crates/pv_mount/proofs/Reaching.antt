@@ -1,10 +1,10 @@
 -- What slots lead to from the root.
-use Rattle.std.proofs.Common.{◌≡◌, ℕ, zero, suc, ◌+◌, ◌-◌, ◌≤◌, ◌<◌, List, [], ◌∷◌, ◌++◌, length, get_or, Bool, true, false, cond, inl, inr, ap, sym, subst, ◌∙◌, refl, arith, ltb-true, ltb-false}
+use Rattle.std.proofs.Common.{◌≡◌, ℕ, zero, suc, ◌+◌, ◌-◌, ◌≤◌, ◌<◌, List, [], ◌∷◌, length, get_or, Bool, true, false, cond, inl, inr, ap, sym, subst, ◌∙◌, refl, arith, ltb-true, ltb-false}
 use Rattle.std.proofs.lemmas.Bool.{eqb-true, or_cases, or_left, or_right}
 use Rattle.std.proofs.lemmas.List.FromFn.{get_or-range_with_len, length-range_with_len}
 use Rattle.std.proofs.lemmas.Map.Steps.{length-le_from_distinct_below}
-use Rattle.std.specs.Prelude.{◌||◌, ◌==◌, filter, nat_lt}
-use Rattle.std.specs.List.{list_any, range_with_len}
+use Rattle.std.specs.Prelude.{◌==◌, filter, nat_lt}
+use Rattle.std.specs.List.{list_any}
 use Rattle.pv_blocks.specs.declared.block_set.BlockSet.{BlockSet}
 use Rattle.pv_blocks.specs.BlockSet.{is_member}
 use Rattle.pv_model.specs.declared.version.Version.{Version}
@@ -12,7 +12,7 @@ use Rattle.pv_model.specs.Bytes.{Bytes}
 use Rattle.pv_model.specs.Mount.{has_bad_content, has_slot_for, inode_number, inode_numbers, is_reached_within, PassesNone}
 use Rattle.pv_model.specs.Tree.{root}
 use Rattle.pv_mount.proofs.InodeBlocks.{same_tests}
-use Rattle.pv_mount.proofs.Joining.{among_at, at_among, joined_each, joined_front, joined_has, joined_keeps, joined_longer, StandsAt}
+use Rattle.pv_mount.proofs.Joining.{among_at, at_among, joined_each, joined_front, joined_has, joined_keeps, joined_longer}
 use Rattle.pv_mount.proofs.Refusals.{eq_flips}
 use Rattle.pv_mount.proofs.SlotTargets.{slot_for-among, target_number}
 use Rattle.pv_mount.specs.Numbers.{IsNumber}

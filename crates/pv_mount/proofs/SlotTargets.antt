@@ -1,15 +1,15 @@
 -- The numbers in directories' slots.
-use Rattle.std.proofs.Common.{◌≡◌, ℕ, zero, suc, ◌+◌, ◌-◌, ◌*◌, ◌/◌, ◌≤◌, ◌<◌, List, [], ◌∷◌, ◌++◌, length, get_or, map, Bool, true, false, cond, ap, sym, subst, ◌∙◌, refl, arith}
+use Rattle.std.proofs.Common.{◌≡◌, ℕ, ◌+◌, ◌/◌, ◌≤◌, ◌<◌, List, [], ◌∷◌, ◌++◌, length, get_or, map, true, false, cond, ap, sym, subst, ◌∙◌, refl, arith}
 use Rattle.std.proofs.lemmas.Bool.{and_parts, eqb-true, leb-true, or_parts}
 use Rattle.std.proofs.lemmas.List.{get_or-map, length-map, map-append}
 use Rattle.std.proofs.lemmas.List.Sums.{length-filter, sum_by-cons}
-use Rattle.std.specs.Prelude.{not, ◌&&◌, ◌||◌, ◌==◌, nat_le, nat_lt, bytes_eq, flat_map, filter, count_by}
+use Rattle.std.specs.Prelude.{not, ◌&&◌, ◌||◌, ◌==◌, nat_le, nat_lt, bytes_eq, flat_map, count_by}
 use Rattle.std.specs.List.{list_any}
 use Rattle.pv_model.specs.declared.version.Version.{Version}
 use Rattle.pv_model.specs.declared.version.Version.TheVariants.{V1, V2}
 use Rattle.pv_model.specs.Bytes.{Bytes}
 use Rattle.pv_model.specs.Image.{content, size}
-use Rattle.pv_model.specs.Mount.{has_bad_content, has_bad_inode, has_slot_for, inode_number, inode_numbers, is_bad_slot, is_directory_inode, is_free, kind, name_count, slot_length, slot_name, slot_number, slots_at, slots_of, stands_twice}
+use Rattle.pv_model.specs.Mount.{has_bad_content, has_bad_inode, has_slot_for, inode_number, inode_numbers, is_bad_slot, is_free, kind, name_count, slot_length, slot_name, slot_number, slots_at, slots_of, stands_twice}
 use Rattle.pv_model.specs.Room.{entry_length, greatest_length}
 use Rattle.pv_model.specs.Tree.{greatest_name, is_name}
 use Rattle.pv_mount.proofs.BadContents.{used_kind}

@@ -1,4 +1,4 @@
-use Rattle.std.proofs.Common.{◌≡◌, inr, ap, sym, subst, refl, ◌∙◌}
+use Rattle.std.proofs.Common.{inr, ap, sym, subst, refl, ◌∙◌}
 use Rattle.std.proofs.lemmas.Result.{err_from_is_err_and}
 use Rattle.pv_image_laws.proofs.Faults.{accepted, answered}
 use Rattle.pv_model.specs.declared.fault.ImageFault.TheVariants.{Inode, Block, Dir, Tree as NoTree}

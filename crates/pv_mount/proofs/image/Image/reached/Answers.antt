@@ -1,8 +1,6 @@
-use Rattle.std.proofs.Common.{◌≡◌, ◌+◌, ◌-◌, ◌≤◌, ◌<◌, ◌++◌, ◌∷◌, [], List, ℕ, length, get_or, ap, sym, subst, ◌∙◌, arith}
+use Rattle.std.proofs.Common.{◌≡◌, ◌+◌, ◌<◌, ◌++◌, ◌∷◌, [], List, ℕ, length, get_or, ap, sym, subst, ◌∙◌, arith}
 use Rattle.std.proofs.lemmas.List.{get_or_read}
 use Rattle.std.specs.Prelude.{◌||◌, ◌==◌}
-use Rattle.pv_model.specs.Mount.{inode_number}
-use Rattle.pv_model.specs.Tree.{root}
 use Rattle.pv_mount.specs.Numbers.{IsNumber}
 use Rattle.pv_mount.specs.Places.{joined, targets_of, HasEach}
 use Rattle.pv_mount.proofs.Joining.{one_each}

@@ -1,5 +1,4 @@
-use Rattle.std.proofs.Common.{◌≡◌, ◌*◌, ◌/◌, length, map, ap, sym, ◌∙◌, arith}
-use Rattle.std.proofs.lemmas.Bool.Decides.{nat_tests}
+use Rattle.std.proofs.Common.{◌≡◌, ◌*◌, ◌/◌, length, map, ap, sym, ◌∙◌}
 use Rattle.pv_model.specs.Image.{content, size}
 use Rattle.pv_model.specs.Mount.{kind, slot_number, slots_of}
 use Rattle.pv_model.specs.Room.{entry_length}
