@@ -1,9 +1,8 @@
 -- The tables of two worked runs, by computing.
-use Rattle.std.proofs.Common.{ℕ, zero, suc, [], ◌∷◌, Option, None, Some, refl}
+use Rattle.std.proofs.Common.{ℕ, zero, suc, [], Option, None, Some, refl}
 use Rattle.pv_model.specs.OnLiterals.{machine_on_literals}
 use Rattle.pv_model.specs.State.{Process, first_process, process_at}
 use Rattle.pv_model.specs.Unveil.{Table, letters_at}
-use Rattle.pv_model.specs.Perms.{no_letters}
 use Rattle.pv_places.specs.Moves.{gives_any}
 use Rattle.pv_places.specs.Examples.{state_behind, shut, table_of, MovesHappen}
 use Rattle.std.proofs.Common.{◌≡◌, false}

@@ -1,7 +1,5 @@
 -- Which letters a step brings to a node.
-use Rattle.std.proofs.Common.{◌≡◌, ◌≢◌, ◌⊎◌, inl, inr, ⊎_elim, ℕ, Bool, true, false, not, ◌&&◌, ◌||◌, Option, None, Some, is_some, refl, ap, sym, subst, ◌∙◌}
-use Rattle.std.proofs.lemmas.Bool.{and_parts}
-use Rattle.pv_model.specs.declared.call.Call.{Call}
+use Rattle.std.proofs.Common.{◌≡◌, ◌≢◌, ◌⊎◌, inl, inr, ⊎_elim, ℕ, Bool, true, false, not, ◌&&◌, ◌||◌, Option, None, Some, is_some, refl, ap, sym, ◌∙◌}
 use Rattle.pv_model.specs.declared.call.Call.TheVariants.{Execve}
 use Rattle.pv_model.specs.declared.outcome.Outcome.{Outcome}
 use Rattle.pv_model.specs.declared.outcome.Outcome.TheVariants.{Value}
@@ -15,7 +13,7 @@ use Rattle.pv_model.specs.Promises.{Promises}
 use Rattle.pv_model.specs.Sealed.{is_file}
 use Rattle.pv_model.specs.State.{Program, Process, State, process_at}
 use Rattle.pv_model.specs.Step.{step}
-use Rattle.pv_model.specs.Tree.{Node, Tree, root, node_at, is_directory, is_directory_at, find_entry, parent, IsAtOrAbove, itself, above}
+use Rattle.pv_model.specs.Tree.{Node, Tree, node_at, is_directory, is_directory_at, find_entry, parent, IsAtOrAbove, itself, above}
 use Rattle.pv_model.specs.Unveil.{Table, letters_at, Governs, own, from_above, judgement}
 use Rattle.pv_tree_laws.proofs.Changes.{has_entry-directory}
 use Rattle.pv_tree_laws.proofs.Trees.{IsOrdered, parent-entry, ordered, sound, entry-parent}

@@ -1,5 +1,5 @@
 -- A process whose locked table gives nothing of a file, and a rename that brings a letter to one: so the laws speak of something.
-use Rattle.std.specs.Prelude.{◌≡◌, ℕ, false, true, IsTrue, List, [], ◌∷◌, codes, replicate, Option, None, Some}
+use Rattle.std.specs.Prelude.{◌≡◌, ℕ, false, true, IsTrue, [], ◌∷◌, codes, replicate, Option, None, Some}
 use Rattle.pv_model.specs.declared.instruction.Instruction.TheVariants.{Open, Mkdir, Unveil, Rename}
 use Rattle.pv_model.specs.declared.open_flags.Mode.TheVariants.{Read}
 use Rattle.pv_model.specs.declared.open_flags.OpenFlags.{OpenFlags}
