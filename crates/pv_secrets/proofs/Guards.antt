@@ -57,15 +57,15 @@ module _ (s : State) (whole : IsWhole s) (p : Process) (f : ℕ) (file : is_file
   plain = file-plain (node_at s.tree f) file
 
   -- a place at the file
-  record IsGoverned (table : Table) (needed : Perms) : Type 0 where
-    directory : ℕ
-    name : Bytes
-    entry : ℕ
-    found : find_entry s.tree directory name ≡ Some f
-    governs : GovernsName s.tree table directory name entry
-    letters : covers (letters_at table entry) needed ≡ true
+  pub record IsGoverned (table : Table) (needed : Perms) : Type 0 where
+    pub directory : ℕ
+    pub name : Bytes
+    pub entry : ℕ
+    pub found : find_entry s.tree directory name ≡ Some f
+    pub governs : GovernsName s.tree table directory name entry
+    pub letters : covers (letters_at table entry) needed ≡ true
 
-  governed : (table : Table) (place : Place) (needed : Perms) → IsFinePlace s.tree place → node_of place ≡ Some f → judgement s.tree (Some table) place needed ≡ Allowed → IsGoverned table needed
+  pub governed : (table : Table) (place : Place) (needed : Perms) → IsFinePlace s.tree place → node_of place ≡ Some f → judgement s.tree (Some table) place needed ≡ Allowed → IsGoverned table needed
   unfolding judgement governing_entry
   governed table (Unnamed n) needed fine is allowed =
       let same : n ≡ f = cc is in
@@ -81,7 +81,7 @@ module _ (s : State) (whole : IsWhole s) (p : Process) (f : ℕ) (file : is_file
       record { directory = d; name = name; entry = by.0; found = fine.2 ∙ ap Some same; governs = found-governs s p f whole.tree.well_formed table d name by.0 by.1; letters = by.2 }
 
   -- a place at a directory
-  governed-directory : (table : Table) (e : ℕ) (place : Place) (needed : Perms) → is_directory_at s.tree e ≡ true → node_of place ≡ Some e → judgement s.tree (Some table) place needed ≡ Allowed
+  pub governed-directory : (table : Table) (e : ℕ) (place : Place) (needed : Perms) → is_directory_at s.tree e ≡ true → node_of place ≡ Some e → judgement s.tree (Some table) place needed ≡ Allowed
       → (k : ℕ) × Governs s.tree table e k × (covers (letters_at table k) needed ≡ true)
   unfolding judgement governing_entry
   governed-directory table e (Unnamed n) needed dir is allowed =
