@@ -1,5 +1,5 @@
 -- The parts of a line.
-use Rattle.std.proofs.Common.{◌≡◌, ℕ, Bool, true, false, [], ◌∷◌, ◌++◌, ◌∙◌, ap, ap₂, Option, None, Some, option_map, codes, refl}
+use Rattle.std.proofs.Common.{◌≡◌, ℕ, true, false, [], ◌∷◌, ◌++◌, ◌∙◌, ap, ap₂, Option, None, Some, option_map, codes, refl}
 use Rattle.std.specs.Fmt.{decimal}
 use Rattle.std.specs.Prelude.{IsSome}
 use Rattle.pv_model.specs.declared.sort.Sort.{Sort}
