@@ -1,7 +1,6 @@
 -- The names of a directory, one after the other.
-use Rattle.std.proofs.Common.{◌≡◌, ℕ, ◌-◌, Bool, true, false, cond, ◌&&◌, [], ◌∷◌, ◌++◌, length, take, drop, codes, Option, None, Some, refl, ap, sym, subst, ◌∙◌, append_assoc, arith, ◌+◌, ◌<◌, ◌≤◌, Bor, ⊎_elim, add-one, length-append, length-drop, drop-cons, get_or}
-use Rattle.std.specs.Ordering.{is_lt, nat_cmp, ordering_reverse}
-use Rattle.std.specs.Cmp.Lexicographic.{slice_cmp}
+use Rattle.std.proofs.Common.{◌≡◌, ℕ, ◌-◌, true, false, cond, [], ◌∷◌, ◌++◌, length, take, drop, codes, Option, None, Some, refl, ap, sym, subst, ◌∙◌, append_assoc, arith, ◌+◌, ◌<◌, ◌≤◌, Bor, ⊎_elim, add-one, length-append, length-drop, drop-cons}
+use Rattle.std.specs.Ordering.{is_lt, eq_by_cmp, ordering_reverse}
 use Rattle.std.specs.FinMap.Entries.{find, is_sorted, below_all}
 use Rattle.std.specs.declared.cmp.Ordering.{Ordering}
 use Rattle.std.specs.declared.cmp.Ordering.TheVariants.{Less, Equal, Greater}
@@ -22,7 +21,7 @@ less_from Less is = refl
 less_from Equal is = cc
 less_from Greater is = cc
 
--- no name is less than a name that is not below it
+-- a name is not behind one that it comes before
 not_behind : (a b : Bytes) → by_name a b ≡ Less → is_behind (Some b) a ≡ false
 not_behind a b less = ap is_lt (nat_list_cmp_total.antisymm b a ∙ ap ordering_reverse less)
 
@@ -45,7 +44,7 @@ all_behind name (e ∷ es) below =
     let parts = and_parts (is_lt (by_name name e.0)) (below_all by_name name es) below in
     ap (λ b. cond b (e ∷ entries_behind (Some name) es) (entries_behind (Some name) es)) parts.0 ∙ ap (λ (xs : Entries). e ∷ xs) (all_behind name es parts.1)
 
--- and behind what the name is behind
+-- and behind any last name that the name is behind
 all_behind_last : (last : Option Bytes) (name : Bytes) (es : Entries) → is_behind last name ≡ true → below_all by_name name es ≡ true → entries_behind last es ≡ es
 all_behind_last last name [] is below = refl
 all_behind_last last name (e ∷ es) is below =
@@ -58,7 +57,7 @@ found_above : (name other : Bytes) (n : ℕ) (es : Entries) → below_all by_nam
 found_above name other n [] below found = cc
 found_above name other n (e ∷ es) below found =
     let parts = and_parts (is_lt (by_name name e.0)) (below_all by_name name es) below in
-    elim (Rattle.std.specs.Ordering.eq_by_cmp by_name other e.0) as (λ b. Rattle.std.specs.Ordering.eq_by_cmp by_name other e.0 ≡ b → cond b (Some e.1) (find by_name other es) ≡ Some n → by_name name other ≡ Less) [
+    elim (eq_by_cmp by_name other e.0) as (λ b. eq_by_cmp by_name other e.0 ≡ b → cond b (Some e.1) (find by_name other es) ≡ Some n → by_name name other ≡ Less) [
       | true ↦ λ tied here. ap (by_name name) (tied-same other e.0 tied) ∙ less_from (by_name name e.0) parts.0
       | false ↦ λ tied there. found_above name other n es parts.1 there
     ] refl found

@@ -1,5 +1,5 @@
 -- The lines of a node and of all that is in it, entry by entry.
-use Rattle.std.proofs.Common.{◌≡◌, ℕ, zero, suc, ◌-◌, ◌<◌, true, false, [], ◌∷◌, ◌++◌, ◌∙◌, flat_map, length, codes, Option, None, Some, refl, ap, sym, subst, append_assoc, arith}
+use Rattle.std.proofs.Common.{◌≡◌, ℕ, zero, suc, ◌-◌, ◌<◌, false, [], ◌∷◌, ◌++◌, ◌∙◌, flat_map, length, codes, Option, None, Some, refl, ap, sym, subst, append_assoc, arith}
 use Rattle.std.proofs.lemmas.List.{append-nil}
 use Rattle.pv_model.specs.Bytes.{Bytes}
 use Rattle.pv_model.specs.Listing.{node_line, lines_within, listing}

@@ -1,6 +1,7 @@
 -- The parts of a line.
-use Rattle.std.proofs.Common.{◌≡◌, ℕ, Bool, true, false, [], ◌∷◌, ◌++◌, ◌∙◌, ap, ap₂, sym, Option, None, Some, option_map, codes, refl}
+use Rattle.std.proofs.Common.{◌≡◌, ℕ, true, false, [], ◌∷◌, ◌++◌, ◌∙◌, ap, ap₂, Option, None, Some, option_map, codes, refl}
 use Rattle.std.specs.Fmt.{decimal}
+use Rattle.std.specs.Prelude.{IsSome}
 use Rattle.pv_model.specs.declared.sort.Sort.{Sort}
 use Rattle.pv_model.specs.Bytes.{Bytes}
 use Rattle.pv_model.specs.Effect.{size_of}
@@ -8,7 +9,7 @@ use Rattle.pv_model.specs.Listing.{sort_letter, listed_path, node_line}
 use Rattle.pv_model.specs.Trace.{quote}
 use Rattle.pv_model.specs.Tree.{Node, directory_node, file_node, link_node}
 use Rattle.pv_dirs.specs.Trees.{sort_of}
-use Rattle.pv_listing.specs.Lines.{letter_of, line_front}
+use Rattle.pv_listing.specs.Lines.{letter_of, node_front}
 
 letter-is : (node : Node) → sort_letter node ≡ letter_of (sort_of node)
 letter-is (directory_node es) = refl
@@ -16,13 +17,17 @@ letter-is (file_node false bytes) = refl
 letter-is (file_node true bytes) = refl
 letter-is (link_node text) = refl
 
--- a line in three pieces
-pub line-is : (front listed path : Bytes) (n : ℕ) (node : Option Node) (sort : Sort) (size : ℕ) → option_map sort_of node ≡ Some sort → option_map size_of node ≡ Some size
-    → front ≡ line_front sort n size → listed ≡ listed_path path → (front ++ quote listed) ++ 10 ∷ [] ≡ node_line path n node
-line-is front listed path n None sort size is measures first then = cc is
-line-is front listed path n (Some node) sort size is measures first then =
+-- what stands before the path, as a tree tells it
+pub front_is : (n : ℕ) (node : Option Node) (sort : Sort) (size : ℕ) → option_map sort_of node ≡ Some sort → option_map size_of node ≡ Some size
+    → node_front n node ≡ letter_of sort ++ codes " " ++ decimal n ++ codes " " ++ decimal size ++ codes " "
+front_is n None sort size is measures = cc is
+front_is n (Some node) sort size is measures =
     let same : sort_of node ≡ sort = cc is in
     let long : size_of node ≡ size = cc measures in
-    let letters = letter-is node ∙ ap letter_of same in
-    ap₂ (λ (a b : Bytes). (a ++ quote b) ++ 10 ∷ []) first then
-    ∙ ap₂ (λ (l : Bytes) (z : ℕ). ((l ++ codes " " ++ decimal n ++ codes " " ++ decimal z ++ codes " ") ++ quote (listed_path path)) ++ 10 ∷ []) (sym letters) (sym long)
+    ap₂ (λ (l : Bytes) (z : ℕ). l ++ codes " " ++ decimal n ++ codes " " ++ decimal z ++ codes " ") (letter-is node ∙ ap letter_of same) long
+
+-- a line in three pieces
+pub line-is : (front listed path : Bytes) (n : ℕ) (node : Option Node) → IsSome node → front ≡ node_front n node → listed ≡ listed_path path
+    → (front ++ quote listed) ++ 10 ∷ [] ≡ node_line path n node
+line-is front listed path n None some first then = cc some
+line-is front listed path n (Some node) some first then = ap₂ (λ (a b : Bytes). (a ++ quote b) ++ 10 ∷ []) first then

@@ -1,34 +1,17 @@
 -- What a sink was told of a text, and what waits of it.
-use Rattle.std.proofs.Common.{◌≡◌, ◌+◌, ◌<◌, ◌++◌, ◌∙◌, ap, sym, subst, ℕ, List, [], ◌∷◌, length, take, drop, get_or, flat_map, append_assoc, refl, Option, None, Some}
+use Rattle.std.proofs.Common.{◌≡◌, ◌+◌, ◌<◌, ◌++◌, ◌∙◌, ap, sym, subst, ℕ, [], ◌∷◌, length, take, drop, get_or, flat_map, append_assoc, refl, Option, None, Some}
 use Rattle.std.proofs.lemmas.List.{append-nil, take_more, take-append-drop}
 use Rattle.std.proofs.lemmas.Grind.{flat_map-append}
 use Rattle.std.proofs.Math.Seq.{take-append_seam}
 use Rattle.pv_model.specs.Bytes.{Bytes}
 use Rattle.pv_model.specs.Stream.{and_front}
 use Rattle.pv_trace.specs.Streams.{and_all, TellsBeginning}
-use Rattle.pv_trace.proofs.Telling.{begins_first, begins_then, told_both}
+use Rattle.pv_trace.proofs.Telling.{begins_first, begins_then}
 use Rattle.pv_listing.specs.Waiting.{TellsAllBut}
-
--- nothing told
-and_nothing : (before : Option Bytes) → before ≡ and_all before []
-and_nothing None = refl
-and_nothing (Some had) = ap Some (sym (append-nil had))
 
 and_both : (before : Option Bytes) (a b : Bytes) → and_all (and_all before a) b ≡ and_all before (a ++ b)
 and_both None a b = refl
 and_both (Some had) a b = ap Some (append_assoc had a b)
-
--- all of a text waits
-pub all_waits : (text : Bytes) (before : Option Bytes) → TellsAllBut text text before before
-all_waits text before = ([], and_nothing before, refl)
-
--- all that waited was told, and then other text waits
-pub told_then : (text more : Bytes) (before after : Option Bytes) → after ≡ and_all before text → TellsAllBut more (text ++ more) before after
-told_then text more before after told = (text, told, refl)
-
--- nothing waits
-pub told_all : (text : Bytes) (before after : Option Bytes) → TellsAllBut [] text before after → after ≡ and_all before text
-told_all text before after (done, told, rest) = told ∙ ap (and_all before) (sym (append-nil done) ∙ rest)
 
 -- what waited was told
 pub told_rest : (waiting text : Bytes) (before mid after : Option Bytes) → TellsAllBut waiting text before mid → after ≡ and_all mid waiting → after ≡ and_all before text

@@ -5,7 +5,9 @@ use Rattle.pv_model.specs.declared.sort.Sort.{Sort}
 use Rattle.pv_model.specs.declared.sort.Sort.TheVariants.{Directory, File, Executable, Symlink}
 use Rattle.pv_model.specs.Bytes.{Bytes}
 use Rattle.pv_model.specs.Calls.Descriptors.{is_behind}
-use Rattle.pv_model.specs.Tree.{Entries}
+use Rattle.pv_model.specs.Effect.{size_of}
+use Rattle.pv_model.specs.Listing.{sort_letter}
+use Rattle.pv_model.specs.Tree.{Entries, Node}
 
 -- the letter of what a node is
 abbrev pub letter_of : Sort → Bytes
@@ -15,8 +17,9 @@ letter_of Executable = codes "x"
 letter_of Symlink = codes "l"
 
 -- what stands before the path of a line
-abbrev pub line_front : Sort → ℕ → ℕ → Bytes
-line_front sort node size = letter_of sort ++ codes " " ++ decimal node ++ codes " " ++ decimal size ++ codes " "
+abbrev pub node_front : ℕ → Option Node → Bytes
+node_front n None = []
+node_front n (Some node) = sort_letter node ++ codes " " ++ decimal n ++ codes " " ++ decimal (size_of node) ++ codes " "
 
 -- the name behind a slash, if there is one
 abbrev pub last_name : Bytes → Option Bytes

@@ -4,7 +4,7 @@ ghost use Rattle.pv_model.specs.Listing.{listed_path as path_of_line, node_line}
 ghost use Rattle.pv_model.specs.Stream.{Rose};
 ghost use Rattle.pv_model.specs.Tree.{node_at};
 ghost use Rattle.pv_trace.specs.Streams.{and_all, TellsBeginning};
-ghost use Rattle.pv_listing.specs.Lines.{letter_of, line_front};
+ghost use Rattle.pv_listing.specs.Lines.{letter_of, node_front};
 ghost use Rattle.pv_listing.specs.Waiting.{TellsAllBut};
 
 use crate::sheet::{Sheet, put, put_quoted};
@@ -53,13 +53,15 @@ fn add_number(front: &mut Front, number: u32)
 }
 
 // What a line says of a node before its path: what it is, its number, and its size as stat(2) gives it.
-fn front_of(sort: Sort, node: u16, size: u32) -> Front
-    ensures { result.items ≡ line_front sort node size }
+#[tactic(auto, using(crate::proofs::Parts::front_is))]
+fn front_of(tree: &Tree, node: u16) -> Front
+    requires { IsSome (node_at tree.now.tree node) }
+    ensures { result.items ≡ node_front node (node_at tree.now.tree node) }
 {
     let mut front = Front::new();
-    add_word(&mut front, letter(sort));
+    add_word(&mut front, letter(tree.kind(node)));
     add_number(&mut front, u32::from(node));
-    add_number(&mut front, size);
+    add_number(&mut front, tree.size(node));
     front
 }
 
@@ -84,7 +86,7 @@ pub(crate) fn put_line<W: Sink>(
     ensures failed { OnErr result (Rose (W.failures out.old) (W.failures out.new)) }
     ensures quiet { OnOk result (W.failures out.new ≡ W.failures out.old) }
 {
-    let front = front_of(tree.kind(node), node, tree.size(node));
+    let front = front_of(tree, node);
     put(out, sheet, front.as_slice())?;
     put_quoted(out, sheet, listed_path(path))?;
     put(out, sheet, b"\n")

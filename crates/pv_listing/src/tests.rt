@@ -45,16 +45,20 @@ fn sink_of<R: AllocGlobal>(rt: &R, room: usize, width: usize) -> Narrow {
     }
 }
 
-// A tree of the root alone, in an image of 16 inodes and 30 data blocks.
-fn small_tree(alloc: Global) -> Result<Tree, AllocError> {
-    let zeros = vec![in alloc; 0; 512 * 32]?;
-    Ok(Store::empty(zeros, 32, 16, Version::V1).into_tree())
+// A tree of the root alone, in an image of 16 inodes and so many data blocks.
+fn small_tree(alloc: Global, count: u16) -> Result<Tree, AllocError>
+    requires { count ≤ 7000 }
+{
+    let zeros = vec![in alloc; 0; 512 * (count as usize + 2)]?;
+    Ok(Store::empty(zeros, count + 2, 16, Version::V1).into_tree())
 }
 
-// A tree of the root alone, in the greatest image of version 1.
-fn great_tree(alloc: Global) -> Result<Tree, AllocError> {
-    let zeros = vec![in alloc; 0; 512 * 8_192]?;
-    Ok(Store::empty(zeros, 8_192, 4_096, Version::V1).into_tree())
+// A tree of the root alone, in an image of 4,096 inodes and so many data blocks.
+fn great_tree(alloc: Global, count: u16) -> Result<Tree, AllocError>
+    requires { count ≤ 7000 }
+{
+    let zeros = vec![in alloc; 0; 512 * (count as usize + 257)]?;
+    Ok(Store::empty(zeros, count + 257, 4_096, Version::V1).into_tree())
 }
 
 // Puts a new node under a name of a directory.
@@ -110,7 +114,7 @@ const SOME: &[u8] =
 
 #[test]
 fn the_root_alone_has_one_line(rt: HostRuntime) -> Result<(), Fail> {
-    let tree = small_tree(rt.alloc())?;
+    let tree = small_tree(rt.alloc(), 30)?;
     let mut out = sink_of(&rt, 1_000, 1_000);
     assert_eq!(rt; write_listing(rt.alloc(), &tree, &mut out), Ok(()));
     assert!(rt; out.bytes.as_slice() == b"d 1 0 \"/\"\n".as_slice());
@@ -119,7 +123,7 @@ fn the_root_alone_has_one_line(rt: HostRuntime) -> Result<(), Fail> {
 
 #[test]
 fn a_directory_is_followed_by_all_that_is_in_it(rt: HostRuntime) -> Result<(), Fail> {
-    let mut tree = small_tree(rt.alloc())?;
+    let mut tree = small_tree(rt.alloc(), 30)?;
     make_some(&rt, &mut tree);
     for width in [1, 7, 1_000] {
         let mut out = sink_of(&rt, 1_000, width);
@@ -131,7 +135,7 @@ fn a_directory_is_followed_by_all_that_is_in_it(rt: HostRuntime) -> Result<(), F
 
 #[test]
 fn names_are_quoted(rt: HostRuntime) -> Result<(), Fail> {
-    let mut tree = small_tree(rt.alloc())?;
+    let mut tree = small_tree(rt.alloc(), 30)?;
     make(&rt, &mut tree, 1, b"\"\\ ~\x01\x7f\xff", Kind::File);
     let mut out = sink_of(&rt, 1_000, 1_000);
     assert_eq!(rt; write_listing(rt.alloc(), &tree, &mut out), Ok(()));
@@ -142,7 +146,7 @@ fn names_are_quoted(rt: HostRuntime) -> Result<(), Fail> {
 
 #[test]
 fn a_full_sink_has_a_beginning_of_the_listing(rt: HostRuntime) -> Result<(), Fail> {
-    let mut tree = small_tree(rt.alloc())?;
+    let mut tree = small_tree(rt.alloc(), 30)?;
     make_some(&rt, &mut tree);
     for room in 0..SOME.len() {
         for width in [1, 7, 1_000] {
@@ -170,7 +174,7 @@ fn chain_path(alloc: Global, count: usize, piece: &[u8]) -> Result<Vec<u8>, Allo
 
 #[test]
 fn a_path_may_be_longer_than_one_that_is_walked(rt: HostRuntime) -> Result<(), Fail> {
-    let mut tree = great_tree(rt.alloc())?;
+    let mut tree = great_tree(rt.alloc(), 1_100)?;
     make_chain(&rt, &mut tree, 20, &[255; 60]);
     let mut piece = Vec::from_slice(rt.alloc(), b"/")?;
     for _byte in 0..60 {
@@ -194,10 +198,28 @@ fn a_path_may_be_longer_than_one_that_is_walked(rt: HostRuntime) -> Result<(), F
 }
 
 #[test]
-fn the_deepest_tree_is_listed(rt: HostRuntime) -> Result<(), Fail> {
-    let mut tree = great_tree(rt.alloc())?;
-    make_chain(&rt, &mut tree, 4_095, b"d");
-    let path = chain_path(rt.alloc(), 4_095, b"/d")?;
+fn want_of_memory_leaves_a_beginning(rt: HostRuntime) -> Result<(), Fail> {
+    let mut tree = great_tree(rt.alloc(), 1_100)?;
+    make_chain(&rt, &mut tree, 20, &[255; 60]);
+    let mut first = sink_of(&rt, 1_000_000, 1_000_000);
+    let mut whole = sink_of(&rt, 1_000_000, 1_000_000);
+    first.bytes.reserve(100_000)?;
+    whole.bytes.reserve(100_000)?;
+    // An allocation that is refused from here on, if any, is one for the first path.
+    let listed = write_listing(rt.alloc(), &tree, &mut first);
+    assert!(rt; listed != Err(ListStop::Write));
+    assert!(rt; first.failures == 0);
+    assert_eq!(rt; write_listing(rt.alloc(), &tree, &mut whole), Ok(()));
+    assert!(rt; whole.bytes.starts_with(first.bytes.as_slice()));
+    assert!(rt; listed.is_err() == (first.bytes.len() < whole.bytes.len()));
+    Ok(())
+}
+
+#[test]
+fn a_deep_tree_is_listed(rt: HostRuntime) -> Result<(), Fail> {
+    let mut tree = great_tree(rt.alloc(), 1_100)?;
+    make_chain(&rt, &mut tree, 1_000, b"d");
+    let path = chain_path(rt.alloc(), 1_000, b"/d")?;
     let mut out = sink_of(&rt, 100_000_000, 100_000_000);
     assert_eq!(rt; write_listing(rt.alloc(), &tree, &mut out), Ok(()));
     assert!(rt;
@@ -205,6 +227,6 @@ fn the_deepest_tree_is_listed(rt: HostRuntime) -> Result<(), Fail> {
             .starts_with(b"d 1 1 \"/\"\nd 2 1 \"/d\"\nd 3 1 \"/d/d\"\n")
     );
     assert!(rt; out.bytes.ends_with(path.as_slice()));
-    assert!(rt; out.bytes.iter().filter(|byte| **byte == b'\n').count() == 4_096);
+    assert!(rt; out.bytes.iter().filter(|byte| **byte == b'\n').count() == 1_001);
     Ok(())
 }

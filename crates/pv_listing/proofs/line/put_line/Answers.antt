@@ -14,7 +14,7 @@ pub returns-in_err-put-clause-beginning : goal.returns-in_err-put-clause-beginni
 returns-in_err-put-clause-beginning g c =
     let front = c.as_slice.result.now in
     let path = listed_path c.args.path.now in
-    let line = line-is front path c.args.path.now c.args.node _ _ _ c.kind.ensures c.size.ensures.value (c.as_slice.ensures.value ∙ c.front_of-front.ensures) refl in
+    let line = line-is front path c.args.path.now c.args.node _ c.requires (c.as_slice.ensures.value ∙ c.front_of-front.ensures) refl in
     on_err c.from_residual.result
     (subst (λ (bs : Bytes). TellsBeginning (c.args.sheet.now.items ++ bs) (g.W.Sink.told c.args.out.now) (g.W.Sink.told c.put.new.out)) line
     (first_begins c.args.sheet.now.items front (quote path) (10 ∷ []) _ _ c.in_err-put.ensures.beginning))
@@ -23,7 +23,7 @@ pub returns-in_err-put_quoted-clause-beginning : goal.returns-in_err-put_quoted-
 returns-in_err-put_quoted-clause-beginning g c =
     let front = c.as_slice.result.now in
     let path = c.listed_path.result.now in
-    let line = line-is front path c.args.path.now c.args.node _ _ _ c.kind.ensures c.size.ensures.value (c.as_slice.ensures.value ∙ c.front_of-front.ensures) c.listed_path.ensures in
+    let line = line-is front path c.args.path.now c.args.node _ c.requires (c.as_slice.ensures.value ∙ c.front_of-front.ensures) c.listed_path.ensures in
     on_err c.from_residual-in_err-put_quoted.result
     (subst (λ (bs : Bytes). TellsBeginning (c.args.sheet.now.items ++ bs) (g.W.Sink.told c.args.out.now) (g.W.Sink.told c.put_quoted.new.out)) line
     (second_begins c.args.sheet.now.items front (quote path) (10 ∷ []) c.put.new.sheet.items _ _ _ c.in_ok-put.ensures.waits c.in_err-put_quoted.ensures.beginning))
@@ -32,7 +32,7 @@ pub returns-clause-waits : goal.returns-clause-waits
 returns-clause-waits g c =
     let front = c.as_slice.result.now in
     let path = c.listed_path.result.now in
-    let line = line-is front path c.args.path.now c.args.node _ _ _ c.kind.ensures c.size.ensures.value (c.as_slice.ensures.value ∙ c.front_of-front.ensures) c.listed_path.ensures in
+    let line = line-is front path c.args.path.now c.args.node _ c.requires (c.as_slice.ensures.value ∙ c.front_of-front.ensures) c.listed_path.ensures in
     on_ok_weaker c.put-2.result
     (λ waits. subst (λ (bs : Bytes). TellsAllBut c.put-2.new.sheet.items (c.args.sheet.now.items ++ bs) (g.W.Sink.told c.args.out.now) (g.W.Sink.told c.put-2.new.out)) line
     (third_waits c.args.sheet.now.items front (quote path) (10 ∷ []) c.put.new.sheet.items c.put_quoted.new.sheet.items _ _ _ _
@@ -43,7 +43,7 @@ pub returns-clause-beginning : goal.returns-clause-beginning
 returns-clause-beginning g c =
     let front = c.as_slice.result.now in
     let path = c.listed_path.result.now in
-    let line = line-is front path c.args.path.now c.args.node _ _ _ c.kind.ensures c.size.ensures.value (c.as_slice.ensures.value ∙ c.front_of-front.ensures) c.listed_path.ensures in
+    let line = line-is front path c.args.path.now c.args.node _ c.requires (c.as_slice.ensures.value ∙ c.front_of-front.ensures) c.listed_path.ensures in
     on_err_weaker c.put-2.result
     (λ begun. subst (λ (bs : Bytes). TellsBeginning (c.args.sheet.now.items ++ bs) (g.W.Sink.told c.args.out.now) (g.W.Sink.told c.put-2.new.out)) line
     (third_begins c.args.sheet.now.items front (quote path) (10 ∷ []) c.put.new.sheet.items c.put_quoted.new.sheet.items _ _ _ _

@@ -1,4 +1,4 @@
-use Rattle.std.proofs.Common.{◌≡◌, ◌++◌, ◌-◌, ◌∙◌, ℕ, ap, sym, subst, drop, take, length, codes, arith, Option, None, Some}
+use Rattle.std.proofs.Common.{◌≡◌, ◌++◌, ◌-◌, ◌∙◌, ℕ, ap, sym, subst, drop, take, length, codes, arith, Option}
 use Rattle.std.proofs.lemmas.List.{take_all, drop_all}
 use Rattle.pv_model.specs.Bytes.{Bytes}
 use Rattle.pv_model.specs.Listing.{lines_within, node_line}

@@ -2,7 +2,7 @@ use Rattle.std.proofs.Common.{◌+◌, ◌∙◌, ap, sym, subst, drop, take, le
 use Rattle.std.specs.Slice.{IsGetRangeResult}
 use Rattle.pv_model.specs.Bytes.{Bytes}
 use Rattle.pv_model.specs.Calls.Descriptors.{next_name}
-use Rattle.pv_model.specs.Tree.{entries_at}
+use Rattle.pv_model.specs.Tree.{entries_at, find_entry}
 use Rattle.pv_tree_laws.proofs.Trees.{ordered}
 use Rattle.pv_listing.specs.Lines.{last_name}
 use Rattle.pv_listing.proofs.Children.{child-none, child-some, last-got}
@@ -26,5 +26,5 @@ returns-clause-next c =
     child-some es (last_name (drop c.args.base path)) (take c.args.base path) c.extend_from_slice.new.self.items c.in-Some.name c.find.result
     (ordered c.args.tree.now.tree c.requires.well_formed.each_node c.args.directory)
     (ap (λ last. next_name last es) (sym got) ∙ sym c.in-Some.ensures.value)
-    (c.find.ensures ∙ ap (Rattle.pv_model.specs.Tree.find_entry c.args.tree.now.tree c.args.directory) c.as_slice-2.ensures.value)
+    (c.find.ensures ∙ ap (find_entry c.args.tree.now.tree c.args.directory) c.as_slice-2.ensures.value)
     (cc (c.in_ok-extend_from_slice.ensures.items, c.in_ok-push.ensures.items, c.truncate.ensures.items, c.as_slice.ensures.value))

@@ -1,4 +1,4 @@
-use Rattle.std.proofs.Common.{◌≡◌, ◌+◌, ◌∙◌, sym, subst, length, arith}
+use Rattle.std.proofs.Common.{◌≡◌, ◌+◌, subst, length, arith}
 use Rattle.pv_model.specs.Bytes.{Bytes}
 use Rattle.pv_trace.specs.Streams.{and_all, TellsBeginning}
 use Rattle.pv_trace.proofs.Telling.{on_err}
