@@ -1,0 +1,11 @@
+pub mod Ranges
+pub mod Pieces
+pub mod Listed
+pub mod Contents
+pub mod Heads
+pub mod Reading
+pub mod NamedTrees
+pub mod Places
+pub mod Writing
+pub mod Law
+pub mod PlacedTrees

@@ -1,0 +1,20 @@
+use Rattle.std.proofs.Common.{◌≡◌, [], ◌++◌, replicate, ap, ◌∙◌}
+use Rattle.std.proofs.lemmas.List.{append_assoc}
+use Rattle.pv_model.specs.Bytes.{Bytes, little_endian}
+use Rattle.pv_model.specs.Image.{magic}
+use Rattle.pv_writer.specs.Spelling.{first_block}
+use Rattle.pv_writer.proofs.image.beginning.Goals as goal
+
+one-by-one : (m a b z none first second third fourth : Bytes) → none ≡ [] → first ≡ none ++ m → second ≡ first ++ a → third ≡ second ++ b → fourth ≡ third ++ z
+    → fourth ≡ m ++ (a ++ (b ++ z))
+one-by-one m a b z none first second third fourth p q r s e =
+    e ∙ ap (λ (xs : Bytes). xs ++ z) (s ∙ ap (λ (xs : Bytes). xs ++ b) (r ∙ ap (λ (xs : Bytes). xs ++ a) (q ∙ ap (λ (xs : Bytes). xs ++ m) p)))
+    ∙ append_assoc (m ++ a) b z ∙ append_assoc m a (b ++ z)
+
+pub returns : goal.returns
+unfolding first_block
+returns c =
+    one-by-one (magic c.args.version) (little_endian 2 c.args.blocks) (little_endian 2 c.args.inodes) (replicate 500 0)
+    c.new-bytes.result.items c.extend_from_slice.new.self.items c.put_u16.new.bytes.items c.put_u16-2.new.bytes.items c.put_zeros.new.bytes.items
+    c.new-bytes.ensures.items (c.in_ok-extend_from_slice.ensures.items ∙ ap (λ (xs : Bytes). c.new-bytes.result.items ++ xs) c.magic_of.ensures)
+    c.in_ok-put_u16.ensures c.in_ok-put_u16-2.ensures c.in_ok-put_zeros.ensures

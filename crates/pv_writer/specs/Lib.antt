@@ -1,0 +1,3 @@
+pub mod Placed
+pub mod Spelling
+pub mod Writable

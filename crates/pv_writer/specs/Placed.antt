@@ -1,0 +1,29 @@
+-- The tree that an image is written of.
+use Rattle.std.specs.Prelude.{ℕ, suc, ◌+◌, ◌-◌, ◌++◌, length, replicate, sum_by, Option, None}
+use Rattle.pv_model.specs.declared.version.Version.{Version}
+use Rattle.pv_model.specs.Held.{named_tree}
+use Rattle.pv_model.specs.Image.{inode_blocks}
+use Rattle.pv_model.specs.Numbered.{Numbered, present}
+use Rattle.pv_model.specs.Room.{node_length, need}
+use Rattle.pv_model.specs.Tree.{Node, Tree, node_at}
+
+-- a map to which numbers are added, with nothing under them, up to so many
+abbrev pub lengthened : {X : Type 0} → ℕ → Numbered X → Numbered X
+lengthened n xs = xs ++ replicate (n - length xs) None
+
+-- the root and the named nodes of a tree, under their numbers, in an image of this version, of so many blocks in all, and inodes
+unfoldable pub placed : Tree → Version → ℕ → ℕ → Tree
+placed t v blocks inodes = record {
+  nodes = lengthened (suc inodes) (named_tree t).nodes;
+  blocks = blocks - (inode_blocks v inodes + 1);
+  inodes = inodes;
+  version = v;
+}
+
+-- the data blocks that the root and the named nodes of a tree need in an image of this version
+unfoldable pub named_need : Tree → Version → ℕ
+named_need t v = sum_by (λ node. need v (node_length v node)) (present (named_tree t).nodes)
+
+-- the node that an image has under a number: the root, or a named one
+unfoldable pub written_at : Tree → ℕ → Option Node
+written_at t n = node_at (named_tree t) n

@@ -1,0 +1,31 @@
+-- Trees of which an image can be written.
+use Rattle.std.specs.Prelude.{◌≡◌, ℕ, suc, ◌+◌, ◌^◌, ◌<◌, ◌≤◌, [], length, Some}
+use Rattle.pv_model.specs.declared.limits.TheConstants.{INODES}
+use Rattle.pv_model.specs.declared.version.Version.{Version}
+use Rattle.pv_model.specs.declared.version.Version.TheVariants.{V1, V2}
+use Rattle.pv_model.specs.Bytes.{Bytes}
+use Rattle.pv_model.specs.Image.{greatest_blocks}
+use Rattle.pv_model.specs.Room.{greatest_length}
+use Rattle.pv_model.specs.Tree.{Node, Tree, root, node_at, names_of, IsWellFormed}
+use Rattle.pv_writer.specs.Spelling.{content_of, taken_before, first_data, first_of, all_inodes, all_contents}
+
+-- what an inode's number of names stays below
+abbrev pub names_end : Version → ℕ
+names_end V1 = 2 ^ 16
+names_end V2 = 2 ^ 32
+
+-- each node but the root is named, the sizes are those of an image, and all has room in it
+pub record IsWritable (t : Tree) : Type 0 where
+  pub well_formed : IsWellFormed t
+  pub each_named : (n : ℕ) (node : Node) → node_at t n ≡ Some node → names_of t n ≡ [] → n ≡ root
+  pub few : t.inodes ≤ INODES
+  pub allowed : first_data t.version t.inodes + t.blocks ≤ greatest_blocks t.version
+  pub short : (n : ℕ) → length (content_of t.version (node_at t n)) ≤ greatest_length t.version
+  pub counted : (n : ℕ) → length (names_of t n) < names_end t.version
+  pub room : taken_before t (suc t.inodes) ≤ t.blocks
+
+-- the inodes and the contents of the nodes up to a number, and the block behind them
+pub record AreWritten (t : Tree) (n : ℕ) (inodes contents : Bytes) (next : ℕ) : Type 0 where
+  pub inodes_so_far : inodes ≡ all_inodes t n
+  pub contents_so_far : contents ≡ all_contents t n
+  pub block_behind : next ≡ first_of t (suc n)

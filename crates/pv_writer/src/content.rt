@@ -1,0 +1,109 @@
+//! What a node contains.
+ghost use Rattle.std.specs.Prelude.{◌≡◌, ◌≤◌, ◌++◌, false, length, flat_map, IsTrue, IsSome, IfOk, OnOk};
+ghost use Rattle.pv_dirs.specs.Trees.{bytes_at};
+ghost use Rattle.pv_model.specs.Calls.Descriptors.{next_name};
+ghost use Rattle.pv_model.specs.Room.{greatest_length};
+ghost use Rattle.pv_model.specs.Tree.{greatest_name, node_at, entries_at, is_directory_at};
+ghost use Rattle.pv_writer.specs.Spelling.{content_of, slot_of};
+
+use crate::filling::{put_u16, put_zeros};
+use pv_model::{Name, Version};
+use pv_tree::Tree;
+use std::alloc::{AllocError, Global};
+
+// Appends the slot of an entry.
+#[tactic(auto, unfolding(crate::specs::Spelling::slot_of, crate::specs::Spelling::padded))]
+fn put_slot(bytes: &mut Vec<u8>, version: Version, name: &[u8], node: u16) -> Result<(), AllocError>
+    requires { length name.now ≤ greatest_name version }
+    ensures { OnOk result (bytes.new.items ≡ bytes.old.items ++ slot_of version (name.now, node)) }
+{
+    let behind = version.layout().slot_length - 4 - name.len();
+    put_u16(bytes, node)?;
+    bytes.extend_from_slice(&[name.len() as u8, 0])?;
+    bytes.extend_from_slice(name)?;
+    put_zeros(bytes, behind)
+}
+
+// The name of a directory that comes behind the last one.
+fn next(tree: &Tree, directory: u16, last: &Option<Name>) -> Option<Name>
+    requires { IsTrue (is_directory_at tree.now.tree directory) }
+    ensures { result ≡ next_name last.now (entries_at tree.now.tree directory) }
+{
+    match last {
+        None => tree.next_after(directory, None),
+        Some(name) => tree.next_after(directory, Some(name.as_slice())),
+    }
+}
+
+// The slots of a directory, in the order of the names.
+fn slots(
+    alloc: Global,
+    tree: &Tree,
+    version: Version,
+    directory: u16,
+) -> Result<Vec<u8>, AllocError>
+    requires directory { IsTrue (is_directory_at tree.now.tree directory) }
+    requires names { greatest_name tree.now.tree.version ≤ greatest_name version }
+    ensures { IfOk result (λ bytes. bytes.items ≡ flat_map (slot_of version) (entries_at tree.now.tree directory)) }
+{
+    let _ = tree.sizes();
+    let mut bytes = Vec::new(alloc);
+    let mut last: Option<Name> = None;
+    for _entry in 0..tree.size(directory) {
+        let Some(name) = next(tree, directory, &last) else {
+            unreachable!()
+        };
+        let Some(node) = tree.find(directory, name.as_slice()) else {
+            unreachable!()
+        };
+        put_slot(&mut bytes, version, name.as_slice(), node)?;
+        last = Some(name);
+    }
+    Ok(bytes)
+}
+
+// The bytes of a file, or of a link's text.
+fn bytes_of(alloc: Global, tree: &Tree, node: u16) -> Result<Vec<u8>, AllocError>
+    requires used { IsSome (node_at tree.now.tree node) }
+    requires other { is_directory_at tree.now.tree node ≡ false }
+    ensures { IfOk result (λ bytes. bytes.items ≡ bytes_at tree.now.tree node) }
+{
+    let mut bytes = vec![in alloc; 0; tree.size(node) as usize]?;
+    let _count = tree.read_at(node, 0, &mut bytes);
+    Ok(bytes)
+}
+
+/// What a node contains, as an image of this version has it: the slots of a directory, the bytes of a file, or a
+/// link's text.
+pub(crate) fn content(
+    alloc: Global,
+    tree: &Tree,
+    version: Version,
+    node: u16,
+) -> Result<Vec<u8>, AllocError>
+    requires used { IsSome (node_at tree.now.tree node) }
+    requires names { greatest_name tree.now.tree.version ≤ greatest_name version }
+    ensures { IfOk result (λ bytes. bytes.items ≡ content_of version (node_at tree.now.tree node)) }
+{
+    if tree.is_directory(node) {
+        slots(alloc, tree, version, node)
+    } else {
+        bytes_of(alloc, tree, node)
+    }
+}
+
+/// How long it is: no longer than the version allows.
+pub(crate) fn content_length(tree: &Tree, version: Version, node: u16) -> usize
+    requires used { IsSome (node_at tree.now.tree node) }
+    requires names { greatest_name tree.now.tree.version ≤ greatest_name version }
+    ensures value { result ≡ length (content_of version (node_at tree.now.tree node)) }
+    ensures allowed { result ≤ greatest_length version }
+{
+    let _ = tree.sizes();
+    let size = tree.size(node) as usize;
+    if tree.is_directory(node) {
+        version.layout().slot_length * size
+    } else {
+        size
+    }
+}
