@@ -1,14 +1,14 @@
 -- What is read of an inode that is written.
-use Rattle.std.proofs.Common.{◌≡◌, ℕ, zero, suc, ◌+◌, ◌-◌, ◌*◌, ◌<◌, ◌≤◌, min, List, [], ◌∷◌, ◌++◌, length, take, drop, replicate, refl, ap, sym, subst, ◌∙◌, arith}
+use Rattle.std.proofs.Common.{◌≡◌, ℕ, ◌+◌, ◌-◌, ◌*◌, ◌<◌, ◌≤◌, List, ◌∷◌, ◌++◌, length, take, drop, replicate, refl, ap, sym, ◌∙◌, arith}
 use Rattle.std.specs.List.{range_with_len}
-use Rattle.std.proofs.lemmas.List.{append_assoc, length-append, length-replicate, drop-drop}
+use Rattle.std.proofs.lemmas.List.{append_assoc, length-append, drop-drop}
 use Rattle.std.proofs.lemmas.List.FromFn.{length-range_with_len}
 use Rattle.pv_model.specs.declared.version.Version.{Version}
 use Rattle.pv_model.specs.declared.version.Version.TheVariants.{V1, V2}
 use Rattle.pv_model.specs.Bytes.{Bytes, little_endian}
 use Rattle.pv_model.specs.Image.{number_of, field, pointers, inode_length, index_pointers, stored_count}
 use Rattle.pv_model.specs.Room.{greatest_length}
-use Rattle.pv_writer.specs.Spelling.{padded, spelled, blocks_for, index_for, direct_for, taken, before_size, behind_pointers, inode_bytes}
+use Rattle.pv_writer.specs.Spelling.{padded, spelled, blocks_for, index_for, direct_for, before_size, behind_pointers, inode_bytes}
 use Rattle.pv_writer.specs.Writable.{names_end}
 use Rattle.pv_writer.proofs.Pieces.{front-is, behind-is, length-padded}
 use Rattle.pv_writer.proofs.Ranges.{length-little_endian, two-bytes, four-bytes, length-spelled_row, pointers-spelled, pointers-add}

@@ -1,22 +1,22 @@
 -- The bytes that are written are an image of the tree.
-use Rattle.std.proofs.Common.{◌≡◌, ◌≢◌, ℕ, zero, suc, ◌+◌, ◌-◌, ◌*◌, ◌<◌, ◌≤◌, Bool, true, false, not, ◌&&◌, ◌==◌, List, [], ◌∷◌, ◌++◌, length, take, drop, replicate, Option, None, Some, is_none, is_some, refl, ap, sym, subst, ◌∙◌, inl, inr, ⊎_elim, arith}
-use Rattle.std.specs.Prelude.{flat_map, filter, slice_get, IsPermutation, IsTrue}
+use Rattle.std.proofs.Common.{◌≡◌, ℕ, zero, suc, ◌+◌, ◌-◌, ◌*◌, ◌<◌, ◌≤◌, Bool, true, false, not, ◌==◌, List, [], ◌∷◌, ◌++◌, length, take, drop, replicate, Option, None, Some, is_none, is_some, refl, ap, sym, subst, ◌∙◌, inl, inr, ⊎_elim, arith}
+use Rattle.std.specs.Prelude.{flat_map, slice_get}
 use Rattle.std.specs.List.{AllByRecursion, IsDistinct, list_all, list_any, range_with_len}
 use Rattle.std.proofs.lemmas.Bool.{and_from, cases_eq, cases_lt, eq-eqb, or_left, or_right}
-use Rattle.std.proofs.lemmas.List.{append_assoc, append-nil, length-append, length-replicate, drop-drop}
+use Rattle.std.proofs.lemmas.List.{append_assoc, length-replicate, drop-drop}
 use Rattle.std.proofs.lemmas.List.Folds.{list_all-append}
 use Rattle.std.proofs.lemmas.List.Sorted.{IsPermutation-refl}
 use Rattle.pv_model.specs.declared.version.Version.{Version}
 use Rattle.pv_model.specs.declared.version.Version.TheVariants.{V1, V2}
 use Rattle.pv_model.specs.Bytes.{Bytes, little_endian}
 use Rattle.pv_model.specs.Effect.{sort_number}
-use Rattle.pv_model.specs.Image.{number_of, field, magic, block, inode_blocks, inode_length, stored_count, AreSlots, inode, size, content, used_content, used_index, HasContent, Holds, HoldsAny, used_blocks, IsImageOf, free_numbers, free_blocks, unused_bytes, IsWrittenImageOf, greatest_blocks}
-use Rattle.pv_model.specs.Numbered.{Numbered, at_number, numbered, numbered_from}
+use Rattle.pv_model.specs.Image.{number_of, field, magic, block, inode_blocks, inode_length, stored_count, AreSlots, inode, size, content, used_content, used_index, HasContent, Holds, HoldsAny, used_blocks, IsImageOf, free_numbers, free_blocks, IsWrittenImageOf}
+use Rattle.pv_model.specs.Numbered.{Numbered, at_number, numbered_from}
 use Rattle.pv_model.specs.Room.{node_length, greatest_length}
-use Rattle.pv_model.specs.Tree.{Entries, Node, directory_node, file_node, link_node, Tree, node_at, entries_of, entries_at, is_directory, is_name, find_entry, names_of, root}
+use Rattle.pv_model.specs.Tree.{Entries, Node, directory_node, file_node, link_node, Tree, node_at, entries_of, entries_at, is_directory, is_name, names_of, root}
 use Rattle.pv_tree_laws.proofs.Numbered.{at_number-below}
-use Rattle.pv_writer.specs.Spelling.{contained, content_of, taken, taken_of, inode_of, blocks_of, taken_before, first_data, first_of, inode_at, blocks_at, first_block, image_bytes, inode_bytes, content_blocks}
-use Rattle.pv_writer.specs.Writable.{IsWritable, names_end}
+use Rattle.pv_writer.specs.Spelling.{contained, content_of, taken, taken_of, inode_of, blocks_of, taken_before, first_data, first_of, first_block, image_bytes, inode_bytes, content_blocks}
+use Rattle.pv_writer.specs.Writable.{IsWritable}
 use Rattle.pv_writer.proofs.Contents.{Each, EachOf, HasShortName, length-contained, slots-are}
 use Rattle.pv_writer.proofs.Heads.{kind-inode, count-inode}
 use Rattle.pv_writer.proofs.Listed.{find-at, sorted-at, named-at, all-get, name-short}
@@ -264,6 +264,7 @@ module _ (u : Tree) (w : IsWritable u) where
       none_from : (o : Option Node) → is_none o ≡ true → o ≡ None
       none_from None is = refl
       none_from (Some node) is = cc
+
       by : (k : ℕ) → 1 ≤ k → k < 1 + u.inodes → is_none (node_at u k) ≡ true → list_all (λ b. b == 0) (inode u.version (image_bytes u) k) ≡ true
       by zero from below is = absurd (omega arith)
       by (suc k) from below is =
@@ -281,6 +282,7 @@ module _ (u : Tree) (w : IsWritable u) where
       free_from : (b : Bool) → not b ≡ true → b ≡ false
       free_from true is = cc
       free_from false is = refl
+
       by : (k : ℕ) → inode_blocks u.version u.inodes + 1 ≤ k → k < inode_blocks u.version u.inodes + 1 + u.blocks
           → not (list_any (λ used. used == k) (used_blocks (image_bytes u) u)) ≡ true → list_all (λ b. b == 0) (block (image_bytes u) k) ≡ true
       by k from below is =

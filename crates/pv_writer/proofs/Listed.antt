@@ -12,7 +12,7 @@ use Rattle.std.proofs.lemmas.Grind.{flat_map-append}
 use Rattle.std.proofs.lemmas.List.{append-nil, take_all}
 use Rattle.pv_model.specs.declared.version.Version.{Version}
 use Rattle.pv_model.specs.Bytes.{Bytes, is_empty}
-use Rattle.pv_model.specs.Calls.Descriptors.{is_behind, next_name}
+use Rattle.pv_model.specs.Calls.Descriptors.{next_name}
 use Rattle.pv_model.specs.Effect.{size_of}
 use Rattle.pv_model.specs.Tree.{Entries, Node, directory_node, file_node, link_node, Tree, node_at, entries_of, entries_at, is_directory, is_directory_at, find_entry, greatest_name, is_name, is_name_byte, IsWellFormed}
 use Rattle.pv_tree_laws.proofs.Changes.{entries-good}
@@ -159,13 +159,15 @@ module _ (t : Tree) (d : ℕ) (w : IsWellFormed t) where
       → IsListing v (entries_at t d) i bytes last → (e : Bytes × ℕ) × IsMet i last e
   met v i n bytes last is size below so_far =
       let many = size_entries (node_at t d) n is size in
-      let there = get-some (entries_at t d) i (omega arith) in
-      (there.0, record {
-        there = there.1;
-        next = ap (λ o. next_name o (entries_at t d)) so_far.last_name ∙ next-at (entries_at t d) sorted-at i there.0 there.1;
-        found = find-at (entries_at t d) sorted-at i there.0 there.1;
-        short = name-short t.version there.0.0 (all-get (λ (e : Bytes × ℕ). is_name t.version e.0) (entries_at t d) i there.0 named-at there.1);
-      })
+      let there = get-some (entries_at t d) i (omega arith) in (
+        there.0,
+        record {
+          there = there.1;
+          next = ap (λ o. next_name o (entries_at t d)) so_far.last_name ∙ next-at (entries_at t d) sorted-at i there.0 there.1;
+          found = find-at (entries_at t d) sorted-at i there.0 there.1;
+          short = name-short t.version there.0.0 (all-get (λ (e : Bytes × ℕ). is_name t.version e.0) (entries_at t d) i there.0 named-at there.1);
+        },
+      )
 
   pub all-met : (v : Version) (i n : ℕ) (bytes : Bytes) (last : Option Bytes) → is_directory_at t d ≡ true → option_map size_of (node_at t d) ≡ Some n → n ≤ i
       → IsListing v (entries_at t d) i bytes last → bytes ≡ flat_map (slot_of v) (entries_at t d)

@@ -1,16 +1,12 @@
 -- The named tree, and the tree that is written of it.
-use Rattle.std.proofs.Common.{◌≡◌, ◌≢◌, ℕ, zero, suc, ◌+◌, ◌-◌, ◌*◌, ◌<◌, ◌≤◌, Bool, true, false, ◌||◌, ◌==◌, List, [], ◌∷◌, ◌++◌, length, replicate, Option, None, Some, is_some, refl, ap, sym, subst, ◌∙◌, ⊎_elim, arith}
-use Rattle.std.specs.Prelude.{IsSome}
-use Rattle.std.proofs.lemmas.Bool.{cases_Bool, eq-eqb, ne_eqb, cases_eq, or_left, or_right}
-use Rattle.std.proofs.lemmas.List.{append-nil}
-use Rattle.pv_model.specs.Bytes.{Bytes}
+use Rattle.std.proofs.Common.{◌≡◌, ◌≢◌, ℕ, ◌<◌, ◌||◌, ◌==◌, List, ◌∷◌, None, Some, refl, ap, sym, ◌∙◌, ⊎_elim}
+use Rattle.std.proofs.lemmas.Bool.{cases_Bool, ne_eqb, or_right}
 use Rattle.pv_model.specs.Held.{among, named_tree}
-use Rattle.pv_model.specs.Numbered.{Numbered, at_number, keep_if}
-use Rattle.pv_model.specs.Tree.{Node, Tree, root, node_at, entries_at, find_entry, named_numbers, names_of, IsWellFormed}
-use Rattle.pv_tree_laws.proofs.Keeping.{Covers, entries-only, only-sound}
+use Rattle.pv_model.specs.Tree.{Node, Tree, root, node_at, named_numbers, IsWellFormed}
+use Rattle.pv_tree_laws.proofs.Keeping.{Covers, entries-only}
 use Rattle.pv_tree_laws.proofs.Numbered.{keep-passes, keep-fails, keep-some, length-keep}
 use Rattle.pv_tree_laws.proofs.Trees.{sound}
-use Rattle.pv_tree.proofs.Names.{name_count, named-is, is_positive, positive-is, none-positive, names-same}
+use Rattle.pv_tree.proofs.Names.{name_count, named-is, is_positive, positive-is, names-same}
 use Rattle.pv_writer.specs.Placed.{written_at}
 
 -- the numbers that the named tree keeps

@@ -1,6 +1,6 @@
 -- The tree that is written: what it has of the tree that it is written of, and that an image of it can be written.
-use Rattle.std.proofs.Common.{◌≡◌, ◌≢◌, ℕ, zero, suc, ◌+◌, ◌-◌, ◌*◌, ◌/◌, ◌<◌, ◌≤◌, ◌^◌, Bool, true, false, cond, not, ◌&&◌, ◌==◌, nat_le, List, [], ◌∷◌, ◌++◌, length, replicate, Option, None, Some, is_some, refl, ap, sym, subst, ◌∙◌, ⊎_elim, zero-add, arith}
-use Rattle.std.specs.Prelude.{IsTrue, bytes_eq, codes, filter, flat_map, option_map, slice_get, sum_by}
+use Rattle.std.proofs.Common.{◌≡◌, ℕ, zero, suc, ◌+◌, ◌-◌, ◌*◌, ◌/◌, ◌<◌, ◌≤◌, true, false, cond, not, ◌&&◌, ◌==◌, nat_le, List, [], ◌∷◌, ◌++◌, length, replicate, Option, None, Some, is_some, refl, ap, sym, subst, ◌∙◌, ⊎_elim, zero-add, arith}
+use Rattle.std.specs.Prelude.{bytes_eq, codes, filter, flat_map, option_map, slice_get, sum_by}
 use Rattle.std.specs.FinMap.Entries.{find, is_sorted}
 use Rattle.std.specs.List.{list_all}
 use Rattle.std.proofs.lemmas.Bool.{and_parts, and_from, cases_eq, le-leb, leb-true, leb-false}
@@ -15,8 +15,8 @@ use Rattle.pv_model.specs.Held.{among, named_tree, only_nodes}
 use Rattle.pv_model.specs.Image.{inode_blocks, greatest_blocks}
 use Rattle.pv_model.specs.Mount.{are_image_sizes}
 use Rattle.pv_model.specs.Numbered.{Numbered, at_number, present, numbered, numbered_from}
-use Rattle.pv_model.specs.Room.{entry_length, node_length, need, greatest_length, is_too_long, fits}
-use Rattle.pv_model.specs.Tree.{Entries, Node, directory_node, file_node, link_node, Tree, root, node_at, entries_of, entries_at, is_directory, is_directory_at, find_entry, first_parent, named_numbers, parent, names_in, names_of, greatest_name, is_name, is_name_byte, is_node, IsReached, IsWellFormed}
+use Rattle.pv_model.specs.Room.{entry_length, node_length, need, greatest_length, fits}
+use Rattle.pv_model.specs.Tree.{Entries, Node, directory_node, file_node, link_node, Tree, root, node_at, entries_of, entries_at, is_directory, is_directory_at, find_entry, first_parent, named_numbers, parent, names_in, names_of, greatest_name, is_name, is_name_byte, is_node, IsWellFormed}
 use Rattle.pv_tree_laws.specs.Kept.{kept}
 use Rattle.pv_tree_laws.specs.Room.{IsNoLarger}
 use Rattle.pv_tree_laws.proofs.Entries.{by_name}
@@ -26,14 +26,14 @@ use Rattle.pv_tree_laws.proofs.Places.{list_all-weaker}
 use Rattle.pv_tree_laws.proofs.Rooms.{kept-no_larger, length-within, smaller-fits}
 use Rattle.pv_tree_laws.proofs.Trees.{sound, well_formed}
 use Rattle.pv_tree.proofs.Entries.{count-most}
-use Rattle.pv_tree.proofs.Names.{name_count, names-most}
+use Rattle.pv_tree.proofs.Names.{names-most}
 use Rattle.pv_tree.specs.Holding.{HeldTree}
 use Rattle.pv_tree.specs.Standing.{IsStanding}
 use Rattle.pv_writer.specs.Placed.{lengthened, placed, written_at, named_need}
-use Rattle.pv_writer.specs.Spelling.{contained, content_of, taken, taken_of, taken_before, first_data}
+use Rattle.pv_writer.specs.Spelling.{contained, content_of, taken, taken_of, taken_before}
 use Rattle.pv_writer.specs.Writable.{IsWritable, names_end}
-use Rattle.pv_writer.proofs.Contents.{Each, EachOf, HasShortName, length-contained}
-use Rattle.pv_writer.proofs.Listed.{sorted-at, named-at, all-get, name-short}
+use Rattle.pv_writer.proofs.Contents.{EachOf, HasShortName, length-contained}
+use Rattle.pv_writer.proofs.Listed.{named-at, all-get, name-short}
 use Rattle.pv_writer.proofs.NamedTrees.{kept_numbers, covers, written-was, written-none, names-kept}
 
 -- ---- numbers with nothing under them

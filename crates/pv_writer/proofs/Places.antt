@@ -1,7 +1,7 @@
 -- Where a written image has what.
-use Rattle.std.proofs.Common.{◌≡◌, ℕ, zero, suc, ◌+◌, ◌-◌, ◌*◌, ◌<◌, ◌≤◌, Bool, true, ◌==◌, List, [], ◌∷◌, ◌++◌, length, take, drop, replicate, Option, None, Some, refl, ap, sym, subst, ◌∙◌, arith}
+use Rattle.std.proofs.Common.{◌≡◌, ℕ, zero, suc, ◌+◌, ◌-◌, ◌*◌, ◌<◌, ◌≤◌, true, ◌==◌, ◌++◌, length, take, drop, replicate, Option, None, Some, refl, ap, sym, subst, ◌∙◌, arith}
 use Rattle.std.specs.List.{list_all}
-use Rattle.std.proofs.lemmas.List.{append_assoc, append-nil, length-append, length-replicate, drop-drop, drop-replicate, drop_all}
+use Rattle.std.proofs.lemmas.List.{append_assoc, length-append, length-replicate, drop-drop, drop-replicate}
 use Rattle.pv_model.specs.declared.version.Version.{Version}
 use Rattle.pv_model.specs.declared.version.Version.TheVariants.{V1, V2}
 use Rattle.pv_model.specs.Bytes.{Bytes, little_endian}
@@ -9,7 +9,7 @@ use Rattle.pv_model.specs.Effect.{sort_number}
 use Rattle.pv_model.specs.Image.{magic, inode_blocks, inode_length, inode, block, greatest_blocks}
 use Rattle.pv_model.specs.Room.{greatest_length}
 use Rattle.pv_model.specs.Tree.{Node, Tree, node_at, names_of}
-use Rattle.pv_writer.specs.Spelling.{padded, contained, content_of, taken, taken_of, inode_of, blocks_of, taken_before, first_data, first_of, joined, inode_at, blocks_at, all_inodes, all_contents, first_block, image_bytes}
+use Rattle.pv_writer.specs.Spelling.{padded, contained, content_of, taken_of, inode_of, blocks_of, taken_before, first_data, first_of, joined, inode_at, blocks_at, all_inodes, all_contents, first_block, image_bytes}
 use Rattle.pv_writer.specs.Writable.{IsWritable}
 use Rattle.pv_writer.proofs.Heads.{length-inode_bytes}
 use Rattle.pv_writer.proofs.Pieces.{front-is, behind-is, length-padded, joined-at, length-joined_alike}
@@ -162,9 +162,11 @@ module _ (u : Tree) (w : IsWritable u) where
       let split : contents ≡ all_contents u n ++ (blocks_at u (suc n) ++ rest) =
       ap (λ (xs : Bytes). xs ++ zeros) found.1
       ∙ append_assoc (joined (blocks_at u) n) (blocks_at u (suc n) ++ found.0) zeros
-      ∙ ap (λ (xs : Bytes). joined (blocks_at u) n ++ xs) (append_assoc (blocks_at u (suc n)) found.0 zeros) in
-      (rest, behind-table (taken_before u (suc n)) ∙ ap (drop (512 * taken_before u (suc n))) split
-      ∙ behind-is (512 * taken_before u (suc n)) (all_contents u n) (blocks_at u (suc n) ++ rest) (length-all_contents n))
+      ∙ ap (λ (xs : Bytes). joined (blocks_at u) n ++ xs) (append_assoc (blocks_at u (suc n)) found.0 zeros) in (
+        rest,
+        behind-table (taken_before u (suc n)) ∙ ap (drop (512 * taken_before u (suc n))) split
+            ∙ behind-is (512 * taken_before u (suc n)) (all_contents u n) (blocks_at u (suc n) ++ rest) (length-all_contents n),
+      )
 
   -- ---- the blocks that no node takes
 

@@ -1,8 +1,8 @@
 -- The parts of an image, inode by inode.
-use Rattle.std.proofs.Common.{◌≡◌, ℕ, zero, suc, ◌+◌, ◌-◌, ◌*◌, ◌<◌, ◌≤◌, List, [], ◌++◌, length, Option, None, refl, ap, sym, subst, ◌∙◌, add-one, arith}
+use Rattle.std.proofs.Common.{◌≡◌, ℕ, suc, ◌+◌, ◌<◌, [], ◌++◌, length, Option, ap, sym, subst, ◌∙◌, add-one, arith}
 use Rattle.pv_model.specs.Bytes.{Bytes}
 use Rattle.pv_model.specs.Tree.{Node, Tree, node_at, names_of}
-use Rattle.pv_writer.specs.Spelling.{taken_of, inode_of, blocks_of, taken_before, first_data, first_of, inode_at, blocks_at, all_inodes, all_contents}
+use Rattle.pv_writer.specs.Spelling.{taken_of, inode_of, blocks_of, first_data, first_of, all_inodes, all_contents}
 use Rattle.pv_writer.specs.Writable.{IsWritable, AreWritten}
 use Rattle.pv_writer.proofs.Places.{taken_before-grows, few-blocks}
 

@@ -1,5 +1,5 @@
 -- The bytes of an image that is written, from the front to the back: its first block, its inodes, and the blocks of each node in a row.
-use Rattle.std.specs.Prelude.{◌≡◌, ℕ, zero, suc, ◌+◌, ◌-◌, ◌*◌, min, List, [], ◌∷◌, ◌++◌, length, replicate, flat_map, Option, None, Some}
+use Rattle.std.specs.Prelude.{ℕ, zero, suc, ◌+◌, ◌-◌, ◌*◌, min, List, [], ◌∷◌, ◌++◌, length, replicate, flat_map, Option, None, Some}
 use Rattle.std.specs.List.{range_with_len}
 use Rattle.pv_model.specs.declared.limits.TheConstants.{BLOCK}
 use Rattle.pv_model.specs.declared.version.Version.{Version}

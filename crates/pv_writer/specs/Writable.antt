@@ -1,5 +1,5 @@
 -- Trees of which an image can be written.
-use Rattle.std.specs.Prelude.{◌≡◌, ℕ, suc, ◌+◌, ◌^◌, ◌<◌, ◌≤◌, [], length, Option, Some}
+use Rattle.std.specs.Prelude.{◌≡◌, ℕ, suc, ◌+◌, ◌^◌, ◌<◌, ◌≤◌, [], length, Some}
 use Rattle.pv_model.specs.declared.limits.TheConstants.{INODES}
 use Rattle.pv_model.specs.declared.version.Version.{Version}
 use Rattle.pv_model.specs.declared.version.Version.TheVariants.{V1, V2}
@@ -7,7 +7,7 @@ use Rattle.pv_model.specs.Bytes.{Bytes}
 use Rattle.pv_model.specs.Image.{greatest_blocks}
 use Rattle.pv_model.specs.Room.{greatest_length}
 use Rattle.pv_model.specs.Tree.{Node, Tree, root, node_at, names_of, IsWellFormed}
-use Rattle.pv_writer.specs.Spelling.{contained, content_of, taken_before, first_data, first_of, all_inodes, all_contents}
+use Rattle.pv_writer.specs.Spelling.{content_of, taken_before, first_data, first_of, all_inodes, all_contents}
 
 -- what an inode's number of names stays below
 abbrev pub names_end : Version → ℕ

@@ -13,12 +13,7 @@ use std::alloc::{AllocError, Global};
 
 // Appends the slot of an entry.
 #[tactic(auto, unfolding(crate::specs::Spelling::slot_of, crate::specs::Spelling::padded))]
-fn put_slot(
-    bytes: &mut Vec<u8>,
-    version: Version,
-    name: &[u8],
-    node: u16,
-) -> Result<(), AllocError>
+fn put_slot(bytes: &mut Vec<u8>, version: Version, name: &[u8], node: u16) -> Result<(), AllocError>
     requires { length name.now ≤ greatest_name version }
     ensures { OnOk result (bytes.new.items ≡ bytes.old.items ++ slot_of version (name.now, node)) }
 {

@@ -70,7 +70,14 @@ impl Parts {
         let bytes = content(alloc, tree, version, node)?;
         let sort = tree.kind(node) as u8;
         let names = tree.names(node);
-        put_inode(&mut self.inodes, version, sort, names, bytes.len(), self.next)?;
+        put_inode(
+            &mut self.inodes,
+            version,
+            sort,
+            names,
+            bytes.len(),
+            self.next,
+        )?;
         put_content(&mut self.contents, &bytes, self.next)?;
         let extent = extent_of(bytes.len());
         self.next += extent.filled + extent.index;

@@ -94,11 +94,7 @@ pub(crate) fn put_inode(
 /// Appends the blocks of a content from a block on: those that it fills, and then the numbers of those past
 /// the tenth.
 #[tactic(auto, unfolding(crate::specs::Spelling::content_blocks, crate::specs::Spelling::padded))]
-pub(crate) fn put_content(
-    bytes: &mut Vec<u8>,
-    content: &[u8],
-    first: u16,
-) -> Result<(), AllocError>
+pub(crate) fn put_content(bytes: &mut Vec<u8>, content: &[u8], first: u16) -> Result<(), AllocError>
     requires size { length content.now ≤ 660480 }
     requires blocks { first + taken (length content.now) < 2 ^ 16 }
     ensures { OnOk result (bytes.new.items ≡ bytes.old.items ++ content_blocks first content.now) }

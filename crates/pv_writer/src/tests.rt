@@ -88,9 +88,24 @@ fn a_directory_and_a_file_stand_in_slots(rt: HostRuntime) -> Result<(), Fail> {
     let bytes = to_bytes(rt.alloc(), &tree)?;
     assert_eq!(rt; bytes.len(), 512 * 8);
     assert_bytes(&rt, &bytes, 0, b"PVIMAGE1\x08\x00\x10\x00");
-    assert_bytes(&rt, &bytes, 512, b"\x01\x00\x00\x00\x80\x00\x00\x00\x02\x00\x00");
-    assert_bytes(&rt, &bytes, 544, b"\x01\x00\x01\x00\x00\x00\x00\x00\x00\x00");
-    assert_bytes(&rt, &bytes, 576, b"\x02\x00\x01\x00\x0a\x00\x00\x00\x03\x00\x00");
+    assert_bytes(
+        &rt,
+        &bytes,
+        512,
+        b"\x01\x00\x00\x00\x80\x00\x00\x00\x02\x00\x00",
+    );
+    assert_bytes(
+        &rt,
+        &bytes,
+        544,
+        b"\x01\x00\x01\x00\x00\x00\x00\x00\x00\x00",
+    );
+    assert_bytes(
+        &rt,
+        &bytes,
+        576,
+        b"\x02\x00\x01\x00\x0a\x00\x00\x00\x03\x00\x00",
+    );
     assert_bytes(&rt, &bytes, 1_024, b"\x02\x00\x01\x00d\x00");
     assert_bytes(&rt, &bytes, 1_088, b"\x03\x00\x04\x00file\x00");
     assert_bytes(&rt, &bytes, 1_536, b"some bytes\x00");
@@ -119,14 +134,24 @@ fn the_eleventh_block_has_its_number_in_another(rt: HostRuntime) -> Result<(), F
     assert!(rt; tree.sizes().version == Version::V1);
     assert_eq!(rt; needed_blocks(&tree, Version::V1), 11);
     let bytes = to_bytes(rt.alloc(), &tree)?;
-    assert_bytes(&rt, &bytes, 544, b"\x02\x00\x01\x00\x00\x14\x00\x00\x03\x00\x04");
+    assert_bytes(
+        &rt,
+        &bytes,
+        544,
+        b"\x02\x00\x01\x00\x00\x14\x00\x00\x03\x00\x04",
+    );
     assert_bytes(&rt, &bytes, 570, b"\x0c\x00\x00\x00\x00\x00");
     assert_bytes(&rt, &bytes, 512 * 13 - 1, b"x\x00");
     write(&rt, &mut tree, 2, 5_120, b"y");
     assert!(rt; tree.sizes().version == Version::V1);
     assert_eq!(rt; needed_blocks(&tree, Version::V1), 13);
     let bytes = to_bytes(rt.alloc(), &tree)?;
-    assert_bytes(&rt, &bytes, 544, b"\x02\x00\x01\x00\x01\x14\x00\x00\x03\x00\x04");
+    assert_bytes(
+        &rt,
+        &bytes,
+        544,
+        b"\x02\x00\x01\x00\x01\x14\x00\x00\x03\x00\x04",
+    );
     assert_bytes(&rt, &bytes, 570, b"\x0c\x00\x0e\x00\x00\x00");
     assert_bytes(&rt, &bytes, 512 * 13 - 1, b"xy\x00");
     assert_bytes(&rt, &bytes, 512 * 14, b"\x0d\x00\x00\x00");
@@ -143,9 +168,24 @@ fn the_second_version_has_longer_inodes_and_slots(rt: HostRuntime) -> Result<(),
     let bytes = rewritten(&rt, rt.alloc(), &tree)?;
     assert_eq!(rt; bytes.len(), 512 * 30);
     assert_bytes(&rt, &bytes, 0, b"PVIMAGE2\x1e\x00\x11\x00");
-    assert_bytes(&rt, &bytes, 512, b"\x01\x00\x00\x00\x04\x01\x00\x00\x04\x00\x00");
-    assert_bytes(&rt, &bytes, 576, b"\x02\x00\x00\x00\x01\x14\x00\x00\x05\x00\x06");
-    assert_bytes(&rt, &bytes, 604, b"\x10\x00\x00\x00\x00\x00\x00\x00\x00\x00\x01\x00\x00\x00");
+    assert_bytes(
+        &rt,
+        &bytes,
+        512,
+        b"\x01\x00\x00\x00\x04\x01\x00\x00\x04\x00\x00",
+    );
+    assert_bytes(
+        &rt,
+        &bytes,
+        576,
+        b"\x02\x00\x00\x00\x01\x14\x00\x00\x05\x00\x06",
+    );
+    assert_bytes(
+        &rt,
+        &bytes,
+        604,
+        b"\x10\x00\x00\x00\x00\x00\x00\x00\x00\x00\x01\x00\x00\x00",
+    );
     assert_bytes(&rt, &bytes, 512 * 4, b"\x02\x00\x01\x00f\x00");
     assert_bytes(&rt, &bytes, 512 * 15, b"y\x00");
     assert_bytes(&rt, &bytes, 512 * 16, b"\x0f\x00\x00\x00");

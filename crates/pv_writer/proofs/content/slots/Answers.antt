@@ -1,8 +1,8 @@
-use Rattle.std.proofs.Common.{◌≡◌, ℕ, ◌+◌, ◌++◌, ◌≤◌, length, Option, None, Some, refl, sym, ap, subst, ◌∙◌, arith}
+use Rattle.std.proofs.Common.{◌≡◌, ℕ, ◌+◌, ◌++◌, length, None, Some, sym, ap, subst, ◌∙◌, arith}
 use Rattle.pv_model.specs.Bytes.{Bytes}
 use Rattle.pv_model.specs.Tree.{entries_at, find_entry}
 use Rattle.pv_writer.specs.Spelling.{slot_of}
-use Rattle.pv_writer.proofs.Listed.{IsMet, met, all-met, listing-start, listing-step, IsListing}
+use Rattle.pv_writer.proofs.Listed.{met, all-met, listing-start, listing-step, IsListing}
 use Rattle.pv_writer.proofs.content.slots.Goals as goal
 
 pub unreachable-requires : goal.unreachable-requires

@@ -1,10 +1,10 @@
-use Rattle.std.proofs.Common.{◌≡◌, ℕ, suc, ◌+◌, ◌-◌, ◌*◌, ◌<◌, ◌≤◌, ◌++◌, length, sym, ap, subst, ◌∙◌, arith}
+use Rattle.std.proofs.Common.{◌≡◌, ℕ, ◌+◌, ◌-◌, ◌*◌, ◌≤◌, ◌++◌, length, ap, ◌∙◌, arith}
 use Rattle.pv_model.specs.Bytes.{Bytes}
 use Rattle.pv_model.specs.Image.{inode_blocks}
 use Rattle.pv_model.specs.Tree.{Tree}
 use Rattle.pv_writer.specs.Placed.{placed}
 use Rattle.pv_writer.specs.Spelling.{padded, first_data, first_block, all_inodes, all_contents, image_bytes}
-use Rattle.pv_writer.specs.Writable.{IsWritable, AreWritten}
+use Rattle.pv_writer.specs.Writable.{IsWritable}
 use Rattle.pv_writer.proofs.Places.{length-all_inodes, length-all_contents, table-fits}
 use Rattle.pv_writer.proofs.image.image.Goals as goal
 

@@ -1,8 +1,7 @@
-use Rattle.std.proofs.Common.{◌≡◌, ℕ, suc, ◌+◌, ◌*◌, ◌≤◌, ◌<◌, length, le_refl, add-one, sym, ap, subst, ◌∙◌, arith}
-use Rattle.pv_model.specs.Room.{greatest_length}
+use Rattle.std.proofs.Common.{◌≡◌, ℕ, suc, ◌+◌, ◌≤◌, le_refl, add-one, sym, ap, subst, ◌∙◌, arith}
 use Rattle.pv_model.specs.Tree.{node_at}
 use Rattle.pv_writer.specs.Placed.{placed, written_at}
-use Rattle.pv_writer.specs.Spelling.{content_of, taken_of, taken_before}
+use Rattle.pv_writer.specs.Spelling.{taken_of, taken_before}
 use Rattle.pv_writer.proofs.PlacedTrees.{node-placed, placed-needs, placed-short, placed-well_formed, taken-few, taken_before-few}
 use Rattle.pv_writer.proofs.image.needed_blocks.Goals as goal
 

@@ -1,12 +1,10 @@
-use Rattle.std.proofs.Common.{◌≡◌, ℕ, suc, ◌+◌, ◌<◌, ◌≤◌, length, sym, ap, subst, ◌∙◌, add-one, arith}
+use Rattle.std.proofs.Common.{◌≡◌, ◌+◌, length, sym, ap, subst, ◌∙◌, add-one, arith}
 use Rattle.pv_model.specs.Tree.{node_at, names_of}
 use Rattle.pv_writer.specs.Placed.{placed, written_at}
-use Rattle.pv_writer.specs.Spelling.{taken_of}
 use Rattle.pv_writer.specs.Writable.{AreWritten}
 use Rattle.pv_writer.proofs.PlacedTrees.{node-placed, names-placed, placed-short, placed-counted}
 use Rattle.pv_writer.proofs.Writing.{written-start, written-step, written-room}
 use Rattle.pv_writer.proofs.image.parts_of.Goals as goal
-
 
 pub table_blocks-requires : goal.table_blocks-requires
 unfolding placed
