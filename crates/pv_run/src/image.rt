@@ -29,8 +29,14 @@ fn start_image(alloc: Global, image: Vec<u8>, schedule: &[u8]) -> Result<Ready, 
     start_on(alloc, store, schedule)
 }
 
-// Writes an image of a tree.
-fn write_image<O: Sink>(alloc: Global, tree: &Tree, image: &mut O) -> Result<(), RunFault>
+/// Writes an image of a tree: its root and its nodes that have a name, under their numbers, with the sizes and the
+/// version of the tree.
+///
+/// # Errors
+///
+/// `Memory` where memory was refused: then nothing was written. `WriteImage` where a write failed: the sink was told a
+/// beginning of the bytes.
+pub fn write_image<O: Sink>(alloc: Global, tree: &Tree, image: &mut O) -> Result<(), RunFault>
     ensures whole { OnOk result (ToldImage tree.now.tree (O.told image.old) (O.told image.new)) }
     ensures cut { result ≡ Err RunFault.WriteImage → BeginsImage tree.now.tree (O.told image.old) (O.told image.new) }
     ensures failed { result ≡ Err RunFault.WriteImage → Rose (O.failures image.old) (O.failures image.new) }

@@ -9,5 +9,5 @@ mod tests;
 pub mod turns;
 
 pub use bundle::run_tree;
-pub use image::run;
+pub use image::{run, write_image};
 pub use turns::Summary;

@@ -91,9 +91,13 @@ fn read_some<S: Source>(source: &mut S, chunk: &mut [u8]) -> Result<usize, RunFa
     }
 }
 
-// Reads all there is to read, in as many reads as it takes.
+/// Reads all that a source gives, in as many reads as it takes.
+///
+/// # Errors
+///
+/// `Read` where a read failed, or the source gave more than 67,108,864 bytes; `Memory` where memory was refused.
 #[tactic(auto, using(crate::proofs::Streaming::read_more, crate::proofs::Streaming::read_all, crate::proofs::Streaming::gives_more))]
-pub(crate) fn read_whole<S: Source>(alloc: Global, source: &mut S) -> Result<Vec<u8>, RunFault>
+pub fn read_whole<S: Source>(alloc: Global, source: &mut S) -> Result<Vec<u8>, RunFault>
     ensures whole { IfOk result (λ bytes. IfSome (S.remaining source.old) (λ all. all ≡ bytes.items)) }
     ensures size { IfOk result (λ bytes. vec_len bytes ≤ SOURCE_BYTES) }
     ensures read { result ≡ Err RunFault.Read → Rose (S.failures source.old) (S.failures source.new) ⊎ GivesMoreThan SOURCE_BYTES (S.remaining source.old) }

@@ -1,0 +1,151 @@
+-- What a manifest makes, check by check, and the image of its tree.
+use Rattle.std.proofs.Common.{◌≡◌, ◌∙◌, ap, sym, subst, refl, ℕ, ◌==◌, ◌∷◌, List, is_some, Option, Some, Result, Ok, Err, IfErr, OnOk, ⊎_elim}
+use Rattle.std.proofs.lemmas.Bool.{eq-eqb, cases_eq, or_left, or_right}
+use Rattle.pv_model.specs.declared.fault.ManifestFault.{ManifestFault}
+use Rattle.pv_model.specs.declared.fault.ManifestFault.TheVariants.{Form, Size, Parent, Exists, Source, Room, Memory as ManifestMemory}
+use Rattle.pv_model.specs.declared.run_fault.RunFault.{RunFault}
+use Rattle.pv_model.specs.declared.run_fault.RunFault.TheVariants.{Read, Image, Manifest as RunManifest, Schedule, Init, Memory, WriteTrace, WriteImage}
+use Rattle.pv_model.specs.Bytes.{Bytes}
+use Rattle.pv_model.specs.Grammar.Manifests.{Manifest, read_manifest, tree_of}
+use Rattle.pv_model.specs.Held.{named_tree}
+use Rattle.pv_model.specs.Image.{IsWrittenImageOf}
+use Rattle.pv_model.specs.RunFault.{of_manifest}
+use Rattle.pv_model.specs.Tree.{Tree, root, named_numbers}
+use Rattle.pv_image.specs.Reading.{RefusesManifest}
+use Rattle.pv_tree_laws.specs.Kept.{EachIsNamed}
+use Rattle.pv_tree_laws.proofs.Keeping.{only_nodes_all}
+use Rattle.pv_run.specs.Images.{BeginsImage, IsWriteFault, ToldImage}
+use Rattle.pv_images.specs.Making.{HasBegunMaking, HasMade, IsMakingFault, StandsInManifest, TellsNothingUnlessWritten, tree_made}
+
+-- ---- the checks of a manifest: its form and sizes, and then its entries
+
+module _ (bytes : Bytes) (told : Option Bytes) where
+  made-no_manifest : (f : ManifestFault) → read_manifest bytes ≡ Err f → tree_made bytes ≡ Err f
+  unfolding tree_made
+  made-no_manifest f wrong = rw wrong refl
+
+  -- a manifest that is refused
+  pub refuses_manifest : (f : ManifestFault) (e : RunFault) → e ≡ of_manifest f → RefusesManifest f (read_manifest bytes) → StandsInManifest (tree_made bytes) told told e
+  refuses_manifest (Form n) e is refused = rw is (made-no_manifest (Form n) refused, refl)
+  refuses_manifest Size e is refused = rw is (made-no_manifest Size refused, refl)
+  refuses_manifest (Parent n) e is refused = rw is (made-no_manifest (Parent n) refused, refl)
+  refuses_manifest (Exists n) e is refused = rw is (made-no_manifest (Exists n) refused, refl)
+  refuses_manifest (Source n) e is refused = rw is (made-no_manifest (Source n) refused, refl)
+  refuses_manifest (Room n) e is refused = rw is (made-no_manifest (Room n) refused, refl)
+  refuses_manifest ManifestMemory e is refused = rw is refl
+
+  module _ (m : Manifest) (asked : read_manifest bytes ≡ Ok m) where
+    pub made-tree : (t : Tree) → tree_of m ≡ Ok t → tree_made bytes ≡ Ok t
+    unfolding tree_made
+    made-tree t made = rw (asked, made) refl
+
+    made-no_tree : (f : ManifestFault) → tree_of m ≡ Err f → tree_made bytes ≡ Err f
+    unfolding tree_made
+    made-no_tree f wrong = rw (asked, wrong) refl
+
+    -- an entry that is refused
+    pub refuses_tree : (f : ManifestFault) (e : RunFault) → e ≡ of_manifest f → RefusesManifest f (tree_of m) → StandsInManifest (tree_made bytes) told told e
+    refuses_tree (Form n) e is refused = rw is (made-no_tree (Form n) refused, refl)
+    refuses_tree Size e is refused = rw is (made-no_tree Size refused, refl)
+    refuses_tree (Parent n) e is refused = rw is (made-no_tree (Parent n) refused, refl)
+    refuses_tree (Exists n) e is refused = rw is (made-no_tree (Exists n) refused, refl)
+    refuses_tree (Source n) e is refused = rw is (made-no_tree (Source n) refused, refl)
+    refuses_tree (Room n) e is refused = rw is (made-no_tree (Room n) refused, refl)
+    refuses_tree ManifestMemory e is refused = rw is refl
+
+-- what comes of a manifest's fault is a fault of the making of its image
+pub making_fault : (f : ManifestFault) (e : RunFault) → e ≡ of_manifest f → IsMakingFault e
+making_fault (Form n) e is = rw is tt
+making_fault Size e is = rw is tt
+making_fault (Parent n) e is = rw is tt
+making_fault (Exists n) e is = rw is tt
+making_fault (Source n) e is = rw is tt
+making_fault (Room n) e is = rw is tt
+making_fault ManifestMemory e is = rw is tt
+
+-- and then nothing was told
+pub nothing_made : (told : Option Bytes) (f : ManifestFault) (e : RunFault) → e ≡ of_manifest f → TellsNothingUnlessWritten told told e
+nothing_made told (Form n) e is = rw is refl
+nothing_made told Size e is = rw is refl
+nothing_made told (Parent n) e is = rw is refl
+nothing_made told (Exists n) e is = rw is refl
+nothing_made told (Source n) e is = rw is refl
+nothing_made told (Room n) e is = rw is refl
+nothing_made told ManifestMemory e is = rw is refl
+
+-- ---- the image of the tree
+
+-- a tree of which each node but the root is named is the tree of its named nodes
+pub named_tree-all : (t : Tree) → EachIsNamed t → named_tree t ≡ t
+named_tree-all t each =
+    only_nodes_all t (root ∷ named_numbers t) (λ n node is.
+    ⊎_elim
+    (λ same. or_left (root == n) _ (eq-eqb root n (sym same)))
+    (λ other. or_right (root == n) _ (each.named n other (ap is_some is)))
+    (cases_eq n root))
+
+module _ (made : Result Tree ManifestFault) (t u : Tree) (is : made ≡ Ok t) (named : EachIsNamed t) (same : u ≡ t) (before after : Option Bytes) where
+  is_whole : named_tree u ≡ t
+  is_whole = ap (λ (x : Tree). named_tree x) same ∙ named_tree-all t named
+
+  pub has_made : ToldImage u before after → HasMade made before after
+  has_made written = record {
+    tree = t;
+    is_made = is;
+    image = written.image;
+    holds = subst (λ (x : Tree). IsWrittenImageOf written.image x) is_whole written.holds;
+    told = written.told;
+  }
+
+  pub has_begun_making : BeginsImage u before after → HasBegunMaking made before after
+  has_begun_making begun = record {
+    tree = t;
+    is_made = is;
+    image = begun.image;
+    holds = subst (λ (x : Tree). IsWrittenImageOf begun.image x) is_whole begun.holds;
+    told = begun.told;
+  }
+
+  -- an image that was not written whole
+  pub unmade : (result : Result (Unit {0}) RunFault) → IfErr result IsWriteFault → (result ≡ Err WriteImage → BeginsImage u before after) → (result ≡ Err Memory → after ≡ before)
+      → IfErr result (StandsInManifest made before after)
+  unmade (Ok done) kind cut memory = tt
+  unmade (Err WriteImage) kind cut memory = has_begun_making (cut refl)
+  unmade (Err Memory) kind cut memory = memory refl
+  unmade (Err Read) kind cut memory = elim kind [ ]
+  unmade (Err (Image f)) kind cut memory = elim kind [ ]
+  unmade (Err (RunManifest f)) kind cut memory = elim kind [ ]
+  unmade (Err (Schedule n)) kind cut memory = elim kind [ ]
+  unmade (Err (Init n)) kind cut memory = elim kind [ ]
+  unmade (Err WriteTrace) kind cut memory = elim kind [ ]
+
+-- what was made, whatever the answer
+pub made_whole : (made : Result Tree ManifestFault) (t u : Tree) → made ≡ Ok t → EachIsNamed t → u ≡ t → (before after : Option Bytes) → (result : Result (Unit {0}) RunFault)
+    → OnOk result (ToldImage u before after) → OnOk result (HasMade made before after)
+made_whole made t u is named same before after (Ok done) told = has_made made t u is named same before after told
+made_whole made t u is named same before after (Err f) told = tt
+
+-- what the writing of an image answers is a fault of the making
+pub write_fault : (result : Result (Unit {0}) RunFault) → IfErr result IsWriteFault → IfErr result IsMakingFault
+write_fault (Ok done) kind = tt
+write_fault (Err WriteImage) kind = tt
+write_fault (Err Memory) kind = tt
+write_fault (Err Read) kind = elim kind [ ]
+write_fault (Err (Image f)) kind = elim kind [ ]
+write_fault (Err (RunManifest f)) kind = elim kind [ ]
+write_fault (Err (Schedule n)) kind = elim kind [ ]
+write_fault (Err (Init n)) kind = elim kind [ ]
+write_fault (Err WriteTrace) kind = elim kind [ ]
+
+-- where no write failed nothing was told
+pub unwritten : (before after : Option Bytes) (result : Result (Unit {0}) RunFault) → IfErr result IsWriteFault → (result ≡ Err Memory → after ≡ before)
+    → IfErr result (TellsNothingUnlessWritten before after)
+unwritten before after (Ok done) kind memory = tt
+unwritten before after (Err WriteImage) kind memory = tt
+unwritten before after (Err Memory) kind memory = memory refl
+unwritten before after (Err Read) kind memory = elim kind [ ]
+unwritten before after (Err (Image f)) kind memory = elim kind [ ]
+unwritten before after (Err (RunManifest f)) kind memory = elim kind [ ]
+unwritten before after (Err (Schedule n)) kind memory = elim kind [ ]
+unwritten before after (Err (Init n)) kind memory = elim kind [ ]
+unwritten before after (Err WriteTrace) kind memory = elim kind [ ]

@@ -1,0 +1,73 @@
+//! Listings of images.
+ghost use Rattle.std.specs.Prelude.{◌≡◌, ◌⊎◌, IfOk, IfErr, IfSome, OnOk, Err};
+ghost use Rattle.pv_model.specs.Mount.{mounted};
+ghost use Rattle.pv_model.specs.Stream.{Rose};
+ghost use Rattle.pv_run.specs.Streams.{GivesMoreThan};
+ghost use Rattle.pv_images.specs.Listings.{HasListed, IsListFault, IsListingFault, IsReadOrWant, StandsInImage, TellsNothingUnlessBegun};
+
+use pv_listing::{ListStop, write_listing};
+use pv_model::{ListFault, RunFault, Sink, Source};
+use pv_mount::mount;
+use pv_run::stream::{SOURCE_BYTES, read_whole};
+use std::alloc::Global;
+
+// Reads an image whole.
+fn read_image<S: Source>(alloc: Global, image: &mut S) -> Result<Vec<u8>, ListFault>
+    ensures whole { IfOk result (λ bytes. IfSome (S.remaining image.old) (λ all. all ≡ bytes.items)) }
+    ensures read { result ≡ Err ListFault.Read → Rose (S.failures image.old) (S.failures image.new) ⊎ GivesMoreThan SOURCE_BYTES (S.remaining image.old) }
+    ensures fault { IfErr result IsReadOrWant }
+{
+    match read_whole(alloc, image) {
+        Ok(bytes) => Ok(bytes),
+        Err(RunFault::Read) => Err(ListFault::Read),
+        Err(_) => Err(ListFault::Memory),
+    }
+}
+
+// Writes the listing of the tree that bytes hold.
+fn list_bytes<W: Sink>(alloc: Global, bytes: Vec<u8>, out: &mut W) -> Result<(), ListFault>
+    ensures listed { OnOk result (HasListed (mounted bytes.items) (W.told out.old) (W.told out.new)) }
+    ensures refused { IfErr result (StandsInImage (mounted bytes.items) (W.told out.old) (W.told out.new)) }
+    ensures kind { IfErr result IsListingFault }
+    ensures unwritten { IfErr result (TellsNothingUnlessBegun (W.told out.old) (W.told out.new)) }
+    ensures write { result ≡ Err ListFault.Write → Rose (W.failures out.old) (W.failures out.new) }
+{
+    let store = mount(alloc, bytes)?;
+    match write_listing(alloc, store.tree(), out) {
+        Ok(()) => Ok(()),
+        Err(ListStop::Memory) => Err(ListFault::Memory),
+        Err(ListStop::Write) => Err(ListFault::Write),
+    }
+}
+
+/// Writes the listing of an image: a line for each name of its tree, each directory followed at once by all that is in
+/// it, names in the order of their bytes.
+///
+/// The image is read whole, and it is judged before anything is written. Where the answer is `Ok`, `out` has grown by
+/// just the listing of the tree that the image holds.
+///
+/// # Errors
+///
+/// - `Read`: a read failed, or the source gave more than 67,108,864 bytes.
+/// - `Image`: the first fault of the image; it is never its want of memory.
+/// - `Memory`: memory was refused; `out` has grown by a beginning of the listing, or by nothing.
+/// - `Write`: a write failed; `out` has grown by a beginning of the listing.
+///
+/// After each other fault nothing was written.
+pub fn list<S: Source, W: Sink>(
+    alloc: Global,
+    image: &mut S,
+    out: &mut W,
+) -> Result<(), ListFault>
+    ensures listed { OnOk result (IfSome (S.remaining image.old) (λ bytes. HasListed (mounted bytes) (W.told out.old) (W.told out.new))) }
+    ensures refused { IfErr result (λ fault. IfSome (S.remaining image.old) (λ bytes. StandsInImage (mounted bytes) (W.told out.old) (W.told out.new) fault)) }
+    ensures kind { IfErr result IsListFault }
+
+    // Nothing is written but the listing, and a fault of reading or writing was counted.
+    ensures unwritten { IfErr result (TellsNothingUnlessBegun (W.told out.old) (W.told out.new)) }
+    ensures read { result ≡ Err ListFault.Read → Rose (S.failures image.old) (S.failures image.new) ⊎ GivesMoreThan SOURCE_BYTES (S.remaining image.old) }
+    ensures write { result ≡ Err ListFault.Write → Rose (W.failures out.old) (W.failures out.new) }
+{
+    let bytes = read_image(alloc, image)?;
+    list_bytes(alloc, bytes, out)
+}

@@ -1,0 +1,58 @@
+//! Images of manifests.
+ghost use Rattle.std.specs.Prelude.{◌≡◌, ◌⊎◌, ◌≤◌, length, IfErr, IfSome, OnOk, Err};
+ghost use Rattle.pv_model.specs.Stream.{Rose};
+ghost use Rattle.pv_run.specs.Streams.{GivesMoreThan};
+ghost use Rattle.pv_images.specs.Making.{HasMade, IsMakeFault, IsMakingFault, StandsInManifest, TellsNothingUnlessWritten, tree_made};
+
+use pv_image::{Manifest, build};
+use pv_model::{RunFault, Sink, Source};
+use pv_run::stream::{SOURCE_BYTES, read_whole};
+use pv_run::write_image;
+use std::alloc::Global;
+
+// Writes the image of the manifest in bytes.
+fn make_from<W: Sink>(alloc: Global, bytes: &[u8], image: &mut W) -> Result<(), RunFault>
+    requires { length bytes.now ≤ SOURCE_BYTES }
+    ensures made { OnOk result (HasMade (tree_made bytes.now) (W.told image.old) (W.told image.new)) }
+    ensures refused { IfErr result (StandsInManifest (tree_made bytes.now) (W.told image.old) (W.told image.new)) }
+    ensures kind { IfErr result IsMakingFault }
+    ensures unwritten { IfErr result (TellsNothingUnlessWritten (W.told image.old) (W.told image.new)) }
+    ensures write { result ≡ Err RunFault.WriteImage → Rose (W.failures image.old) (W.failures image.new) }
+{
+    let manifest = Manifest::parse(alloc, bytes)?;
+    let store = build(alloc, &manifest)?;
+    store.facts();
+    write_image(alloc, store.tree(), image)
+}
+
+/// Writes the image of a manifest: just the tree that the manifest makes, in an image of version 1 of its sizes, in
+/// which all that no node uses is zero.
+///
+/// The manifest is read whole, and it is judged before anything is written. Where the answer is `Ok`, `image` has grown
+/// by bytes that hold the manifest's tree.
+///
+/// # Errors
+///
+/// - `Read`: a read failed, or the source gave more than 67,108,864 bytes.
+/// - `Manifest`: the first fault of the manifest; it names the least line of its kind, and is never its want of memory.
+/// - `Memory`: memory was refused.
+/// - `WriteImage`: a write failed; `image` has grown by a beginning of the bytes.
+///
+/// After each other fault nothing was written.
+pub fn make_image<S: Source, W: Sink>(
+    alloc: Global,
+    manifest: &mut S,
+    image: &mut W,
+) -> Result<(), RunFault>
+    ensures made { OnOk result (IfSome (S.remaining manifest.old) (λ bytes. HasMade (tree_made bytes) (W.told image.old) (W.told image.new))) }
+    ensures refused { IfErr result (λ fault. IfSome (S.remaining manifest.old) (λ bytes. StandsInManifest (tree_made bytes) (W.told image.old) (W.told image.new) fault)) }
+    ensures kind { IfErr result IsMakeFault }
+
+    // Nothing is written but the image, and a fault of reading or writing was counted.
+    ensures unwritten { IfErr result (TellsNothingUnlessWritten (W.told image.old) (W.told image.new)) }
+    ensures read { result ≡ Err RunFault.Read → Rose (S.failures manifest.old) (S.failures manifest.new) ⊎ GivesMoreThan SOURCE_BYTES (S.remaining manifest.old) }
+    ensures write { result ≡ Err RunFault.WriteImage → Rose (W.failures image.old) (W.failures image.new) }
+{
+    let bytes = read_whole(alloc, manifest)?;
+    make_from(alloc, &bytes, image)
+}
