@@ -1,5 +1,5 @@
 -- What a manifest makes, check by check, and the image of its tree.
-use Rattle.std.proofs.Common.{◌≡◌, ◌∙◌, ap, sym, subst, refl, ℕ, ◌==◌, ◌∷◌, List, is_some, Option, Some, Result, Ok, Err, IfErr, OnOk, ⊎_elim}
+use Rattle.std.proofs.Common.{◌≡◌, ◌∙◌, ap, sym, subst, refl, ◌==◌, ◌∷◌, is_some, Option, Result, Ok, Err, IfErr, OnOk, ⊎_elim}
 use Rattle.std.proofs.lemmas.Bool.{eq-eqb, cases_eq, or_left, or_right}
 use Rattle.pv_model.specs.declared.fault.ManifestFault.{ManifestFault}
 use Rattle.pv_model.specs.declared.fault.ManifestFault.TheVariants.{Form, Size, Parent, Exists, Source, Room, Memory as ManifestMemory}
@@ -15,7 +15,7 @@ use Rattle.pv_image.specs.Reading.{RefusesManifest}
 use Rattle.pv_tree_laws.specs.Kept.{EachIsNamed}
 use Rattle.pv_tree_laws.proofs.Keeping.{only_nodes_all}
 use Rattle.pv_run.specs.Images.{BeginsImage, IsWriteFault, ToldImage}
-use Rattle.pv_images.specs.Making.{HasBegunMaking, HasMade, IsMakingFault, StandsInManifest, TellsNothingUnlessWritten, tree_made}
+use Rattle.pv_images.specs.Making.{HasBegunMaking, HasMade, StandsInManifest, tree_made}
 
 -- ---- the checks of a manifest: its form and sizes, and then its entries
 
@@ -52,26 +52,6 @@ module _ (bytes : Bytes) (told : Option Bytes) where
     refuses_tree (Source n) e is refused = rw is (made-no_tree (Source n) refused, refl)
     refuses_tree (Room n) e is refused = rw is (made-no_tree (Room n) refused, refl)
     refuses_tree ManifestMemory e is refused = rw is refl
-
--- what comes of a manifest's fault is a fault of the making of its image
-pub making_fault : (f : ManifestFault) (e : RunFault) → e ≡ of_manifest f → IsMakingFault e
-making_fault (Form n) e is = rw is tt
-making_fault Size e is = rw is tt
-making_fault (Parent n) e is = rw is tt
-making_fault (Exists n) e is = rw is tt
-making_fault (Source n) e is = rw is tt
-making_fault (Room n) e is = rw is tt
-making_fault ManifestMemory e is = rw is tt
-
--- and then nothing was told
-pub nothing_made : (told : Option Bytes) (f : ManifestFault) (e : RunFault) → e ≡ of_manifest f → TellsNothingUnlessWritten told told e
-nothing_made told (Form n) e is = rw is refl
-nothing_made told Size e is = rw is refl
-nothing_made told (Parent n) e is = rw is refl
-nothing_made told (Exists n) e is = rw is refl
-nothing_made told (Source n) e is = rw is refl
-nothing_made told (Room n) e is = rw is refl
-nothing_made told ManifestMemory e is = rw is refl
 
 -- ---- the image of the tree
 
@@ -124,28 +104,3 @@ pub made_whole : (made : Result Tree ManifestFault) (t u : Tree) → made ≡ Ok
     → OnOk result (ToldImage u before after) → OnOk result (HasMade made before after)
 made_whole made t u is named same before after (Ok done) told = has_made made t u is named same before after told
 made_whole made t u is named same before after (Err f) told = tt
-
--- what the writing of an image answers is a fault of the making
-pub write_fault : (result : Result (Unit {0}) RunFault) → IfErr result IsWriteFault → IfErr result IsMakingFault
-write_fault (Ok done) kind = tt
-write_fault (Err WriteImage) kind = tt
-write_fault (Err Memory) kind = tt
-write_fault (Err Read) kind = elim kind [ ]
-write_fault (Err (Image f)) kind = elim kind [ ]
-write_fault (Err (RunManifest f)) kind = elim kind [ ]
-write_fault (Err (Schedule n)) kind = elim kind [ ]
-write_fault (Err (Init n)) kind = elim kind [ ]
-write_fault (Err WriteTrace) kind = elim kind [ ]
-
--- where no write failed nothing was told
-pub unwritten : (before after : Option Bytes) (result : Result (Unit {0}) RunFault) → IfErr result IsWriteFault → (result ≡ Err Memory → after ≡ before)
-    → IfErr result (TellsNothingUnlessWritten before after)
-unwritten before after (Ok done) kind memory = tt
-unwritten before after (Err WriteImage) kind memory = tt
-unwritten before after (Err Memory) kind memory = memory refl
-unwritten before after (Err Read) kind memory = elim kind [ ]
-unwritten before after (Err (Image f)) kind memory = elim kind [ ]
-unwritten before after (Err (RunManifest f)) kind memory = elim kind [ ]
-unwritten before after (Err (Schedule n)) kind memory = elim kind [ ]
-unwritten before after (Err (Init n)) kind memory = elim kind [ ]
-unwritten before after (Err WriteTrace) kind memory = elim kind [ ]

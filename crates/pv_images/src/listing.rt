@@ -54,11 +54,7 @@ fn list_bytes<W: Sink>(alloc: Global, bytes: Vec<u8>, out: &mut W) -> Result<(),
 /// - `Write`: a write failed; `out` has grown by a beginning of the listing.
 ///
 /// After each other fault nothing was written.
-pub fn list<S: Source, W: Sink>(
-    alloc: Global,
-    image: &mut S,
-    out: &mut W,
-) -> Result<(), ListFault>
+pub fn list<S: Source, W: Sink>(alloc: Global, image: &mut S, out: &mut W) -> Result<(), ListFault>
     ensures listed { OnOk result (IfSome (S.remaining image.old) (λ bytes. HasListed (mounted bytes) (W.told out.old) (W.told out.new))) }
     ensures refused { IfErr result (λ fault. IfSome (S.remaining image.old) (λ bytes. StandsInImage (mounted bytes) (W.told out.old) (W.told out.new) fault)) }
     ensures kind { IfErr result IsListFault }

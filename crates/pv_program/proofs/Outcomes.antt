@@ -6,13 +6,14 @@ use Rattle.pv_model.specs.declared.fault.ImageFault.TheVariants.{Memory as Image
 use Rattle.pv_model.specs.declared.fault.ManifestFault.TheVariants.{Memory as ManifestMemory}
 use Rattle.pv_model.specs.declared.run_fault.RunFault.{RunFault}
 use Rattle.pv_model.specs.declared.run_fault.RunFault.TheVariants.{Read, Image, Manifest, Schedule, Init, Memory, WriteTrace, WriteImage}
+use Rattle.pv_model.specs.declared.store_fault.ListFault.{ListFault}
+use Rattle.pv_model.specs.declared.store_fault.ListFault.TheVariants.{Read as ListRead, Image as ListedImage, Memory as ListMemory, Write as ListWrite}
 use Rattle.pv_program.specs.declared.command.Command.{Command}
-use Rattle.pv_program.specs.declared.command.Command.TheVariants.{RunTree}
 use Rattle.pv_program.specs.declared.fault.Fault.{Fault}
-use Rattle.pv_program.specs.declared.fault.Fault.TheVariants.{Run, Line, Words}
+use Rattle.pv_program.specs.declared.fault.Fault.TheVariants.{Run, Listing, Line, Words}
 use Rattle.pv_program.specs.Line.{IsAsked}
-use Rattle.pv_program.specs.Program.{IsOfCommand, IsOutcome, OnRunTree}
-use Rattle.pv_program.specs.Status.{run_status_of, status_of}
+use Rattle.pv_program.specs.Program.{IsOfCommand, IsOutcome}
+use Rattle.pv_program.specs.Status.{list_status_of, run_status_of, status_of}
 
 run_status-not_zero : (fault : RunFault) → run_status_of fault ≢ 0
 run_status-not_zero (Image ImageMemory) h = cc
@@ -26,9 +27,17 @@ run_status-not_zero Read h = cc
 run_status-not_zero WriteTrace h = cc
 run_status-not_zero WriteImage h = cc
 
+list_status-not_zero : (fault : ListFault) → list_status_of fault ≢ 0
+list_status-not_zero (ListedImage ImageMemory) h = cc
+list_status-not_zero (ListedImage fault) h = cc
+list_status-not_zero ListMemory h = cc
+list_status-not_zero ListRead h = cc
+list_status-not_zero ListWrite h = cc
+
 -- a fault of a command has a status other than 0
 pub command_status-not_zero : (fault : Fault) → IsOfCommand fault → status_of fault ≢ 0
 command_status-not_zero (Run fault) of_command = run_status-not_zero fault
+command_status-not_zero (Listing fault) of_command = list_status-not_zero fault
 command_status-not_zero (Line fault) of_command = absurd of_command
 command_status-not_zero Words of_command = absurd of_command
 
@@ -36,10 +45,6 @@ command_status-not_zero Words of_command = absurd of_command
 pub fault_is_outcome : (words : List Bytes) (fault : Fault) (stays : Type 0) (does : Command → Type 0) (command : Command)
     → IsOfCommand fault → IsAsked words command → does command → IsOutcome words (Err fault) stays does
 fault_is_outcome words (Run fault) stays does command of_command asked done = (command, asked, done)
+fault_is_outcome words (Listing fault) stays does command of_command asked done = (command, asked, done)
 fault_is_outcome words (Line fault) stays does command of_command asked done = absurd of_command
 fault_is_outcome words Words stays does command of_command asked done = absurd of_command
-
--- two facts of the file of `run-tree`
-pub on_both : (command : Command) (P Q : Bytes → Type 0) → OnRunTree command P → OnRunTree command Q
-    → OnRunTree command (λ name. P name × Q name)
-on_both (RunTree name) P Q p q = (p, q)

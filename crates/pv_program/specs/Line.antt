@@ -1,5 +1,5 @@
 -- What the words of a command line ask for.
-use Rattle.std.specs.Prelude.{◌≡◌, ◌≢◌, ◌⊎◌, ⊤, ◌<◌, ℕ, true, false, List, [], ◌∷◌, length, codes, Option, None, Some, IsSomeAnd}
+use Rattle.std.specs.Prelude.{◌≡◌, ◌≢◌, ◌⊎◌, ⊤, ◌<◌, true, false, if◌then◌else◌, bytes_eq, List, [], ◌∷◌, length, codes, Option, None, Some}
 use Rattle.clap.specs.Words.{App, Row, Rule, Text, IsAmong, app_of, fault_of, first_of, is_broken, kind_of, new_app, new_rule, subcommand_of, takes, with_rule, with_subcommand}
 use Rattle.clap.specs.declared.builder.ArgAction.TheVariants.{Set}
 use Rattle.clap.specs.declared.builder.command.Command.{Command as Parser}
@@ -8,19 +8,32 @@ use Rattle.clap.specs.declared.error.Error.{Error}
 use Rattle.clap.specs.declared.error.kind.ErrorKind.{ErrorKind}
 use Rattle.clap.specs.declared.error.kind.ErrorKind.TheVariants.{OutOfMemory, MissingSubcommand}
 use Rattle.pv_program.specs.declared.command.Command.{Command}
-use Rattle.pv_program.specs.declared.command.Command.TheVariants.{RunTree}
+use Rattle.pv_program.specs.declared.command.Command.TheVariants.{RunTree, MakeImage, ListImage, RunImage}
 use Rattle.pv_program.specs.declared.command.LineFault.{LineFault}
 use Rattle.pv_program.specs.declared.command.LineFault.TheVariants as line
 
 -- ---- what the parser is told of the program
 
--- FILE: one text, and it must be there
-abbrev pub file_rule : Rule
-file_rule = record (new_rule (codes "FILE")) { required = true; action = Some Set }
+-- one text, and it must be there
+abbrev pub text_rule : Text → Rule
+text_rule name = record (new_rule name) { required = true; action = Some Set }
 
 -- `run-tree FILE`
 abbrev pub run_tree_app : App
-run_tree_app = with_rule (new_app (codes "run-tree")) file_rule
+run_tree_app = with_rule (new_app (codes "run-tree")) (text_rule (codes "FILE"))
+
+-- `mkimg MANIFEST IMAGE`
+abbrev pub make_image_app : App
+make_image_app = with_rule (with_rule (new_app (codes "mkimg")) (text_rule (codes "MANIFEST"))) (text_rule (codes "IMAGE"))
+
+-- `ls IMAGE`
+abbrev pub list_app : App
+list_app = with_rule (new_app (codes "ls")) (text_rule (codes "IMAGE"))
+
+-- `run IMAGE SCHEDULE OUT`
+abbrev pub run_app : App
+run_app =
+    with_rule (with_rule (with_rule (new_app (codes "run")) (text_rule (codes "IMAGE"))) (text_rule (codes "SCHEDULE"))) (text_rule (codes "OUT"))
 
 -- the program's own: it has a version, and wants a command
 abbrev pub bare_app : App
@@ -28,8 +41,15 @@ bare_app = record (new_app (codes "pvsim")) {
   top = record (new_app (codes "pvsim")).top { has_version = true; subcommand_required = true };
 }
 
+-- with its command on bundles, then with those that make an image and list one, and whole
+abbrev pub bundle_app : App
+bundle_app = with_subcommand bare_app run_tree_app.top
+
+abbrev pub image_app : App
+image_app = with_subcommand (with_subcommand bundle_app make_image_app.top) list_app.top
+
 abbrev pub pvsim_app : App
-pvsim_app = with_subcommand bare_app run_tree_app.top
+pvsim_app = with_subcommand image_app run_app.top
 
 -- a parser that reads just this
 pub record IsParserOf (app : App) (parser : Parser) : Type 0 where
@@ -38,14 +58,25 @@ pub record IsParserOf (app : App) (parser : Parser) : Type 0 where
 
 -- ---- the command that words ask for
 
+-- the text of an argument of a command, where that command was entered
+abbrev pub entered_text : Option (Text × List Row) → Text → Text → Option Text
+entered_text None command argument = None
+entered_text (Some p) command argument = if bytes_eq p.0 command then first_of argument p.1 else None
+
 -- the command and its texts stand in the matches of a subcommand
 abbrev pub IsCommandIn : Option (Text × List Row) → Command → Type 0
-IsCommandIn entered (RunTree file) =
-    IsSomeAnd entered (λ p. (p.0 ≡ codes "run-tree") × (first_of (codes "FILE") p.1 ≡ Some file.now))
+IsCommandIn entered (RunTree file) = entered_text entered (codes "run-tree") (codes "FILE") ≡ Some file.now
+IsCommandIn entered (MakeImage manifest image) =
+    (entered_text entered (codes "mkimg") (codes "MANIFEST") ≡ Some manifest.now) × (entered_text entered (codes "mkimg") (codes "IMAGE") ≡ Some image.now)
+IsCommandIn entered (ListImage image) = entered_text entered (codes "ls") (codes "IMAGE") ≡ Some image.now
+IsCommandIn entered (RunImage image schedule out) =
+    (entered_text entered (codes "run") (codes "IMAGE") ≡ Some image.now) × (entered_text entered (codes "run") (codes "SCHEDULE") ≡ Some schedule.now)
+    × (entered_text entered (codes "run") (codes "OUT") ≡ Some out.now)
 
 -- with no words: the bundle on the standard input
 abbrev pub IsWithoutWords : Command → Type 0
 IsWithoutWords (RunTree file) = file.now ≡ codes "-"
+IsWithoutWords command = ⊥
 
 -- the words, of which the first is the program's name, ask for this command
 abbrev pub IsAsked : List Text → Command → Type 0

@@ -7,10 +7,12 @@ use Rattle.pv_model.specs.declared.fault.ImageFault.TheVariants.{Memory as Image
 use Rattle.pv_model.specs.declared.fault.ManifestFault.TheVariants.{Memory as ManifestMemory}
 use Rattle.pv_model.specs.declared.run_fault.RunFault.{RunFault}
 use Rattle.pv_model.specs.declared.run_fault.RunFault.TheVariants.{Read, Image, Manifest, Schedule, Init, Memory, WriteTrace, WriteImage}
+use Rattle.pv_model.specs.declared.store_fault.ListFault.{ListFault}
+use Rattle.pv_model.specs.declared.store_fault.ListFault.TheVariants.{Read as ListRead, Image as ListedImage, Memory as ListMemory, Write as ListWrite}
 use Rattle.pv_program.specs.declared.command.LineFault.{LineFault}
 use Rattle.pv_program.specs.declared.command.LineFault.TheVariants as line
 use Rattle.pv_program.specs.declared.fault.Fault.{Fault}
-use Rattle.pv_program.specs.declared.fault.Fault.TheVariants.{Run, Line, Words}
+use Rattle.pv_program.specs.declared.fault.Fault.TheVariants.{Run, Listing, Line, Words}
 
 abbrev pub run_status_of : RunFault → ℕ
 run_status_of (Image ImageMemory) = 3
@@ -23,6 +25,13 @@ run_status_of Memory = 3
 run_status_of Read = 4
 run_status_of WriteTrace = 4
 run_status_of WriteImage = 4
+
+abbrev pub list_status_of : ListFault → ℕ
+list_status_of (ListedImage ImageMemory) = 3
+list_status_of (ListedImage fault) = 1
+list_status_of ListMemory = 3
+list_status_of ListRead = 4
+list_status_of ListWrite = 4
 
 -- help and the version are what was asked for; else the words are wrong
 abbrev pub kind_status : ErrorKind → ℕ
@@ -37,6 +46,7 @@ line_status line.Memory = 3
 
 abbrev pub status_of : Fault → ℕ
 status_of (Run fault) = run_status_of fault
+status_of (Listing fault) = list_status_of fault
 status_of (Line fault) = line_status fault
 status_of Words = 2
 

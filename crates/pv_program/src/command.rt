@@ -1,7 +1,7 @@
 //! The command line.
-ghost use Rattle.std.specs.Prelude.{◌≡◌, map, None, IfOk, IfErr, IfSome};
-ghost use Rattle.clap.specs.Words.{app_of, subcommand_of, subcommand_rows_of};
-ghost use Rattle.pv_program.specs.Line.{IsAsked, IsCommandIn, IsParserOf, RefusesLine, RefusesWords, pvsim_app, run_tree_app};
+ghost use Rattle.std.specs.Prelude.{◌≡◌, ℕ, List, codes, map, false, None, Some, IfOk, IfErr, IfSome, option_map};
+ghost use Rattle.clap.specs.Words.{app_of, rule_of, subcommand_of, subcommand_rows_of};
+ghost use Rattle.pv_program.specs.Line.{IsAsked, IsCommandIn, IsParserOf, RefusesLine, RefusesWords, bundle_app, entered_text, image_app, list_app, make_image_app, pvsim_app, run_app, run_tree_app, text_rule};
 
 use clap::error::ErrorKind;
 use clap::{Arg, ArgAction, ArgMatches, Command as Parser, Error as ParserError};
@@ -14,6 +14,24 @@ use thiserror::Error;
 pub enum Command<'a> {
     /// Run the bundle of a file: `-` is the standard input.
     RunTree(&'a str),
+    /// Make the image of a manifest.
+    MakeImage {
+        /// The file of the manifest.
+        manifest: &'a str,
+        /// The file that gets the image.
+        image: &'a str,
+    },
+    /// List the tree of the image in a file.
+    ListImage(&'a str),
+    /// Run an image under a schedule.
+    RunImage {
+        /// The file of the image.
+        image: &'a str,
+        /// The file of the schedule.
+        schedule: &'a str,
+        /// The file that gets the image of what the run leaves.
+        out: &'a str,
+    },
 }
 
 /// Why a command line is none.
@@ -54,24 +72,63 @@ impl From<ParserError> for LineFault {
     }
 }
 
+// An argument that is one text, and must be there.
+fn text<'a>(alloc: Global, name: &'a str, help: &'a str) -> Arg<'a>
+    ensures rule { rule_of result ≡ text_rule name.entry.now }
+    ensures local { result.global ≡ false }
+{
+    Arg::new(alloc, name)
+        .required(true)
+        .action(ArgAction::Set)
+        .help(help)
+}
+
 // The parser of `run-tree`.
 fn run_tree_parser<'a>(alloc: Global) -> Result<Parser<'a>, AllocError>
     ensures { IfOk result (IsParserOf run_tree_app) }
 {
-    let file = Arg::new(alloc, "FILE")
-        .required(true)
-        .action(ArgAction::Set)
-        .help(
-            "a bundle: a manifest, the line `schedule`, and a schedule; `-` is the standard input",
-        );
     Parser::new(alloc, "run-tree")
         .about("Run a bundle and write its trace")
-        .arg(file)
+        .arg(text(
+            alloc,
+            "FILE",
+            "a bundle: a manifest, the line `schedule`, and a schedule; `-` is the standard input",
+        ))
 }
 
-// The parser of the command line.
-fn parser<'a>(alloc: Global) -> Result<Parser<'a>, AllocError>
-    ensures { IfOk result (λ parser. app_of parser ≡ pvsim_app) }
+// The parser of `mkimg`.
+fn make_image_parser<'a>(alloc: Global) -> Result<Parser<'a>, AllocError>
+    ensures { IfOk result (IsParserOf make_image_app) }
+{
+    Parser::new(alloc, "mkimg")
+        .about("Make the image of a manifest")
+        .arg(text(alloc, "MANIFEST", "a manifest: the image's sizes, and what is in it"))?
+        .arg(text(alloc, "IMAGE", "the file that gets the image"))
+}
+
+// The parser of `ls`.
+fn list_parser<'a>(alloc: Global) -> Result<Parser<'a>, AllocError>
+    ensures { IfOk result (IsParserOf list_app) }
+{
+    Parser::new(alloc, "ls")
+        .about("List the tree of an image")
+        .arg(text(alloc, "IMAGE", "an image"))
+}
+
+// The parser of `run`.
+fn run_parser<'a>(alloc: Global) -> Result<Parser<'a>, AllocError>
+    ensures { IfOk result (IsParserOf run_app) }
+{
+    Parser::new(alloc, "run")
+        .about("Run an image under a schedule, write the trace, and then the image that is left")
+        .arg(text(alloc, "IMAGE", "an image"))?
+        .arg(text(alloc, "SCHEDULE", "a schedule: which processes take their turns"))?
+        .arg(text(alloc, "OUT", "the file that gets the image that the run leaves"))
+}
+
+// The parser of the program, with its command on bundles.
+fn bundle_parser<'a>(alloc: Global) -> Result<Parser<'a>, AllocError>
+    ensures { IfOk result (λ parser. app_of parser ≡ bundle_app) }
 {
     Parser::new(alloc, "pvsim")
         .version("0.1.0")
@@ -82,13 +139,76 @@ fn parser<'a>(alloc: Global) -> Result<Parser<'a>, AllocError>
         .subcommand(run_tree_parser(alloc)?)
 }
 
+// The same, with the commands that make an image and list one.
+fn image_parser<'a>(alloc: Global) -> Result<Parser<'a>, AllocError>
+    ensures { IfOk result (λ parser. app_of parser ≡ image_app) }
+{
+    bundle_parser(alloc)?
+        .subcommand(make_image_parser(alloc)?)?
+        .subcommand(list_parser(alloc)?)
+}
+
+// The parser of the command line: the same, with the command that runs an image.
+fn parser<'a>(alloc: Global) -> Result<Parser<'a>, AllocError>
+    ensures { IfOk result (λ parser. app_of parser ≡ pvsim_app) }
+{
+    image_parser(alloc)?.subcommand(run_parser(alloc)?)
+}
+
+// The text of an argument of a command, where the matches are those of that command.
+fn text_of<'a>(matches: &ArgMatches<'a>, command: &str, argument: &str) -> Option<&'a str>
+    ensures { option_map (λ text. text.now) result ≡ entered_text (subcommand_rows_of matches.now) command.now argument.now }
+{
+    let inner = matches.subcommand_matches(command)?;
+    inner.get_str(argument)
+}
+
+// `mkimg`, where the matches are those.
+fn make_image_in<'a>(matches: &ArgMatches<'a>) -> Option<Command<'a>>
+    ensures found { IfSome result (IsCommandIn (subcommand_rows_of matches.now)) }
+    ensures none { result ≡ None → (manifest image : List ℕ)
+        → entered_text (subcommand_rows_of matches.now) (codes "mkimg") (codes "MANIFEST") ≡ Some manifest
+        → entered_text (subcommand_rows_of matches.now) (codes "mkimg") (codes "IMAGE") ≡ Some image → ⊥ }
+{
+    let manifest = text_of(matches, "mkimg", "MANIFEST")?;
+    let image = text_of(matches, "mkimg", "IMAGE")?;
+    Some(Command::MakeImage { manifest, image })
+}
+
+// `run`, where the matches are those.
+fn run_image_in<'a>(matches: &ArgMatches<'a>) -> Option<Command<'a>>
+    ensures found { IfSome result (IsCommandIn (subcommand_rows_of matches.now)) }
+    ensures none { result ≡ None → (image schedule out : List ℕ)
+        → entered_text (subcommand_rows_of matches.now) (codes "run") (codes "IMAGE") ≡ Some image
+        → entered_text (subcommand_rows_of matches.now) (codes "run") (codes "SCHEDULE") ≡ Some schedule
+        → entered_text (subcommand_rows_of matches.now) (codes "run") (codes "OUT") ≡ Some out → ⊥ }
+{
+    let image = text_of(matches, "run", "IMAGE")?;
+    let schedule = text_of(matches, "run", "SCHEDULE")?;
+    let out = text_of(matches, "run", "OUT")?;
+    Some(Command::RunImage {
+        image,
+        schedule,
+        out,
+    })
+}
+
 // The command that stands in the matches of a line.
+#[tactic(auto, using(crate::proofs::LineLemmas::no_command))]
 fn command_in<'a>(matches: &ArgMatches<'a>) -> Option<Command<'a>>
     ensures found { IfSome result (IsCommandIn (subcommand_rows_of matches.now)) }
     ensures none { result ≡ None → (command : Command) → IsCommandIn (subcommand_rows_of matches.now) command → ⊥ }
 {
-    let inner = matches.subcommand_matches("run-tree")?;
-    Some(Command::RunTree(inner.get_str("FILE")?))
+    if let Some(file) = text_of(matches, "run-tree", "FILE") {
+        return Some(Command::RunTree(file));
+    }
+    if let Some(image) = text_of(matches, "ls", "IMAGE") {
+        return Some(Command::ListImage(image));
+    }
+    if let Some(command) = make_image_in(matches) {
+        return Some(command);
+    }
+    run_image_in(matches)
 }
 
 // What the words ask of the parser.

@@ -1,10 +1,10 @@
 //! What is told to a person, and the exit status.
 ghost use Rattle.std.specs.Prelude.{◌≡◌, ◌↔◌, IsTrue};
-ghost use Rattle.pv_program.specs.Status.{kind_status, run_status_of, status_of};
+ghost use Rattle.pv_program.specs.Status.{kind_status, list_status_of, run_status_of, status_of};
 
 use crate::command::LineFault;
 use clap::error::ErrorKind;
-use pv_model::{ImageFault, ManifestFault, RunFault};
+use pv_model::{ImageFault, ListFault, ManifestFault, RunFault};
 use std::fmt;
 use thiserror::Error;
 
@@ -12,9 +12,12 @@ use thiserror::Error;
 /// the LF at its end.
 #[derive(Debug, Drop, Error)]
 pub enum Fault {
-    /// A run was refused, or ended early.
+    /// A run, or the making of an image, was refused, or ended early.
     #[error("pvsim: {}\n", RunText(*.0))]
     Run(RunFault),
+    /// An image was not listed, or not whole.
+    #[error("pvsim: {}\n", ListText(*.0))]
+    Listing(ListFault),
     /// The words of the command line are no command, or ask for help or the version.
     #[error("{0}")]
     Line(LineFault),
@@ -36,6 +39,17 @@ fn run_status(fault: RunFault) -> u8
     }
 }
 
+// The status of a listing that was refused or ended early.
+fn list_status(fault: ListFault) -> u8
+    ensures { result ≡ list_status_of fault }
+{
+    match fault {
+        ListFault::Memory | ListFault::Image(ImageFault::Memory) => 3,
+        ListFault::Read | ListFault::Write => 4,
+        ListFault::Image(_) => 1,
+    }
+}
+
 // The status of what the parser answers in place of matches.
 fn parser_status(kind: ErrorKind) -> u8
     ensures { result ≡ kind_status kind }
@@ -54,6 +68,7 @@ impl Fault {
     {
         match self {
             Fault::Run(fault) => run_status(*fault),
+            Fault::Listing(fault) => list_status(*fault),
             Fault::Line(LineFault::Parser(error)) => parser_status(error.kind()),
             Fault::Line(LineFault::Memory) => 3,
             Fault::Line(LineFault::Number) | Fault::Words => 2,
@@ -75,6 +90,21 @@ impl fmt::Display for RunText {
             RunFault::Init(line) => write!(f, "init: line {line}"),
             RunFault::Memory => write!(f, "memory"),
             RunFault::WriteTrace | RunFault::WriteImage => write!(f, "write"),
+        }
+    }
+}
+
+// What a fault of a listing is called.
+#[derive(Clone, Copy)]
+struct ListText(ListFault);
+
+impl fmt::Display for ListText {
+    fn fmt<W: fmt::Write>(&self, f: &mut fmt::Formatter<W>) -> fmt::Result {
+        match self.0 {
+            ListFault::Read => write!(f, "read"),
+            ListFault::Image(fault) => write!(f, "{}", ImageText(fault)),
+            ListFault::Memory => write!(f, "memory"),
+            ListFault::Write => write!(f, "write"),
         }
     }
 }

@@ -1,13 +1,14 @@
 //! What each command reads and writes, and a whole run of the program.
 ghost use Rattle.std.specs.Prelude.{◌≡◌, ◌≢◌, codes, map, Err, Result, IfErr};
 ghost use Rattle.pv_program.specs.declared.fault.Fault.{Fault as Told};
-ghost use Rattle.pv_program.specs.Program.{IsOfCommand, IsOutcome, OnRunTree, RunsBundle, RunsFile};
+ghost use Rattle.pv_program.specs.Program.{IsOfCommand, IsOutcome, ListsFile, ListsImage, MakesFile, MakesImage, OnListImage, OnMakeImage, OnRunImage, OnRunTree, ReadsFiles, RunsBundle, RunsFile, RunsFiles, RunsImage};
 ghost use Rattle.pv_program.specs.Status.{IsStatusOf, status_of};
 
 use crate::command::{Command, command_of};
 use crate::fault::Fault;
 use crate::system::{Files, System};
-use pv_model::{Failed, RunFault, Sink, Source};
+use pv_images::{list, make_image};
+use pv_model::{Failed, ListFault, RunFault, Sink, Source};
 use pv_run::run_tree;
 use pv_trace::write_whole;
 use std::alloc::Global;
@@ -42,15 +43,121 @@ fn run_file<F: Files, W: Sink>(
     }
 }
 
-/// Does what a command asks for.
+// Makes the image of the manifest that a source gives.
+fn make_from<S: Source, W: Sink>(
+    alloc: Global,
+    manifest: &mut S,
+    image: &mut W,
+) -> Result<(), Fault>
+    ensures makes { MakesImage S.remaining S.failures manifest.old manifest.new W.told W.failures image.old image.new result }
+    ensures kind { IfErr result IsOfCommand }
+{
+    match make_image(alloc, manifest, image) {
+        Ok(()) => Ok(()),
+        Err(fault) => Err(Fault::Run(fault)),
+    }
+}
+
+// Makes the image of the manifest in a file, in another file.
+fn make_file<F: Files>(
+    alloc: Global,
+    files: &F,
+    manifest: &str,
+    image: &str,
+) -> Result<(), Fault>
+    ensures makes { MakesFile F.Reader.remaining F.Reader.failures F.file_of F.Writer.told F.Writer.failures (F.bytes files.now manifest.now) image.now result }
+    ensures kind { IfErr result IsOfCommand }
+{
+    let Ok(mut manifest) = files.open(manifest) else {
+        return Err(Fault::Run(RunFault::Read));
+    };
+    let Ok(mut image) = files.create(alloc, image) else {
+        return Err(Fault::Run(RunFault::Memory));
+    };
+    make_from(alloc, &mut manifest, &mut image)
+}
+
+// Lists the image that a source gives.
+fn list_from<S: Source, W: Sink>(alloc: Global, image: &mut S, out: &mut W) -> Result<(), Fault>
+    ensures lists { ListsImage S.remaining S.failures image.old image.new (W.told out.old) (W.told out.new) (W.failures out.old) (W.failures out.new) result }
+    ensures kind { IfErr result IsOfCommand }
+{
+    match list(alloc, image, out) {
+        Ok(()) => Ok(()),
+        Err(fault) => Err(Fault::Listing(fault)),
+    }
+}
+
+// Lists the image in a file.
+fn list_file<F: Files, W: Sink>(
+    alloc: Global,
+    files: &F,
+    name: &str,
+    out: &mut W,
+) -> Result<(), Fault>
+    ensures lists { ListsFile F.Reader.remaining F.Reader.failures (F.bytes files.now name.now) (W.told out.old) (W.told out.new) (W.failures out.old) (W.failures out.new) result }
+    ensures kind { IfErr result IsOfCommand }
+{
+    match files.open(name) {
+        Ok(mut file) => list_from(alloc, &mut file, out),
+        Err(Failed) => Err(Fault::Listing(ListFault::Read)),
+    }
+}
+
+// Runs the image that a source gives under the schedule of another.
+fn run_image_from<S: Source, W: Sink, O: Sink>(
+    alloc: Global,
+    image: &mut S,
+    schedule: &mut S,
+    trace: &mut W,
+    out: &mut O,
+) -> Result<(), Fault>
+    ensures runs { RunsImage S.remaining S.failures image.old image.new schedule.old schedule.new (W.told trace.old) (W.told trace.new) (W.failures trace.old) (W.failures trace.new) O.told O.failures out.old out.new result }
+    ensures kind { IfErr result IsOfCommand }
+{
+    match pv_run::run(alloc, image, schedule, trace, out) {
+        Ok(_) => Ok(()),
+        Err(fault) => Err(Fault::Run(fault)),
+    }
+}
+
+// Runs the image in a file under the schedule in another, and puts the image that is left into a third.
+fn run_files<F: Files, W: Sink>(
+    alloc: Global,
+    files: &F,
+    image: &str,
+    schedule: &str,
+    out: &str,
+    trace: &mut W,
+) -> Result<(), Fault>
+    ensures runs { RunsFiles F.Reader.remaining F.Reader.failures F.file_of F.Writer.told F.Writer.failures (F.bytes files.now image.now) (F.bytes files.now schedule.now) out.now (W.told trace.old) (W.told trace.new) (W.failures trace.old) (W.failures trace.new) result }
+    ensures kind { IfErr result IsOfCommand }
+{
+    let Ok(mut image) = files.open(image) else {
+        return Err(Fault::Run(RunFault::Read));
+    };
+    let Ok(mut schedule) = files.open(schedule) else {
+        return Err(Fault::Run(RunFault::Read));
+    };
+    let Ok(mut out) = files.create(alloc, out) else {
+        return Err(Fault::Run(RunFault::Memory));
+    };
+    run_image_from(alloc, &mut image, &mut schedule, trace, &mut out)
+}
+
+/// Does what a command asks for. Its files are opened before anything is read.
 ///
-/// `RunTree` runs the bundle of its file, or that of the standard input for `-`, and writes the trace to the
-/// standard output.
+/// - `RunTree` runs the bundle of its file, or that of the standard input for `-`, and writes the trace to the
+///   standard output.
+/// - `MakeImage` makes the image of the manifest in a file, and writes it to another file.
+/// - `ListImage` lists the image in a file, on the standard output.
+/// - `RunImage` runs the image in a file under the schedule in another, writes the trace to the standard output, and
+///   then the image that the run leaves to a third file.
 ///
 /// # Errors
 ///
-/// `Run`: a file did not open or could not be read, the input was refused, memory was refused, or the
-/// output could not be written. Where the input was refused, nothing was written.
+/// `Run`, and of `ListImage` `Listing`: a file did not open or could not be read, the input was refused, memory was
+/// refused, or the output could not be written. Where the input was refused, nothing was written.
 pub fn perform<F: Files + Drop, I: Source + Drop, O: Sink + Drop, E: Drop>(
     alloc: Global,
     command: Command<'_>,
@@ -58,11 +165,15 @@ pub fn perform<F: Files + Drop, I: Source + Drop, O: Sink + Drop, E: Drop>(
 ) -> Result<(), Fault>
     ensures input { OnRunTree command.entry (λ name. name ≡ codes "-" → RunsBundle I.remaining I.failures system.old.input system.new.input (O.told system.old.output) (O.told system.new.output) (O.failures system.old.output) (O.failures system.new.output) result) }
     ensures file { OnRunTree command.entry (λ name. name ≢ codes "-" → RunsFile F.Reader.remaining F.Reader.failures (F.bytes system.old.files name) (O.told system.old.output) (O.told system.new.output) (O.failures system.old.output) (O.failures system.new.output) result) }
+    ensures makes { OnMakeImage command.entry (λ manifest image. MakesFile F.Reader.remaining F.Reader.failures F.file_of F.Writer.told F.Writer.failures (F.bytes system.old.files manifest) image result) }
+    ensures lists { OnListImage command.entry (λ name. ListsFile F.Reader.remaining F.Reader.failures (F.bytes system.old.files name) (O.told system.old.output) (O.told system.new.output) (O.failures system.old.output) (O.failures system.new.output) result) }
+    ensures runs { OnRunImage command.entry (λ image schedule out. RunsFiles F.Reader.remaining F.Reader.failures F.file_of F.Writer.told F.Writer.failures (F.bytes system.old.files image) (F.bytes system.old.files schedule) out (O.told system.old.output) (O.told system.new.output) (O.failures system.old.output) (O.failures system.new.output) result) }
 
     ensures kind { IfErr result IsOfCommand }
 
     // The rest of the system is left as it was.
-    ensures unread { OnRunTree command.entry (λ name. name ≢ codes "-" → system.new.input ≡ system.old.input) }
+    ensures unread { ReadsFiles command.entry → system.new.input ≡ system.old.input }
+    ensures silent { OnMakeImage command.entry (λ _ _. system.new.output ≡ system.old.output) }
     ensures rest { system.new ≡ record system.old { input = system.new.input; output = system.new.output } }
 {
     match command {
@@ -73,6 +184,22 @@ pub fn perform<F: Files + Drop, I: Source + Drop, O: Sink + Drop, E: Drop>(
                 run_file(alloc, &system.files, name, &mut system.output)
             }
         }
+        Command::MakeImage { manifest, image } => {
+            make_file(alloc, &system.files, manifest, image)
+        }
+        Command::ListImage(name) => list_file(alloc, &system.files, name, &mut system.output),
+        Command::RunImage {
+            image,
+            schedule,
+            out,
+        } => run_files(
+            alloc,
+            &system.files,
+            image,
+            schedule,
+            out,
+            &mut system.output,
+        ),
     }
 }
 
@@ -127,9 +254,12 @@ pub fn run<S: AsStr, F: Files + Drop, I: Source + Drop, O: Sink + Drop, E: Sink 
 ) -> u8
     ensures { (outcome : Result (Unit {0}) Told) × IsStatusOf outcome result
         × IsOutcome (map S.text words.now) outcome (system.new ≡ record system.old { errors = system.new.errors })
-        (λ command. OnRunTree command (λ name.
-        (name ≡ codes "-" → RunsBundle I.remaining I.failures system.old.input system.new.input (O.told system.old.output) (O.told system.new.output) (O.failures system.old.output) (O.failures system.new.output) outcome)
-        × (name ≢ codes "-" → RunsFile F.Reader.remaining F.Reader.failures (F.bytes system.old.files name) (O.told system.old.output) (O.told system.new.output) (O.failures system.old.output) (O.failures system.new.output) outcome))) }
+        (λ command. OnRunTree command (λ name. name ≡ codes "-" → RunsBundle I.remaining I.failures system.old.input system.new.input (O.told system.old.output) (O.told system.new.output) (O.failures system.old.output) (O.failures system.new.output) outcome)
+        × OnRunTree command (λ name. name ≢ codes "-" → RunsFile F.Reader.remaining F.Reader.failures (F.bytes system.old.files name) (O.told system.old.output) (O.told system.new.output) (O.failures system.old.output) (O.failures system.new.output) outcome)
+        × OnMakeImage command (λ manifest image. MakesFile F.Reader.remaining F.Reader.failures F.file_of F.Writer.told F.Writer.failures (F.bytes system.old.files manifest) image outcome)
+        × OnMakeImage command (λ _ _. system.new.output ≡ system.old.output)
+        × OnListImage command (λ name. ListsFile F.Reader.remaining F.Reader.failures (F.bytes system.old.files name) (O.told system.old.output) (O.told system.new.output) (O.failures system.old.output) (O.failures system.new.output) outcome)
+        × OnRunImage command (λ image schedule out. RunsFiles F.Reader.remaining F.Reader.failures F.file_of F.Writer.told F.Writer.failures (F.bytes system.old.files image) (F.bytes system.old.files schedule) out (O.told system.old.output) (O.told system.new.output) (O.failures system.old.output) (O.failures system.new.output) outcome)) }
 {
     let command = match command_of(alloc, words) {
         Ok(command) => command,

@@ -1,7 +1,9 @@
 //! What the program reads and writes: files by their names, and three streams.
 ghost use Rattle.std.specs.Prelude.{◌≡◌, ℕ, List, Option, IfOk, IsOk, IsSome};
+ghost use Rattle.pv_program.specs.Program.{IsCreated};
 
-use pv_model::{Failed, Source};
+use pv_model::{Failed, Sink, Source};
+use std::alloc::{AllocError, Global};
 
 /// Files by their names.
 ///
@@ -11,8 +13,14 @@ pub trait Files {
     /// A file that was opened for reading.
     type Reader: Source + Drop;
 
+    /// A file that is to be written.
+    type Writer: Sink + Drop;
+
     /// The bytes of the file of a name, where they are known.
     ghost bytes: { Self → List ℕ → Option (List ℕ) };
+
+    /// The name of the file that a writer writes.
+    ghost file_of: { Self.Writer → List ℕ };
 
     /// Opens the file of a name for reading, from its first byte on. A file whose bytes are known opens.
     ///
@@ -22,6 +30,15 @@ pub trait Files {
     fn open(&self, name: &str) -> Result<Self::Reader, Failed>
         ensures bytes { IfOk result (λ reader. Self.Reader.remaining reader ≡ bytes self.now name.now) }
         ensures opens { IsSome (bytes self.now name.now) → IsOk result };
+
+    /// The file of a name, to be written. It is made, or emptied, at the first write, so where nothing is written
+    /// an old file stays as it is.
+    ///
+    /// # Errors
+    ///
+    /// `AllocError` where memory was refused for the name.
+    fn create(&self, alloc: Global, name: &str) -> Result<Self::Writer, AllocError>
+        ensures { IfOk result (IsCreated file_of Self.Writer.told name.now) };
 }
 
 /// What a run of the program reads from and writes to.

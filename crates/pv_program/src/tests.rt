@@ -1,11 +1,13 @@
 //! Runs of the whole program over a file and streams in memory.
 ghost use Rattle.std.specs.Prelude.{None, Some, if◌then◌else◌};
 ghost use Rattle.std.specs.Str.{bytes_eq};
+ghost use Rattle.std.specs.String.{string_bytes};
 
 use crate::{Command, Fault, Files, LineFault, System, command_of, run};
-use pv_model::{Failed, ImageFault, ManifestFault, RunFault, Sink};
+use pv_model::{Failed, ImageFault, ListFault, ManifestFault, RunFault, Sink};
 use pv_run::stream::{Bytes, Gathered};
-use std::alloc::Global;
+use std::alloc::{AllocError, Global};
+use std::cell::RefCell;
 use std::process::Abort;
 use std::test::Fail;
 
@@ -20,17 +22,69 @@ const SMALL: &[u8] = b"image 2 1\nschedule\n1\n";
 
 const SMALL_TRACE: &[u8] = b"    1 CALL  exit(0)\n";
 
-// One file in memory.
+// One file in memory that can be read; what is written to any file stands in a cell, once it was made.
 #[derive(Drop)]
-struct OneFile {
+struct OneFile<'a> {
     name: &'static str,
     bytes: &'static [u8],
+    written: &'a RefCell<Option<Vec<u8>>>,
 }
 
-impl Files for OneFile {
+// A file that is made at its first write.
+#[derive(Drop)]
+struct Written<'a> {
+    alloc: Global,
+    name: String,
+    bytes: &'a RefCell<Option<Vec<u8>>>,
+    failures: u64,
+}
+
+impl Written<'_> {
+    // Puts bytes behind those that the file has.
+    fn add(&self, buffer: &[u8]) -> Result<(), Failed> {
+        let Ok(mut place) = self.bytes.try_borrow_mut() else {
+            return Err(Failed);
+        };
+        let mut bytes = match place.take() {
+            Some(bytes) => bytes,
+            None => Vec::new(self.alloc),
+        };
+        let added = bytes.extend_from_slice(buffer);
+        *place = Some(bytes);
+        added.map_err(|_| Failed)
+    }
+}
+
+impl Sink for Written<'_> {
+    ghost told = { λ _. None };
+
+    ghost failures = { λ sink. sink.failures };
+
+    fn write(&mut self, buffer: &[u8]) -> Result<usize, Failed> {
+        if self.add(buffer).is_ok() {
+            return Ok(buffer.len());
+        }
+        self.failures = self.failures.saturating_add(1);
+        Err(Failed)
+    }
+}
+
+impl<'a> Files for OneFile<'a> {
     type Reader = Bytes<'static>;
+    type Writer = Written<'a>;
 
     ghost bytes = { λ file name. if bytes_eq file.name.now name then Some file.bytes.now else None };
+
+    ghost file_of = { λ writer. string_bytes writer.name };
+
+    fn create(&self, alloc: Global, name: &str) -> Result<Written<'a>, AllocError> {
+        Ok(Written {
+            alloc,
+            name: String::from_str(alloc, name)?,
+            bytes: self.written,
+            failures: 0,
+        })
+    }
 
     fn open(&self, name: &str) -> Result<Bytes<'static>, Failed> {
         if self.name == name {
@@ -59,15 +113,17 @@ impl Sink for Full {
 }
 
 // A system whose file `motd` and whose standard input have these bytes.
-fn system_with(
+fn system_with<'a>(
     alloc: Global,
     file: &'static [u8],
     input: &'static [u8],
-) -> System<OneFile, Bytes<'static>, Gathered, Gathered> {
+    written: &'a RefCell<Option<Vec<u8>>>,
+) -> System<OneFile<'a>, Bytes<'static>, Gathered, Gathered> {
     System {
         files: OneFile {
             name: "motd",
             bytes: file,
+            written,
         },
         input: Bytes::new(input),
         output: Gathered::new(alloc),
@@ -75,7 +131,15 @@ fn system_with(
     }
 }
 
-// Runs the words, where the file `motd` has these bytes and the standard input the small bundle.
+// Whether something was written to a file.
+fn is_made(written: &RefCell<Option<Vec<u8>>>) -> bool {
+    match written.try_borrow() {
+        Ok(bytes) => bytes.is_some(),
+        Err(_) => true,
+    }
+}
+
+// Runs the words, where the file `motd` has these bytes and the standard input the small bundle. No file is made.
 fn expect_run_of(
     rt: &(impl Abort + AllocGlobal),
     file: &'static [u8],
@@ -84,11 +148,13 @@ fn expect_run_of(
     output: &[u8],
     errors: &[u8],
 ) {
-    let mut system = system_with(rt.alloc(), file, SMALL);
+    let written = RefCell::new(None);
+    let mut system = system_with(rt.alloc(), file, SMALL, &written);
     let ended = run(rt.alloc(), words, &mut system);
     assert!(rt; ended == status);
     assert!(rt; system.output.bytes.as_slice() == output);
     assert!(rt; system.errors.bytes.as_slice() == errors);
+    assert!(rt; !is_made(&written));
 }
 
 // Runs the words, where the file `motd` has the bundle of that name.
@@ -104,7 +170,8 @@ fn expect_run(
 
 // Runs words that ask for help, whose text is on the standard output.
 fn expect_help(rt: &(impl Abort + AllocGlobal), words: &[&str]) {
-    let mut system = system_with(rt.alloc(), MOTD, SMALL);
+    let written = RefCell::new(None);
+    let mut system = system_with(rt.alloc(), MOTD, SMALL, &written);
     let ended = run(rt.alloc(), words, &mut system);
     assert!(rt; ended == 0);
     assert!(rt; system.output.bytes.starts_with(b"A teaching kernel"));
@@ -113,7 +180,8 @@ fn expect_help(rt: &(impl Abort + AllocGlobal), words: &[&str]) {
 
 // Runs words that are no command line, which is told on the standard error.
 fn expect_refused_words(rt: &(impl Abort + AllocGlobal), words: &[&str]) {
-    let mut system = system_with(rt.alloc(), MOTD, SMALL);
+    let written = RefCell::new(None);
+    let mut system = system_with(rt.alloc(), MOTD, SMALL, &written);
     let ended = run(rt.alloc(), words, &mut system);
     assert!(rt; ended == 2);
     assert!(rt; system.output.bytes.is_empty());
@@ -122,10 +190,12 @@ fn expect_refused_words(rt: &(impl Abort + AllocGlobal), words: &[&str]) {
 
 // Runs words over a standard output that takes nothing.
 fn expect_failed_write(rt: &(impl Abort + AllocGlobal), words: &[&str], errors: &[u8]) {
+    let written = RefCell::new(None);
     let mut system = System {
         files: OneFile {
             name: "motd",
             bytes: MOTD,
+            written: &written,
         },
         input: Bytes::new(SMALL),
         output: Full { failures: 0 },
@@ -172,6 +242,10 @@ fn refused_words_are_told_on_the_errors(rt: HostRuntime) {
     expect_refused_words(&rt, &["pvsim", "--trace", "motd"]);
     expect_refused_words(&rt, &["pvsim", "run-tree"]);
     expect_refused_words(&rt, &["pvsim", "run-tree", "motd", "motd"]);
+    expect_refused_words(&rt, &["pvsim", "mkimg", "motd"]);
+    expect_refused_words(&rt, &["pvsim", "ls"]);
+    expect_refused_words(&rt, &["pvsim", "ls", "motd", "motd"]);
+    expect_refused_words(&rt, &["pvsim", "run", "motd", "motd"]);
 }
 
 #[test]
@@ -187,7 +261,32 @@ fn a_command_has_its_texts(rt: HostRuntime) -> Result<(), Fail> {
     assert!(rt; command == Command::RunTree("a b"));
     let command = command_of(rt.alloc(), &["pvsim", "run-tree", "--", "-x"])?;
     assert!(rt; command == Command::RunTree("-x"));
+    let command = command_of(rt.alloc(), &["pvsim", "mkimg", "m", "i"])?;
+    let (manifest, image) = ("m", "i");
+    assert!(rt; command == Command::MakeImage { manifest, image });
+    let command = command_of(rt.alloc(), &["pvsim", "ls", "i"])?;
+    assert!(rt; command == Command::ListImage("i"));
+    let command = command_of(rt.alloc(), &["pvsim", "run", "i", "s", "o"])?;
+    let (schedule, out) = ("s", "o");
+    assert!(rt; command == Command::RunImage { image, schedule, out });
     Ok(())
+}
+
+#[test]
+fn a_file_that_does_not_open_is_a_failed_read(rt: HostRuntime) {
+    let errors = b"pvsim: read\n";
+    expect_run(&rt, &["pvsim", "mkimg", "no", "out"], 4, b"", errors);
+    expect_run(&rt, &["pvsim", "ls", "no"], 4, b"", errors);
+    expect_run(&rt, &["pvsim", "run", "no", "motd", "out"], 4, b"", errors);
+    expect_run(&rt, &["pvsim", "run", "motd", "no", "out"], 4, b"", errors);
+}
+
+#[test]
+fn a_refused_manifest_makes_no_file(rt: HostRuntime) {
+    let words = ["pvsim", "mkimg", "motd", "out"];
+    expect_run_of(&rt, b"", &words, 1, b"", b"pvsim: manifest: line 1: form\n");
+    expect_run_of(&rt, b"image 1 1\n", &words, 1, b"", b"pvsim: manifest: size\n");
+    expect_run_of(&rt, MOTD, &words, 1, b"", b"pvsim: manifest: line 10: form\n");
 }
 
 #[test]
@@ -260,6 +359,18 @@ fn faults_of_images_have_their_texts(rt: HostRuntime) -> Result<(), Fail> {
         1,
     )?;
     expect_fault(&rt, &of_image(ImageFault::Memory), "pvsim: memory\n", 3)
+}
+
+#[test]
+fn faults_of_listings_have_their_texts(rt: HostRuntime) -> Result<(), Fail> {
+    let image = Fault::Listing(ListFault::Image(ImageFault::Tree(12)));
+    expect_fault(&rt, &image, "pvsim: image: tree 12\n", 1)?;
+    let image = Fault::Listing(ListFault::Image(ImageFault::Memory));
+    expect_fault(&rt, &image, "pvsim: memory\n", 3)?;
+    let memory = Fault::Listing(ListFault::Memory);
+    expect_fault(&rt, &memory, "pvsim: memory\n", 3)?;
+    expect_fault(&rt, &Fault::Listing(ListFault::Read), "pvsim: read\n", 4)?;
+    expect_fault(&rt, &Fault::Listing(ListFault::Write), "pvsim: write\n", 4)
 }
 
 #[test]

@@ -1,6 +1,6 @@
 use Rattle.std.proofs.Common.{◌≡◌, map, Err}
 use Rattle.pv_program.specs.Program.{IsOfCommand}
-use Rattle.pv_program.proofs.Outcomes.{command_status-not_zero, fault_is_outcome, on_both}
+use Rattle.pv_program.proofs.Outcomes.{command_status-not_zero, fault_is_outcome}
 use Rattle.pv_program.proofs.program.run.Goals as goal
 
 pub returns-in-Err-perform : goal.returns-in-Err-perform
@@ -11,5 +11,12 @@ returns-in-Err-perform g c =
       Err fault,
       c.tell-in-Err-perform.ensures.status,
       fault_is_outcome (map g.S.AsStr.text c.args.words.now) fault _ _ c.in-Ok.command kind c.in-Ok.ensures.asked
-          (on_both c.in-Ok.command _ _ (rw after c.in-Err-perform.ensures.input) (rw after c.in-Err-perform.ensures.file)),
+          (
+          rw after c.in-Err-perform.ensures.input,
+          rw after c.in-Err-perform.ensures.file,
+          c.in-Err-perform.ensures.makes,
+          rw after c.in-Err-perform.ensures.silent,
+          rw after c.in-Err-perform.ensures.lists,
+          rw after c.in-Err-perform.ensures.runs,
+          ),
     )
