@@ -21,6 +21,8 @@ mod places;
 mod reach;
 mod slots;
 mod targets;
+#[cfg(test)]
+mod tests;
 mod used_blocks;
 
 use crate::image::Image;
