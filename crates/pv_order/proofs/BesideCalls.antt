@@ -1,11 +1,11 @@
 -- Each call run beside itself, in two states that differ inside another process.
-use Rattle.std.proofs.Common.{◌≡◌, ◌≢◌, ℕ, zero, suc, ℤ, Bool, true, false, cond, not, ◌||◌, ◌==◌, if◌then◌else◌, nat_le, nat_lt, List, [], ◌∷◌, length, Option, None, Some, refl, ap, ap₂, sym, subst, ◌∙◌}
-use Rattle.std.specs.FinMap.Entries.{put, where_key}
+use Rattle.std.proofs.Common.{◌≡◌, ◌≢◌, ℕ, zero, suc, ℤ, Bool, true, false, cond, not, ◌||◌, ◌==◌, nat_le, nat_lt, List, [], ◌∷◌, length, Option, None, Some, refl, ap, sym, subst, ◌∙◌}
+use Rattle.std.specs.FinMap.Entries.{put}
 use Rattle.std.specs.Ordering.{nat_cmp}
 use Rattle.pv_model.specs.declared.call.Call.{Call}
 use Rattle.pv_model.specs.declared.call.Call.TheVariants as TheCall
 use Rattle.pv_model.specs.declared.call.Start.{Start}
-use Rattle.pv_model.specs.declared.call.Start.TheVariants.{WorkingDirectory, Descriptor as AtDescriptor}
+use Rattle.pv_model.specs.declared.call.Start.TheVariants.{WorkingDirectory}
 use Rattle.pv_model.specs.declared.errno.Errno.{Errno}
 use Rattle.pv_model.specs.declared.errno.Errno.TheVariants.{EFBIG, ENOSPC, EAGAIN, ECHILD}
 use Rattle.pv_model.specs.declared.open_flags.OpenFlags.{OpenFlags}
@@ -14,7 +14,6 @@ use Rattle.pv_model.specs.Answer.{effect}
 use Rattle.pv_model.specs.Attempt.{Attempt, done, refused, after_walks, ◌>>=◌, ◌>>◌, give, refuse_if}
 use Rattle.pv_model.specs.Bytes.{Bytes, is_empty}
 use Rattle.pv_model.specs.Calls.Descriptors.{open_node, open_at, write, after_write, list_name}
-use Rattle.pv_model.specs.Calls.Paths.{make}
 use Rattle.pv_model.specs.Calls.Processes.{child, fork, children, statuses, reap, wait}
 use Rattle.pv_model.specs.Calls.Restraints.{unveil}
 use Rattle.pv_model.specs.Effect.{Effect, Reply, returns, answers, with_room}
@@ -22,10 +21,9 @@ use Rattle.pv_model.specs.Held.{trim}
 use Rattle.pv_model.specs.Numbered.{Numbered}
 use Rattle.pv_model.specs.Room.{is_too_long, fits}
 use Rattle.pv_model.specs.State.{OpenFile, Program, Process, live, State, with_process}
-use Rattle.pv_model.specs.Tree.{Node, Tree, directory_node}
-use Rattle.pv_model.specs.Walks.{Walk, mkdir_walk}
+use Rattle.pv_model.specs.Tree.{Tree}
 use Rattle.pv_laws.proofs.Rests
-use Rattle.pv_order.specs.Beside.{StandsAlike, with_change}
+use Rattle.pv_order.specs.Beside.{with_change}
 use Rattle.pv_order.proofs.Exchange.{KeepsParent, changed, Fits, put-other, length-changed, where-changed, children-changed, trim-changed, fits-put, fits-filter}
 
 module _ (k : ℕ) (f : Process → Process) where

@@ -1,12 +1,12 @@
 -- Steps run beside themselves, in two states that differ inside another process.
-use Rattle.std.proofs.Common.{◌≡◌, ◌≢◌, ℕ, suc, pos, negsuc, Bool, true, false, cond, if◌then◌else◌, List, [], ◌∷◌, Option, None, Some, refl, ap, ap₂, sym, subst, ◌∙◌, inl, inr}
+use Rattle.std.proofs.Common.{◌≡◌, ◌≢◌, ℕ, suc, pos, negsuc, Bool, true, false, cond, if◌then◌else◌, List, [], ◌∷◌, Option, None, Some, refl, ap, sym, subst, ◌∙◌}
 use Rattle.std.specs.FinMap.Entries.{find, is_sorted, below_all}
-use Rattle.std.specs.Ordering.{nat_cmp, is_eq, eq_by_cmp}
+use Rattle.std.specs.Ordering.{nat_cmp, is_eq}
 use Rattle.std.proofs.lemmas.Bool.{and_parts}
 use Rattle.pv_model.specs.declared.call.Call.{Call}
 use Rattle.pv_model.specs.declared.errno.Errno.TheVariants.{ENOSYS}
 use Rattle.pv_model.specs.declared.outcome.Cause.TheVariants.{Promise as ByPromise}
-use Rattle.pv_model.specs.declared.outcome.Outcome.TheVariants.{Gone, Killed}
+use Rattle.pv_model.specs.declared.outcome.Outcome.TheVariants.{Killed}
 use Rattle.pv_model.specs.declared.promise.Promise.{Promise}
 use Rattle.pv_model.specs.Answer.{Answered, answer, answer_of, answer_where, answer_by_reply, answer_by_attempt, answer_without_promise, at_next_line, with_front, update, effect}
 use Rattle.pv_model.specs.Attempt.{Attempt, done, refused}
@@ -18,17 +18,17 @@ use Rattle.pv_model.specs.Held.{trim}
 use Rattle.pv_model.specs.Needs.{needs}
 use Rattle.pv_model.specs.Program.{Next, inside, calls_for, next}
 use Rattle.pv_model.specs.Promises.{missing_promise, is_lenient}
-use Rattle.pv_model.specs.State.{Program, Process, Record, live, ended_record, State, process_at, with_process}
-use Rattle.pv_model.specs.Step.{Stepped, step, step_of, step_by}
+use Rattle.pv_model.specs.State.{Program, Process, Record, live, ended_record, State, process_at}
+use Rattle.pv_model.specs.Step.{step, step_of, step_by}
 use Rattle.pv_laws.specs.States.{IsWhole}
 use Rattle.pv_laws.proofs.Apart.{IsToldAlike, lines-alike}
-use Rattle.pv_laws.proofs.Members.{find_number_behind, live-found, found-live}
+use Rattle.pv_laws.proofs.Members.{find_number_behind, found-live}
 use Rattle.pv_laws.proofs.Outcomes.{at_call}
 use Rattle.pv_laws.proofs.Processes.{number-itself}
 use Rattle.pv_rights.proofs.Ends.{whole-in_order, not_next}
 use Rattle.pv_order.specs.Beside.{StandsAlike, with_change, become, StepsBeside}
 use Rattle.pv_order.proofs.Exchange.{KeepsParent, Fits, trim-changed, fits-put, process-changed, with-changed, update-changed, fits-update, end-changed, fits-end}
-use Rattle.pv_order.proofs.BesideCalls.{moved, FitsIn, Beside, calls-beside}
+use Rattle.pv_order.proofs.BesideCalls.{moved, FitsIn, calls-beside}
 
 -- in a table that rises, what fits the process that is found fits
 pub fits-found : (k : ℕ) (f : Process → Process) (es : List (ℕ × Record)) → is_sorted nat_cmp es ≡ true → ((x : Process) → find nat_cmp k es ≡ Some (live x) → StandsAlike x (f x)) → Fits k f es

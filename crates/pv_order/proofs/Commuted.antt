@@ -1,5 +1,5 @@
 -- Steps of different processes in either order.
-use Rattle.std.proofs.Common.{◌≡◌, ◌≢◌, ℕ, suc, pos, negsuc, Bool, true, false, cond, if◌then◌else◌, ◌==◌, List, [], ◌∷◌, map, Option, None, Some, refl, ap, ap₂, sym, subst, ◌∙◌}
+use Rattle.std.proofs.Common.{◌≡◌, ◌≢◌, ℕ, Bool, true, false, cond, if◌then◌else◌, ◌==◌, List, [], ◌∷◌, Option, Some, refl, ap, ap₂, sym, subst, ◌∙◌}
 use Rattle.std.specs.FinMap.Entries.{by_order, find, put, is_sorted, below_all}
 use Rattle.std.specs.Ordering.{nat_cmp, is_lt, is_eq}
 use Rattle.std.specs.Cmp.{unsigned_ties}
@@ -7,15 +7,15 @@ use Rattle.std.specs.declared.cmp.Ordering.{Ordering}
 use Rattle.std.specs.declared.cmp.Ordering.TheVariants.{Less, Equal, Greater}
 use Rattle.std.proofs.lemmas.Bool.{and_parts, eqb-true, eq-eqb}
 use Rattle.pv_model.specs.Bytes.{Bytes}
-use Rattle.pv_model.specs.State.{Program, Process, Record, live, ended_record, State, process_at, with_process}
-use Rattle.pv_model.specs.Step.{Stepped, step}
+use Rattle.pv_model.specs.State.{Program, Process, Record, live, State, process_at, with_process}
+use Rattle.pv_model.specs.Step.{step}
 use Rattle.pv_laws.specs.States.{IsWhole}
 use Rattle.pv_laws.proofs.Members.{live-found}
 use Rattle.pv_laws.proofs.Processes.{number-itself}
 use Rattle.pv_laws.proofs.Running.{not_before}
-use Rattle.pv_order.specs.Beside.{change_live, change_at, StandsAlike, with_change, become, StepsBeside}
-use Rattle.pv_order.specs.Commuting.{AnswerAlike, Commute, StaysInside}
-use Rattle.pv_order.proofs.Exchange.{changed, change-itself}
+use Rattle.pv_order.specs.Beside.{change_live, with_change, become, StepsBeside}
+use Rattle.pv_order.specs.Commuting.{Commute, StaysInside}
+use Rattle.pv_order.proofs.Exchange.{changed}
 use Rattle.pv_order.proofs.BesideSteps.{others-alter-nothing}
 
 -- ---- a process that is put is one that is changed
@@ -64,6 +64,20 @@ module _ (k : ℕ) (f : Process → Process) where
           none true same =
               let here : k ≡ e.0 = sym (eqb-true e.0 k same) in
               let bad : Equal ≡ Greater = sym (number-itself k) ∙ ap (nat_cmp k) here ∙ is in cc bad
+
+-- a process that is put where it is
+pub put-there : (k : ℕ) (es : List (ℕ × Record)) (p : Process) → is_sorted nat_cmp es ≡ true → find nat_cmp k es ≡ Some (live p) → put nat_cmp k (live p) es ≡ es
+put-there k [] p sorted found = cc found
+put-there k (e ∷ es) p sorted found = by (nat_cmp k e.0) refl (λ there. put-there k es p (and_parts (below_all nat_cmp e.0 es) (is_sorted nat_cmp es) sorted).1 there)
+  where
+    by : (o : Ordering) → nat_cmp k e.0 ≡ o → (find nat_cmp k es ≡ Some (live p) → put nat_cmp k (live p) es ≡ es)
+        → by_order o ((k, live p) ∷ e ∷ es) ((e.0, live p) ∷ es) (e ∷ put nat_cmp k (live p) es) ≡ e ∷ es
+    by Less is rest = not_before k (live p) e es sorted is found
+    by Equal is rest =
+        let value : Some e.1 ≡ Some (live p) = sym (ap (λ o. cond (is_eq o) (Some e.1) (find nat_cmp k es)) is) ∙ found in
+        let same : e.1 ≡ live p = cc value in
+        ap (λ r. (e.0, r) ∷ es) (sym same)
+    by Greater is rest = ap (λ (xs : List (ℕ × Record)). e ∷ xs) (rest (sym (ap (λ o. cond (is_eq o) (Some e.1) (find nat_cmp k es)) is) ∙ found))
 
 -- a state with another process under a number is one in which it is changed
 pub with-is-change : (s : State) (k : ℕ) (p q : Process) → IsWhole s → process_at s k ≡ Some p → q.parent ≡ p.parent → with_process s k q ≡ with_change s k (become q)

@@ -1,5 +1,5 @@
 -- Lists of processes in which one is changed, and what is done with both alike.
-use Rattle.std.proofs.Common.{◌≡◌, ◌≢◌, ℕ, suc, Bool, true, false, cond, not, ◌&&◌, ◌==◌, if◌then◌else◌, List, [], ◌∷◌, ◌++◌, map, filter, length, Option, None, Some, is_some, option_map, refl, ap, ap₂, sym, subst, ◌∙◌, ⊎_elim, arith}
+use Rattle.std.proofs.Common.{◌≡◌, ◌≢◌, ℕ, suc, Bool, true, false, cond, not, ◌==◌, if◌then◌else◌, List, [], ◌∷◌, ◌++◌, map, filter, length, Option, None, Some, is_some, option_map, refl, ap, ap₂, sym, subst, ◌∙◌}
 use Rattle.std.specs.Cmp.{unsigned_ties}
 use Rattle.std.specs.FinMap.Entries.{by_order, find, put, where_key}
 use Rattle.std.specs.Ordering.{nat_cmp, is_eq, eq_by_cmp}
@@ -9,7 +9,7 @@ use Rattle.std.proofs.lemmas.Bool.{eqb-true, ne_eqb, cases_eq}
 use Rattle.pv_model.specs.Answer.{update_live, update}
 use Rattle.pv_model.specs.Bytes.{is_empty}
 use Rattle.pv_model.specs.Calls.Processes.{parent_of, with_parent, adopt, is_unclaimed, adopter, adopt_orphans, end_process, statuses}
-use Rattle.pv_model.specs.Held.{among, used_files, held_by_process, held_by_table, trim}
+use Rattle.pv_model.specs.Held.{among, used_files, held_by_process, trim}
 use Rattle.pv_model.specs.Numbered.{present, keep}
 use Rattle.pv_model.specs.State.{Process, Record, live, ended_record, State, live_process, process_at, with_process}
 use Rattle.pv_tree_laws.specs.Kept.{kept}

@@ -1,12 +1,12 @@
 -- Steps that change nothing but the inside of their own process.
-use Rattle.std.proofs.Common.{◌≡◌, ◌≢◌, ℕ, ℤ, pos, negsuc, Bool, true, false, Option, None, Some, refl, ap, ap₂, sym, subst, ◌∙◌}
+use Rattle.std.proofs.Common.{◌≡◌, ◌≢◌, ℕ, pos, negsuc, true, Option, None, Some, refl, ap, sym, subst, ◌∙◌}
 use Rattle.pv_model.specs.declared.call.Call.{Call}
 use Rattle.pv_model.specs.declared.call.Call.TheVariants as TheCall
 use Rattle.pv_model.specs.declared.errno.Errno.{Errno}
 use Rattle.pv_model.specs.declared.errno.Errno.TheVariants.{ENOSYS}
 use Rattle.pv_model.specs.declared.outcome.Cause.{Cause}
 use Rattle.pv_model.specs.declared.outcome.Cause.TheVariants.{Promise as ByPromise}
-use Rattle.pv_model.specs.declared.outcome.Outcome.TheVariants.{Value, Text, Failed, Killed, Gone}
+use Rattle.pv_model.specs.declared.outcome.Outcome.TheVariants.{Value, Failed, Killed, Blocked}
 use Rattle.pv_model.specs.declared.promise.Promise.{Promise}
 use Rattle.pv_model.specs.Answer.{Answered, answer, answer_by_attempt, at_next_line, with_front, update, effect}
 use Rattle.pv_model.specs.Attempt.{Attempt, done, refused, after_walks, ◌>>=◌, ◌>>◌}
@@ -15,18 +15,18 @@ use Rattle.pv_model.specs.Calls.Processes.{with_result}
 use Rattle.pv_model.specs.Effect.{Effect, Reply, returns, returns_bytes, ends, waits}
 use Rattle.pv_model.specs.Errno.{errno_number}
 use Rattle.pv_model.specs.Held.{trim, held_by_table}
-use Rattle.pv_model.specs.Needs.{needs}
 use Rattle.pv_model.specs.Program.{Next, inside, calls_for, next}
-use Rattle.pv_model.specs.Promises.{missing_promise, is_lenient}
 use Rattle.pv_model.specs.State.{Program, Process, State, process_at, with_process}
 use Rattle.pv_model.specs.Step.{Stepped, step, step_by}
 use Rattle.pv_laws.specs.Calls.{told_error}
 use Rattle.pv_laws.specs.States.{IsWhole}
 use Rattle.pv_laws.proofs.BySteps.{IsGoodNext, good-next}
-use Rattle.pv_laws.proofs.Outcomes.{at_call, by_answer, refused-tells}
-use Rattle.pv_laws.proofs.Processes.{process_at-same, with_process-twice, update-with}
+use Rattle.pv_laws.proofs.Outcomes.{at_call, by_answer, refused-tells, blocked-leaves}
+use Rattle.pv_laws.proofs.Processes.{with_process-twice, update-with}
 use Rattle.pv_laws.proofs.Running.{SameHolds, trim-same}
 use Rattle.pv_rights.proofs.Ends.{step-is}
+use Rattle.pv_laws.proofs.Members.{live-found}
+use Rattle.pv_order.proofs.Commuted.{put-there}
 use Rattle.pv_order.specs.Beside.{StandsAlike}
 use Rattle.pv_order.specs.Commuting.{StaysInside, only_asks, is_inward, WhereInside}
 
@@ -171,5 +171,18 @@ module _ (program_of : Bytes → Option Program) (s : State) (pid : ℕ) (p : Pr
           (told_error p errno, record { directory = refl; table = refl; descriptors = refl; parent = refl }, tells.2 ∙ ap (λ (z : Process). with_process s pid (told_error z errno)) mine)
           (ap (λ (w : Stepped). w.after) same)
 
+  waits-stay : (step program_of s pid).outcome ≡ Blocked → StaysInside program_of s pid
+  waits-stay blocks = by (next p) refl
+    where
+      left : s ≡ with_process s pid p
+      left = ap (λ ps. record s { processes = ps }) (sym (put-there pid s.processes p whole.processes.ascending (live-found s pid p at)))
+
+      by : (n : Next) → next p ≡ n → StaysInside program_of s pid
+      by (inside q) is = let told : Value 0 ≡ Blocked = sym (ap (λ (w : Stepped). w.outcome) (step-by (inside q) is)) ∙ blocks in cc told
+      by (calls_for call) is =
+          let same = step-by (calls_for call) is in
+          let blocked = blocked-leaves program_of s pid call (sym (ap (λ (w : Stepped). w.outcome) same) ∙ blocks) in
+          stays (answer program_of s pid call).after (p, record { directory = refl; table = refl; descriptors = refl; parent = refl }, blocked ∙ left) (ap (λ (w : Stepped). w.after) same)
+
   pub where-inside : WhereInside program_of s pid p
-  where-inside = record { asks = λ inward alive. asks-stay (next p) refl inward alive; refused = refused-stay }
+  where-inside = record { asks = λ inward alive. asks-stay (next p) refl inward alive; refused = refused-stay; waits = waits-stay }

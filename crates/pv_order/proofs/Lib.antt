@@ -6,3 +6,4 @@ pub mod Inward
 pub mod Lone
 pub mod Relabelled
 pub mod Happen
+pub mod Reordered

@@ -30,9 +30,7 @@ use Rattle.pv_laws.proofs.Processes.{with_process-twice, update-with}
 use Rattle.pv_laws.proofs.Running.{SameHolds, trim-same}
 use Rattle.pv_rights.proofs.Ends.{step-is, whole-in_order}
 use Rattle.pv_rights.proofs.Images.{others-keep}
-use Rattle.pv_order.specs.Beside.{with_change, become, StepsBeside}
 use Rattle.pv_order.specs.Commuting.{Commute, StaysInside, goes_alone, IsAloneWhere, IsAlone}
-use Rattle.pv_order.proofs.BesideSteps.{others-alter-nothing}
 use Rattle.pv_order.proofs.Commuted.{with-is-change, behind-inside}
 use Rattle.pv_order.proofs.Inward.{alike-held}
 

@@ -1,5 +1,5 @@
 -- Calls on descriptors run beside themselves, with another table and another lock.
-use Rattle.std.proofs.Common.{◌≡◌, ◌≢◌, ℕ, zero, suc, ℤ, ◌-◌, pos, negsuc, Bool, true, false, cond, if◌then◌else◌, ◌==◌, List, [], ◌∷◌, ◌++◌, map, Option, None, Some, option_map, slice_get, refl, ap, ap₂, sym, subst, ◌∙◌}
+use Rattle.std.proofs.Common.{◌≡◌, ℕ, zero, suc, ℤ, ◌-◌, pos, negsuc, Bool, true, false, cond, if◌then◌else◌, List, [], ◌∷◌, ◌++◌, map, Option, None, Some, option_map, slice_get, refl, ap, ap₂, sym, subst, ◌∙◌}
 use Rattle.std.specs.FinMap.Entries.{find, put}
 use Rattle.std.specs.Ordering.{nat_cmp}
 use Rattle.pv_model.specs.declared.call.Call.{Call}
@@ -16,29 +16,27 @@ use Rattle.pv_model.specs.Answer.{Answered, answer, answer_of, answer_where, ans
 use Rattle.pv_model.specs.Attempt.{Attempt, done, refused}
 use Rattle.pv_model.specs.Bytes.{Bytes}
 use Rattle.pv_model.specs.Calls.Descriptors.{write, after_write, list_name}
-use Rattle.pv_model.specs.Calls.Processes.{with_result, adopt, adopter, adopt_orphans, end_process}
+use Rattle.pv_model.specs.Calls.Processes.{with_result, end_process}
 use Rattle.pv_model.specs.Effect.{Effect, Reply, returns, returns_bytes, ends, waits}
 use Rattle.pv_model.specs.Errno.{errno_number}
 use Rattle.pv_model.specs.Held.{trim, held_by_table}
 use Rattle.pv_model.specs.Needs.{needs}
 use Rattle.pv_model.specs.Numbered.{Numbered}
-use Rattle.pv_model.specs.Program.{Next, inside, calls_for, perform, next_by, next, jump_if}
+use Rattle.pv_model.specs.Program.{calls_for, perform, next_by, next}
 use Rattle.pv_model.specs.Promises.{missing_promise, is_lenient}
 use Rattle.pv_model.specs.State.{OpenFile, Program, Process, Record, live, ended_record, State, live_process, process_at, with_process}
-use Rattle.pv_model.specs.Step.{Stepped, step, step_of, step_by}
+use Rattle.pv_model.specs.Step.{step, step_by}
 use Rattle.pv_model.specs.Trace.{Word, call_word, nami_word, gio_word, gave, Line as TraceLine, line, walked_paths, promise_words, unveil_words, buffer_of, moved_words, end_words, call_lines}
 use Rattle.pv_model.specs.Tree.{Tree}
 use Rattle.pv_model.specs.Unveil.{Table}
 use Rattle.pv_laws.specs.States.{IsWhole}
-use Rattle.pv_laws.proofs.Apart.{IsToldAlike, lines-alike}
 use Rattle.pv_laws.proofs.Members.{live-found, found-live, find_number_cases}
 use Rattle.pv_laws.proofs.Outcomes.{at_call}
-use Rattle.pv_laws.proofs.Processes.{process_at-same}
 use Rattle.pv_rights.proofs.Ends.{step-is}
 use Rattle.pv_order.specs.Beside.{change_live, StandsAlike, with_change, StepsBeside}
 use Rattle.pv_order.specs.Tableless.{is_by_descriptor, relabel}
 use Rattle.pv_order.proofs.Exchange.{KeepsParent, changed, change_of, change-itself, find-changed, put-changed, put-itself, Fits, trim-changed, fits-put, fits-end, end-changed}
-use Rattle.pv_order.proofs.BesideCalls.{IsBeside, moved, FitsIn, Beside, after-beside, bind-beside, then-beside, cond-beside, done-beside, refused-beside, room-beside}
+use Rattle.pv_order.proofs.BesideCalls.{IsBeside, moved, FitsIn, Beside, bind-beside, then-beside, cond-beside, done-beside, refused-beside, room-beside}
 use Rattle.pv_order.proofs.BesideSteps.{AnsweredBeside, fits-found}
 
 -- the lines of a call, from what a trace says of bytes

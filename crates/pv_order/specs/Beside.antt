@@ -1,5 +1,5 @@
 -- Two states that differ inside one process, and what steps leave of that.
-use Rattle.std.specs.Prelude.{◌≡◌, ◌≢◌, ℕ, Bool, if◌then◌else◌, ◌==◌, List, map, Option, Some}
+use Rattle.std.specs.Prelude.{◌≡◌, ◌≢◌, ℕ, if◌then◌else◌, ◌==◌, map, Option, Some}
 use Rattle.pv_model.specs.Bytes.{Bytes}
 use Rattle.pv_model.specs.Held.{held_by_table}
 use Rattle.pv_model.specs.State.{Program, Process, Record, live, ended_record, State, process_at}

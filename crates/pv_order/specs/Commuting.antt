@@ -1,17 +1,18 @@
 -- Steps of different processes in either order.
-use Rattle.std.specs.Prelude.{◌≡◌, ◌≢◌, ℕ, Bool, true, false, IsTrue, Option, None, Some}
+use Rattle.std.specs.Prelude.{◌≡◌, ◌≢◌, ℕ, Bool, true, false, IsTrue, List, ◌∷◌, ◌++◌, Option, None, Some}
 use Rattle.pv_model.specs.declared.call.Call.{Call}
 use Rattle.pv_model.specs.declared.call.Call.TheVariants.{GetPid, GetPpid, Pledge, Unveil, Stat, Lstat, Readlink, Fstat}
 use Rattle.pv_model.specs.declared.errno.Errno.{Errno}
 use Rattle.pv_model.specs.declared.outcome.Cause.{Cause}
-use Rattle.pv_model.specs.declared.outcome.Outcome.TheVariants.{Failed, Killed}
+use Rattle.pv_model.specs.declared.outcome.Outcome.TheVariants.{Failed, Killed, Blocked}
 use Rattle.pv_model.specs.declared.promise.Promise.{Promise}
 use Rattle.pv_model.specs.Bytes.{Bytes}
 use Rattle.pv_model.specs.Needs.{needs}
 use Rattle.pv_model.specs.Program.{Next, inside, calls_for, next}
 use Rattle.pv_model.specs.Promises.{is_lenient, missing_promise}
 use Rattle.pv_model.specs.State.{Program, Process, State, process_at, with_process}
-use Rattle.pv_model.specs.Step.{Stepped, step}
+use Rattle.pv_model.specs.Step.{Stepped, step, run}
+use Rattle.pv_model.specs.Trace.{Line}
 use Rattle.pv_laws.specs.States.{SpellsPrograms, IsWhole}
 use Rattle.pv_order.specs.Beside.{StandsAlike}
 
@@ -55,10 +56,11 @@ abbrev pub is_inward : Next → Bool
 is_inward (inside q) = true
 is_inward (calls_for call) = only_asks call
 
--- a step stays inside its process where it is an instruction on registers, or such a call that does not kill; and where its call is refused
+-- a step stays inside its process where it is an instruction on registers, or such a call that does not kill; and where its call is refused, or waits
 pub record WhereInside (program_of : Bytes → Option Program) (s : State) (pid : ℕ) (p : Process) : Type 0 where
   pub asks : IsTrue (is_inward (next p)) → ((a : Promise) → (step program_of s pid).outcome ≢ Killed a) → StaysInside program_of s pid
   pub refused : (errno : Errno) (cause : Cause) → (step program_of s pid).outcome ≡ Failed errno cause → StaysInside program_of s pid
+  pub waits : (step program_of s pid).outcome ≡ Blocked → StaysInside program_of s pid
 
 abbrev pub StepsStayInside : Type 0
 StepsStayInside = (program_of : Bytes → Option Program) (s : State) (pid : ℕ) (p : Process) → IsWhole s → process_at s pid ≡ Some p → WhereInside program_of s pid p
@@ -86,3 +88,14 @@ abbrev pub LoneStepsCommute : Type 0
 LoneStepsCommute =
     (program_of : Bytes → Option Program) → SpellsPrograms program_of → (s : State) (j k : ℕ) (p : Process) → IsWhole s → j ≢ k → process_at s k ≡ Some p → IsAlone p (next p)
     → Commute program_of s j k
+
+-- two runs that differ in the order of their first two steps: the lines of these change places, and all else is the same
+pub record RunsAlike (program_of : Bytes → Option Program) (s : State) (j k : ℕ) (pids : List ℕ) : Type 0 where
+  pub rest : List Line
+  pub one : (run program_of (j ∷ k ∷ pids) s).lines ≡ (step program_of s j).lines ++ ((step program_of s k).lines ++ rest)
+  pub other : (run program_of (k ∷ j ∷ pids) s).lines ≡ (step program_of s k).lines ++ ((step program_of s j).lines ++ rest)
+  pub final : (run program_of (k ∷ j ∷ pids) s).final ≡ (run program_of (j ∷ k ∷ pids) s).final
+
+-- so are the runs in which two such steps change places
+abbrev pub RunsReorder : Type 0
+RunsReorder = (program_of : Bytes → Option Program) (s : State) (j k : ℕ) (pids : List ℕ) → Commute program_of s j k → RunsAlike program_of s j k pids
