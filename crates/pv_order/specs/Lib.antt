@@ -1,0 +1,4 @@
+pub mod Beside
+pub mod Commuting
+pub mod Tableless
+pub mod Examples

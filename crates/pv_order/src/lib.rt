@@ -1,0 +1,15 @@
+//! Laws of what steps do not depend on, and of their order, of the machine's definitions in `pv_model`.
+//!
+//! Each function has an empty body: its contract is the law, which the check proves. The statements stand in `specs/`, one
+//! file for a subject:
+//!
+//! - `beside`: what of a process the steps of others do not depend on.
+//! - `commuting`: steps of different processes in either order.
+//! - `tableless`: calls on descriptors do not ask the table.
+//! - `examples`: steps that may be made in either order, and steps that may not.
+#![tactic(auto)]
+
+pub mod beside;
+pub mod commuting;
+pub mod examples;
+pub mod tableless;
