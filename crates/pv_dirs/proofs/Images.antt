@@ -293,7 +293,7 @@ module _ (bytes : Bytes) (t : Tree) (is : IsImageOf bytes t) where
     sized = omega (arith, count_is, is.data_blocks);
     slotted = slotted;
     allowed =
-    subst (λ n. inode_blocks v n + 1 + block_count ≤ greatest_blocks v) numbers (omega (arith, counted, is.data_blocks, is.blocks_allowed.1));
+        subst (λ n. inode_blocks v n + 1 + block_count ≤ greatest_blocks v) numbers (omega (arith, counted, is.data_blocks, is.blocks_allowed.1));
   }
 
 -- ---- the same of an image of this version

@@ -51,7 +51,7 @@ pub no_command : (entered : Option (Text × List Row))
     → entered_text entered (codes "ls") (codes "IMAGE") ≡ None
     → ((manifest image : Text) → entered_text entered (codes "mkimg") (codes "MANIFEST") ≡ Some manifest → entered_text entered (codes "mkimg") (codes "IMAGE") ≡ Some image → ⊥)
     → ((image schedule out : Text) → entered_text entered (codes "run") (codes "IMAGE") ≡ Some image → entered_text entered (codes "run") (codes "SCHEDULE") ≡ Some schedule
-        → entered_text entered (codes "run") (codes "OUT") ≡ Some out → ⊥)
+    → entered_text entered (codes "run") (codes "OUT") ≡ Some out → ⊥)
     → (command : Command) → IsCommandIn entered command → ⊥
 no_command entered tree listed made ran (RunTree file) is = let both : None ≡ Some file.now = sym tree ∙ is in cc
 no_command entered tree listed made ran (ListImage image) is = let both : None ≡ Some image.now = sym listed ∙ is in cc

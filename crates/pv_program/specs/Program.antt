@@ -103,7 +103,7 @@ abbrev pub MakesFile : {R W : Type 0} → (R → Option Bytes) → (R → ℕ) �
     → Result (Unit {0}) Fault → Type 0
 MakesFile {R} {W} remaining failures file_of told write_failures bytes name result =
     ((first last : R) × (before after : W) × (remaining first ≡ bytes) × IsCreated file_of told name before
-        × MakesImage remaining failures first last told write_failures before after result)
+    × MakesImage remaining failures first last told write_failures before after result)
     ⊎ (((bytes ≡ None) × (result ≡ Err (Run Read))) ⊎ (result ≡ Err (Run Memory)))
 
 -- an image was run under a schedule, with a trace that had been told `had` and has been told `has`, and a sink for the image that is left
@@ -128,7 +128,7 @@ abbrev pub RunsFiles : {R W : Type 0} → (R → Option Bytes) → (R → ℕ) �
     → (had has : Option Bytes) → (failed fails : ℕ) → Result (Unit {0}) Fault → Type 0
 RunsFiles {R} {W} remaining failures file_of told write_failures image schedule name had has failed fails result =
     ((first last turns turns_last : R) × (before after : W) × (remaining first ≡ image) × (remaining turns ≡ schedule) × IsCreated file_of told name before
-        × RunsImage remaining failures first last turns turns_last had has failed fails told write_failures before after result)
+    × RunsImage remaining failures first last turns turns_last had has failed fails told write_failures before after result)
     ⊎ ((((((image ≡ None) ⊎ (schedule ≡ None)) × (result ≡ Err (Run Read))) ⊎ (result ≡ Err (Run Memory)))) × (has ≡ had))
 
 -- what holds of the file of `run-tree`

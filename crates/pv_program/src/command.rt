@@ -102,7 +102,11 @@ fn make_image_parser<'a>(alloc: Global) -> Result<Parser<'a>, AllocError>
 {
     Parser::new(alloc, "mkimg")
         .about("Make the image of a manifest")
-        .arg(text(alloc, "MANIFEST", "a manifest: the image's sizes, and what is in it"))?
+        .arg(text(
+            alloc,
+            "MANIFEST",
+            "a manifest: the image's sizes, and what is in it",
+        ))?
         .arg(text(alloc, "IMAGE", "the file that gets the image"))
 }
 
@@ -122,8 +126,16 @@ fn run_parser<'a>(alloc: Global) -> Result<Parser<'a>, AllocError>
     Parser::new(alloc, "run")
         .about("Run an image under a schedule, write the trace, and then the image that is left")
         .arg(text(alloc, "IMAGE", "an image"))?
-        .arg(text(alloc, "SCHEDULE", "a schedule: which processes take their turns"))?
-        .arg(text(alloc, "OUT", "the file that gets the image that the run leaves"))
+        .arg(text(
+            alloc,
+            "SCHEDULE",
+            "a schedule: which processes take their turns",
+        ))?
+        .arg(text(
+            alloc,
+            "OUT",
+            "the file that gets the image that the run leaves",
+        ))
 }
 
 // The parser of the program, with its command on bundles.

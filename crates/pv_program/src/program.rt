@@ -59,12 +59,7 @@ fn make_from<S: Source, W: Sink>(
 }
 
 // Makes the image of the manifest in a file, in another file.
-fn make_file<F: Files>(
-    alloc: Global,
-    files: &F,
-    manifest: &str,
-    image: &str,
-) -> Result<(), Fault>
+fn make_file<F: Files>(alloc: Global, files: &F, manifest: &str, image: &str) -> Result<(), Fault>
     ensures makes { MakesFile F.Reader.remaining F.Reader.failures F.file_of F.Writer.told F.Writer.failures (F.bytes files.now manifest.now) image.now result }
     ensures kind { IfErr result IsOfCommand }
 {

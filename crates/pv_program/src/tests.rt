@@ -71,6 +71,7 @@ impl Sink for Written<'_> {
 
 impl<'a> Files for OneFile<'a> {
     type Reader = Bytes<'static>;
+
     type Writer = Written<'a>;
 
     ghost bytes = { λ file name. if bytes_eq file.name.now name then Some file.bytes.now else None };
@@ -268,7 +269,14 @@ fn a_command_has_its_texts(rt: HostRuntime) -> Result<(), Fail> {
     assert!(rt; command == Command::ListImage("i"));
     let command = command_of(rt.alloc(), &["pvsim", "run", "i", "s", "o"])?;
     let (schedule, out) = ("s", "o");
-    assert!(rt; command == Command::RunImage { image, schedule, out });
+    assert!(rt;
+        command
+            == Command::RunImage {
+                image,
+                schedule,
+                out
+            }
+    );
     Ok(())
 }
 
@@ -285,8 +293,22 @@ fn a_file_that_does_not_open_is_a_failed_read(rt: HostRuntime) {
 fn a_refused_manifest_makes_no_file(rt: HostRuntime) {
     let words = ["pvsim", "mkimg", "motd", "out"];
     expect_run_of(&rt, b"", &words, 1, b"", b"pvsim: manifest: line 1: form\n");
-    expect_run_of(&rt, b"image 1 1\n", &words, 1, b"", b"pvsim: manifest: size\n");
-    expect_run_of(&rt, MOTD, &words, 1, b"", b"pvsim: manifest: line 10: form\n");
+    expect_run_of(
+        &rt,
+        b"image 1 1\n",
+        &words,
+        1,
+        b"",
+        b"pvsim: manifest: size\n",
+    );
+    expect_run_of(
+        &rt,
+        MOTD,
+        &words,
+        1,
+        b"",
+        b"pvsim: manifest: line 10: form\n",
+    );
 }
 
 #[test]

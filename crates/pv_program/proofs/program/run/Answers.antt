@@ -10,13 +10,12 @@ returns-in-Err-perform g c =
     let after = c.tell-in-Err-perform.ensures.errors (command_status-not_zero fault kind) in (
       Err fault,
       c.tell-in-Err-perform.ensures.status,
-      fault_is_outcome (map g.S.AsStr.text c.args.words.now) fault _ _ c.in-Ok.command kind c.in-Ok.ensures.asked
-          (
-          rw after c.in-Err-perform.ensures.input,
-          rw after c.in-Err-perform.ensures.file,
-          c.in-Err-perform.ensures.makes,
-          rw after c.in-Err-perform.ensures.silent,
-          rw after c.in-Err-perform.ensures.lists,
-          rw after c.in-Err-perform.ensures.runs,
-          ),
+      fault_is_outcome (map g.S.AsStr.text c.args.words.now) fault _ _ c.in-Ok.command kind c.in-Ok.ensures.asked (
+        rw after c.in-Err-perform.ensures.input,
+        rw after c.in-Err-perform.ensures.file,
+        c.in-Err-perform.ensures.makes,
+        rw after c.in-Err-perform.ensures.silent,
+        rw after c.in-Err-perform.ensures.lists,
+        rw after c.in-Err-perform.ensures.runs,
+      ),
     )
