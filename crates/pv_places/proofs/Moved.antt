@@ -23,17 +23,14 @@ use Rattle.pv_rights.specs.Growth.{begins_image}
 use Rattle.pv_rights.proofs.Ends.{whole-in_order}
 use Rattle.pv_rights.proofs.Images.{grows-never, execve-leaves}
 use Rattle.pv_rights.proofs.Promised.{equal-or_not}
-use Rattle.pv_secrets.specs.Origins.{IsBrought}
 use Rattle.pv_secrets.proofs.Brought.{IsMovedBy, names-moved}
 use Rattle.pv_secrets.proofs.Guards.{governed, governed-directory}
-use Rattle.pv_places.specs.Moves.{ComesFrom, it_governed, it_was_moved, one_above_was_moved, gives_any, GivesNothing, IsLeftWithout}
+use Rattle.pv_places.proofs.Named.{names-given}
+use Rattle.pv_places.specs.Moves.{IsRenamedTo, IsGivenName, by_rename, by_link, ComesFrom, it_governed, it_was_given, one_above_was_renamed, gives_any, GivesNothing, IsLeftWithout}
 
 there-directory : (o : Option Node) → is_directory o ≡ true → is_some o ≡ true
 there-directory None is = cc is
 there-directory (Some node) is = refl
-
-brought : (s : State) (pid n : ℕ) → IsMovedBy s pid n → IsBrought s pid n
-brought s pid n m = record { me = m.me; call = m.call; made = record { at = m.at; next_is = m.next_is; held = m.held }; place = m.moved.place; node = m.moved.node; allowed = m.moved.allowed }
 
 module _ (program_of : Bytes → Option Program) (spells : SpellsPrograms program_of) (s : State) (pid : ℕ) (whole : IsWhole s) (table : Table) where
   abbrev t : Tree
@@ -53,6 +50,9 @@ module _ (program_of : Bytes → Option Program) (spells : SpellsPrograms progra
     directory : ℕ
     over : IsAtOrAbove t' directory d
     moved : IsMovedBy s pid directory
+    up : ℕ
+    word : Bytes
+    given : IsGivenName program_of s pid directory up word
     is : is_directory_at t directory ≡ true
     flows : (j : ℕ) → Governs t table directory j → Governs t table d j
 
@@ -76,17 +76,30 @@ module _ (program_of : Bytes → Option Program) (spells : SpellsPrograms progra
         directory = m.directory;
         over = above d up apart is m.over;
         moved = m.moved;
+        up = m.up;
+        word = m.word;
+        given = m.given;
         is = m.is;
         flows = λ j g. from_above d up j apart none before (m.flows j g);
       }))
       (climbed up k (record { word = entry.0; node = d; found = same }) rest))
       (λ (differs : find_entry t up entry.0 ≢ Some d).
-      inr (record { directory = d; over = itself; moved = names-moved program_of s pid up entry.0 d whole (there-directory (node_at t d) dir) entry.1 differs; is = dir; flows = λ j g. g }))
+      let there = there-directory (node_at t d) dir in
+      inr (record {
+        directory = d;
+        over = itself;
+        moved = names-moved program_of s pid up entry.0 d whole there entry.1 differs;
+        up = up;
+        word = entry.0;
+        given = names-given program_of spells s pid d up entry.0 whole there entry.1 differs;
+        is = dir;
+        flows = λ j g. g;
+      }))
       (equal-or_not (find_entry t up entry.0) (Some d))
 
   -- where it comes from that an entry governs a name
   abbrev Origin : ℕ → ℕ → Bytes → ℕ → Type 0
-  Origin f d name k = IsMovedBy s pid f ⊎ ((find_entry t d name ≡ Some f) × (GovernsName t table d name k ⊎ ((m : IsAboveMoved d) × ((j : ℕ) → Governs t table m.directory j → GovernsName t table d name j))))
+  Origin f d name k = (IsMovedBy s pid f × IsGivenName program_of s pid f d name) ⊎ ((find_entry t d name ≡ Some f) × (GovernsName t table d name k ⊎ ((m : IsAboveMoved d) × ((j : ℕ) → Governs t table m.directory j → GovernsName t table d name j))))
 
   same-name : (f d : ℕ) (name : Bytes) (k : ℕ) → find_entry t d name ≡ Some f → GovernsName t' table d name k
       → GovernsName t table d name k ⊎ ((m : IsAboveMoved d) × ((j : ℕ) → Governs t table m.directory j → GovernsName t table d name j))
@@ -101,17 +114,23 @@ module _ (program_of : Bytes → Option Program) (spells : SpellsPrograms progra
   origin f d name k there found governs =
       ⊎_elim
       (λ (same : find_entry t d name ≡ Some f). inr (same, same-name f d name k same governs))
-      (λ (differs : find_entry t d name ≢ Some f). inl (names-moved program_of s pid d name f whole there found differs))
+      (λ (differs : find_entry t d name ≢ Some f). inl (names-moved program_of s pid d name f whole there found differs, names-given program_of spells s pid f d name whole there found differs))
       (equal-or_not (find_entry t d name) (Some f))
 
-  pub letters-come : (f d : ℕ) (name : Bytes) (k : ℕ) → is_some (node_at t f) ≡ true → find_entry t' d name ≡ Some f → GovernsName t' table d name k → ComesFrom s pid f t' table k
+  -- a directory is not linked
+  renamed : (e up : ℕ) (word : Bytes) → is_directory_at t e ≡ true → IsGivenName program_of s pid e up word → IsRenamedTo program_of s pid e up word
+  renamed e up word dir (by_rename is) = is
+  renamed e up word dir (by_link is) = let no : is_directory_at t e ≡ false = is.plain in cc
+
+  pub letters-come : (f d : ℕ) (name : Bytes) (k : ℕ) → is_some (node_at t f) ≡ true → find_entry t' d name ≡ Some f → GovernsName t' table d name k → ComesFrom program_of s pid f d name table k
   letters-come f d name k there found governs =
       ⊎_elim
-      (λ (m : IsMovedBy s pid f). it_was_moved (brought s pid f m))
+      (λ (m : IsMovedBy s pid f × IsGivenName program_of s pid f d name). it_was_given m.1)
       (λ (stays : (find_entry t d name ≡ Some f) × (GovernsName t table d name k ⊎ ((m : IsAboveMoved d) × ((j : ℕ) → Governs t table m.directory j → GovernsName t table d name j)))).
       ⊎_elim
-      (λ (g : GovernsName t table d name k). it_governed d name stays.0 g)
-      (λ (m : (m : IsAboveMoved d) × ((j : ℕ) → Governs t table m.directory j → GovernsName t table d name j)). one_above_was_moved d name m.0.directory found m.0.over (brought s pid m.0.directory m.0.moved))
+      (λ (g : GovernsName t table d name k). it_governed stays.0 g)
+      (λ (m : (m : IsAboveMoved d) × ((j : ℕ) → Governs t table m.directory j → GovernsName t table d name j)).
+      one_above_was_renamed m.0.directory m.0.up m.0.word stays.0 m.0.over (renamed m.0.directory m.0.up m.0.word m.0.is m.0.given))
       stays.1)
       (origin f d name k there found governs)
 
@@ -178,7 +197,7 @@ module _ (program_of : Bytes → Option Program) (spells : SpellsPrograms progra
   nothing-behind : GivesNothing (step program_of s pid).after.tree table f
   nothing-behind d name k found governs =
       ⊎_elim
-      (λ (m : IsMovedBy s pid f). absurd (not-moved m))
+      (λ (m : IsMovedBy s pid f × IsGivenName program_of s pid f d name). absurd (not-moved m.0))
       (λ (stays : (find_entry s.tree d name ≡ Some f) × (GovernsName s.tree table d name k ⊎ ((m : IsAboveMoved program_of spells s pid whole table d) × ((j : ℕ) → Governs s.tree table m.directory j → GovernsName s.tree table d name j)))).
       ⊎_elim
       (λ (g : GovernsName s.tree table d name k). nothing d name k stays.0 g)

@@ -1,6 +1,6 @@
--- A process whose locked table gives nothing of a file, and a rename that brings a letter to one: so the laws speak of something.
+-- A process whose locked table gives nothing of a file, a rename that brings a letter to one, and a link that does: so the laws speak of something.
 use Rattle.std.specs.Prelude.{◌≡◌, ℕ, false, true, IsTrue, [], ◌∷◌, codes, replicate, Option, None, Some}
-use Rattle.pv_model.specs.declared.instruction.Instruction.TheVariants.{Open, Mkdir, Unveil, Rename}
+use Rattle.pv_model.specs.declared.instruction.Instruction.TheVariants.{Open, Mkdir, Unveil, Link, Rename}
 use Rattle.pv_model.specs.declared.open_flags.Mode.TheVariants.{Read}
 use Rattle.pv_model.specs.declared.open_flags.OpenFlags.{OpenFlags}
 use Rattle.pv_model.specs.declared.place.Place.TheVariants.{At}
@@ -11,7 +11,7 @@ use Rattle.pv_model.specs.State.{Program, Process, State, first_state, process_a
 use Rattle.pv_model.specs.Step.{run}
 use Rattle.pv_model.specs.Tree.{root, node_at, find_entry}
 use Rattle.pv_model.specs.Unveil.{Table, letters_at, governing_entry}
-use Rattle.pv_places.specs.Moves.{GivesNothing}
+use Rattle.pv_places.specs.Moves.{IsRenamedTo, IsLinkedTo, GivesNothing}
 
 -- no execve is made
 abbrev pub no_programs : Bytes → Option Program
@@ -38,6 +38,17 @@ moving =
     ∷ Rename (codes "/f") (codes "/d/f")
     ∷ []
 
+-- a file, a directory, and a table that lets the one be read, and linked in the other, where it may be written
+abbrev pub linking : Program
+linking =
+    Open (codes "/f") making
+    ∷ Mkdir (codes "/d")
+    ∷ Unveil (Some (codes "/d")) (Some (codes "wc"))
+    ∷ Unveil (Some (codes "/f")) (Some (codes "r"))
+    ∷ Unveil None None
+    ∷ Link (codes "/f") (codes "/d/f")
+    ∷ []
+
 abbrev pub or_none : Option Table → Table
 or_none None = []
 or_none (Some table) = table
@@ -55,7 +66,15 @@ pub record MovesHappen : Type 0 where
   pub file : IsTrue (is_file (node_at (state_behind shut 3).tree 2))
   pub named : find_entry (state_behind shut 3).tree root (codes "f") ≡ Some 2
   pub nothing : GivesNothing (state_behind shut 3).tree table 2
+  -- the rename: entry 1 governs the file's name, and does not let it be read; behind it entry 0 governs its name, and does
   pub before : governing_entry (state_behind moving 5).tree (table_of (process_at (state_behind moving 5) 1)) (At root (codes "f") (Some 2)) ≡ Some 1
   pub not_read : (letters_at (table_of (process_at (state_behind moving 5) 1)) 1).r ≡ false
+  pub renamed : IsRenamedTo no_programs (state_behind moving 5) 1 2 3 (codes "f")
   pub behind : governing_entry (state_behind moving 6).tree (table_of (process_at (state_behind moving 6) 1)) (At 3 (codes "f") (Some 2)) ≡ Some 0
   pub read : (letters_at (table_of (process_at (state_behind moving 6) 1)) 0).r ≡ true
+  -- the link: entry 1 governs the file's one name, and does not let it be written; behind it entry 0 governs the other, and does
+  pub unlinked : governing_entry (state_behind linking 5).tree (table_of (process_at (state_behind linking 5) 1)) (At root (codes "f") (Some 2)) ≡ Some 1
+  pub not_written : (letters_at (table_of (process_at (state_behind linking 5) 1)) 1).w ≡ false
+  pub linked : IsLinkedTo no_programs (state_behind linking 5) 1 2 3 (codes "f")
+  pub beside : governing_entry (state_behind linking 6).tree (table_of (process_at (state_behind linking 6) 1)) (At 3 (codes "f") (Some 2)) ≡ Some 0
+  pub written : (letters_at (table_of (process_at (state_behind linking 6) 1)) 0).w ≡ true

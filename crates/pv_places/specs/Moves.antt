@@ -1,31 +1,82 @@
 -- How far it goes that rights are of places: which letters a step brings to a node. unveil(2), rename(2), link(2).
-use Rattle.std.specs.Prelude.{◌≡◌, ◌⊎◌, ℕ, Bool, ◌||◌, IsTrue, IsFalse, Option, Some, is_some}
+use Rattle.std.specs.Prelude.{◌≡◌, ◌≢◌, ◌⊎◌, ℕ, Bool, ◌||◌, IsTrue, IsFalse, Option, Some, is_some, Ok}
+use Rattle.pv_model.specs.declared.call.Call.TheVariants.{Link, Rename}
+use Rattle.pv_model.specs.declared.judgement.Judgement.TheVariants.{Allowed}
+use Rattle.pv_model.specs.declared.outcome.Outcome.TheVariants.{Value}
 use Rattle.pv_model.specs.declared.perms.Perms.{Perms}
+use Rattle.pv_model.specs.declared.place.Place.{Place}
 use Rattle.pv_model.specs.Bytes.{Bytes}
 use Rattle.pv_model.specs.Closed.{GovernsName}
+use Rattle.pv_model.specs.Effect.{node_of, name_of, end_of}
 use Rattle.pv_model.specs.Program.{next}
 use Rattle.pv_model.specs.Sealed.{is_file}
 use Rattle.pv_model.specs.State.{Program, Process, State, process_at}
 use Rattle.pv_model.specs.Step.{step}
-use Rattle.pv_model.specs.Tree.{Tree, node_at, find_entry, IsAtOrAbove}
-use Rattle.pv_model.specs.Unveil.{Table, letters_at}
+use Rattle.pv_model.specs.Tree.{Tree, node_at, is_directory_at, find_entry, IsAtOrAbove}
+use Rattle.pv_model.specs.Unveil.{Table, letters_at, judgement}
+use Rattle.pv_model.specs.Walks.{Walk, linked_walk, new_link_walk, rename_walk}
 use Rattle.pv_laws.specs.States.{SpellsPrograms, IsWhole}
 use Rattle.pv_rights.specs.Growth.{begins_image}
-use Rattle.pv_secrets.specs.Origins.{IsBrought}
+use Rattle.pv_secrets.specs.Origins.{IsMade}
 
--- where it comes from that an entry governs a name of a node behind a step: it governed a name of it before; or the node was
--- linked or renamed, by a place of it that is allowed for r or c; or so was a directory at or above the name's
-pub data ComesFrom (s : State) (pid f : ℕ) (after : Tree) (table : Table) (k : ℕ) : Type 0 where
-  it_governed : (d : ℕ) (name : Bytes) → find_entry s.tree d name ≡ Some f → GovernsName s.tree table d name k → ComesFrom s pid f after table k
-  it_was_moved : IsBrought s pid f → ComesFrom s pid f after table k
-  one_above_was_moved : (d : ℕ) (name : Bytes) (e : ℕ) → find_entry after d name ≡ Some f → IsAtOrAbove after e d → IsBrought s pid e → ComesFrom s pid f after table k
+-- a walk of a call ends at a place that the caller's table allows for the letters that the walk asks
+abbrev pub LeadsTo : State → Process → Walk → Place → Type 0
+LeadsTo s me w place = (end_of s me w ≡ Ok place) × (judgement s.tree me.table place w.needed ≡ Allowed)
 
--- of every table, whosever it is: an entry comes to govern a name of a node that was there only by such a move
+module _ (program_of : Bytes → Option Program) (s : State) (pid : ℕ) where
+  -- the step is a rename that succeeds: it gives node n the name in directory d, in place of the one that it was named by; the caller's table allows both places for c
+  pub record IsRenamedTo (n d : ℕ) (name : Bytes) : Type 0 where
+    pub me : Process
+    pub path : Bytes
+    pub new : Bytes
+    pub from : Place
+    pub into : Place
+    pub made : IsMade s pid me (Rename path new)
+    pub leads_from : LeadsTo s me (rename_walk path) from
+    pub leads_into : LeadsTo s me (rename_walk new) into
+    pub node : node_of from ≡ Some n
+    pub named : name_of into ≡ Some (d, name)
+    pub succeeds : (step program_of s pid).outcome ≡ Value 0
+
+  -- the step is a link that succeeds: it gives node n, which is no directory, the name in directory d; the caller's table allows the node's place for r and the name's for c
+  pub record IsLinkedTo (n d : ℕ) (name : Bytes) : Type 0 where
+    pub me : Process
+    pub path : Bytes
+    pub new : Bytes
+    pub from : Place
+    pub into : Place
+    pub made : IsMade s pid me (Link path new)
+    pub leads_from : LeadsTo s me (linked_walk path) from
+    pub leads_into : LeadsTo s me (new_link_walk new) into
+    pub node : node_of from ≡ Some n
+    pub plain : IsFalse (is_directory_at s.tree n)
+    pub named : name_of into ≡ Some (d, name)
+    pub succeeds : (step program_of s pid).outcome ≡ Value 0
+
+  -- which step gives a node that was there a name that it had not
+  pub data IsGivenName (n d : ℕ) (name : Bytes) : Type 0 where
+    by_rename : IsRenamedTo n d name → IsGivenName n d name
+    by_link : IsLinkedTo n d name → IsGivenName n d name
+
+  -- where it comes from that an entry governs a name of node f behind the step: it governed that very name of it before; or f was given that name;
+  -- or f had the name, and a directory at or above the name's was renamed
+  pub data ComesFrom (f d : ℕ) (name : Bytes) (table : Table) (k : ℕ) : Type 0 where
+    it_governed : find_entry s.tree d name ≡ Some f → GovernsName s.tree table d name k → ComesFrom f d name table k
+    it_was_given : IsGivenName f d name → ComesFrom f d name table k
+    one_above_was_renamed : (e up : ℕ) (word : Bytes) → find_entry s.tree d name ≡ Some f → IsAtOrAbove (step program_of s pid).after.tree e d → IsRenamedTo e up word → ComesFrom f d name table k
+
+-- a node that was there gets a name by a rename or a link of it, and by no other call
+abbrev pub NamesComeByCalls : Type 0
+NamesComeByCalls =
+    (program_of : Bytes → Option Program) → SpellsPrograms program_of → (s : State) (pid n d : ℕ) (name : Bytes) → IsWhole s → IsTrue (is_some (node_at s.tree n))
+    → find_entry (step program_of s pid).after.tree d name ≡ Some n → find_entry s.tree d name ≢ Some n → IsGivenName program_of s pid n d name
+
+-- of every table, whosever it is: an entry comes to govern a name of a node that was there only by such a call
 abbrev pub LettersComeByMoves : Type 0
 LettersComeByMoves =
     (program_of : Bytes → Option Program) → SpellsPrograms program_of → (s : State) (pid f : ℕ) (table : Table) (d : ℕ) (name : Bytes) (k : ℕ) → IsWhole s
     → IsTrue (is_some (node_at s.tree f)) → find_entry (step program_of s pid).after.tree d name ≡ Some f → GovernsName (step program_of s pid).after.tree table d name k
-    → ComesFrom s pid f (step program_of s pid).after.tree table k
+    → ComesFrom program_of s pid f d name table k
 
 abbrev pub gives_any : Perms → Bool
 gives_any letters = letters.r || letters.w || letters.x || letters.c

@@ -2,8 +2,8 @@
 //!
 //! Each function has an empty body: its contract is the law, which the check proves. The statements stand in `specs/`:
 //!
-//! - `moves`: which letters a step brings to a node.
-//! - `examples`: a table that gives nothing, and a move that brings a letter.
+//! - `moves`: which calls give a node a name, and which letters a step brings to a node.
+//! - `examples`: a table that gives nothing, a rename that brings a letter, and a link that does.
 #![tactic(auto)]
 
 pub mod examples;

@@ -1,9 +1,17 @@
 //! Laws of the letters that steps bring to nodes: unveil(2), rename(2), link(2).
 
-ghost use Rattle.pv_places.specs.Moves.{LettersComeByMoves, OwnStepsGiveNothing};
+ghost use Rattle.pv_places.specs.Moves.{NamesComeByCalls, LettersComeByMoves, OwnStepsGiveNothing};
 
-/// An entry of a table, whosever it is, that governs a name of a node behind a step governed a name of it before; or the node,
-/// or a directory at or above that name's, was brought there by a call with a place of it that its table allows for `r` or `c`.
+/// Where a node that was there has a name behind a step that it had not, the step is a rename(2) of it, from a place that the
+/// caller's table allows for `c`, or a link(2) of it, from one allowed for `r`, to that name, whose place is allowed for `c`; and
+/// the call succeeds. No other call gives a node a name: not mkdir, symlink, rmdir, unlink, open or any other.
+pub fn names_come_by_calls()
+    ensures { NamesComeByCalls }
+{}
+
+/// An entry of a table, whosever it is, that governs a name of a node behind a step governed that very name of it before; or the
+/// step is a rename(2) or a link(2) that gives the node the name, or a rename(2) of a directory at or above the name's, as in
+/// `names_come_by_calls`. So letters come to a node by a rename or a link that succeeds, and by nothing else.
 pub fn letters_come_by_moves()
     ensures { LettersComeByMoves }
 {}
