@@ -1,113 +1,57 @@
 -- Each call run beside itself, in two states that differ inside another process.
-use Rattle.std.proofs.Common.{◌≡◌, ◌≢◌, ℕ, zero, suc, ℤ, Bool, true, false, cond, not, ◌||◌, ◌==◌, nat_le, nat_lt, List, [], ◌∷◌, length, Option, None, Some, refl, ap, sym, subst, ◌∙◌}
+use Rattle.std.proofs.Common.{◌≢◌, ℕ, zero, suc, ℤ, not, ◌||◌, ◌==◌, nat_le, nat_lt, List, [], ◌∷◌, length, Option, None, Some, refl, ap, sym, subst}
 use Rattle.std.specs.FinMap.Entries.{put}
 use Rattle.std.specs.Ordering.{nat_cmp}
 use Rattle.pv_model.specs.declared.call.Call.{Call}
 use Rattle.pv_model.specs.declared.call.Call.TheVariants as TheCall
 use Rattle.pv_model.specs.declared.call.Start.{Start}
 use Rattle.pv_model.specs.declared.call.Start.TheVariants.{WorkingDirectory}
-use Rattle.pv_model.specs.declared.errno.Errno.{Errno}
-use Rattle.pv_model.specs.declared.errno.Errno.TheVariants.{EFBIG, ENOSPC, EAGAIN, ECHILD}
+use Rattle.pv_model.specs.declared.errno.Errno.TheVariants.{EAGAIN, ECHILD}
 use Rattle.pv_model.specs.declared.open_flags.OpenFlags.{OpenFlags}
-use Rattle.pv_model.specs.declared.outcome.Cause.{Cause}
 use Rattle.pv_model.specs.Answer.{effect}
-use Rattle.pv_model.specs.Attempt.{Attempt, done, refused, after_walks, ◌>>=◌, ◌>>◌, give, refuse_if}
+use Rattle.pv_model.specs.Attempt.{Attempt, ◌>>=◌, ◌>>◌, refuse_if}
 use Rattle.pv_model.specs.Bytes.{Bytes, is_empty}
 use Rattle.pv_model.specs.Calls.Descriptors.{open_node, open_at, write, after_write, list_name}
 use Rattle.pv_model.specs.Calls.Processes.{child, fork, children, statuses, reap, wait}
 use Rattle.pv_model.specs.Calls.Restraints.{unveil}
-use Rattle.pv_model.specs.Effect.{Effect, Reply, returns, answers, with_room}
-use Rattle.pv_model.specs.Held.{trim}
+use Rattle.pv_model.specs.Effect.{Effect, returns, answers, with_room}
 use Rattle.pv_model.specs.Numbered.{Numbered}
-use Rattle.pv_model.specs.Room.{is_too_long, fits}
 use Rattle.pv_model.specs.State.{OpenFile, Program, Process, live, State, with_process}
 use Rattle.pv_model.specs.Tree.{Tree}
 use Rattle.pv_laws.proofs.Rests
 use Rattle.pv_order.specs.Beside.{with_change}
+use Rattle.pv_order.proofs.Alongside.{IsBeside, Beside, after-beside, bind-beside, then-beside, cond-beside, done-beside, refused-beside, cond-state, room-beside}
 use Rattle.pv_order.proofs.Exchange.{KeepsParent, changed, Fits, put-other, length-changed, where-changed, children-changed, trim-changed, fits-put, fits-filter}
 
-module _ (k : ℕ) (f : Process → Process) where
-  -- a state beside another
-  pub record IsBeside (x y : State) : Type 0 where
-    pub same : y ≡ with_change x k f
-    pub fit : Fits k f x.processes
+-- the change of a process, and the states that are fit for it
+abbrev pub changes : ℕ → (Process → Process) → State → State
+changes k f x = with_change x k f
 
-  abbrev pub moved : Attempt Effect → Attempt Effect
-  moved (done walks (x, r)) = done walks (with_change x k f, r)
-  moved (refused walks errno cause) = refused walks errno cause
+abbrev pub AreFit : ℕ → (Process → Process) → State → Type 0
+AreFit k f x = Fits k f x.processes
 
-  abbrev pub FitsIn : Attempt Effect → Type 0
-  FitsIn (done walks (x, r)) = Fits k f x.processes
-  FitsIn (refused walks errno cause) = Unit {0}
-
-  -- an attempt beside another
-  pub record Beside (a b : Attempt Effect) : Type 0 where
-    pub same : b ≡ moved a
-    pub fit : FitsIn a
-
-  moved-after : (n : ℕ) (a : Attempt Effect) → after_walks n (moved a) ≡ moved (after_walks n a)
-  moved-after n (done walks (x, r)) = refl
-  moved-after n (refused walks errno cause) = refl
-
-  fits-after : (n : ℕ) (a : Attempt Effect) → FitsIn a → FitsIn (after_walks n a)
-  fits-after n (done walks (x, r)) is = is
-  fits-after n (refused walks errno cause) is = tt
-
-  pub after-beside : (n : ℕ) (a b : Attempt Effect) → Beside a b → Beside (after_walks n a) (after_walks n b)
-  after-beside n a b is = record { same = ap (after_walks n) is.same ∙ moved-after n a; fit = fits-after n a is.fit }
-
-  pub bind-beside : {B : Type 0} (a : Attempt B) (g h : B → Attempt Effect) → ((v : B) → Beside (g v) (h v)) → Beside (a >>= g) (a >>= h)
-  bind-beside (done walks v) g h is = after-beside walks (g v) (h v) (is v)
-  bind-beside (refused walks errno cause) g h is = record { same = refl; fit = tt }
-
-  pub then-beside : {B : Type 0} (a : Attempt B) (g h : Attempt Effect) → Beside g h → Beside (a >> g) (a >> h)
-  then-beside (done walks v) g h is = after-beside walks g h is
-  then-beside (refused walks errno cause) g h is = record { same = refl; fit = tt }
-
-  pub cond-beside : (b : Bool) (x y v w : Attempt Effect) → Beside x v → Beside y w → Beside (cond b x y) (cond b v w)
-  cond-beside true x y v w is other = is
-  cond-beside false x y v w is other = other
-
-  pub done-beside : (n : ℕ) (r : Reply) (x y : State) → IsBeside x y → Beside (done n (x, r)) (done n (y, r))
-  done-beside n r x y is = record { same = ap (λ z. done n (z, r)) is.same; fit = is.fit }
-
-  pub refused-beside : (n : ℕ) (e : Errno) (c : Cause) → Beside (refused n e c) (refused n e c)
-  refused-beside n e c = record { same = refl; fit = tt }
-
-  pub room-beside : (x y : State) (n : ℕ) → IsBeside x y → Beside (with_room x >>= (λ roomy. answers roomy n)) (with_room y >>= (λ roomy. answers roomy n))
-  room-beside x y n is =
-      subst (λ z. Beside (with_room x >>= (λ roomy. answers roomy n)) (with_room z >>= (λ roomy. answers roomy n))) (sym is.same)
-      (subst (λ t. Beside (with_room x >>= (λ roomy. answers roomy n)) ((refuse_if EFBIG (is_too_long t) >> (refuse_if ENOSPC (not (fits t)) >> give (with_change x k f))) >>= (λ roomy. answers roomy n)))
-      (sym (ap (λ (z : State). z.tree) (trim-changed k f x is.fit))) (by (is_too_long (trim x).tree) (fits (trim x).tree)))
-    where
-      by : (long fit : Bool) → Beside ((refuse_if EFBIG long >> (refuse_if ENOSPC (not fit) >> give x)) >>= (λ roomy. answers roomy n))
-          ((refuse_if EFBIG long >> (refuse_if ENOSPC (not fit) >> give (with_change x k f))) >>= (λ roomy. answers roomy n))
-      by true fit = record { same = refl; fit = tt }
-      by false true = record { same = refl; fit = is.fit }
-      by false false = record { same = refl; fit = tt }
+pub room-changed : (k : ℕ) (f : Process → Process) (x y : State) (n : ℕ) → IsBeside (changes k f) (AreFit k f) x y
+    → Beside (changes k f) (AreFit k f) (with_room x >>= (λ roomy. answers roomy n)) (with_room y >>= (λ roomy. answers roomy n))
+room-changed k f x y n is = room-beside (changes k f) (AreFit k f) (λ z fit. trim-changed k f z fit) (λ z. refl) x y n is
 
 module _ (k : ℕ) (f : Process → Process) (keeps : KeepsParent f) (s : State) (pid : ℕ) (me : Process) (other : pid ≢ k) (fit : Fits k f s.processes) (next_other : suc s.last_process ≢ k) where
   abbrev u : State
   u = with_change s k f
 
   abbrev B : Attempt Effect → Attempt Effect → Type 0
-  B = Beside k f
+  B = Beside (changes k f) (AreFit k f)
 
-  tree-beside : (t : Tree) (fs : Numbered OpenFile) → IsBeside k f (record s { tree = t; files = fs }) (record u { tree = t; files = fs })
+  tree-beside : (t : Tree) (fs : Numbered OpenFile) → IsBeside (changes k f) (AreFit k f) (record s { tree = t; files = fs }) (record u { tree = t; files = fs })
   tree-beside t fs = record { same = refl; fit = fit }
 
   own-beside : (t : Tree) (fs : Numbered OpenFile) (q : Process)
-      → IsBeside k f (record s { tree = t; files = fs; processes = put nat_cmp pid (live q) s.processes }) (record u { tree = t; files = fs; processes = put nat_cmp pid (live q) (changed k f s.processes) })
+      → IsBeside (changes k f) (AreFit k f) (record s { tree = t; files = fs; processes = put nat_cmp pid (live q) s.processes }) (record u { tree = t; files = fs; processes = put nat_cmp pid (live q) (changed k f s.processes) })
   own-beside t fs q = record {
     same = ap (λ ps. record s { tree = t; files = fs; processes = ps }) (put-other k f pid (live q) s.processes other);
     fit = fits-put k f pid (live q) s.processes (λ p is here. absurd (other here)) fit;
   }
 
-  cond-state : (b : Bool) (x y v w : State) → IsBeside k f x v → IsBeside k f y w → IsBeside k f (cond b x y) (cond b v w)
-  cond-state true x y v w is more = is
-  cond-state false x y v w is more = more
-
-  ruleset parts = (bind-beside, then-beside, cond-beside, done-beside, refused-beside, room-beside, tree-beside, own-beside, cond-state)
+  ruleset parts = (bind-beside, then-beside, cond-beside, done-beside, refused-beside, room-changed, tree-beside, own-beside, cond-state)
 
   abbrev number : ℕ
   number = suc s.last_process
@@ -118,8 +62,8 @@ module _ (k : ℕ) (f : Process → Process) (keeps : KeepsParent f) (s : State)
   fork-beside : B (fork s pid me) (fork u pid me)
   fork-beside =
       subst (λ n. B (fork s pid me) (refuse_if EAGAIN (nat_le 32 n || nat_lt 99999 number) >> answers (forked u) number)) (sym (length-changed k f s.processes))
-      (then-beside k f (refuse_if EAGAIN (nat_le 32 (length s.processes) || nat_lt 99999 number)) (answers (forked s) number) (answers (forked u) number)
-      (done-beside k f 0 (returns number) (forked s) (forked u) (record {
+      (then-beside (changes k f) (AreFit k f) (refuse_if EAGAIN (nat_le 32 (length s.processes) || nat_lt 99999 number)) (answers (forked s) number) (answers (forked u) number)
+      (done-beside (changes k f) (AreFit k f) 0 (returns number) (forked s) (forked u) (record {
         same = ap (λ ps. record s { processes = ps; last_process = number }) (put-other k f number (live (child s pid me)) s.processes next_other);
         fit = fits-put k f number (live (child s pid me)) s.processes (λ p is here. absurd (next_other here)) fit;
       })))
@@ -127,7 +71,7 @@ module _ (k : ℕ) (f : Process → Process) (keeps : KeepsParent f) (s : State)
   reap-beside : (ss : List (ℕ × ℕ)) → B (reap s pid me ss) (reap u pid me ss)
   reap-beside [] = search parts depth 20
   reap-beside ((n, status) ∷ rs) =
-      done-beside k f 0 _ _ _ (record {
+      done-beside (changes k f) (AreFit k f) 0 _ _ _ (record {
         same = ap (λ ps. record s { processes = ps }) (where-changed k f (λ j. not (j == n)) s.processes);
         fit = fits-filter k f (λ r. not (r.0 == n)) s.processes fit;
       })
@@ -136,7 +80,7 @@ module _ (k : ℕ) (f : Process → Process) (keeps : KeepsParent f) (s : State)
   wait-beside =
       let both = children-changed k f keeps pid s.processes in
       subst (λ b. B (wait s pid me) (refuse_if ECHILD b >> reap u pid me (statuses (children u pid me)))) (sym both.1)
-      (then-beside k f (refuse_if ECHILD (is_empty (children s pid me))) (reap s pid me (statuses (children s pid me))) (reap u pid me (statuses (children u pid me)))
+      (then-beside (changes k f) (AreFit k f) (refuse_if ECHILD (is_empty (children s pid me))) (reap s pid me (statuses (children s pid me))) (reap u pid me (statuses (children u pid me)))
       (subst (λ ss. B (reap s pid me (statuses (children s pid me))) (reap u pid me ss)) (sym both.0) (reap-beside (statuses (children s pid me)))))
 
   unveil-beside : (path letters : Option Bytes) → B (unveil s pid me path letters) (unveil u pid me path letters)
@@ -154,12 +98,12 @@ module _ (k : ℕ) (f : Process → Process) (keeps : KeepsParent f) (s : State)
   open-beside : (start : Start) (path : Bytes) (flags : OpenFlags) → B (open_at s pid me start path flags) (open_at u pid me start path flags)
   open-beside start path flags = search (bind-beside, then-beside, node-beside) depth 40
 
-  written : (j : ℕ) (file : OpenFile) (count : ℕ) → IsBeside k f (after_write s pid me j file count) (after_write u pid me j file count)
+  written : (j : ℕ) (file : OpenFile) (count : ℕ) → IsBeside (changes k f) (AreFit k f) (after_write s pid me j file count) (after_write u pid me j file count)
   written j file zero = search parts depth 20
   written j file (suc n) = search parts depth 20
 
   write-beside : (d n : ℤ) → B (write s pid me d n) (write u pid me d n)
-  write-beside d n = search (bind-beside, then-beside, room-beside, written) depth 20
+  write-beside d n = search (bind-beside, then-beside, room-changed, written) depth 20
 
   listed : (j : ℕ) (file : OpenFile) (o : Option Bytes) → B (list_name s pid me j file o) (list_name u pid me j file o)
   listed j file None = search parts depth 20

@@ -1,9 +1,15 @@
+pub mod Alongside
 pub mod Exchange
 pub mod BesideCalls
 pub mod BesideSteps
+pub mod Shifts
+pub mod ShiftCalls
 pub mod Commuted
 pub mod Inward
 pub mod Lone
+pub mod Told
+pub mod Twice
+pub mod OffsetSteps
 pub mod Relabelled
 pub mod Happen
 pub mod Reordered

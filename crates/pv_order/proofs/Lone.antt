@@ -37,10 +37,10 @@ use Rattle.pv_order.proofs.Inward.{alike-held}
 -- ---- what comes next does not depend on the parent
 
 module _ (n : ℕ) where
-  abbrev orphan : Process → Process
+  abbrev pub orphan : Process → Process
   orphan p = record p { parent = n }
 
-  abbrev orphaned : Next → Next
+  abbrev pub orphaned : Next → Next
   orphaned (inside q) = inside (orphan q)
   orphaned (calls_for call) = calls_for call
 
@@ -64,7 +64,7 @@ module _ (n : ℕ) where
           operand-orphan (Rattle.pv_model.specs.declared.instruction.Operand.TheVariants.Register r) = refl
   perform-orphan p i = refl
 
-  next-orphan : (p : Process) → next (orphan p) ≡ orphaned (next p)
+  pub next-orphan : (p : Process) → next (orphan p) ≡ orphaned (next p)
   next-orphan p = by (slice_get p.program (p.line - 1))
     where
       by : (o : Option Instruction) → next_by (orphan p) o ≡ orphaned (next_by p o)

@@ -1,5 +1,5 @@
 -- Calls on descriptors run beside themselves, with another table and another lock.
-use Rattle.std.proofs.Common.{◌≡◌, ℕ, zero, suc, ℤ, ◌-◌, pos, negsuc, Bool, true, false, cond, if◌then◌else◌, List, [], ◌∷◌, ◌++◌, map, Option, None, Some, option_map, slice_get, refl, ap, ap₂, sym, subst, ◌∙◌}
+use Rattle.std.proofs.Common.{◌≡◌, ℕ, zero, suc, ℤ, ◌-◌, pos, negsuc, Bool, true, false, if◌then◌else◌, List, [], ◌∷◌, Option, None, Some, option_map, slice_get, refl, ap, sym, subst, ◌∙◌}
 use Rattle.std.specs.FinMap.Entries.{find, put}
 use Rattle.std.specs.Ordering.{nat_cmp}
 use Rattle.pv_model.specs.declared.call.Call.{Call}
@@ -8,9 +8,7 @@ use Rattle.pv_model.specs.declared.errno.Errno.TheVariants.{ENOSYS}
 use Rattle.pv_model.specs.declared.instruction.Instruction.{Instruction}
 use Rattle.pv_model.specs.declared.instruction.Instruction.TheVariants as Line
 use Rattle.pv_model.specs.declared.outcome.Cause.TheVariants.{Promise as ByPromise}
-use Rattle.pv_model.specs.declared.outcome.Outcome.{Outcome}
-use Rattle.pv_model.specs.declared.outcome.Outcome.TheVariants.{Value, Text, Killed}
-use Rattle.std.specs.Prelude.{take}
+use Rattle.pv_model.specs.declared.outcome.Outcome.TheVariants.{Killed}
 use Rattle.pv_model.specs.declared.promise.Promise.{Promise}
 use Rattle.pv_model.specs.Answer.{Answered, answer, answer_of, answer_where, answer_by_reply, answer_by_attempt, answer_without_promise, at_next_line, with_front, update_live, update, effect}
 use Rattle.pv_model.specs.Attempt.{Attempt, done, refused}
@@ -26,7 +24,7 @@ use Rattle.pv_model.specs.Program.{calls_for, perform, next_by, next}
 use Rattle.pv_model.specs.Promises.{missing_promise, is_lenient}
 use Rattle.pv_model.specs.State.{OpenFile, Program, Process, Record, live, ended_record, State, live_process, process_at, with_process}
 use Rattle.pv_model.specs.Step.{step, step_by}
-use Rattle.pv_model.specs.Trace.{Word, call_word, nami_word, gio_word, gave, Line as TraceLine, line, walked_paths, promise_words, unveil_words, buffer_of, moved_words, end_words, call_lines}
+use Rattle.pv_model.specs.Trace.{line, buffer_of}
 use Rattle.pv_model.specs.Tree.{Tree}
 use Rattle.pv_model.specs.Unveil.{Table}
 use Rattle.pv_laws.specs.States.{IsWhole}
@@ -36,18 +34,10 @@ use Rattle.pv_rights.proofs.Ends.{step-is}
 use Rattle.pv_order.specs.Beside.{change_live, StandsAlike, with_change, StepsBeside}
 use Rattle.pv_order.specs.Tableless.{is_by_descriptor, relabel}
 use Rattle.pv_order.proofs.Exchange.{KeepsParent, changed, change_of, change-itself, find-changed, put-changed, put-itself, Fits, trim-changed, fits-put, fits-end, end-changed}
-use Rattle.pv_order.proofs.BesideCalls.{IsBeside, moved, FitsIn, Beside, bind-beside, then-beside, cond-beside, done-beside, refused-beside, room-beside}
-use Rattle.pv_order.proofs.BesideSteps.{AnsweredBeside, fits-found}
-
--- the lines of a call, from what a trace says of bytes
-abbrev lines_of : ℕ → Call → ℕ → Outcome → List Word → List TraceLine
-lines_of pid call walks o moved =
-    line pid (call_word call)
-    ∷ map (λ path. line pid (nami_word path)) (take walks (walked_paths call))
-    ++ map (line pid) (promise_words call o)
-    ++ map (line pid) (unveil_words call walks o)
-    ++ map (line pid) moved
-    ++ map (line pid) (end_words call o)
+use Rattle.pv_order.proofs.Alongside.{IsBeside, moved, FitsIn, Beside, bind-beside, then-beside, cond-beside, done-beside, refused-beside, cond-state, AnsweredBeside}
+use Rattle.pv_order.proofs.BesideCalls.{changes, AreFit, room-changed}
+use Rattle.pv_order.proofs.BesideSteps.{fits-found}
+use Rattle.pv_order.proofs.Told.{lines-told}
 
 module _ (k : ℕ) (table : Option Table) (locked : Bool) where
   abbrev f : Process → Process
@@ -70,30 +60,26 @@ module _ (k : ℕ) (table : Option Table) (locked : Bool) where
     u = with_change s k f
 
     abbrev B : Attempt Effect → Attempt Effect → Type 0
-    B = Beside k f
+    B = Beside (changes k f) (AreFit k f)
 
-    tree-beside : (t : Tree) (fs : Numbered OpenFile) → IsBeside k f (record s { tree = t; files = fs }) (record u { tree = t; files = fs })
+    tree-beside : (t : Tree) (fs : Numbered OpenFile) → IsBeside (changes k f) (AreFit k f) (record s { tree = t; files = fs }) (record u { tree = t; files = fs })
     tree-beside t fs = record { same = refl; fit = fit }
 
     own-beside : (t : Tree) (fs : Numbered OpenFile) (q : Process) → q.table ≡ me.table
-        → IsBeside k f (record s { tree = t; files = fs; processes = put nat_cmp k (live q) s.processes }) (record u { tree = t; files = fs; processes = put nat_cmp k (live (f q)) (changed k f s.processes) })
+        → IsBeside (changes k f) (AreFit k f) (record s { tree = t; files = fs; processes = put nat_cmp k (live q) s.processes }) (record u { tree = t; files = fs; processes = put nat_cmp k (live (f q)) (changed k f s.processes) })
     own-beside t fs q mine = record {
       same = ap (λ ps. record s { tree = t; files = fs; processes = ps }) (put-itself k f q s.processes);
       fit = fits-put k f k (live q) s.processes (λ p is here. let eq : q ≡ p = cc is in subst (λ (x : Process). StandsAlike x (f x)) eq (stands q (same ∙ ap held_by_table (sym mine)))) fit;
     }
 
-    cond-state : (b : Bool) (x y v w : State) → IsBeside k f x v → IsBeside k f y w → IsBeside k f (cond b x y) (cond b v w)
-    cond-state true x y v w is more = is
-    cond-state false x y v w is more = more
+    ruleset parts = (bind-beside, then-beside, cond-beside, done-beside, refused-beside, room-changed, tree-beside, own-beside, cond-state, refl)
 
-    ruleset parts = (bind-beside, then-beside, cond-beside, done-beside, refused-beside, room-beside, tree-beside, own-beside, cond-state, refl)
-
-    written : (j : ℕ) (file : OpenFile) (count : ℕ) → IsBeside k f (after_write s k me j file count) (after_write u k (f me) j file count)
+    written : (j : ℕ) (file : OpenFile) (count : ℕ) → IsBeside (changes k f) (AreFit k f) (after_write s k me j file count) (after_write u k (f me) j file count)
     written j file zero = search parts depth 20
     written j file (suc n) = search parts depth 20
 
     write-beside : (d n : ℤ) → B (write s k me d n) (write u k (f me) d n)
-    write-beside d n = search (bind-beside, then-beside, room-beside, written) depth 20
+    write-beside d n = search (bind-beside, then-beside, room-changed, written) depth 20
 
     listed : (j : ℕ) (file : OpenFile) (o : Option Bytes) → B (list_name s k me j file o) (list_name u k (f me) j file o)
     listed j file None = search parts depth 20
@@ -175,14 +161,14 @@ module _ (k : ℕ) (table : Option Table) (locked : Bool) where
   tells-bytes n bytes = record { apart = λ q. refl; table_stays = λ q. refl }
 
   reply-beside : (before s : State) (me : Process) (walks : ℕ) (r : Reply) (x : State) → Fits k f x.processes
-      → AnsweredBeside k f (answer_by_reply before s k me walks r x) (answer_by_reply (with_change before k f) (with_change s k f) k (f me) walks r (with_change x k f))
+      → AnsweredBeside (changes k f) (answer_by_reply before s k me walks r x) (answer_by_reply (with_change before k f) (with_change s k f) k (f me) walks r (with_change x k f))
   reply-beside before s me walks (returns n) x fit = record { after = trimmed-update x (λ p. with_result p (pos n) 0) (tells-value n) fit; outcome = refl; walks = refl }
   reply-beside before s me walks (returns_bytes n bytes) x fit = record { after = trimmed-update x (λ p. with_front bytes (with_result p (pos n) 0)) (tells-bytes n bytes) fit; outcome = refl; walks = refl }
   reply-beside before s me walks (ends status) x fit = record { after = trimmed-end x me status fit; outcome = refl; walks = refl }
   reply-beside before s me walks waits x fit = record { after = refl; outcome = refl; walks = refl }
 
-  attempt-beside : (before s : State) (me : Process) (a : Attempt Effect) → FitsIn k f a
-      → AnsweredBeside k f (answer_by_attempt before s k me a) (answer_by_attempt (with_change before k f) (with_change s k f) k (f me) (moved k f a))
+  attempt-beside : (before s : State) (me : Process) (a : Attempt Effect) → FitsIn (changes k f) (AreFit k f) a
+      → AnsweredBeside (changes k f) (answer_by_attempt before s k me a) (answer_by_attempt (with_change before k f) (with_change s k f) k (f me) (moved (changes k f) (AreFit k f) a))
   attempt-beside before s me (done walks (x, r)) fit = reply-beside before s me walks r x fit
   attempt-beside before s me (refused walks e c) fit =
       record { after = update-itself s (λ p. with_result p (negsuc 0) (errno_number e)) (record { apart = λ q. refl; table_stays = λ q. refl }); outcome = refl; walks = refl }
@@ -204,7 +190,7 @@ module _ (k : ℕ) (table : Option Table) (locked : Bool) where
     x-fit = fits-put k f k (live now) s.processes (λ q live_is here. let eq : now ≡ q = cc live_is in subst (λ (y : Process). StandsAlike y (f y)) eq (stands now same)) fit
 
     abbrev Both : Answered → Answered → Type 0
-    Both = AnsweredBeside k f
+    Both = AnsweredBeside (changes k f)
 
     does-beside : Both (answer_by_attempt s x k now (effect program_of x k now call)) (answer_by_attempt v (at_call v k (f p)) k (f now) (effect program_of (at_call v k (f p)) k (f now) call))
     does-beside =
@@ -269,7 +255,7 @@ module _ (k : ℕ) (table : Option Table) (locked : Bool) where
         let eq : y ≡ p = cc both in
         subst (λ (z : Process). StandsAlike z (f z)) (sym eq) (stands p same))
 
-    both : AnsweredBeside k f (answer program_of s k call) (answer program_of (with_change s k f) k call)
+    both : AnsweredBeside (changes k f) (answer program_of s k call) (answer program_of (with_change s k f) k call)
     both = answer-beside program_of s p call fit same at is
 
     after-there : (y z : State) → z ≡ with_change y k f → buffer_of (process_at z k) ≡ buffer_of (process_at y k)
@@ -279,18 +265,6 @@ module _ (k : ℕ) (table : Option Table) (locked : Bool) where
         by None = refl
         by (Some q) = refl
 
-    moved-same : (y z : State) (c : Call) (o : Outcome) → buffer_of (process_at z k) ≡ buffer_of (process_at y k)
-        → moved_words z k (f p) c o ≡ moved_words y k p c o
-    moved-same y z c (Text taken) is = ap (λ bs. gio_word gave (take taken.len bs) ∷ []) is
-    moved-same y z (TheCall.Write d n) (Value count) is = refl
-    moved-same y z c o is = refl
-
-    lines-same : (a b : Answered) → AnsweredBeside k f a b → call_lines k (f p) call b ≡ call_lines k p call a
-    unfolding call_lines
-    lines-same a b beside =
-        ap₂ (λ o w. call_lines k (f p) call (record { after = b.after; outcome = o; walks = w })) beside.outcome beside.walks
-        ∙ ap (lines_of k call a.walks a.outcome) (moved-same a.after b.after call a.outcome (after-there a.after b.after beside.after))
-
     pub descriptors-ask-no_table : StepsBeside k f (step program_of s k) (step program_of (with_change s k f) k)
     descriptors-ask-no_table =
         let one : step program_of s k ≡ step_by program_of s k p (calls_for call) = step-is program_of s k p at ∙ ap (step_by program_of s k p) comes in
@@ -299,6 +273,7 @@ module _ (k : ℕ) (table : Option Table) (locked : Bool) where
         subst (λ a. StepsBeside k f a (step program_of (with_change s k f) k)) (sym one)
         (subst (λ b. StepsBeside k f (step_by program_of s k p (calls_for call)) b) (sym two) (record {
           outcome = both.outcome;
-          lines = lines-same (answer program_of s k call) (answer program_of (with_change s k f) k call) both;
+          lines = lines-told k p (f p) call (answer program_of s k call) (answer program_of (with_change s k f) k call) refl both.outcome both.walks
+              (after-there (answer program_of s k call).after (answer program_of (with_change s k f) k call).after both.after);
           after = both.after;
         }))

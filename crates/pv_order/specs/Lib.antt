@@ -1,4 +1,5 @@
 pub mod Beside
 pub mod Commuting
+pub mod Offsets
 pub mod Tableless
 pub mod Examples

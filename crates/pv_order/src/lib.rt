@@ -12,4 +12,5 @@
 pub mod beside;
 pub mod commuting;
 pub mod examples;
+pub mod offsets;
 pub mod tableless;

@@ -1,0 +1,220 @@
+-- What is done in a state and in a changed one alike: attempts, answers and steps, whatever the change is.
+use Rattle.std.proofs.Common.{◌≡◌, ℕ, pos, negsuc, Bool, true, false, cond, not, if◌then◌else◌, Option, None, Some, refl, ap, sym, subst, ◌∙◌}
+use Rattle.pv_model.specs.declared.call.Call.{Call}
+use Rattle.pv_model.specs.declared.errno.Errno.{Errno}
+use Rattle.pv_model.specs.declared.errno.Errno.TheVariants.{EFBIG, ENOSPC, ENOSYS}
+use Rattle.pv_model.specs.declared.outcome.Cause.{Cause}
+use Rattle.pv_model.specs.declared.outcome.Cause.TheVariants.{Promise as ByPromise}
+use Rattle.pv_model.specs.declared.outcome.Outcome.TheVariants.{Killed}
+use Rattle.pv_model.specs.declared.promise.Promise.{Promise}
+use Rattle.pv_model.specs.Answer.{Answered, answer, answer_of, answer_where, answer_by_reply, answer_by_attempt, answer_without_promise, at_next_line, with_front, update_live, update, effect}
+use Rattle.pv_model.specs.Attempt.{Attempt, done, refused, after_walks, ◌>>=◌, ◌>>◌, give, refuse_if}
+use Rattle.pv_model.specs.Bytes.{Bytes}
+use Rattle.pv_model.specs.Calls.Processes.{with_result, end_process}
+use Rattle.pv_model.specs.Effect.{Effect, Reply, returns, returns_bytes, ends, waits, answers, with_room}
+use Rattle.pv_model.specs.Errno.{errno_number}
+use Rattle.pv_model.specs.Held.{trim}
+use Rattle.pv_model.specs.Needs.{needs}
+use Rattle.pv_model.specs.Program.{Next, inside, calls_for, next}
+use Rattle.pv_model.specs.Promises.{missing_promise, is_lenient}
+use Rattle.pv_model.specs.Room.{is_too_long, fits}
+use Rattle.pv_model.specs.State.{Program, Process, State, process_at, with_process}
+use Rattle.pv_model.specs.Step.{Stepped, step, step_of, step_by}
+use Rattle.pv_laws.proofs.Apart.{IsToldAlike, lines-alike}
+use Rattle.pv_laws.proofs.Outcomes.{at_call}
+
+-- ---- attempts
+
+-- states are changed by `change` where they are fit for it
+module _ (change : State → State) (Fit : State → Type 0) where
+  -- a state beside another
+  pub record IsBeside (x y : State) : Type 0 where
+    pub same : y ≡ change x
+    pub fit : Fit x
+
+  abbrev pub moved : Attempt Effect → Attempt Effect
+  moved (done walks (x, r)) = done walks (change x, r)
+  moved (refused walks errno cause) = refused walks errno cause
+
+  abbrev pub FitsIn : Attempt Effect → Type 0
+  FitsIn (done walks (x, r)) = Fit x
+  FitsIn (refused walks errno cause) = Unit {0}
+
+  -- an attempt beside another
+  pub record Beside (a b : Attempt Effect) : Type 0 where
+    pub same : b ≡ moved a
+    pub fit : FitsIn a
+
+  moved-after : (n : ℕ) (a : Attempt Effect) → after_walks n (moved a) ≡ moved (after_walks n a)
+  moved-after n (done walks (x, r)) = refl
+  moved-after n (refused walks errno cause) = refl
+
+  fits-after : (n : ℕ) (a : Attempt Effect) → FitsIn a → FitsIn (after_walks n a)
+  fits-after n (done walks (x, r)) is = is
+  fits-after n (refused walks errno cause) is = tt
+
+  pub after-beside : (n : ℕ) (a b : Attempt Effect) → Beside a b → Beside (after_walks n a) (after_walks n b)
+  after-beside n a b is = record { same = ap (after_walks n) is.same ∙ moved-after n a; fit = fits-after n a is.fit }
+
+  pub bind-beside : {B : Type 0} (a : Attempt B) (g h : B → Attempt Effect) → ((v : B) → Beside (g v) (h v)) → Beside (a >>= g) (a >>= h)
+  bind-beside (done walks v) g h is = after-beside walks (g v) (h v) (is v)
+  bind-beside (refused walks errno cause) g h is = record { same = refl; fit = tt }
+
+  pub then-beside : {B : Type 0} (a : Attempt B) (g h : Attempt Effect) → Beside g h → Beside (a >> g) (a >> h)
+  then-beside (done walks v) g h is = after-beside walks g h is
+  then-beside (refused walks errno cause) g h is = record { same = refl; fit = tt }
+
+  pub cond-beside : (b : Bool) (x y v w : Attempt Effect) → Beside x v → Beside y w → Beside (cond b x y) (cond b v w)
+  cond-beside true x y v w is other = is
+  cond-beside false x y v w is other = other
+
+  pub done-beside : (n : ℕ) (r : Reply) (x y : State) → IsBeside x y → Beside (done n (x, r)) (done n (y, r))
+  done-beside n r x y is = record { same = ap (λ z. done n (z, r)) is.same; fit = is.fit }
+
+  pub refused-beside : (n : ℕ) (e : Errno) (c : Cause) → Beside (refused n e c) (refused n e c)
+  refused-beside n e c = record { same = refl; fit = tt }
+
+  pub cond-state : (b : Bool) (x y v w : State) → IsBeside x v → IsBeside y w → IsBeside (cond b x y) (cond b v w)
+  cond-state true x y v w is more = is
+  cond-state false x y v w is more = more
+
+  module _ (trims : (x : State) → Fit x → trim (change x) ≡ change (trim x)) (tree : (x : State) → (change x).tree ≡ x.tree) where
+    pub room-beside : (x y : State) (n : ℕ) → IsBeside x y → Beside (with_room x >>= (λ roomy. answers roomy n)) (with_room y >>= (λ roomy. answers roomy n))
+    room-beside x y n is =
+        subst (λ z. Beside (with_room x >>= (λ roomy. answers roomy n)) (with_room z >>= (λ roomy. answers roomy n))) (sym is.same)
+        (subst (λ t. Beside (with_room x >>= (λ roomy. answers roomy n)) ((refuse_if EFBIG (is_too_long t) >> (refuse_if ENOSPC (not (fits t)) >> give (change x))) >>= (λ roomy. answers roomy n)))
+        (sym (ap (λ (z : State). z.tree) (trims x is.fit) ∙ tree (trim x))) (by (is_too_long (trim x).tree) (fits (trim x).tree)))
+      where
+        by : (long fit : Bool) → Beside ((refuse_if EFBIG long >> (refuse_if ENOSPC (not fit) >> give x)) >>= (λ roomy. answers roomy n))
+            ((refuse_if EFBIG long >> (refuse_if ENOSPC (not fit) >> give (change x))) >>= (λ roomy. answers roomy n))
+        by true fit = record { same = refl; fit = tt }
+        by false true = record { same = refl; fit = is.fit }
+        by false false = record { same = refl; fit = tt }
+
+-- ---- answers and steps
+
+-- what is answered beside another answer
+pub record AnsweredBeside (change : State → State) (a b : Answered) : Type 0 where
+  pub after : b.after ≡ change a.after
+  pub outcome : b.outcome ≡ a.outcome
+  pub walks : b.walks ≡ a.walks
+
+-- what is stepped beside another step
+pub record SteppedBeside (change : State → State) (a b : Stepped) : Type 0 where
+  pub outcome : b.outcome ≡ a.outcome
+  pub lines : b.lines ≡ a.lines
+  pub after : b.after ≡ change a.after
+
+-- a change that leaves process `pid` as it is, and what is done with it
+pub record IsApart (change : State → State) (Fit : State → Type 0) (pid : ℕ) : Type 0 where
+  pub there : (x : State) → process_at (change x) pid ≡ process_at x pid
+  pub put : (x : State) (p : Process) → with_process (change x) pid p ≡ change (with_process x pid p)
+  pub fit_put : (x : State) (p : Process) → Fit x → Fit (with_process x pid p)
+  pub ended : (x : State) (me : Process) (status : ℕ) → end_process (change x) pid me status ≡ change (end_process x pid me status)
+  pub fit_ended : (x : State) (me : Process) (status : ℕ) → Fit x → Fit (end_process x pid me status)
+  pub trims : (x : State) → Fit x → trim (change x) ≡ change (trim x)
+
+module _ (change : State → State) (Fit : State → Type 0) (pid : ℕ) (apart : IsApart change Fit pid) where
+  updated : (x : State) (g : Process → Process) → update (change x) pid g ≡ change (update x pid g)
+  updated x g = ap (update_live (change x) pid g) (apart.there x) ∙ by (process_at x pid)
+    where
+      by : (o : Option Process) → update_live (change x) pid g o ≡ change (update_live x pid g o)
+      by None = refl
+      by (Some p) = apart.put x (g p)
+
+  fit-updated : (x : State) (g : Process → Process) → Fit x → Fit (update x pid g)
+  fit-updated x g fit = by (process_at x pid)
+    where
+      by : (o : Option Process) → Fit (update_live x pid g o)
+      by None = fit
+      by (Some p) = apart.fit_put x (g p) fit
+
+  pub trimmed-update : (x : State) (g : Process → Process) → Fit x → trim (update (change x) pid g) ≡ change (trim (update x pid g))
+  trimmed-update x g fit = ap trim (updated x g) ∙ apart.trims (update x pid g) (fit-updated x g fit)
+
+  trimmed-end : (x : State) (me : Process) (status : ℕ) → Fit x → trim (end_process (change x) pid me status) ≡ change (trim (end_process x pid me status))
+  trimmed-end x me status fit = ap trim (apart.ended x me status) ∙ apart.trims (end_process x pid me status) (apart.fit_ended x me status fit)
+
+  reply-beside : (before s : State) (me : Process) (walks : ℕ) (r : Reply) (x : State) → Fit x
+      → AnsweredBeside change (answer_by_reply before s pid me walks r x) (answer_by_reply (change before) (change s) pid me walks r (change x))
+  reply-beside before s me walks (returns n) x fit = record { after = trimmed-update x (λ p. with_result p (pos n) 0) fit; outcome = refl; walks = refl }
+  reply-beside before s me walks (returns_bytes n bytes) x fit = record { after = trimmed-update x (λ p. with_front bytes (with_result p (pos n) 0)) fit; outcome = refl; walks = refl }
+  reply-beside before s me walks (ends status) x fit = record { after = trimmed-end x me status fit; outcome = refl; walks = refl }
+  reply-beside before s me walks waits x fit = record { after = refl; outcome = refl; walks = refl }
+
+  attempt-beside : (before s : State) (me : Process) (a : Attempt Effect) → FitsIn change Fit a
+      → AnsweredBeside change (answer_by_attempt before s pid me a) (answer_by_attempt (change before) (change s) pid me (moved change Fit a))
+  attempt-beside before s me (done walks (x, r)) fit = reply-beside before s me walks r x fit
+  attempt-beside before s me (refused walks e c) fit = record { after = updated s (λ p. with_result p (negsuc 0) (errno_number e)); outcome = refl; walks = refl }
+
+  -- where the call that is made goes along the change, its step does
+  module _ (program_of : Bytes → Option Program) (s : State) (fit : Fit s)
+      (rows : (p : Process) (call : Call) → process_at s pid ≡ Some p → next p ≡ calls_for call
+      → Beside change Fit (effect program_of (at_call s pid p) pid (at_next_line p) call) (effect program_of (change (at_call s pid p)) pid (at_next_line p) call)) where
+    abbrev u : State
+    u = change s
+
+    abbrev B : Answered → Answered → Type 0
+    B = AnsweredBeside change
+
+    module _ (p : Process) (call : Call) (at : process_at s pid ≡ Some p) (comes : next p ≡ calls_for call) where
+      abbrev x : State
+      x = at_call s pid p
+
+      abbrev now : Process
+      now = at_next_line p
+
+      does-beside : B (answer_by_attempt s x pid now (effect program_of x pid now call)) (answer_by_attempt u (at_call u pid p) pid now (effect program_of (at_call u pid p) pid now call))
+      does-beside =
+          let both = rows p call at comes in
+          subst (λ y. B (answer_by_attempt s x pid now (effect program_of x pid now call)) (answer_by_attempt u y pid now (effect program_of y pid now call))) (sym (apart.put s now))
+          (subst (λ a. B (answer_by_attempt s x pid now (effect program_of x pid now call)) (answer_by_attempt u (change x) pid now a)) (sym both.same)
+          (attempt-beside s x now (effect program_of x pid now call) both.fit))
+
+      missing-beside : (a : Promise) → B (answer_without_promise s x pid now a) (answer_without_promise u (at_call u pid p) pid now a)
+      missing-beside a = by (is_lenient p.promises)
+        where
+          told : (y : State) → y ≡ change x
+              → B (answer_by_attempt s x pid now (refused 0 ENOSYS (ByPromise a))) (answer_by_attempt u y pid now (refused 0 ENOSYS (ByPromise a)))
+          told y is =
+              subst (λ z. B (answer_by_attempt s x pid now (refused 0 ENOSYS (ByPromise a))) (answer_by_attempt u z pid now (refused 0 ENOSYS (ByPromise a)))) (sym is)
+              (attempt-beside s x now (refused 0 ENOSYS (ByPromise a)) tt)
+
+          by : (b : Bool)
+              → B (if b then answer_by_attempt s x pid now (refused 0 ENOSYS (ByPromise a)) else record { after = trim (end_process s pid now 6); outcome = Killed a; walks = 0 })
+              (if b then answer_by_attempt u (at_call u pid p) pid now (refused 0 ENOSYS (ByPromise a)) else record { after = trim (end_process u pid now 6); outcome = Killed a; walks = 0 })
+          by true = told (at_call u pid p) (apart.put s now)
+          by false = record { after = trimmed-end s now 6 fit; outcome = refl; walks = refl }
+
+      where-beside : (o : Option Promise) → B (answer_where program_of s x pid now call o) (answer_where program_of u (at_call u pid p) pid now call o)
+      where-beside None = does-beside
+      where-beside (Some a) = missing-beside a
+
+      answer-beside : B (answer program_of s pid call) (answer program_of u pid call)
+      unfolding answer
+      answer-beside =
+          subst (λ o. B (answer_of program_of s pid call o) (answer program_of u pid call)) (sym at)
+          (subst (λ o. B (answer_of program_of s pid call (Some p)) (answer_of program_of u pid call o)) (sym (apart.there s ∙ at)) (where-beside (missing_promise p.promises (needs call))))
+
+      told-alike : IsToldAlike pid (answer program_of u pid call) (answer program_of s pid call)
+      told-alike =
+          let both = answer-beside in
+          record {
+            outcome = both.outcome;
+            walks = both.walks;
+            buffer = λ n len is. ap (λ y. process_at y pid) both.after ∙ apart.there (answer program_of s pid call).after;
+          }
+
+    by-next : (p : Process) → process_at s pid ≡ Some p → (n : Next) → next p ≡ n → SteppedBeside change (step_by program_of s pid p n) (step_by program_of u pid p n)
+    by-next p at (inside q) is = record { outcome = refl; lines = refl; after = apart.put s q }
+    by-next p at (calls_for call) is =
+        let both = answer-beside p call at is in
+        record { outcome = both.outcome; lines = lines-alike pid p call (answer program_of u pid call) (answer program_of s pid call) (told-alike p call at is); after = both.after }
+
+    pub step-beside : SteppedBeside change (step program_of s pid) (step program_of u pid)
+    unfolding step
+    step-beside = subst (λ o. SteppedBeside change (step_of program_of s pid (process_at s pid)) (step_of program_of u pid o)) (sym (apart.there s)) (by (process_at s pid) refl)
+      where
+        by : (o : Option Process) → process_at s pid ≡ o → SteppedBeside change (step_of program_of s pid o) (step_of program_of u pid o)
+        by None gone = record { outcome = refl; lines = refl; after = refl }
+        by (Some p) at = by-next p at (next p) refl
