@@ -10,6 +10,7 @@ pub mod Next
 pub mod Outcomes
 pub mod Permuted
 pub mod Removing
+pub mod Runs
 pub mod SlotBytes
 pub mod Stored
 pub mod Strides

@@ -1,7 +1,6 @@
 -- The next name of entries in order, behind the last one.
-use Rattle.std.proofs.Common.{◌≡◌, ℕ, ◌+◌, ◌<◌, ◌++◌, length, take, get_or, Bool, true, false, cond, ◌&&◌, [], ◌∷◌, Option, None, Some, is_some, T, refl, ap, sym, subst, ◌∙◌, ◌≤◌, arith}
+use Rattle.std.proofs.Common.{◌≡◌, ℕ, ◌+◌, ◌<◌, ◌++◌, length, take, get_or, Bool, true, false, cond, ◌&&◌, [], ◌∷◌, Option, None, Some, is_some, T, refl, ap, sym, subst, ◌∙◌, arith}
 use Rattle.std.proofs.lemmas.List.{take_more}
-use Rattle.std.specs.Prelude.{IsSome, IfSome}
 use Rattle.std.specs.Ordering.{is_lt, is_some_and, nat_cmp, ordering_reverse}
 use Rattle.std.specs.Cmp.Lexicographic.{slice_cmp, slice_partial_cmp, lists_agrees}
 use Rattle.std.specs.FinMap.Entries.{find, put, is_sorted, below_all, by_order}
@@ -12,7 +11,7 @@ use Rattle.pv_model.specs.Bytes.{Bytes}
 use Rattle.pv_model.specs.Calls.Descriptors.{is_behind, next_name}
 use Rattle.pv_model.specs.Tree.{Entries}
 use Rattle.pv_dirs.specs.Slots.{slot_at, slot_count, slot_name, slot_entry, slot_entries, in_order, IsDistinct}
-use Rattle.pv_dirs.specs.Listing.{is_before, IsListed, IsLeastBehind, IsNextName}
+use Rattle.pv_dirs.specs.Listing.{is_before, better_of, IsListed, IsLeastBehind, IsNextName}
 use Rattle.pv_dirs.proofs.SlotBytes.{length-slot_entries, get_or-slot_entries}
 use Rattle.pv_dirs.proofs.Closing.{distinct_before}
 use Rattle.pv_dirs.proofs.Entries.{distinct_front, sorted-in_order, in_order-append, by_name, total, same_name, tied, tied-same, tied_itself}
@@ -160,25 +159,9 @@ pub bytes_less : (xs ys : Bytes) → is_some_and is_lt (slice_partial_cmp (λ x 
 bytes_less xs ys = ap (λ (o : Option Ordering). is_some_and is_lt o) (lists_agrees (λ x y. refl) xs ys)
 
 module _ (v : Version) (last : Option Bytes) (bytes : Bytes) (k : ℕ) (best : Option Bytes) (d : IsDistinct (slot_entries v bytes)) (within : k < slot_count v bytes) (best_is : best ≡ next_name last (in_order (take k (slot_entries v bytes)))) where
-  after_slot : next_name last (in_order (take (k + 1) (slot_entries v bytes))) ≡ cond (is_behind last (slot_name (slot_at v bytes k)) && is_before (slot_name (slot_at v bytes k)) best) (Some (slot_name (slot_at v bytes k))) best
-  after_slot =
-      next_name-more last (slot_entries v bytes) k (slot_entry v bytes k) d (omega (arith, length-slot_entries v bytes)) (get_or-slot_entries v bytes k (slot_entry v bytes k) within)
+  -- the next name of one slot more
+  pub next_name-slot : better_of last (slot_name (slot_at v bytes k)) best ≡ next_name last (in_order (take (k + 1) (slot_entries v bytes)))
+  next_name-slot =
+      sym (next_name-more last (slot_entries v bytes) k (slot_entry v bytes k) d (omega (arith, length-slot_entries v bytes)) (get_or-slot_entries v bytes k (slot_entry v bytes k) within)
       ∙ ap (better (is_behind last (slot_name (slot_at v bytes k))) (slot_name (slot_at v bytes k))) (sym best_is)
-      ∙ better-is (is_behind last (slot_name (slot_at v bytes k))) (slot_name (slot_at v bytes k)) best
-
-  pub name_taken : (name : Bytes) → name ≡ slot_name (slot_at v bytes k) → is_behind last name ≡ true → is_before name best ≡ true → Some name ≡ next_name last (in_order (take (k + 1) (slot_entries v bytes)))
-  name_taken name is behind before =
-      sym (after_slot ∙ ap (λ (q : Bytes). cond (is_behind last q && is_before q best) (Some q) best) (sym is) ∙ ap (λ b. cond (b && is_before name best) (Some name) best) behind ∙ ap (λ b. cond b (Some name) best) before)
-
-  pub name_not_behind : (name : Bytes) → name ≡ slot_name (slot_at v bytes k) → is_behind last name ≡ false → best ≡ next_name last (in_order (take (k + 1) (slot_entries v bytes)))
-  name_not_behind name is behind =
-      sym (after_slot ∙ ap (λ (q : Bytes). cond (is_behind last q && is_before q best) (Some q) best) (sym is) ∙ ap (λ b. cond (b && is_before name best) (Some name) best) behind)
-
-  pub name_not_before : (name : Bytes) → name ≡ slot_name (slot_at v bytes k) → is_behind last name ≡ true → is_before name best ≡ false → best ≡ next_name last (in_order (take (k + 1) (slot_entries v bytes)))
-  name_not_before name is behind before =
-      sym (after_slot ∙ ap (λ (q : Bytes). cond (is_behind last q && is_before q best) (Some q) best) (sym is) ∙ ap (λ b. cond (b && is_before name best) (Some name) best) behind ∙ ap (λ b. cond b (Some name) best) before)
-
--- a name that was made
-pub name_made : (r : Option Bytes) (xs : Bytes) → (length xs ≤ 255 → IsSome r) → IfSome r (λ n. n ≡ xs) → length xs ≤ 255 → r ≡ Some xs
-name_made None xs fits value short = let no = fits short in cc
-name_made (Some n) xs fits value short = ap Some value
+      ∙ better-is (is_behind last (slot_name (slot_at v bytes k))) (slot_name (slot_at v bytes k)) best)

@@ -1,5 +1,5 @@
 -- The names of a directory in byte order, one after the other.
-use Rattle.std.specs.Prelude.{◌≢◌, Bool, true, IsTrue, Option, None, Some, IsSome, MatchOption}
+use Rattle.std.specs.Prelude.{◌≢◌, ◌&&◌, if◌then◌else◌, Bool, true, IsTrue, Option, None, Some, IsSome, MatchOption}
 use Rattle.std.specs.Cmp.Lexicographic.{slice_cmp}
 use Rattle.std.specs.FinMap.Entries.{find}
 use Rattle.std.specs.Ordering.{nat_cmp, is_lt}
@@ -12,6 +12,10 @@ use Rattle.pv_model.specs.Tree.{Entries}
 abbrev pub is_before : Bytes → Option Bytes → Bool
 is_before name None = true
 is_before name (Some other) = is_lt (slice_cmp nat_cmp name other)
+
+-- the better of a name and the best one so far: the name, where it comes behind the last one and before the best
+abbrev pub better_of : Option Bytes → Bytes → Option Bytes → Option Bytes
+better_of last name best = if is_behind last name && is_before name best then Some name else best
 
 -- a name of an entry of the list
 abbrev pub IsListed : Entries → Bytes → Type 0

@@ -14,6 +14,10 @@ use Rattle.pv_model.specs.Tree.{Entries, is_name}
 unfoldable pub slot_at : Version → Bytes → ℕ → Bytes
 slot_at v bytes k = take (entry_length v) (drop (entry_length v * k) bytes)
 
+-- the bytes are some of those from slot k on
+abbrev pub IsRun : Version → Bytes → ℕ → Bytes → Type 0
+IsRun v bytes k run = run ≡ take (length run) (drop (entry_length v * k) bytes)
+
 -- how many slots there are
 abbrev pub slot_count : Version → Bytes → ℕ
 slot_count v bytes = length bytes / entry_length v

@@ -39,6 +39,18 @@ impl Model for Slot {
     ghost invariant = { λ s. (4 ≤ s.length) × (s.length ≤ 260) };
 }
 
+/// The name in the bytes of a slot.
+#[inline]
+#[tactic(auto, unfolding(crate::specs::Slots::slot_name))]
+pub(crate) fn name_in(slot: &[u8]) -> &[u8]
+    requires { 4 ≤ length slot.now }
+    ensures value { result.now ≡ slot_name slot.now }
+    ensures short { length result.now ≤ NAME_V2 }
+{
+    let end = (NAME + slot[LENGTH] as usize).min(slot.len());
+    &slot[NAME..end]
+}
+
 // The bytes of an entry, and zeros behind them.
 #[tactic(auto, unfolding(crate::specs::Slots::slot_name, crate::specs::Slots::slot_number))]
 fn spelled(name: &[u8], inode: u16) -> [u8; LONGEST]
@@ -92,8 +104,6 @@ impl Slot {
         ensures value { result.now ≡ slot_name self.now }
         ensures short { length result.now ≤ NAME_V2 }
     {
-        let bytes = self.as_bytes();
-        let end = (NAME + bytes[LENGTH] as usize).min(bytes.len());
-        &bytes[NAME..end]
+        name_in(self.as_bytes())
     }
 }

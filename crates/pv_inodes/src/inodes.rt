@@ -9,7 +9,7 @@ ghost use Rattle.pv_inodes.specs.Files.{held, IsUsed, bytes_at, sort_at, sort_of
 mod image;
 
 use crate::Space;
-use crate::fields::{get, put, put_zeros};
+use crate::fields::{put, put_zeros};
 use crate::layout::{BLOCK_LENGTH, place, room};
 use crate::table::{content_block, kind_of, owned_by, push_block, set_kind, set_size, size_of};
 use pv_blocks::{BlockSet, Blocks};
@@ -106,6 +106,21 @@ impl Inodes {
             return false;
         }
         kind_of(&self.blocks, self.version, inode - 1) != 0
+    }
+
+    /// The bytes of an inode from `at` on, as far as they stand in one block: they end with that block, or with
+    /// the inode's bytes. Nothing is copied.
+    pub fn lend(&self, inode: u16, at: u32) -> &[u8]
+        requires used { IsUsed self.now inode }
+        requires within { at < length (bytes_at self.now inode) }
+        ensures { result.now ≡ take (512 - at % 512) (drop at (bytes_at self.now inode)) }
+    {
+        let slot = self.slot(inode);
+        let left = size_of(&self.blocks, self.version, slot) - at;
+        let block = content_block(&self.blocks, self.version, slot, (at / BLOCK_LENGTH) as u16);
+        let from = (at % BLOCK_LENGTH) as usize;
+        let count = (BLOCK_LENGTH - at % BLOCK_LENGTH).min(left) as usize;
+        &self.blocks.lend(block)[from..from + count]
     }
 
     /// Copies an inode's bytes, from `at` on, to the front of the buffer. The result is how many: as many as
@@ -273,9 +288,7 @@ impl Inodes {
         requires within { at + length part.old ≤ length (bytes_at self.now inode) }
         ensures { part.new ≡ take (length part.old) (drop at (bytes_at self.now inode)) }
     {
-        let slot = self.slot(inode);
-        let block = content_block(&self.blocks, self.version, slot, (at / BLOCK_LENGTH) as u16);
-        get(&self.blocks, block, (at % BLOCK_LENGTH) as usize, part);
+        part.copy_from_slice(&self.lend(inode, at)[..part.len()]);
     }
 
     // An inode that is in use, counted from 0.

@@ -2,8 +2,12 @@ use Rattle.std.proofs.Common.{◌≡◌, take}
 use Rattle.std.specs.Option.{option_copied}
 use Rattle.pv_model.specs.Calls.Descriptors.{next_name}
 use Rattle.pv_inodes.specs.Files.{bytes_at}
-use Rattle.pv_dirs.specs.Slots.{slot_entries, in_order}
+use Rattle.pv_dirs.specs.Slots.{IsRun, slot_entries, in_order}
 use Rattle.pv_dirs.proofs.scan.least_behind.Given as goal
 
+-- the best is the next name of the slots so far
 abbrev pub invariant-loop-k : goal.invariant-loop-k
-invariant-loop-k l = l.best ≡ next_name (option_copied l.last) (in_order (take l.k (slot_entries l.inodes.version (bytes_at l.inodes l.directory))))
+invariant-loop-k l = record {
+  best : l.best ≡ next_name (option_copied l.last) (in_order (take l.k (slot_entries l.inodes.version (bytes_at l.inodes l.directory))));
+  run : IsRun l.inodes.version (bytes_at l.inodes l.directory) l.k l.left;
+}
