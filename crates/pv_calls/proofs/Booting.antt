@@ -15,6 +15,8 @@ use Rattle.pv_model.specs.Tree.{Tree, Node, directory_node, file_node, link_node
 use Rattle.pv_parts.specs.Counts.{processes_of}
 use Rattle.pv_parts.proofs.Alone.{some-at}
 use Rattle.pv_procs.specs.ProcessTable.{ProcessTable, process_in}
+use Rattle.pv_procs.specs.Turns.{context_of}
+use Rattle.pv_script.specs.Context.{is_inside}
 use Rattle.pv_laws.specs.States.{IsFirstTree, IsWhole, is_program, is_call}
 use Rattle.pv_laws.proofs.BySteps.{IsGoodNext, good-next, first-whole}
 use Rattle.pv_laws.proofs.Running.{whole-inside}
@@ -37,6 +39,13 @@ pub live-in : (s : State) (ps qs : ProcessTable) (pid : ℕ) → ps ≡ processe
 live-in s ps qs pid one two live =
     let found = some-at (process_at s pid) (ap (λ x. is_some (process_in x pid)) (sym one) ∙ sym live) in
     (found.0, found.1, ap (λ x. process_in x pid) two ∙ found.1)
+
+-- what comes next is no instruction on registers in whatever is found under the number
+pub call-ahead : (ps : ProcessTable) (pid : ℕ) (me found : Process) → process_in ps pid ≡ Some me → process_in ps pid ≡ Some found → is_inside me.program (context_of me) ≡ false
+    → is_inside found.program (context_of found) ≡ false
+call-ahead ps pid me found at is ahead =
+    let same : me ≡ found = cc in
+    subst (λ (p : Process). is_inside p.program (context_of p) ≡ false) same ahead
 
 -- ---- the first state
 

@@ -1,6 +1,6 @@
 //! The kernel: the parts of the system, and the calls on them.
 ghost use Rattle.std.specs.Prelude.{◌≡◌, ◌⊎◌, ◌≤◌, ℕ, IfOk, IfErr, OnErr, IsOk, IsSome, IsTrue, Ok, Err, Some, length, List, Option};
-ghost use Rattle.pv_calls.specs.Kernel.{Fetches, IsCallable};
+ghost use Rattle.pv_calls.specs.Kernel.{Fetches, IsAhead, IsCallable};
 ghost use Rattle.pv_laws.specs.States.{IsFirstTree, is_call};
 ghost use Rattle.pv_model.specs.Answer.{answer};
 ghost use Rattle.pv_model.specs.Grammar.Programs.{program_of};
@@ -29,6 +29,17 @@ pub enum Fetched {
     Register,
     /// A call.
     Call(Call),
+}
+
+/// What the next step of a process is, without the call.
+#[derive(Clone, Copy, Debug, PartialEq, Eq)]
+pub enum Ahead {
+    /// There is no such live process.
+    Gone,
+    /// An instruction on registers, or a jump.
+    Register,
+    /// A call, which `Kernel::put_next_call` tells.
+    Call,
 }
 
 /// The kernel: the tree, the open files and the processes, and a lookup of names.
@@ -94,6 +105,29 @@ impl<L: Lookup + Drop> Kernel<L> {
             lookup,
             walks: 0,
         })
+    }
+
+    /// What comes next in a process, without the call.
+    pub fn ahead(&self, pid: u32) -> Ahead
+        ensures { IsAhead result self.now.state pid }
+    {
+        if !self.parts.processes().live(pid) {
+            return Ahead::Gone;
+        }
+        if self.parts.processes().is_register_next(pid) {
+            Ahead::Register
+        } else {
+            Ahead::Call
+        }
+    }
+
+    /// Puts the call that comes next in a live process in place of another: past the last line, an exit.
+    pub fn put_next_call(&self, pid: u32, call: &mut Call)
+        requires { IsAhead Ahead.Call self.now.state pid }
+        ensures next { Fetches (Fetched.Call call.new) self.now.state pid }
+        ensures callable { IsTrue (is_call call.new) }
+    {
+        self.parts.processes().put_next_call(pid, call);
     }
 
     /// What comes next in a process.

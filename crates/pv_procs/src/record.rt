@@ -45,7 +45,7 @@ impl Record {
         ensures { self.new ≡ other.now }
     {
         self.pledge = other.pledge;
-        self.unveiled = other.unveiled.copy();
+        self.unveiled.copy_from(&other.unveiled);
         self.directory = other.directory;
         self.descriptors = other.descriptors;
         self.machine.copy_from(&other.machine);

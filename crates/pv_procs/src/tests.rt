@@ -129,9 +129,14 @@ fn loads_programs(rt: HostRuntime) -> Result<(), Fail> {
     assert!(rt; processes.record(2).unveiled.is_empty());
     assert_eq!(rt; processes.record(2).descriptors.at(0), Err(Errno::EBADF));
     assert!(rt; matches!(processes.next(2), Next::Register));
+    assert!(rt; processes.is_register_next(2));
     processes.advance(2);
     assert!(rt; processes.live(2));
     assert!(rt; matches!(processes.next(2), Next::Call(Call::GetPid)));
+    let mut call = Call::Wait;
+    assert!(rt; !processes.is_register_next(2));
+    processes.put_next_call(2, &mut call);
+    assert!(rt; matches!(call, Call::GetPid));
     processes.tell(2, 2, 0);
     assert!(rt; processes.live(2));
     processes.put_front(2, b"xyz");

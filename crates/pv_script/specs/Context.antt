@@ -1,7 +1,7 @@
 -- The context of a process: the line that comes next, its registers and its buffer.
 use Rattle.std.specs.Prelude.{◌≡◌, ℕ, ◌-◌, ℤ, Bool, true, false, List, IsTrue, slice_get, Option, None, Some}
 use Rattle.pv_model.specs.declared.instruction.Instruction.{Instruction}
-use Rattle.pv_model.specs.declared.instruction.Instruction.TheVariants.{Set, Add, Put, Peek, Jump, JumpIfZero, JumpIfNotZero, JumpIfNegative}
+use Rattle.pv_model.specs.declared.instruction.Instruction.TheVariants.{Set, Add, Put, Peek, Jump, JumpIfZero, JumpIfNotZero, JumpIfNegative, Fork, Wait, GetPid, GetPpid, Exit, Close, Dup, Fstat, Getdents, Fchdir, Dup2, Read, Write, Ftruncate, Lseek, Pledge, Unveil, Execve, Chdir, Stat, Lstat, Readlink, Unlink, Mkdir, Rmdir, Open, OpenAt, Rename, Link, Symlink}
 use Rattle.pv_model.specs.Bytes.{Bytes}
 use Rattle.pv_model.specs.Program.{calls_for, next}
 use Rattle.pv_model.specs.State.{Program, Process, no_registers, no_bytes}
@@ -36,6 +36,52 @@ is_on_registers (JumpIfZero r line) = true
 is_on_registers (JumpIfNotZero r line) = true
 is_on_registers (JumpIfNegative r line) = true
 is_on_registers _ = false
+
+-- whether an instruction is a pledge or an unveil
+abbrev pub is_restraint : Instruction → Bool
+is_restraint (Pledge promises execpromises) = true
+is_restraint (Unveil path letters) = true
+is_restraint _ = false
+
+-- whether an instruction is a call without a text
+abbrev pub is_plain : Instruction → Bool
+is_plain Fork = true
+is_plain Wait = true
+is_plain GetPid = true
+is_plain GetPpid = true
+is_plain (Exit code) = true
+is_plain (Close d) = true
+is_plain (Dup d) = true
+is_plain (Fstat d) = true
+is_plain (Getdents d) = true
+is_plain (Fchdir d) = true
+is_plain (Dup2 d e) = true
+is_plain (Read d n) = true
+is_plain (Write d n) = true
+is_plain (Ftruncate d n) = true
+is_plain (Lseek d by whence) = true
+is_plain _ = false
+
+-- the path of an instruction that has just one text, a path
+abbrev pub path_of : Instruction → Option Bytes
+path_of (Execve path) = Some path
+path_of (Chdir path) = Some path
+path_of (Stat path) = Some path
+path_of (Lstat path) = Some path
+path_of (Readlink path) = Some path
+path_of (Unlink path) = Some path
+path_of (Mkdir path) = Some path
+path_of (Rmdir path) = Some path
+path_of (Open path flags) = Some path
+path_of (OpenAt origin path flags) = Some path
+path_of _ = None
+
+-- an instruction of two texts has these
+abbrev pub IsPair : Instruction → Bytes → Bytes → Type 0
+IsPair (Rename path new) first second = (path ≡ first) × (new ≡ second)
+IsPair (Link path new) first second = (path ≡ first) × (new ≡ second)
+IsPair (Symlink text path) first second = (text ≡ first) × (path ≡ second)
+IsPair _ first second = ⊥
 
 abbrev pub is_some_on_registers : Option Instruction → Bool
 is_some_on_registers None = false

@@ -1,5 +1,5 @@
 //! What runs a program: the line that comes next, eight registers, and a buffer of 4,096 bytes.
-ghost use Rattle.std.specs.Prelude.{◌≡◌, ◌≤◌, ◌+ℤ◌, ◌++◌, true, false, length, drop, slice_index, IsTrue, IfOk};
+ghost use Rattle.std.specs.Prelude.{◌≡◌, ◌≤◌, ◌+ℤ◌, ◌++◌, true, false, Some, length, drop, slice_index, IsTrue, IfOk};
 ghost use Rattle.pv_model.specs.Answer.{at_next_line, with_front};
 ghost use Rattle.pv_model.specs.Calls.Processes.{with_result};
 ghost use Rattle.pv_model.specs.Program.{operand, clamp, is_zero, is_negative, register, start_of_origin, with_register, jump_if, inside, calls_for, perform, next};
@@ -105,7 +105,37 @@ fn is_on_registers(instruction: &Instruction) -> bool
     )
 }
 
-ghost use Rattle.pv_script.specs.Context.{first_context, in_context, Changes, is_on_registers, is_inside, IsNext};
+ghost use Rattle.pv_script.specs.Context.{first_context, in_context, Changes, is_on_registers, is_inside, IsNext, is_restraint, is_plain, path_of, IsPair};
+
+// Makes the call of a pledge(2) or an unveil(2).
+#[tactic(auto, unfolding(pv_model::specs::Program::perform))]
+fn put_restraint(instruction: &Instruction, call: &mut Call)
+    requires { is_restraint instruction.now ≡ true }
+    ensures { (p : Process) → perform p instruction.now ≡ calls_for call.new }
+{
+    *call = match instruction {
+        Instruction::Pledge(promises, execpromises) => {
+            Call::Pledge(copy(promises), copy(execpromises))
+        }
+        Instruction::Unveil(path, letters) => Call::Unveil(copy(path), copy(letters)),
+        _ => unreachable!(),
+    };
+}
+
+// Makes the call of an instruction on two texts.
+#[tactic(auto, unfolding(pv_model::specs::Program::perform))]
+fn put_pair(instruction: &Instruction, first: &Text, second: &Text, call: &mut Call)
+    requires { IsPair instruction.now first.now second.now }
+    ensures { (p : Process) → perform p instruction.now ≡ calls_for call.new }
+{
+    let (first, second) = (first.copy(), second.copy());
+    *call = match instruction {
+        Instruction::Rename(_, _) => Call::Rename(first, second),
+        Instruction::Link(_, _) => Call::Link(first, second),
+        Instruction::Symlink(_, _) => Call::Symlink(first, second),
+        _ => unreachable!(),
+    };
+}
 
 impl Machine {
     /// A machine at line 1, its registers and its buffer zero. Nothing else of it allocates.
@@ -195,10 +225,34 @@ impl Machine {
         }
     }
 
-    // The call of an instruction.
+    // Makes the call of an instruction on one path.
     #[tactic(auto, unfolding(pv_model::specs::Program::perform))]
-    fn call_of(&self, instruction: &Instruction) -> Call
-        requires { is_on_registers instruction.now ≡ false }
+    fn put_path(&self, instruction: &Instruction, path: &Text, call: &mut Call)
+        requires { path_of instruction.now ≡ Some path.now }
+        ensures { (p : Process) (program : Instructions) → perform (in_context p program self.now) instruction.now ≡ calls_for call.new }
+    {
+        let path = path.copy();
+        *call = match instruction {
+            Instruction::Execve(_) => Call::Execve(path),
+            Instruction::Chdir(_) => Call::Chdir(path),
+            Instruction::Stat(_) => Call::Stat(path),
+            Instruction::Lstat(_) => Call::Lstat(path),
+            Instruction::Readlink(_) => Call::Readlink(path),
+            Instruction::Unlink(_) => Call::Unlink(path),
+            Instruction::Mkdir(_) => Call::Mkdir(path),
+            Instruction::Rmdir(_) => Call::Rmdir(path),
+            Instruction::Open(_, flags) => Call::Open(path, *flags),
+            Instruction::OpenAt(origin, _, flags) => {
+                Call::OpenAt(self.start(*origin), path, *flags)
+            }
+            _ => unreachable!(),
+        };
+    }
+
+    // The call of an instruction without a text.
+    #[tactic(auto, unfolding(pv_model::specs::Program::perform))]
+    fn plain_call(&self, instruction: &Instruction) -> Call
+        requires { is_plain instruction.now ≡ true }
         ensures { (p : Process) (program : Instructions) → perform (in_context p program self.now) instruction.now ≡ calls_for result }
     {
         match instruction {
@@ -219,26 +273,53 @@ impl Machine {
             Instruction::Lseek(d, by, whence) => {
                 Call::Lseek(self.operand(*d), self.operand(*by), *whence)
             }
-            Instruction::Pledge(promises, execpromises) => {
-                Call::Pledge(copy(promises), copy(execpromises))
-            }
-            Instruction::Unveil(path, letters) => Call::Unveil(copy(path), copy(letters)),
-            Instruction::Execve(path) => Call::Execve(path.copy()),
-            Instruction::Chdir(path) => Call::Chdir(path.copy()),
-            Instruction::Stat(path) => Call::Stat(path.copy()),
-            Instruction::Lstat(path) => Call::Lstat(path.copy()),
-            Instruction::Readlink(path) => Call::Readlink(path.copy()),
-            Instruction::Unlink(path) => Call::Unlink(path.copy()),
-            Instruction::Mkdir(path) => Call::Mkdir(path.copy()),
-            Instruction::Rmdir(path) => Call::Rmdir(path.copy()),
-            Instruction::Open(path, flags) => Call::Open(path.copy(), *flags),
-            Instruction::OpenAt(origin, path, flags) => {
-                Call::OpenAt(self.start(*origin), path.copy(), *flags)
-            }
-            Instruction::Rename(path, new) => Call::Rename(path.copy(), new.copy()),
-            Instruction::Link(path, new) => Call::Link(path.copy(), new.copy()),
-            Instruction::Symlink(text, path) => Call::Symlink(text.copy(), path.copy()),
             _ => unreachable!(),
+        }
+    }
+
+    // Makes the call of an instruction.
+    #[tactic(auto, unfolding(pv_model::specs::Program::perform))]
+    fn put_call(&self, instruction: &Instruction, call: &mut Call)
+        requires { is_on_registers instruction.now ≡ false }
+        ensures { (p : Process) (program : Instructions) → perform (in_context p program self.now) instruction.now ≡ calls_for call.new }
+    {
+        match instruction {
+            Instruction::Pledge(..) | Instruction::Unveil(..) => put_restraint(instruction, call),
+            Instruction::Rename(first, second)
+            | Instruction::Link(first, second)
+            | Instruction::Symlink(first, second) => put_pair(instruction, first, second, call),
+            Instruction::Execve(path)
+            | Instruction::Chdir(path)
+            | Instruction::Stat(path)
+            | Instruction::Lstat(path)
+            | Instruction::Readlink(path)
+            | Instruction::Unlink(path)
+            | Instruction::Mkdir(path)
+            | Instruction::Rmdir(path)
+            | Instruction::Open(path, _)
+            | Instruction::OpenAt(_, path, _) => self.put_path(instruction, path, call),
+            _ => *call = self.plain_call(instruction),
+        }
+    }
+
+    /// Whether an instruction on registers, or a jump, comes next, and no call.
+    pub fn is_register_next(&self, program: &Program) -> bool
+        ensures { result ≡ is_inside program.now self.now }
+    {
+        match program.at(self.line) {
+            Some(instruction) => is_on_registers(instruction),
+            None => false,
+        }
+    }
+
+    /// Puts the call that comes next in place of another: past the last line, an exit.
+    pub fn put_next_call(&self, program: &Program, call: &mut Call)
+        requires { is_inside program.now self.now ≡ false }
+        ensures { (p : Process) → next (in_context p program.now self.now) ≡ calls_for call.new }
+    {
+        match program.at(self.line) {
+            Some(instruction) => self.put_call(instruction, call),
+            None => *call = Call::Exit(0),
         }
     }
 
@@ -246,16 +327,12 @@ impl Machine {
     pub fn next(&self, program: &Program) -> Next
         ensures { IsNext program.now self.now result }
     {
-        match program.at(self.line) {
-            None => Next::Call(Call::Exit(0)),
-            Some(instruction) => {
-                if is_on_registers(instruction) {
-                    Next::Register
-                } else {
-                    Next::Call(self.call_of(instruction))
-                }
-            }
+        if self.is_register_next(program) {
+            return Next::Register;
         }
+        let mut call = Call::Exit(0);
+        self.put_next_call(program, &mut call);
+        Next::Call(call)
     }
 
     // A register's value.

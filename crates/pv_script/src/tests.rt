@@ -392,6 +392,10 @@ fn answers_that_a_machine_is_told(rt: HostRuntime) -> Result<(), Fail> {
     assert!(rt; matches!(child.next(&program), Next::Call(Call::Read(0, 0))));
     assert!(rt; child.buffer().starts_with(b"hello\0"));
     assert!(rt; matches!(machine.next(&program), Next::Call(Call::Read(-1, 9))));
+    let mut call = Call::Wait;
+    assert!(rt; !machine.is_register_next(&program));
+    machine.put_next_call(&program, &mut call);
+    assert!(rt; matches!(call, Call::Read(-1, 9)));
     machine.reset();
     assert!(rt; matches!(machine.next(&program), Next::Call(Call::GetPid)));
     assert!(rt; machine.buffer().starts_with(b"\0\0\0\0\0"));

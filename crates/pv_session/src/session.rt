@@ -1,5 +1,6 @@
 //! The machine, step by step.
 ghost use Rattle.std.specs.Prelude.{◌≡◌, ◌⊎◌, ◌≤◌, IfOk, IfErr, OnOk, OnErr, Ok, Err, length};
+ghost use Rattle.pv_calls.specs.Kernel.{IsAhead};
 ghost use Rattle.pv_laws.specs.States.{IsFirstTree};
 ghost use Rattle.pv_model.specs.Start.{booted};
 ghost use Rattle.pv_model.specs.Trace.{buffer_of};
@@ -7,8 +8,8 @@ ghost use Rattle.pv_model.specs.State.{process_at};
 ghost use Rattle.pv_session.specs.declared.session.Stop.TheVariants.{Memory, Write};
 ghost use Rattle.pv_session.specs.Running.{BeginsLines, FailsBy, ToldLines, stepped};
 
-use pv_calls::{Fetched, Kernel};
-use pv_model::{BootFault, Failed, Outcome, Sink, StepFault};
+use pv_calls::{Ahead, Kernel};
+use pv_model::{BootFault, Call, Failed, Outcome, Sink, StepFault};
 use pv_namei::PlainLookup;
 use pv_trace::{Sheet, write_call_lines, write_gone_line};
 use pv_tree::{Store, Tree};
@@ -44,6 +45,8 @@ impl From<Failed> for Stop {
 #[derive(Drop)]
 pub struct Session {
     kernel: Kernel<PlainLookup>,
+    // The call that was made last: each next one takes its place.
+    call: Call,
     // What the lines of a trace are made on.
     sheet: Sheet,
 }
@@ -71,10 +74,22 @@ impl Session {
         match Kernel::boot(alloc, store) {
             Ok(kernel) => Ok(Session {
                 kernel,
+                call: Call::Exit(0),
                 sheet: Sheet::new(),
             }),
             Err(fault) => Err(fault),
         }
+    }
+
+    // Makes the call that comes next in a live process.
+    fn call(&mut self, alloc: Global, pid: u32) -> Result<Outcome, StepFault>
+        requires { IsAhead Ahead.Call self.old pid }
+        ensures after { OnOk result (self.new ≡ (stepped self.old pid).after) }
+        ensures outcome { IfOk result (λ outcome. outcome ≡ (stepped self.old pid).outcome) }
+        ensures unchanged { OnErr result (self.new ≡ self.old) }
+    {
+        self.kernel.put_next_call(pid, &mut self.call);
+        self.kernel.call(alloc, pid, &self.call)
     }
 
     /// Makes one step of a process: an instruction on registers, which answers 0, or a call. A process that is not live
@@ -88,14 +103,34 @@ impl Session {
         ensures outcome { IfOk result (λ outcome. outcome ≡ (stepped self.old pid).outcome) }
         ensures unchanged { OnErr result (self.new ≡ self.old) }
     {
-        match self.kernel.fetch(pid) {
-            Fetched::Gone => Ok(Outcome::Gone),
-            Fetched::Register => {
+        match self.kernel.ahead(pid) {
+            Ahead::Gone => Ok(Outcome::Gone),
+            Ahead::Register => {
                 self.kernel.register(pid);
                 Ok(Outcome::Value(0))
             }
-            Fetched::Call(call) => self.kernel.call(alloc, pid, &call),
+            Ahead::Call => self.call(alloc, pid),
         }
+    }
+
+    // Makes the call that comes next in a live process, and writes its lines: answers how many.
+    fn trace_call<W: Sink>(&mut self, alloc: Global, pid: u32, trace: &mut W) -> Result<u8, Stop>
+        requires { IsAhead Ahead.Call self.old pid }
+        ensures after { OnOk result (self.new ≡ (stepped self.old pid).after) }
+        ensures whole { OnOk result (ToldLines (stepped self.old pid).lines (W.told trace.old) (W.told trace.new)) }
+        ensures lines { IfOk result (λ n. n ≡ length (stepped self.old pid).lines) }
+        ensures few { IfOk result (λ n. n ≤ 7) }
+        ensures beginning { OnErr result (BeginsLines (stepped self.old pid).lines (W.told trace.old) (W.told trace.new)) }
+        ensures failed { IfErr result (λ stop. FailsBy stop (W.failures trace.old) (W.failures trace.new)) }
+        ensures quiet { OnOk result (W.failures trace.new ≡ W.failures trace.old) }
+    {
+        self.kernel.put_next_call(pid, &mut self.call);
+        let call = &self.call;
+        let outcome = self.kernel.call(alloc, pid, call)?;
+        let front = self.kernel.buffer(pid);
+        let walks = self.kernel.walks();
+        let sheet = &mut self.sheet;
+        Ok(write_call_lines(trace, sheet, pid, front, call, outcome, walks)?)
     }
 
     /// The 4,096 bytes of a process's buffer: none where it is not live. The bytes that an outcome tells stand at its
@@ -134,22 +169,16 @@ impl Session {
         ensures failed { IfErr result (λ stop. FailsBy stop (W.failures trace.old) (W.failures trace.new)) }
         ensures quiet { OnOk result (W.failures trace.new ≡ W.failures trace.old) }
     {
-        match self.kernel.fetch(pid) {
-            Fetched::Gone => {
+        match self.kernel.ahead(pid) {
+            Ahead::Gone => {
                 write_gone_line(trace, &mut self.sheet, pid)?;
                 Ok(1)
             }
-            Fetched::Register => {
+            Ahead::Register => {
                 self.kernel.register(pid);
                 Ok(0)
             }
-            Fetched::Call(call) => {
-                let outcome = self.kernel.call(alloc, pid, &call)?;
-                let front = self.kernel.buffer(pid);
-                let walks = self.kernel.walks();
-                let sheet = &mut self.sheet;
-                Ok(write_call_lines(trace, sheet, pid, front, &call, outcome, walks)?)
-            }
+            Ahead::Call => self.trace_call(alloc, pid, trace),
         }
     }
 }

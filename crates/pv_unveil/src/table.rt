@@ -172,14 +172,21 @@ impl Table {
     pub fn copy(&self) -> Table
         ensures { result ≡ self.now }
     {
-        let mut entries = ArrayVec::new();
-        for (target, letters) in self.entries.as_slice() {
-            entries.push((target.copy(), *letters));
+        let mut table = Table::new();
+        table.copy_from(self);
+        table
+    }
+
+    /// Becomes as another: the same entries and lock, as fork(2) gives the child. Only the entries that are there are
+    /// copied.
+    pub fn copy_from(&mut self, other: &Table)
+        ensures { self.new ≡ other.now }
+    {
+        self.entries.clear();
+        for (target, letters) in other.entries.as_slice() {
+            self.entries.push((target.copy(), *letters));
         }
-        Table {
-            entries,
-            locked: self.locked,
-        }
+        self.locked = other.locked;
     }
 
     /// What execve(2) leaves: where it does not keep the table, neither entries nor lock.
@@ -188,7 +195,7 @@ impl Table {
         ensures lock { self.new.locked ≡ (keeps && self.old.locked) }
     {
         if !keeps {
-            self.entries = ArrayVec::new();
+            self.entries.clear();
             self.locked = false;
         }
     }

@@ -1,0 +1,46 @@
+use Rattle.std.proofs.Common.{◌≡◌, false, sym, subst, arith}
+use Rattle.pv_model.specs.Program.{next, calls_for}
+use Rattle.pv_model.specs.State.{Program, Process}
+use Rattle.pv_script.specs.Context.{in_context, is_inside}
+use Rattle.pv_procs.specs.Places.{process_of, program_at}
+use Rattle.pv_procs.proofs.Finding.{found-at, live-place, process-at, status-at}
+use Rattle.pv_procs.proofs.Ends.{program-within}
+use Rattle.pv_procs.proofs.Forks.{mine-is}
+use Rattle.pv_procs.proofs.Turning.{program-read}
+use Rattle.pv_procs.proofs.processes.Processes.put_next_call.Goals as goal
+
+pub live_index-k-requires : goal.live_index-k-requires
+live_index-k-requires c =
+    let i = c.self.inside in
+    rw c.deref.ensures.value (live-place i.places.items i.programs.items i.last c.args.self.now c.self.view_is c.args.pid c.requires.live)
+
+pub put_next_call-requires : goal.put_next_call-requires
+put_next_call-requires c =
+    let i = c.self.inside in
+    let k = c.live_index-k.result in
+    let place = c.index-place.result.now in
+    let found = rw c.deref.ensures.value at c.live_index-k.ensures in
+    let at = found-at i.places.items c.args.pid k place found c.index-place.ensures in
+    let lives = status-at i.places.items i.programs.items i.last c.args.self.now c.self.view_is c.args.pid c.self.invariant.0.ascending k place at c.requires.live in
+    let table = c.self.invariant.0.table in
+    let below = program-within i.places.items i.programs.items i.last c.self.invariant.0 c.args.pid k place at lives in
+    let program = program-read i.programs.items place.program c.index.result.now (omega (arith, below, table)) c.index.ensures in
+    let process = process-at i.places.items i.programs.items i.last c.args.self.now c.self.view_is c.args.pid c.self.invariant.0.ascending k place at c.requires.live in
+    subst (λ (instructions : Program). is_inside instructions place.record.machine ≡ false) program (c.requires.call (process_of (program_at i.programs.items place.program) place) process)
+
+pub returns : goal.returns
+returns c = λ me is.
+    let i = c.self.inside in
+    let k = c.live_index-k.result in
+    let place = c.index-place.result.now in
+    let found = rw c.deref.ensures.value at c.live_index-k.ensures in
+    let at = found-at i.places.items c.args.pid k place found c.index-place.ensures in
+    let lives = status-at i.places.items i.programs.items i.last c.args.self.now c.self.view_is c.args.pid c.self.invariant.0.ascending k place at c.requires.live in
+    let table = c.self.invariant.0.table in
+    let below = program-within i.places.items i.programs.items i.last c.self.invariant.0 c.args.pid k place at lives in
+    let program = program-read i.programs.items place.program c.index.result.now (omega (arith, below, table)) c.index.ensures in
+    let process = process-at i.places.items i.programs.items i.last c.args.self.now c.self.view_is c.args.pid c.self.invariant.0.ascending k place at c.requires.live in
+    let mine = mine-is c.args.self.now c.args.pid _ me process is in
+    subst (λ (p : Process). next p ≡ calls_for c.put_next_call.new.call) (sym mine)
+    (subst (λ (instructions : Program). next (in_context (process_of (program_at i.programs.items place.program) place) instructions place.record.machine) ≡ calls_for c.put_next_call.new.call)
+    (sym program) (c.put_next_call.ensures (process_of (program_at i.programs.items place.program) place)))
