@@ -11,6 +11,8 @@ pub mod Told
 pub mod Twice
 pub mod Lone
 pub mod OffsetSteps
+pub mod OtherBytes
+pub mod WriteSteps
 pub mod Relabelled
 pub mod Happen
 pub mod Reordered
