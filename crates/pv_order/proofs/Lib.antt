@@ -6,10 +6,13 @@ pub mod Shifts
 pub mod ShiftCalls
 pub mod Commuted
 pub mod Inward
-pub mod Lone
+pub mod Orphans
 pub mod Told
 pub mod Twice
+pub mod Lone
 pub mod OffsetSteps
+pub mod OtherBytes
+pub mod WriteSteps
 pub mod Relabelled
 pub mod Happen
 pub mod Reordered

@@ -1,15 +1,15 @@
 -- Steps that move where an open file stands, before and behind a step of another process.
-use Rattle.std.proofs.Common.{◌≡◌, ◌≢◌, ℕ, ◌+◌, ℤ, pos, negsuc, ◌+ℤ◌, Bool, true, false, not, if◌then◌else◌, [], length, take, drop, Option, None, Some, is_some, option_map, refl, ap, sym, subst, ◌∙◌}
+use Rattle.std.proofs.Common.{◌≡◌, ◌≢◌, ℕ, ◌+◌, ℤ, pos, negsuc, ◌+ℤ◌, Bool, true, false, not, [], length, take, drop, Option, None, Some, is_some, option_map, refl, ap, sym, subst, ◌∙◌}
 use Rattle.pv_model.specs.declared.call.Call.{Call}
 use Rattle.pv_model.specs.declared.call.Call.TheVariants as TheCall
 use Rattle.pv_model.specs.declared.call.Whence.{Whence}
 use Rattle.pv_model.specs.declared.call.Whence.TheVariants.{Set, Current, End}
 use Rattle.pv_model.specs.declared.errno.Errno.TheVariants.{EBADF, EINVAL, EISDIR}
-use Rattle.pv_model.specs.declared.outcome.Cause.TheVariants.{Plain}
+use Rattle.pv_model.specs.declared.open_flags.Mode.{Mode}
 use Rattle.pv_model.specs.declared.outcome.Outcome.TheVariants.{Killed}
 use Rattle.pv_model.specs.declared.promise.Promise.{Promise}
-use Rattle.pv_model.specs.Answer.{answer, answer_of, answer_where, answer_by_attempt, at_next_line, update, effect}
-use Rattle.pv_model.specs.Attempt.{Attempt, refused, ◌>>=◌, ◌>>◌, refuse_if, demand}
+use Rattle.pv_model.specs.Answer.{at_next_line, update, effect}
+use Rattle.pv_model.specs.Attempt.{Attempt, ◌>>=◌, ◌>>◌, refuse_if, demand}
 use Rattle.pv_model.specs.Bytes.{Bytes}
 use Rattle.pv_model.specs.Calls.Descriptors.{if_mode, within, seek_base, next_name, list_name}
 use Rattle.pv_model.specs.Effect.{Effect, answers, answers_bytes, open_file_of, open_file, with_file, bytes_of}
@@ -17,61 +17,29 @@ use Rattle.pv_model.specs.Held.{trim}
 use Rattle.pv_model.specs.Needs.{needs}
 use Rattle.pv_model.specs.Numbered.{at_number}
 use Rattle.pv_model.specs.Program.{calls_for, next}
-use Rattle.pv_model.specs.Promises.{missing_promise, is_lenient}
+use Rattle.pv_model.specs.Promises.{missing_promise}
 use Rattle.pv_model.specs.State.{OpenFile, Descriptor, Program, Process, State, reads, process_at, with_process}
-use Rattle.pv_model.specs.Step.{Stepped, step, step_by}
+use Rattle.pv_model.specs.Step.{step}
 use Rattle.pv_model.specs.Tree.{Node, node_at, is_directory, entries_of}
 use Rattle.pv_laws.specs.States.{SpellsPrograms, IsWhole}
 use Rattle.pv_laws.proofs.ByFile.{open_file-at}
-use Rattle.pv_laws.proofs.BySteps.{step-keeps_whole}
-use Rattle.pv_laws.proofs.Outcomes.{at_call}
 use Rattle.pv_laws.proofs.Processes.{update-with}
 use Rattle.pv_laws.proofs.Rests
-use Rattle.pv_laws.proofs.Running.{SameHolds, trim-same}
+use Rattle.pv_laws.proofs.Running.{SameHolds}
 use Rattle.pv_rights.specs.Growth.{IsSameFile}
-use Rattle.pv_rights.proofs.Ends.{step-is, whole-in_order}
+use Rattle.pv_rights.proofs.Does.{open_file_for-is}
+use Rattle.pv_rights.proofs.Ends.{whole-in_order}
 use Rattle.pv_rights.proofs.Frames.{others-files}
-use Rattle.pv_rights.proofs.Images.{others-keep}
 use Rattle.pv_order.specs.Beside.{with_change, become}
-use Rattle.pv_order.specs.Commuting.{IsAlone, Commute}
+use Rattle.pv_order.specs.Commuting.{Commute}
 use Rattle.pv_order.specs.Offsets.{with_file_change, GoesBy, moves_offset, LeavesOpenFile}
 use Rattle.pv_order.proofs.Alongside.{SteppedBeside, trimmed-update}
 use Rattle.pv_order.proofs.Exchange.{process-changed}
-use Rattle.pv_order.proofs.Lone.{orphan, lone-commute}
+use Rattle.pv_order.proofs.Lone.{commute-where}
+use Rattle.pv_order.proofs.Orphans.{orphan}
 use Rattle.pv_order.proofs.ShiftCalls.{shifts, HasFile, step-shifted}
 use Rattle.pv_order.proofs.Shifts.{shifted-itself, shift-apart, change-nothing, put-is_change}
-use Rattle.pv_order.proofs.Twice.{acts, Two, two-after, two-bind, two-then, two-refused, commute-twice}
-
--- ---- a call that is not held
-
--- a call that lacks a promise goes by its process alone, unless it kills
-pub commute-where : (program_of : Bytes → Option Program) → SpellsPrograms program_of → (s : State) (j k : ℕ) (p : Process) (call : Call) → IsWhole s → j ≢ k → process_at s j ≡ Some p → next p ≡ calls_for call
-    → ((a : Promise) → (step program_of s j).outcome ≢ Killed a) → (missing_promise p.promises (needs call) ≡ None → Commute program_of s j k) → Commute program_of s j k
-unfolding answer
-commute-where program_of spells s j k p call whole apart at comes alive held = by (missing_promise p.promises (needs call)) refl
-  where
-    same-step : step program_of s j ≡ step_by program_of s j p (calls_for call)
-    same-step = step-is program_of s j p at ∙ ap (step_by program_of s j p) comes
-
-    lone : (a : Promise) → missing_promise p.promises (needs call) ≡ Some a → is_lenient p.promises ≡ true → IsAlone p (next p)
-    lone a missing lenient = subst (IsAlone p) (sym comes) (subst (Rattle.pv_order.specs.Commuting.IsAloneWhere p call) (sym missing) lenient)
-
-    other-way : Commute program_of s k j → Commute program_of s j k
-    other-way is = record { first = is.second; second = is.first; after = sym is.after }
-
-    strict : (a : Promise) → missing_promise p.promises (needs call) ≡ Some a → (b : Bool) → is_lenient p.promises ≡ b → Commute program_of s j k
-    strict a missing true lenient = other-way (lone-commute program_of spells s k j p whole (λ same. apart (sym same)) at (lone a missing lenient))
-    strict a missing false kills =
-        absurd (alive a
-        (ap (λ (w : Stepped). w.outcome) same-step
-        ∙ ap (λ o. (answer_of program_of s j call o).outcome) at
-        ∙ ap (λ o. (answer_where program_of s (at_call s j p) j (at_next_line p) call o).outcome) missing
-        ∙ ap (λ b. (if b then answer_by_attempt s (at_call s j p) j (at_next_line p) (refused 0 Rattle.pv_model.specs.declared.errno.Errno.TheVariants.ENOSYS (Rattle.pv_model.specs.declared.outcome.Cause.TheVariants.Promise a))
-        else record { after = trim (Rattle.pv_model.specs.Calls.Processes.end_process s j (at_next_line p) 6); outcome = Killed a; walks = 0 }).outcome) kills))
-
-    by : (o : Option Promise) → missing_promise p.promises (needs call) ≡ o → Commute program_of s j k
-    by None is = held is
-    by (Some a) missing = strict a missing (is_lenient p.promises) refl
+use Rattle.pv_order.proofs.Twice.{acts, Two, two-bind, two-then, two-demand, behind_k, heir, quiet, quiet-behind, passes-by, commute-steps, call-twice}
 
 -- ---- what a step leaves of an open file that it does not go by
 
@@ -148,19 +116,10 @@ goes-as_before s j k m f apart goes = record {
 
 module _ (program_of : Bytes → Option Program) (spells : SpellsPrograms program_of) (s : State) (j k : ℕ) (p : Process) (whole : IsWhole s) (apart : j ≢ k) (at : process_at s j ≡ Some p) where
   abbrev u : State
-  u = (step program_of s k).after
-
-  whole_u : IsWhole u
-  whole_u = step-keeps_whole program_of spells s k whole
-
-  abbrev left : (q : Process) × (process_at u j ≡ Some q) × Rattle.pv_rights.specs.Growth.IsLeftAlone p q
-  left = others-keep program_of s k j p (whole-in_order s whole) apart at
+  u = behind_k program_of spells s j k p whole apart at
 
   abbrev n : ℕ
-  n = left.0.parent
-
-  at_u : process_at u j ≡ Some (orphan n p)
-  at_u = left.1 ∙ ap Some left.2.all
+  n = heir program_of spells s j k p whole apart at
 
   abbrev now : Process
   now = at_next_line p
@@ -256,33 +215,24 @@ module _ (program_of : Bytes → Option Program) (spells : SpellsPrograms progra
     behind-at : (m : ℕ) (file : OpenFile) → open_file s p d ≡ Some (m, file) → at_number u.files m ≡ Some file
     behind-at m file is = open_file-at u p d m file (opened ∙ is)
 
-    -- a call that goes on from its open file, whose mode passes a test
-    by-file : (test : _) (G H : ℕ × OpenFile → Attempt Effect)
-        → ((m : ℕ) (file : OpenFile) → at_number s.files m ≡ Some file → at_number u.files m ≡ Some file → ¬ GoesBy s k m → node_at u.tree file.node ≡ node_at s.tree file.node → T (G (m, file)) (H (m, file)))
-        → T (demand EBADF (if_mode test (open_file s p d)) >>= G) (demand EBADF (if_mode test (open_file u p d)) >>= H)
+    -- a call that goes on from its open file
+    abbrev GoesOn : (ℕ × OpenFile → Attempt Effect) → (ℕ × OpenFile → Attempt Effect) → Type 0
+    GoesOn G H =
+        (m : ℕ) (file : OpenFile) → at_number s.files m ≡ Some file → at_number u.files m ≡ Some file → ¬ GoesBy s k m → node_at u.tree file.node ≡ node_at s.tree file.node → T (G (m, file)) (H (m, file))
+
+    goes-on : (G H : ℕ × OpenFile → Attempt Effect) → GoesOn G H → (m : ℕ) (file : OpenFile) → open_file s p d ≡ Some (m, file) → T (G (m, file)) (H (m, file))
+    goes-on G H is m file own = let left = leaves m file own in is m file (open_file-at s p d m file own) (behind-at m file own) left.0 left.1
+
+    -- where its mode passes a test
+    by-file : (test : Mode → Bool) (G H : ℕ × OpenFile → Attempt Effect) → GoesOn G H → T (demand EBADF (if_mode test (open_file s p d)) >>= G) (demand EBADF (if_mode test (open_file u p d)) >>= H)
     by-file test G H is =
-        subst (λ o. T (demand EBADF (if_mode test (open_file s p d)) >>= G) (demand EBADF (if_mode test o) >>= H)) (sym opened) (by (open_file s p d) refl)
-      where
-        passed : (b : Bool) (m : ℕ) (file : OpenFile) → open_file s p d ≡ Some (m, file) → T (demand EBADF (if b then Some (m, file) else None) >>= G) (demand EBADF (if b then Some (m, file) else None) >>= H)
-        passed true m file own =
-            let left = leaves m file own in
-            two-after A (shift s u k) s u j n now 0 (G (m, file)) (H (m, file)) (is m file (open_file-at s p d m file own) (behind-at m file own) left.0 left.1)
-        passed false m file own = two-refused A (shift s u k) s u j n now EBADF Plain
+        subst (λ o. T (demand EBADF (if_mode test (open_file s p d)) >>= G) (demand EBADF (if_mode test o) >>= H)) (sym opened)
+        (two-demand A (shift s u k) s u j n now EBADF (if_mode test (open_file s p d)) G H (λ v own. goes-on G H is v.0 v.1 (open_file_for-is s j p test d v.0 v.1 own).0))
 
-        by : (o : Option (ℕ × OpenFile)) → open_file s p d ≡ o → T (demand EBADF (if_mode test o) >>= G) (demand EBADF (if_mode test o) >>= H)
-        by None none = two-refused A (shift s u k) s u j n now EBADF Plain
-        by (Some (m, file)) own = passed (test file.mode) m file own
-
-    any-file : (G H : ℕ × OpenFile → Attempt Effect)
-        → ((m : ℕ) (file : OpenFile) → at_number s.files m ≡ Some file → at_number u.files m ≡ Some file → ¬ GoesBy s k m → node_at u.tree file.node ≡ node_at s.tree file.node → T (G (m, file)) (H (m, file)))
-        → T (demand EBADF (open_file s p d) >>= G) (demand EBADF (open_file u p d) >>= H)
-    any-file G H is = subst (λ o. T (demand EBADF (open_file s p d) >>= G) (demand EBADF o >>= H)) (sym opened) (by (open_file s p d) refl)
-      where
-        by : (o : Option (ℕ × OpenFile)) → open_file s p d ≡ o → T (demand EBADF o >>= G) (demand EBADF o >>= H)
-        by None none = two-refused A (shift s u k) s u j n now EBADF Plain
-        by (Some (m, file)) own =
-            let left = leaves m file own in
-            two-after A (shift s u k) s u j n now 0 (G (m, file)) (H (m, file)) (is m file (open_file-at s p d m file own) (behind-at m file own) left.0 left.1)
+    any-file : (G H : ℕ × OpenFile → Attempt Effect) → GoesOn G H → T (demand EBADF (open_file s p d) >>= G) (demand EBADF (open_file u p d) >>= H)
+    any-file G H is =
+        subst (λ o. T (demand EBADF (open_file s p d) >>= G) (demand EBADF o >>= H)) (sym opened)
+        (two-demand A (shift s u k) s u j n now EBADF (open_file s p d) G H (λ v own. goes-on G H is v.0 v.1 own))
 
   moves-two : (call : Call) → moves_offset call ≡ true → LeavesOpenFile program_of s p call k → T (effect program_of x j now call) (effect program_of y j (orphan n now) call)
   unfolding effect
@@ -294,33 +244,31 @@ module _ (program_of : Bytes → Option Program) (spells : SpellsPrograms progra
 
   -- ---- what is left of the act
 
-  quiet : (q : Process) → SameHolds p q → trim (with_process s j q) ≡ with_process s j q
-  quiet q same = trim-same s j p q whole.processes.ascending at same ∙ ap (λ z. with_process z j q) whole.trimmed
-
-  quiet_u : (q : Process) → SameHolds (orphan n p) q → trim (with_process u j q) ≡ with_process u j q
-  quiet_u q same = trim-same u j (orphan n p) q whole_u.processes.ascending at_u same ∙ ap (λ z. with_process z j q) whole_u.trimmed
-
   settles : (a : A) (q : Process) (h : Process → Process) → SameHolds p (h q) → trim (update (shift s u k a (with_process s j q)) j h) ≡ shift s u k a (with_process s j (h q))
   settles a q h same =
       let g : OpenFile → OpenFile = stand a.offset a.listed in
       trimmed-update (shifts a.number g) (HasFile a.number) j (shift-apart g (keeps-file a.offset a.listed) a.number j) (with_process s j q) h a.there
-      ∙ ap (shifts a.number g) (ap trim (update-with s j h q) ∙ quiet (h q) same)
+      ∙ ap (shifts a.number g) (ap trim (update-with s j h q) ∙ quiet program_of spells s j k p whole apart at (h q) same)
 
   settles_u : (a : A) (q : Process) (h : Process → Process) → SameHolds (orphan n p) (h q) → trim (update (shift s u k a (with_process u j q)) j h) ≡ shift s u k a (with_process u j (h q))
   settles_u a q h same =
       let g : OpenFile → OpenFile = stand a.offset a.listed in
       trimmed-update (shifts a.number g) (HasFile a.number) j (shift-apart g (keeps-file a.offset a.listed) a.number j) (with_process u j q) h a.behind
-      ∙ ap (shifts a.number g) (ap trim (update-with u j h q) ∙ quiet_u (h q) same)
+      ∙ ap (shifts a.number g) (ap trim (update-with u j h q) ∙ quiet-behind program_of spells s j k p whole apart at (h q) same)
 
   passes : (o : Option A) (q : Process) → SameHolds p q
-      → SteppedBeside (acts (shift s u k) o) (step program_of (with_change s j (become q)) k) (step program_of (acts (shift s u k) o (with_change s j (become q))) k)
-  passes None q same = record { outcome = refl; lines = refl; after = refl }
+      → SteppedBeside (λ x. acts (shift s u k) o (with_change x j (become q))) (step program_of s k) (step program_of (acts (shift s u k) o (with_change s j (become q))) k)
+  passes None q same = passes-by program_of spells s j k p whole apart at q same
   passes (Some a) q same =
-      step-shifted a.number (stand a.offset a.listed) (keeps-file a.offset a.listed) program_of (with_change s j (become q)) k a.there (λ goes. a.away (goes-as_before s j k a.number (become q) apart goes))
+      let inside = passes-by program_of spells s j k p whole apart at q same in
+      let beside =
+      step-shifted a.number (stand a.offset a.listed) (keeps-file a.offset a.listed) program_of (with_change s j (become q)) k a.there (λ goes. a.away (goes-as_before s j k a.number (become q) apart goes)) in
+      record { outcome = beside.outcome ∙ inside.outcome; lines = beside.lines ∙ inside.lines; after = beside.after ∙ ap (shift s u k a) inside.after }
 
   pub offset-commutes : (call : Call) → next p ≡ calls_for call → moves_offset call ≡ true → LeavesOpenFile program_of s p call k → missing_promise p.promises (needs call) ≡ None → Commute program_of s j k
   offset-commutes call comes moves leaves held =
-      commute-twice A (shift s u k) s u j n p (λ a z. refl) settles settles_u quiet quiet_u program_of call at at_u comes held (moves-two call moves leaves) k whole whole_u apart refl passes
+      commute-steps program_of spells s j k p whole apart at A (shift s u k)
+      (call-twice program_of spells s j k p whole apart at A (shift s u k) (λ a z. refl) settles settles_u call comes held (moves-two call moves leaves)) passes
 
 pub offsets-commute : (program_of : Bytes → Option Program) → SpellsPrograms program_of → (s : State) (j k : ℕ) (p : Process) (call : Call) → IsWhole s → j ≢ k → process_at s j ≡ Some p → next p ≡ calls_for call
     → moves_offset call ≡ true → ((a : Promise) → (step program_of s j).outcome ≢ Killed a) → LeavesOpenFile program_of s p call k → Commute program_of s j k

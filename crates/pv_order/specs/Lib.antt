@@ -1,5 +1,6 @@
 pub mod Beside
 pub mod Commuting
 pub mod Offsets
+pub mod Writes
 pub mod Tableless
 pub mod Examples

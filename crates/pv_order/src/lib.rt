@@ -14,3 +14,4 @@ pub mod commuting;
 pub mod examples;
 pub mod offsets;
 pub mod tableless;
+pub mod writes;
