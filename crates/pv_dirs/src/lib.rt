@@ -8,6 +8,7 @@
 #![tactic(auto)]
 
 mod directories;
+mod index;
 pub mod law;
 mod scan;
 mod slot;
