@@ -5,19 +5,20 @@ use Rattle.pv_model.specs.declared.version.Version.{Version}
 use Rattle.pv_model.specs.Bytes.{Bytes}
 use Rattle.pv_inodes.specs.Files.{Contained, Files, held}
 use Rattle.pv_dirs.specs.declared.index.Index.{Index}
+use Rattle.pv_dirs.specs.declared.index.TheConstants.{PLACES, FACTOR}
 use Rattle.pv_dirs.specs.declared.index.Place.{Place}
 use Rattle.pv_dirs.specs.declared.index.Place.TheVariants.{Empty, Slot, Shared}
 use Rattle.pv_dirs.specs.Slots.{slot_at, slot_count, slot_name}
 use Rattle.pv_dirs.specs.Trees.{IsHolding}
 
--- a number and the bytes behind it, each of which counts eleven times as much as the one behind it
+-- a number and the bytes behind it, each of which counts so many times as much as the one behind it
 unfoldable pub sum_behind : ℕ → Bytes → ℕ
 sum_behind sum [] = sum
-sum_behind sum (byte ∷ bytes) = sum_behind ((sum * 11 + byte) % 65536) bytes
+sum_behind sum (byte ∷ bytes) = sum_behind ((sum * FACTOR + byte) % 65536) bytes
 
 -- the place on which a name of a directory falls
 unfoldable pub place_of : ℕ → Bytes → ℕ
-place_of d name = sum_behind d name % 8192
+place_of d name = sum_behind d name % PLACES
 
 -- what an index says of the entries whose names fall where this one does
 unfoldable pub said : Index → ℕ → Bytes → Place

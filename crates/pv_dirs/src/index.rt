@@ -1,6 +1,7 @@
 //! Where the entries of directories stand, by their names.
 ghost use Rattle.std.specs.Prelude.{◌≡◌, ◌≢◌, ◌↔◌, ◌<◌, ℕ, IsTrue};
 ghost use Rattle.pv_model.specs.Bytes.{Bytes};
+ghost use Rattle.pv_dirs.specs.declared.index.TheConstants.{PLACES};
 ghost use Rattle.pv_dirs.specs.Index.{place_of, said, Leads};
 
 /// How many places an index has.
@@ -35,7 +36,7 @@ impl Place {
 /// The place on which a name of a directory falls.
 fn place_of(directory: u16, name: &[u8]) -> usize
     ensures value { result ≡ place_of directory name.now }
-    ensures within { result < 8192 }
+    ensures within { result < PLACES }
 {
     let mut sum = directory;
     for byte in name {
