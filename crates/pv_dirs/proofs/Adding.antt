@@ -20,6 +20,10 @@ pub node_from-directory : (v : Version) (bytes : Bytes) → node_from v Director
 unfolding node_from
 node_from-directory v bytes = refl
 
+-- to write a slot behind the last is to append it
+pub written_end : (f : Files) (d : ℕ) (slot : Bytes) → length slot ≡ entry_length f.version → written f d (length (bytes_at f d)) slot ≡ with_bytes f d (bytes_at f d ++ slot)
+written_end f d slot long = written-some f d (length (bytes_at f d)) slot (omega (arith, slot_some f.version)) ∙ ap (with_bytes f d) (overwrite-end (bytes_at f d) slot)
+
 module _ (f : Files) (b d : ℕ) (h : IsHolding f b) (is : is_directory_at (tree_of f) d ≡ true) where
   pub grown_length-tree_of : grown_length (tree_of f) d ≡ length (bytes_at f d) + entry_length f.version
   unfolding tree_of
@@ -31,9 +35,6 @@ module _ (f : Files) (b d : ℕ) (h : IsHolding f b) (is : is_directory_at (tree
 
   module _ (name : Bytes) (n : ℕ) (slot : Bytes) (good : IsTrue (is_name f.version name)) (absent : find_entry (tree_of f) d name ≡ None) (long : length slot ≡ entry_length f.version)
       (named : slot_name slot ≡ name) (numbered : slot_number slot ≡ n) (measured : get_or slot 2 0 ≡ length name) where
-    written_end : written f d (length (bytes_at f d)) slot ≡ with_bytes f d (bytes_at f d ++ slot)
-    written_end = written-some f d (length (bytes_at f d)) slot (omega (arith, slot_some f.version)) ∙ ap (with_bytes f d) (overwrite-end (bytes_at f d) slot)
-
     entries_added : in_order (slot_entries f.version (bytes_at f d ++ slot)) ≡ put by_name name n (entries_at (tree_of f) d)
     entries_added =
         let s = directory_slotted f b d h is in
@@ -43,12 +44,12 @@ module _ (f : Files) (b d : ℕ) (h : IsHolding f b) (is : is_directory_at (tree
 
     pub tree_of-added : tree_of (written f d (length (bytes_at f d)) slot) ≡ with_entry (tree_of f) d name n
     tree_of-added =
-        ap tree_of written_end
+        ap tree_of (written_end f d slot long)
         ∙ tree_of-with_bytes f d (record { sort = Directory; bytes = bytes_at f d }) (bytes_at f d ++ slot) (directory_held f d is)
         ∙ ap (with_node (tree_of f) d) (node_from-directory f.version (bytes_at f d ++ slot) ∙ ap directory_node entries_added)
 
     pub holding-added : IsHolding (written f d (length (bytes_at f d)) slot) b
     holding-added =
-        rw written_end
+        rw (written_end f d slot long)
         (holding-with_bytes f b d (record { sort = Directory; bytes = bytes_at f d }) (bytes_at f d ++ slot) h (directory_held f d is)
         (λ e. slotted-append f.version (bytes_at f d) slot (directory_slotted f b d h is) long (rw named good) (rw named measured) (ap (λ (q : Bytes). find by_name q (slot_entries f.version (bytes_at f d))) named ∙ sym (find_entry-tree_of f d name is) ∙ absent)))

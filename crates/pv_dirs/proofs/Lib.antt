@@ -5,6 +5,8 @@ pub mod Counts
 pub mod Emptiness
 pub mod Entries
 pub mod Images
+pub mod Indexed
+pub mod Leading
 pub mod Mapped
 pub mod Next
 pub mod Outcomes

@@ -1,5 +1,5 @@
 -- Maps from numbers, each value through a function.
-use Rattle.std.proofs.Common.{◌≡◌, ℕ, zero, suc, ◌<◌, [], ◌∷◌, length, map, replicate, None, Some, refl, ap, arith}
+use Rattle.std.proofs.Common.{◌≡◌, ◌≢◌, ℕ, zero, suc, ◌<◌, [], ◌∷◌, length, map, replicate, None, Some, refl, ap, arith}
 use Rattle.std.specs.List.{sum_by}
 use Rattle.std.specs.Prelude.{option_map}
 use Rattle.std.proofs.lemmas.List.Sums.{sum_by-cons}
@@ -45,23 +45,21 @@ module _ {X : Type 0} where
   length-without_number (x ∷ xs) zero = refl
   length-without_number (x ∷ xs) (suc n) = ap suc (length-without_number xs n)
 
-  module _ (P : X → Type 0) where
-    -- what holds of each value and of a new one
-    pub each-with_number : (xs : Numbered X) (n : ℕ) (v : X) → ((m : ℕ) (y : X) → at_number xs m ≡ Some y → P y) → ((y : X) → Some v ≡ Some y → P y)
-        → (m : ℕ) (y : X) → at_number (with_number xs n v) m ≡ Some y → P y
-    each-with_number [] n v each new zero y there = new y there
-    each-with_number [] n v each new (suc m) y there = cc
-    each-with_number (x ∷ xs) zero v each new zero y there = new y there
-    each-with_number (x ∷ xs) zero v each new (suc m) y there = each (suc m) y there
-    each-with_number (x ∷ xs) (suc n) v each new zero y there = each 0 y there
-    each-with_number (x ∷ xs) (suc n) v each new (suc m) y there = each-with_number xs n v (λ k z at. each (suc k) z at) new m y there
+  -- what holds of each other value, and of a new one
+  pub each-with_number : (P : ℕ → X → Type 0) (xs : Numbered X) (n : ℕ) (v : X) → n < length xs → ((m : ℕ) (y : X) → m ≢ n → at_number xs m ≡ Some y → P m y) → ((y : X) → Some v ≡ Some y → P n y)
+      → (m : ℕ) (y : X) → at_number (with_number xs n v) m ≡ Some y → P m y
+  each-with_number P [] n v within each new m y there = absurd (omega arith)
+  each-with_number P (x ∷ xs) zero v within each new zero y there = new y there
+  each-with_number P (x ∷ xs) zero v within each new (suc m) y there = each (suc m) y (λ e. omega arith) there
+  each-with_number P (x ∷ xs) (suc n) v within each new zero y there = each 0 y (λ e. omega arith) there
+  each-with_number P (x ∷ xs) (suc n) v within each new (suc m) y there = each-with_number (λ k. P (suc k)) xs n v (omega arith) (λ k z other at. each (suc k) z (λ e. other (omega arith)) at) new m y there
 
-    pub each-without_number : (xs : Numbered X) (n : ℕ) → ((m : ℕ) (y : X) → at_number xs m ≡ Some y → P y) → (m : ℕ) (y : X) → at_number (without_number xs n) m ≡ Some y → P y
-    each-without_number [] n each m y there = cc
-    each-without_number (x ∷ xs) zero each zero y there = cc
-    each-without_number (x ∷ xs) zero each (suc m) y there = each (suc m) y there
-    each-without_number (x ∷ xs) (suc n) each zero y there = each 0 y there
-    each-without_number (x ∷ xs) (suc n) each (suc m) y there = each-without_number xs n (λ k z at. each (suc k) z at) m y there
+  pub each-without_number : (P : ℕ → X → Type 0) (xs : Numbered X) (n : ℕ) → ((m : ℕ) (y : X) → at_number xs m ≡ Some y → P m y) → (m : ℕ) (y : X) → at_number (without_number xs n) m ≡ Some y → P m y
+  each-without_number P [] n each m y there = cc
+  each-without_number P (x ∷ xs) zero each zero y there = cc
+  each-without_number P (x ∷ xs) zero each (suc m) y there = each (suc m) y there
+  each-without_number P (x ∷ xs) (suc n) each zero y there = each 0 y there
+  each-without_number P (x ∷ xs) (suc n) each (suc m) y there = each-without_number (λ k. P (suc k)) xs n (λ k z at. each (suc k) z at) m y there
 
 -- ---- nothing under any number
 

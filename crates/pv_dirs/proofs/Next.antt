@@ -35,10 +35,10 @@ better false k best = best
 better true k None = Some k
 better true k (Some b) = cond (is_lt (by_name k b)) (Some k) (Some b)
 
-pub better-is : (b : Bool) (k : Bytes) (best : Option Bytes) → better b k best ≡ cond (b && is_before k best) (Some k) best
-better-is false k best = refl
+pub better-is : (b : Bool) (k : Bytes) (best : Option Bytes) → better b k best ≡ cond (is_before k best && b) (Some k) best
+better-is false k best = elim (is_before k best) as (λ before. best ≡ cond (before && false) (Some k) best) [ true ↦ refl | false ↦ refl ]
 better-is true k None = refl
-better-is true k (Some b) = refl
+better-is true k (Some b) = elim (is_lt (by_name k b)) as (λ less. cond less (Some k) (Some b) ≡ cond (less && true) (Some k) (Some b)) [ true ↦ refl | false ↦ refl ]
 
 better_least : (b : Bool) (k e : Bytes) → is_lt (by_name k e) ≡ false → Some e ≡ better b k (Some e)
 better_least true k e not_less = rw not_less

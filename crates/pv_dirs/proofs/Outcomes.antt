@@ -1,6 +1,7 @@
 -- What follows from what a call left, by its outcome.
-use Rattle.std.proofs.Common.{◌≡◌, ℕ, Option, None, Some, Result, Ok, Err, sym, subst}
+use Rattle.std.proofs.Common.{◌≡◌, ℕ, Option, None, Some, Result, Ok, Err, true, sym, subst}
 use Rattle.std.specs.Prelude.{OnOk, OnErr, IfNone, IfSome}
+use Rattle.std.specs.Result.{is_ok}
 
 -- what holds of what either outcome leaves
 pub either_way : {E X : Type 0} (P : X → Type 0) (r : Result (Unit {0}) E) (old after new : X) → OnOk r (new ≡ after) → OnErr r (new ≡ old) → P after → P old → P new
@@ -10,6 +11,11 @@ either_way P (Err e) old after new ok err p q = subst P (sym err) q
 pub on_ok : {E P Q : Type 0} (r : Result (Unit {0}) E) → OnOk r P → (P → Q) → OnOk r Q
 on_ok (Ok u) p f = f p
 on_ok (Err e) p f = p
+
+-- what holds where a call was done
+pub ok_is : {E P : Type 0} (r : Result (Unit {0}) E) → is_ok r ≡ true → OnOk r P → P
+ok_is (Ok u) is p = p
+ok_is (Err e) is p = cc
 
 pub either_number : {X : Type 0} (P : X → Type 0) (Q : ℕ → Type 0) (r : Option ℕ) (old new : X) (after : ℕ → X) → IfNone r (new ≡ old) → IfSome r Q → IfSome r (λ n. new ≡ after n) → P old → ((n : ℕ) → Q n → P (after n)) → P new
 either_number P Q None old new after none within some p q = subst P (sym none) p

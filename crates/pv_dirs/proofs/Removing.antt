@@ -29,7 +29,7 @@ abbrev pub shortened : Files → ℕ → ℕ → Bytes → ℕ → Files
 shortened f d hole moved last = with_bytes (filled f d hole moved) d (resize (bytes_at (filled f d hole moved) d) (entry_length f.version * last))
 
 module _ (f : Files) (b d : ℕ) (h : IsHolding f b) (is : is_directory_at (tree_of f) d ≡ true) (hole last : ℕ) (long : length (bytes_at f d) ≡ entry_length f.version * suc last) (within : hole ≤ last) where
-  shortened_is : shortened f d hole (slot_at f.version (bytes_at f d) last) last ≡ with_bytes f d (closed_bytes f.version (bytes_at f d) hole last)
+  pub shortened_is : shortened f d hole (slot_at f.version (bytes_at f d) last) last ≡ with_bytes f d (closed_bytes f.version (bytes_at f d) hole last)
   shortened_is =
       let used = directory_used f d is in
       let now = overwrite (bytes_at f d) (entry_length f.version * hole) (slot_at f.version (bytes_at f d) last) in

@@ -199,10 +199,10 @@ module _ (v : Version) where
           | inr not_before ↦ let behind : k < i = omega arith in get_or-over_above bytes (L * k) (slot_at v bytes last) fits (L * i + x) (omega (arith, moved, piece_before L some k i behind))
         ])
 
-    slot_count-closed : slot_count v (closed_bytes bytes k last) ≡ last
+    pub slot_count-closed : slot_count v (closed_bytes bytes k last) ≡ last
     slot_count-closed = ap (λ n. n / L) length-closed_bytes ∙ pieces_of L some last
 
-    slot_count-old : slot_count v bytes ≡ suc last
+    pub slot_count-old : slot_count v bytes ≡ suc last
     slot_count-old = ap (λ n. n / L) long ∙ pieces_of L some (suc last)
 
     slot_entries-closed : slot_entries v (closed_bytes bytes k last) ≡ take last (set (slot_entries v bytes) k (slot_entry v bytes last))

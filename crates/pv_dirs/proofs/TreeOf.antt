@@ -94,7 +94,7 @@ unfolding HoldsWell
 holding-with_number f b n c within h new = record {
   sized = h.sized;
   allowed = allowed-alike f b (with_number f.nodes n c) (length-with_number f.nodes n c within) h;
-  slotted = each-with_number (HoldsWell f.version) f.nodes n c h.slotted (λ y is. let same : c ≡ y = cc in subst (HoldsWell f.version) same new);
+  slotted = each-with_number (λ _. HoldsWell f.version) f.nodes n c within (λ m y _ at. h.slotted m y at) (λ y is. let same : c ≡ y = cc in subst (HoldsWell f.version) same new);
 }
 
 pub holding-without : (f : Files) (b n : ℕ) → IsHolding f b → IsHolding (without f n) b
@@ -102,7 +102,7 @@ unfolding HoldsWell
 holding-without f b n h = record {
   sized = h.sized;
   allowed = allowed-alike f b (without_number f.nodes n) (length-without_number f.nodes n) h;
-  slotted = each-without_number (HoldsWell f.version) f.nodes n h.slotted;
+  slotted = each-without_number (λ _. HoldsWell f.version) f.nodes n h.slotted;
 }
 
 pub holding-with_bytes : (f : Files) (b n : ℕ) (c : Contained) (xs : Bytes) → IsHolding f b → held f n ≡ Some c → (c.sort ≡ Directory → IsSlotted f.version xs) → IsHolding (with_bytes f n xs) b

@@ -1,5 +1,6 @@
 pub mod Counts
 pub mod Images
+pub mod Index
 pub mod Listing
 pub mod Slots
 pub mod Stored

@@ -13,9 +13,9 @@ abbrev pub is_before : Bytes → Option Bytes → Bool
 is_before name None = true
 is_before name (Some other) = is_lt (slice_cmp nat_cmp name other)
 
--- the better of a name and the best one so far: the name, where it comes behind the last one and before the best
+-- the better of a name and the best one so far: the name, where it comes before the best and behind the last
 abbrev pub better_of : Option Bytes → Bytes → Option Bytes → Option Bytes
-better_of last name best = if is_behind last name && is_before name best then Some name else best
+better_of last name best = if is_before name best && is_behind last name then Some name else best
 
 -- a name of an entry of the list
 abbrev pub IsListed : Entries → Bytes → Type 0

@@ -13,7 +13,8 @@ ghost use Rattle.pv_dirs.specs.Trees.{sort_of, new_node, bytes_at, written, cut,
 mod counting;
 mod image;
 
-use crate::scan::{count, least_behind, place, slot, start};
+use crate::index::Index;
+use crate::scan::{count, find, least_behind, slot, start};
 use crate::slot::Slot;
 use pv_inodes::{Inodes, Space};
 use pv_model::{Name, Sort, Version};
@@ -26,17 +27,20 @@ pub struct Directories {
     inodes: Inodes,
     // The number of data blocks.
     block_count: u16,
+    // The entries by their names.
+    index: Index,
 }
 
 impl Model for Directories {
     ghost use Rattle.pv_model.specs.Tree.{Tree};
-    ghost use Rattle.pv_dirs.specs.Trees.{tree_of, IsHolding};
+    ghost use Rattle.pv_dirs.specs.Index.{IsKept};
+    ghost use Rattle.pv_dirs.specs.Trees.{tree_of};
 
     ghost Value = { Tree };
 
     ghost view = { λ d. tree_of d.inodes };
 
-    ghost invariant = { λ d. IsHolding d.inodes d.block_count };
+    ghost invariant = { λ d. IsKept d.inodes d.block_count d.index };
 }
 
 impl Directories {
@@ -58,6 +62,7 @@ impl Directories {
         Directories {
             inodes,
             block_count,
+            index: Index::empty(),
         }
     }
 
@@ -131,7 +136,7 @@ impl Directories {
         requires { IsTrue (is_directory_at self.now directory) }
         ensures { result ≡ find_entry self.now directory name.now }
     {
-        let k = place(&self.inodes, directory, name)?;
+        let k = find(&self.inodes, &self.index, directory, name)?;
         Some(slot(&self.inodes, directory, k).inode())
     }
 
@@ -165,8 +170,13 @@ impl Directories {
         ensures full { (result ≡ Err Space.Full) ↔ ((grown_length self.old directory ≤ greatest_length self.old.version) × LacksRoom (with_entry self.old directory name.now inode)) }
     {
         let end = self.inodes.size(directory);
+        let number = count(&self.inodes, directory);
         let slot = Slot::new(self.inodes.version(), name, inode);
-        self.inodes.write_at(directory, end, slot.as_bytes())
+        let added = self.inodes.write_at(directory, end, slot.as_bytes());
+        if added.is_ok() {
+            self.index.add(directory, name, number as u16);
+        }
+        added
     }
 
     /// Takes away the entry of a directory that has this name.
@@ -175,7 +185,7 @@ impl Directories {
         requires present { IsSome (find_entry self.old directory name.now) }
         ensures { self.new ≡ without_entry self.old directory name.now }
     {
-        let Some(hole) = place(&self.inodes, directory, name) else {
+        let Some(hole) = find(&self.inodes, &self.index, directory, name) else {
             unreachable!()
         };
         let last = count(&self.inodes, directory) - 1;
@@ -184,6 +194,9 @@ impl Directories {
         let end = start(&self.inodes, last);
         self.inodes.overwrite(directory, at, moved.as_bytes());
         self.inodes.shrink(directory, end);
+        self.index.remove(directory, name, hole as u16);
+        self.index
+            .change(directory, moved.name(), last as u16, hole as u16);
     }
 
     /// Copies the bytes of a file or a link, from `at` on, to the front of the buffer. The result is how

@@ -5,6 +5,7 @@ ghost use Rattle.pv_model.specs.Tree.{Tree};
 ghost use Rattle.pv_dirs.specs.Images.{IsImage};
 
 use super::Directories;
+use crate::index::Index;
 use pv_inodes::Inodes;
 use pv_model::Version;
 use pv_model::limits::BLOCK;
@@ -21,6 +22,7 @@ impl Directories {
         Directories {
             inodes: Inodes::of_image(bytes, inodes, version),
             block_count,
+            index: Index::of_any(),
         }
     }
 }

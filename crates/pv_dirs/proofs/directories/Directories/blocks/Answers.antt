@@ -5,9 +5,9 @@ use Rattle.pv_dirs.proofs.TreeOf.{blocks-tree_of, sizes-tree_of}
 use Rattle.pv_dirs.proofs.directories.Directories.blocks.Goals as goal
 
 pub returns-clause-value : goal.returns-clause-value
-returns-clause-value c = sym c.self.invariant.sized ∙ sym (blocks-tree_of c.self.inside.inodes) ∙ ap (λ (t : Tree). t.blocks) c.self.view_is
+returns-clause-value c = sym c.self.invariant.holding.sized ∙ sym (blocks-tree_of c.self.inside.inodes) ∙ ap (λ (t : Tree). t.blocks) c.self.view_is
 
 pub returns-clause-allowed : goal.returns-clause-allowed
 returns-clause-allowed c =
     subst (λ (t : Tree). inode_blocks t.version t.inodes + 1 + c.self.inside.block_count ≤ greatest_blocks t.version) c.self.view_is
-    (sizes-tree_of c.self.inside.inodes c.self.inside.block_count c.self.invariant)
+    (sizes-tree_of c.self.inside.inodes c.self.inside.block_count c.self.invariant.holding)

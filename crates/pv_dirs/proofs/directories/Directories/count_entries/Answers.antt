@@ -17,7 +17,7 @@ is_directory : (c : After-self) → is_directory_at (tree_of c.self.inside.inode
 is_directory c = subst (λ (t : Tree). is_directory_at t c.args.directory ≡ true) (sym c.self.view_is) c.requires.directory
 
 slotted : (c : After-self) → IsSlotted c.self.inside.inodes.version (bytes_at c.self.inside.inodes c.args.directory)
-slotted c = directory_slotted c.self.inside.inodes c.self.inside.block_count c.args.directory c.self.invariant (is_directory c)
+slotted c = directory_slotted c.self.inside.inodes c.self.inside.block_count c.args.directory c.self.invariant.holding (is_directory c)
 
 -- the node of a slot's entry has a place
 placed : (c : After-self) (k : ℕ) → k < slot_count c.self.inside.inodes.version (bytes_at c.self.inside.inodes c.args.directory)

@@ -3,8 +3,10 @@ use Rattle.pv_model.specs.Effect.{resize}
 use Rattle.pv_model.specs.Room.{greatest_length}
 use Rattle.pv_model.specs.Tree.{Tree}
 use Rattle.pv_inodes.specs.Files.{Files, bytes_at, cut}
+use Rattle.pv_dirs.specs.Index.{IsKept}
 use Rattle.pv_dirs.specs.Trees.{tree_of, IsHolding, LacksRoom, cut as tree_cut}
 use Rattle.pv_dirs.proofs.Contents.{cut-tree_of, holding-content, lacks_room, lacks_room_back}
+use Rattle.pv_dirs.proofs.Indexed.{indexed-content}
 use Rattle.pv_dirs.proofs.Outcomes.{either_way, on_ok}
 use Rattle.pv_dirs.proofs.Viewed.{viewed_version, viewed_used, viewed_content}
 use Rattle.pv_dirs.proofs.directories.Directories.cut.Goals as goal
@@ -16,7 +18,7 @@ cut-requires c = viewed_used c.self.inside.inodes c.args.self.now c.args.inode c
 holding : (c : After-cut) → IsHolding (cut c.self.inside.inodes c.args.inode c.args.size) c.self.inside.block_count
 holding c =
     let k = viewed_content c.self.inside.inodes c.args.self.now c.args.inode c.self.view_is c.requires.used c.requires.other in
-    holding-content c.self.inside.inodes c.args.inode k.0 k.1 c.self.inside.block_count (resize (bytes_at c.self.inside.inodes c.args.inode) c.args.size) c.self.invariant
+    holding-content c.self.inside.inodes c.args.inode k.0 k.1 c.self.inside.block_count (resize (bytes_at c.self.inside.inodes c.args.inode) c.args.size) c.self.invariant.holding
 
 after : (c : After-cut) → tree_of (cut c.self.inside.inodes c.args.inode c.args.size) ≡ tree_cut c.args.self.now c.args.inode c.args.size
 after c =
@@ -25,8 +27,12 @@ after c =
 
 pub invariant_of-self : goal.invariant_of-self
 invariant_of-self c =
-    either_way (λ (f : Files). IsHolding f c.self.inside.block_count) c.cut.result c.self.inside.inodes (cut c.self.inside.inodes c.args.inode c.args.size) c.cut.new.self
-    c.cut.ensures.ok c.cut.ensures.err (holding c) c.self.invariant
+    let k = viewed_content c.self.inside.inodes c.args.self.now c.args.inode c.self.view_is c.requires.used c.requires.other in
+    either_way (λ (f : Files). IsKept f c.self.inside.block_count c.self.inside.index) c.cut.result c.self.inside.inodes (cut c.self.inside.inodes c.args.inode c.args.size) c.cut.new.self
+    c.cut.ensures.ok c.cut.ensures.err record {
+      holding = holding c;
+      indexed = indexed-content c.self.inside.inodes c.args.inode k.0 k.1 c.self.inside.index c.self.invariant.indexed (resize (bytes_at c.self.inside.inodes c.args.inode) c.args.size);
+    } c.self.invariant
 
 pub returns-clause-ok : goal.returns-clause-ok
 returns-clause-ok c = on_ok c.cut.result c.cut.ensures.ok (λ is. ap tree_of is ∙ after c)

@@ -1,15 +1,19 @@
 use Rattle.std.proofs.Common.{◌+◌, ◌≤◌, ap, sym, subst, ◌∙◌}
 use Rattle.pv_model.specs.Image.{inode_blocks, greatest_blocks}
 use Rattle.pv_dirs.proofs.Emptiness.{holding-empty, nodes-empty, inodes-empty}
+use Rattle.pv_dirs.proofs.Indexed.{indexed-empty}
 use Rattle.pv_dirs.proofs.TreeOf.{blocks-tree_of, version-tree_of}
 use Rattle.pv_dirs.proofs.directories.Directories.empty.Goals as goal
 
 pub invariant_of-result : goal.invariant_of-result
 invariant_of-result c =
     let version = c.empty-inodes.ensures.version in
-    holding-empty c.empty-inodes.result c.args.inodes c.empty-inodes.ensures.nodes c.free-block_count.result c.args.blocks c.free-block_count.ensures
-    (ap (λ v. c.empty-inodes.result.blocks + inode_blocks v c.args.inodes + 1) version ∙ c.empty-inodes.ensures.blocks)
-    (subst (λ v. c.args.blocks ≤ greatest_blocks v) (sym version) c.requires.few_blocks)
+    record {
+      holding = holding-empty c.empty-inodes.result c.args.inodes c.empty-inodes.ensures.nodes c.free-block_count.result c.args.blocks c.free-block_count.ensures
+          (ap (λ v. c.empty-inodes.result.blocks + inode_blocks v c.args.inodes + 1) version ∙ c.empty-inodes.ensures.blocks)
+          (subst (λ v. c.args.blocks ≤ greatest_blocks v) (sym version) c.requires.few_blocks);
+      indexed = indexed-empty c.empty-inodes.result c.args.inodes c.empty.result c.empty-inodes.ensures.nodes;
+    }
 
 pub returns-clause-nodes : goal.returns-clause-nodes
 returns-clause-nodes c = nodes-empty c.empty-inodes.result c.args.inodes c.empty-inodes.ensures.nodes

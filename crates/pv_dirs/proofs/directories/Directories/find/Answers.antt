@@ -5,6 +5,7 @@ use Rattle.pv_inodes.specs.Files.{bytes_at}
 use Rattle.pv_dirs.specs.Slots.{slot_number, slot_entries}
 use Rattle.pv_dirs.specs.Trees.{tree_of}
 use Rattle.pv_dirs.proofs.Entries.{by_name}
+use Rattle.pv_dirs.proofs.Indexed.{directory_led}
 use Rattle.pv_dirs.proofs.SlotBytes.{find-slot_entries}
 use Rattle.pv_dirs.proofs.TreeOf.{directory_used, directory_slotted, find_entry-tree_of}
 use Rattle.pv_dirs.proofs.directories.Directories.find.Goals as goal
@@ -16,8 +17,11 @@ is_directory c = subst (λ (t : Tree). is_directory_at t c.args.directory ≡ tr
 found : (c : After-self) → find_entry c.args.self.now c.args.directory c.args.name.now ≡ find by_name c.args.name.now (slot_entries c.self.inside.inodes.version (bytes_at c.self.inside.inodes c.args.directory))
 found c = ap (λ (t : Tree). find_entry t c.args.directory c.args.name.now) (sym c.self.view_is) ∙ find_entry-tree_of c.self.inside.inodes c.args.directory c.args.name.now (is_directory c)
 
-pub place-requires : goal.place-requires
-place-requires c = directory_used c.self.inside.inodes c.args.directory (is_directory c)
+pub find-requires-clause-used : goal.find-requires-clause-used
+find-requires-clause-used c = directory_used c.self.inside.inodes c.args.directory (is_directory (goal.at.find-requires-clause-used c).After-self)
+
+pub find-requires-clause-led : goal.find-requires-clause-led
+find-requires-clause-led c = directory_led c.self.inside.inodes c.args.directory c.self.inside.index c.self.invariant.indexed (is_directory (goal.at.find-requires-clause-led c).After-self)
 
 pub returns-in_err-k : goal.returns-in_err-k
 returns-in_err-k c =
@@ -29,4 +33,4 @@ returns c =
     let start = (goal.at.returns c).After-self in
     ap Some (c.inode.ensures ∙ ap slot_number c.slot.ensures)
     ∙ sym (found start ∙ find-slot_entries c.self.inside.inodes.version (bytes_at c.self.inside.inodes c.args.directory) c.in_ok-k.k c.args.name.now
-    (directory_slotted c.self.inside.inodes c.self.inside.block_count c.args.directory c.self.invariant (is_directory start)).distinct c.in_ok-k.ensures.within c.in_ok-k.ensures.named)
+    (directory_slotted c.self.inside.inodes c.self.inside.block_count c.args.directory c.self.invariant.holding (is_directory start)).distinct c.in_ok-k.ensures.within c.in_ok-k.ensures.named)

@@ -7,4 +7,4 @@ use Rattle.pv_dirs.proofs.directories.Directories.free.Goals as goal
 pub returns : goal.returns
 returns c =
     subst (λ (t : Tree). c.free.result + total_need t ≡ t.blocks) c.self.view_is
-    (omega (arith, total_need-tree_of c.self.inside.inodes c.self.inside.block_count c.self.invariant, blocks-tree_of c.self.inside.inodes, c.free.ensures))
+    (omega (arith, total_need-tree_of c.self.inside.inodes c.self.inside.block_count c.self.invariant.holding, blocks-tree_of c.self.inside.inodes, c.free.ensures))

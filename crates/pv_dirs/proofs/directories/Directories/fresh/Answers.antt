@@ -3,8 +3,10 @@ use Rattle.std.specs.Prelude.{option_map}
 use Rattle.std.proofs.lemmas.Option.{IfSome_then}
 use Rattle.pv_model.specs.Tree.{Tree, node_at, with_node, new_number as new_number_in}
 use Rattle.pv_inodes.specs.Files.{Files, with_new, new_number}
-use Rattle.pv_dirs.specs.Trees.{node_of, tree_of, new_node, IsHolding}
+use Rattle.pv_dirs.specs.Index.{IsKept}
+use Rattle.pv_dirs.specs.Trees.{node_of, tree_of, new_node}
 use Rattle.pv_dirs.proofs.Contents.{tree_of-with_new, holding-with_new}
+use Rattle.pv_dirs.proofs.Indexed.{indexed-with_new}
 use Rattle.pv_dirs.proofs.Outcomes.{either_number, if_some_both}
 use Rattle.pv_dirs.proofs.TreeOf.{new_number-tree_of, length-tree_of, node_at-tree_of}
 use Rattle.pv_dirs.proofs.directories.Directories.fresh.Goals as goal
@@ -18,9 +20,12 @@ long c = ap (λ (t : Tree). length t.nodes) (sym c.self.view_is) ∙ length-tree
 
 pub invariant_of-self : goal.invariant_of-self
 invariant_of-self c =
-    either_number (λ (f : Files). IsHolding f c.self.inside.block_count) (λ n. n < length c.self.inside.inodes.nodes) c.fresh.result c.self.inside.inodes c.fresh.new.self (λ n. with_new c.self.inside.inodes n c.args.sort)
+    either_number (λ (f : Files). IsKept f c.self.inside.block_count c.self.inside.index) (λ n. n < length c.self.inside.inodes.nodes) c.fresh.result c.self.inside.inodes c.fresh.new.self (λ n. with_new c.self.inside.inodes n c.args.sort)
     c.fresh.ensures.none c.fresh.ensures.within c.fresh.ensures.after c.self.invariant
-    (λ n within. holding-with_new c.self.inside.inodes c.self.inside.block_count n c.args.sort within c.self.invariant)
+    (λ n within. record {
+      holding = holding-with_new c.self.inside.inodes c.self.inside.block_count n c.args.sort within c.self.invariant.holding;
+      indexed = indexed-with_new c.self.inside.inodes n c.args.sort c.self.inside.index within c.self.invariant.indexed;
+    })
 
 pub returns-clause-full : goal.returns-clause-full
 returns-clause-full c = (λ is. number c ∙ c.fresh.ensures.full.0 is ∙ sym (long c), λ is. c.fresh.ensures.full.1 (sym (number c) ∙ is ∙ long c))

@@ -8,6 +8,6 @@ count-requires c = viewed_directory_used c.self.inside.inodes c.args.self.now c.
 
 pub returns : goal.returns
 returns c = (
-  λ is. viewed_empty c.self.inside.inodes c.args.self.now c.args.directory c.self.view_is c.self.inside.block_count c.self.invariant c.requires (sym c.count.ensures.value ∙ eqb-true c.count.result 0 is),
-  λ none. eq-eqb c.count.result 0 (c.count.ensures.value ∙ viewed_none c.self.inside.inodes c.args.self.now c.args.directory c.self.view_is c.self.inside.block_count c.self.invariant c.requires none),
+  λ is. viewed_empty c.self.inside.inodes c.args.self.now c.args.directory c.self.view_is c.self.inside.block_count c.self.invariant.holding c.requires (sym c.count.ensures.value ∙ eqb-true c.count.result 0 is),
+  λ none. eq-eqb c.count.result 0 (c.count.ensures.value ∙ viewed_none c.self.inside.inodes c.args.self.now c.args.directory c.self.view_is c.self.inside.block_count c.self.invariant.holding c.requires none),
 )

@@ -15,7 +15,7 @@ least_behind-requires-clause-used c = viewed_directory_used c.self.inside.inodes
 
 pub least_behind-requires-clause-distinct : goal.least_behind-requires-clause-distinct
 least_behind-requires-clause-distinct c =
-    (directory_slotted c.self.inside.inodes c.self.inside.block_count c.args.directory c.self.invariant (viewed_directory c.self.inside.inodes c.args.self.now c.args.directory c.self.view_is c.requires)).distinct
+    (directory_slotted c.self.inside.inodes c.self.inside.block_count c.args.directory c.self.invariant.holding (viewed_directory c.self.inside.inodes c.args.self.now c.args.directory c.self.view_is c.requires)).distinct
 
 pub returns-clause-value : goal.returns-clause-value
 returns-clause-value c = c.least_behind.ensures ∙ ap (next_name (option_copied c.args.last)) (sym (viewed_entries c.self.inside.inodes c.args.self.now c.args.directory c.self.view_is c.requires))

@@ -1,6 +1,7 @@
 use Rattle.std.proofs.Common.{◌≡◌, ◌-◌, ◌/◌, ap, ◌∙◌, arith}
 use Rattle.pv_dirs.specs.Trees.{tree_of}
 use Rattle.pv_dirs.proofs.Images.{image-inodes, image-sizes, image-holding, image-tree}
+use Rattle.pv_dirs.proofs.Indexed.{indexed-any}
 use Rattle.pv_dirs.proofs.directories.Directories.of_image.Goals as goal
 
 pub of_image-requires-clause-inodes : goal.of_image-requires-clause-inodes
@@ -11,7 +12,10 @@ invariant_of-result c =
     let sizes = image-sizes c.args.version c.args.inodes c.args.bytes.items c.requires in
     let table = rw c.layout.ensures.inode_length at c.div_ceil.ensures in
     let blocks : c.len.result / 512 - c.div_ceil.result - 1 ≡ c.requires.tree.blocks = omega (arith, table, c.len.ensures, sizes.whole, sizes.data_blocks) in
-    rw c.of_image.ensures (image-holding c.args.version c.args.inodes c.args.bytes.items c.requires (c.len.result / 512 - c.div_ceil.result - 1) blocks)
+    record {
+      holding = rw c.of_image.ensures (image-holding c.args.version c.args.inodes c.args.bytes.items c.requires (c.len.result / 512 - c.div_ceil.result - 1) blocks);
+      indexed = indexed-any c.of_image.result c.of_any.result c.of_any.ensures;
+    }
 
 pub returns : goal.returns
 returns c = λ t is. ap tree_of c.of_image.ensures ∙ image-tree c.args.version c.args.inodes c.args.bytes.items c.requires t is

@@ -1,4 +1,4 @@
-use Rattle.std.proofs.Common.{◌≡◌, ◌+◌, ◌-◌, ◌*◌, ◌/◌, ◌≤◌, suc, mul-le-mul_left, is_some, length, sym, ap, ◌∙◌, arith}
+use Rattle.std.proofs.Common.{◌≡◌, ◌+◌, ◌-◌, ◌*◌, ◌/◌, ◌≤◌, suc, mul-le-mul_left, is_some, length, sym, ap, subst, ◌∙◌, arith}
 use Rattle.std.proofs.lemmas.Bool.{false≢true}
 use Rattle.pv_model.specs.Bytes.{Bytes}
 use Rattle.pv_model.specs.Effect.{overwrite, resize}
@@ -6,8 +6,10 @@ use Rattle.pv_model.specs.Room.{entry_length}
 use Rattle.pv_model.specs.Tree.{Tree, find_entry, without_entry}
 use Rattle.pv_inodes.specs.Files.{Files, bytes_at, with_bytes}
 use Rattle.pv_inodes.proofs.Edits.{used-with_bytes}
-use Rattle.pv_dirs.specs.Slots.{slot_at}
+use Rattle.pv_dirs.specs.Index.{Leads}
+use Rattle.pv_dirs.specs.Slots.{slot_at, slot_name}
 use Rattle.pv_dirs.specs.Trees.{tree_of}
+use Rattle.pv_dirs.proofs.Indexed.{directory_led, indexed-removed}
 use Rattle.pv_dirs.proofs.Removing.{shortened_from, shortened, holding-removed, tree_of-removed, length-filled}
 use Rattle.pv_dirs.proofs.Strides.{slot_some, whole_is}
 use Rattle.pv_dirs.proofs.SlotBytes.{length-slot_at}
@@ -16,8 +18,13 @@ use Rattle.pv_dirs.proofs.Viewed.{viewed_directory, viewed_directory_used}
 use Rattle.pv_dirs.proofs.directories.Directories.remove.Goals as goal
 use Rattle.pv_dirs.proofs.directories.Directories.remove.Goals.{After-slot-moved, After-as_bytes, After-shrink}
 
-pub place-requires : goal.place-requires
-place-requires c = viewed_directory_used c.self.inside.inodes c.args.self.now c.args.directory c.self.view_is c.requires.directory
+pub find-requires-clause-led : goal.find-requires-clause-led
+find-requires-clause-led c =
+    directory_led c.self.inside.inodes c.args.directory c.self.inside.index c.self.invariant.indexed
+    (viewed_directory c.self.inside.inodes c.args.self.now c.args.directory c.self.view_is c.requires.directory)
+
+pub find-requires-clause-used : goal.find-requires-clause-used
+find-requires-clause-used c = viewed_directory_used c.self.inside.inodes c.args.self.now c.args.directory c.self.view_is c.requires.directory
 
 pub unreachable-requires : goal.unreachable-requires
 unreachable-requires c =
@@ -29,7 +36,7 @@ unreachable-requires c =
 long : (c : After-slot-moved) → length (bytes_at c.self.inside.inodes c.args.directory) ≡ entry_length c.self.inside.inodes.version * suc (c.count-last.result - 1)
 long c =
     let is = viewed_directory c.self.inside.inodes c.args.self.now c.args.directory c.self.view_is c.requires.directory in
-    let slotted = directory_slotted c.self.inside.inodes c.self.inside.block_count c.args.directory c.self.invariant is in
+    let slotted = directory_slotted c.self.inside.inodes c.self.inside.block_count c.args.directory c.self.invariant.holding is in
     let count : length (bytes_at c.self.inside.inodes c.args.directory) / entry_length c.self.inside.inodes.version ≡ suc (c.count-last.result - 1) = omega (arith, c.count-last.ensures.value, c.in-Some.ensures.within) in
     whole_is (entry_length c.self.inside.inodes.version) (slot_some c.self.inside.inodes.version) (length (bytes_at c.self.inside.inodes c.args.directory)) slotted.whole
     ∙ ap (λ n. entry_length c.self.inside.inodes.version * n) count
@@ -80,13 +87,22 @@ shortened_is c =
 pub invariant_of-self : goal.invariant_of-self
 invariant_of-self c =
     let start = (goal.at.invariant_of-self c).After-slot-moved in
+    let done = (goal.at.invariant_of-self c).After-shrink in
     let is = viewed_directory c.self.inside.inodes c.args.self.now c.args.directory c.self.view_is c.requires.directory in
-    rw (shortened_is c) (holding-removed c.self.inside.inodes c.self.inside.block_count c.args.directory c.self.invariant is c.in-Some.hole (c.count-last.result - 1) (long start) (within start))
+    let named : c.name.result.now ≡ slot_name (slot_at c.self.inside.inodes.version (bytes_at c.self.inside.inodes c.args.directory) (c.count-last.result - 1)) = c.name.ensures.value ∙ ap slot_name c.slot-moved.ensures in
+    record {
+      holding = rw (shortened_is done) (holding-removed c.self.inside.inodes c.self.inside.block_count c.args.directory c.self.invariant.holding is c.in-Some.hole (c.count-last.result - 1) (long start) (within start));
+      indexed = rw (shortened_is done)
+          (indexed-removed c.self.inside.inodes c.self.inside.block_count c.args.directory c.self.invariant.holding is c.self.inside.index c.self.invariant.indexed c.in-Some.hole (c.count-last.result - 1) (long start) (within start)
+          c.remove.new.self c.change.new.self c.remove.ensures
+          (subst (λ (q : Bytes). Leads c.remove.new.self c.args.directory q (c.count-last.result - 1) → Leads c.change.new.self c.args.directory q c.in-Some.hole) named c.change.ensures.this)
+          c.change.ensures.others);
+    }
 
 pub returns : goal.returns
 returns c =
     let start = (goal.at.returns c).After-slot-moved in
     let is = viewed_directory c.self.inside.inodes c.args.self.now c.args.directory c.self.view_is c.requires.directory in
-    ap tree_of (shortened_is c)
-    ∙ tree_of-removed c.self.inside.inodes c.self.inside.block_count c.args.directory c.self.invariant is c.in-Some.hole (c.count-last.result - 1) (long start) (within start) c.args.name.now c.in-Some.ensures.named
+    ap tree_of (shortened_is (goal.at.returns c).After-shrink)
+    ∙ tree_of-removed c.self.inside.inodes c.self.inside.block_count c.args.directory c.self.invariant.holding is c.in-Some.hole (c.count-last.result - 1) (long start) (within start) c.args.name.now c.in-Some.ensures.named
     ∙ ap (λ (t : Tree). without_entry t c.args.directory c.args.name.now) c.self.view_is

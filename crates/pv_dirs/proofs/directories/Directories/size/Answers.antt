@@ -15,7 +15,7 @@ kind-requires c = used_in c.self.inside.inodes c.args.inode (subst (λ (t : Tree
 pub returns-in-Directory-clause-value : goal.returns-in-Directory-clause-value
 returns-in-Directory-clause-value c =
     ap (λ (t : Tree). option_map size_of (node_at t c.args.inode)) (sym c.self.view_is)
-    ∙ size_directory c.self.inside.inodes c.self.inside.block_count c.args.inode c.self.invariant (c.kind.ensures ∙ ap Some c.in-Directory.is)
+    ∙ size_directory c.self.inside.inodes c.self.inside.block_count c.args.inode c.self.invariant.holding (c.kind.ensures ∙ ap Some c.in-Directory.is)
     ∙ ap Some (sym c.count.ensures.value)
 
 pub returns-in_default-clause-value : goal.returns-in_default-clause-value

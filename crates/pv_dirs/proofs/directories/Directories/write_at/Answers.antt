@@ -2,8 +2,10 @@ use Rattle.std.proofs.Common.{◌≡◌, sym, ap, subst, ◌∙◌, arith}
 use Rattle.pv_model.specs.Room.{greatest_length}
 use Rattle.pv_model.specs.Tree.{Tree}
 use Rattle.pv_inodes.specs.Files.{Files, written}
+use Rattle.pv_dirs.specs.Index.{IsKept}
 use Rattle.pv_dirs.specs.Trees.{tree_of, IsHolding, LacksRoom, written as tree_written}
 use Rattle.pv_dirs.proofs.Contents.{written-tree_of, holding-written, lacks_room, lacks_room_back}
+use Rattle.pv_dirs.proofs.Indexed.{indexed-written}
 use Rattle.pv_dirs.proofs.Outcomes.{either_way, on_ok}
 use Rattle.pv_dirs.proofs.Viewed.{viewed_version, viewed_used, viewed_content}
 use Rattle.pv_dirs.proofs.directories.Directories.write_at.Goals as goal
@@ -15,7 +17,7 @@ write_at-requires c = viewed_used c.self.inside.inodes c.args.self.now c.args.in
 holding : (c : After-write_at) → IsHolding (written c.self.inside.inodes c.args.inode c.args.at c.args.bytes.now) c.self.inside.block_count
 holding c =
     let k = viewed_content c.self.inside.inodes c.args.self.now c.args.inode c.self.view_is c.requires.used c.requires.other in
-    holding-written c.self.inside.inodes c.args.inode k.0 k.1 c.self.inside.block_count c.args.at c.args.bytes.now c.self.invariant
+    holding-written c.self.inside.inodes c.args.inode k.0 k.1 c.self.inside.block_count c.args.at c.args.bytes.now c.self.invariant.holding
 
 after : (c : After-write_at) → tree_of (written c.self.inside.inodes c.args.inode c.args.at c.args.bytes.now) ≡ tree_written c.args.self.now c.args.inode c.args.at c.args.bytes.now
 after c =
@@ -24,8 +26,12 @@ after c =
 
 pub invariant_of-self : goal.invariant_of-self
 invariant_of-self c =
-    either_way (λ (f : Files). IsHolding f c.self.inside.block_count) c.write_at.result c.self.inside.inodes (written c.self.inside.inodes c.args.inode c.args.at c.args.bytes.now) c.write_at.new.self
-    c.write_at.ensures.ok c.write_at.ensures.err (holding c) c.self.invariant
+    let k = viewed_content c.self.inside.inodes c.args.self.now c.args.inode c.self.view_is c.requires.used c.requires.other in
+    either_way (λ (f : Files). IsKept f c.self.inside.block_count c.self.inside.index) c.write_at.result c.self.inside.inodes (written c.self.inside.inodes c.args.inode c.args.at c.args.bytes.now) c.write_at.new.self
+    c.write_at.ensures.ok c.write_at.ensures.err record {
+      holding = holding c;
+      indexed = indexed-written c.self.inside.inodes c.args.inode k.0 k.1 c.self.inside.index c.self.invariant.indexed c.args.at c.args.bytes.now;
+    } c.self.invariant
 
 pub returns-clause-ok : goal.returns-clause-ok
 returns-clause-ok c = on_ok c.write_at.result c.write_at.ensures.ok (λ is. ap tree_of is ∙ after c)

@@ -1,0 +1,125 @@
+-- An index of the entries of files that change.
+use Rattle.std.proofs.Common.{◌≡◌, ◌≢◌, ℕ, suc, ◌*◌, ◌<◌, ◌≤◌, true, [], ◌∷◌, ◌++◌, length, replicate, None, Some, refl, sym, ap, subst, ◌∙◌, inl, inr, arith}
+use Rattle.std.specs.FinMap.Entries.{find}
+use Rattle.std.proofs.lemmas.Bool.{cases_eq, cases_lt}
+use Rattle.pv_model.specs.declared.sort.Sort.{Sort}
+use Rattle.pv_model.specs.declared.sort.Sort.TheVariants.{Directory}
+use Rattle.pv_model.specs.declared.version.Version.{Version}
+use Rattle.pv_model.specs.Bytes.{Bytes}
+use Rattle.pv_model.specs.Effect.{overwrite}
+use Rattle.pv_model.specs.Numbered.{Numbered, at_number, with_number}
+use Rattle.pv_model.specs.Room.{entry_length}
+use Rattle.pv_model.specs.Tree.{is_directory_at}
+use Rattle.pv_inodes.specs.Files.{Contained, Files, held, bytes_at, with_bytes, written, with_new, without}
+use Rattle.pv_inodes.proofs.Edits.{with_bytes-is}
+use Rattle.pv_inodes.proofs.Numbers.{at_number-within}
+use Rattle.pv_dirs.specs.declared.index.Index.{Index}
+use Rattle.pv_dirs.specs.Index.{Leads, AreLed, IsIndexed}
+use Rattle.pv_dirs.specs.Slots.{slot_at, slot_count, slot_name, slot_entries}
+use Rattle.pv_dirs.specs.Trees.{tree_of, IsHolding}
+use Rattle.pv_dirs.proofs.Adding.{written_end}
+use Rattle.pv_dirs.proofs.Contents.{IsContent}
+use Rattle.pv_dirs.proofs.Entries.{by_name, absent_from}
+use Rattle.pv_dirs.proofs.Mapped.{each-with_number, each-without_number, at_number-none}
+use Rattle.pv_dirs.proofs.Removing.{shortened, shortened_is}
+use Rattle.pv_dirs.proofs.SlotBytes.{length-slot_entries, get_or-slot_entries, closed_bytes, slot_at-append_before, slot_at-append_last, slot_count-append, slot_at-closed_hole, slot_at-closed_other, slot_count-closed, slot_count-old}
+use Rattle.pv_dirs.proofs.Strides.{none_counted}
+use Rattle.pv_dirs.proofs.TreeOf.{directory_held, directory_slotted}
+
+-- an index leads to what is held
+IsLed : Index → Version → ℕ → Contained → Type 0
+IsLed ix v n c = c.sort ≡ Directory → AreLed ix v n c.bytes
+
+-- a directory that is held has its entries led to
+pub directory_led : (f : Files) (d : ℕ) (ix : Index) → IsIndexed f ix → is_directory_at (tree_of f) d ≡ true → AreLed ix f.version d (bytes_at f d)
+directory_led f d ix indexed is = indexed d (record { sort = Directory; bytes = bytes_at f d }) (directory_held f d is) refl
+
+-- a name that an index leads to in no slot is not found
+pub absent_unled : (v : Version) (bytes : Bytes) (d : ℕ) (name : Bytes) (ix : Index) → AreLed ix v d bytes → ((k : ℕ) → k < slot_count v bytes → slot_name (slot_at v bytes k) ≡ name → Leads ix d name k → ⊥) → find by_name name (slot_entries v bytes) ≡ None
+absent_unled v bytes d name ix led none =
+    let all = length-slot_entries v bytes in
+    absent_from name (slot_entries v bytes) (λ k e within same.
+    let below : k < slot_count v bytes = omega arith in
+    let named : slot_name (slot_at v bytes k) ≡ name = ap (λ (x : Bytes × ℕ). x.0) (sym (get_or-slot_entries v bytes k e below)) ∙ same in
+    none k below named (subst (λ (q : Bytes). Leads ix d q k) named (led k below)))
+
+indexed-with_number : (f : Files) (n : ℕ) (c : Contained) (ix new : Index) → n < length f.nodes → IsIndexed f ix → ((m k : ℕ) (name : Bytes) → m ≢ n → Leads ix m name k → Leads new m name k) → (c.sort ≡ Directory → AreLed new f.version n c.bytes) → IsIndexed (record f { nodes = with_number f.nodes n c }) new
+unfolding IsLed
+indexed-with_number f n c ix new within indexed others this =
+    each-with_number (IsLed new f.version) f.nodes n c within
+    (λ m y other there is k below. others m k (slot_name (slot_at f.version y.bytes k)) other (indexed m y there is k below))
+    (λ y is. let same : c ≡ y = cc in subst (IsLed new f.version n) same this)
+
+pub indexed-with_bytes : (f : Files) (n : ℕ) (c : Contained) (xs : Bytes) (ix new : Index) → held f n ≡ Some c → IsIndexed f ix → ((m k : ℕ) (name : Bytes) → m ≢ n → Leads ix m name k → Leads new m name k) → (c.sort ≡ Directory → AreLed new f.version n xs) → IsIndexed (with_bytes f n xs) new
+indexed-with_bytes f n c xs ix new there indexed others this = rw (with_bytes-is f n c xs there) (indexed-with_number f n (record c { bytes = xs }) ix new (at_number-within f.nodes n c there) indexed others this)
+
+pub indexed-without : (f : Files) (n : ℕ) (ix : Index) → IsIndexed f ix → IsIndexed (without f n) ix
+unfolding IsLed
+indexed-without f n ix indexed = each-without_number (IsLed ix f.version) f.nodes n indexed
+
+pub indexed-with_new : (f : Files) (n : ℕ) (sort : Sort) (ix : Index) → n < length f.nodes → IsIndexed f ix → IsIndexed (with_new f n sort) ix
+indexed-with_new f n sort ix within indexed = indexed-with_number f n (record { sort = sort; bytes = [] }) ix ix within indexed (λ m k name other leads. leads) (λ e k below. absurd (omega (arith, none_counted f.version)))
+
+pub indexed-empty : (f : Files) (k : ℕ) (ix : Index) → f.nodes ≡ None ∷ replicate k None → IsIndexed f ix
+indexed-empty f k ix none = λ n c there. let nothing = ap (λ (xs : Numbered Contained). at_number xs n) none ∙ at_number-none (suc k) n in absurd (cc)
+
+pub indexed-any : (f : Files) (ix : Index) → ((d k : ℕ) (name : Bytes) → Leads ix d name k) → IsIndexed f ix
+indexed-any f ix any = λ n c there is k below. any n k (slot_name (slot_at f.version c.bytes k))
+
+-- ---- files and links
+
+module _ (f : Files) (n : ℕ) (c : Contained) (is : IsContent f n c) (ix : Index) (indexed : IsIndexed f ix) where
+  pub indexed-content : (xs : Bytes) → IsIndexed (with_bytes f n xs) ix
+  indexed-content xs = indexed-with_bytes f n c xs ix ix is.there indexed (λ m k name other leads. leads) (λ e. absurd (is.other e))
+
+  pub indexed-written : (at : ℕ) (bytes : Bytes) → IsIndexed (written f n at bytes) ix
+  indexed-written at [] = indexed
+  indexed-written at (x ∷ bytes) = indexed-content (overwrite (bytes_at f n) at (x ∷ bytes))
+
+-- ---- directories
+
+module _ (f : Files) (b d : ℕ) (h : IsHolding f b) (is : is_directory_at (tree_of f) d ≡ true) (ix : Index) (indexed : IsIndexed f ix) where
+  led : AreLed ix f.version d (bytes_at f d)
+  led = directory_led f d ix indexed is
+
+  -- one entry more
+  pub indexed-added : (slot : Bytes) (name : Bytes) (count : ℕ) (new : Index) → length slot ≡ entry_length f.version → slot_name slot ≡ name → count ≡ slot_count f.version (bytes_at f d)
+      → Leads new d name count → ((e k : ℕ) (other : Bytes) → Leads ix e other k → Leads new e other k) → IsIndexed (written f d (length (bytes_at f d)) slot) new
+  indexed-added slot name count new long named counted this others =
+      let s = directory_slotted f b d h is in
+      let bytes = bytes_at f d in
+      rw (written_end f d slot long) (indexed-with_bytes f d (record { sort = Directory; bytes = bytes }) (bytes ++ slot) ix new (directory_held f d is) indexed (λ m k other apart. others m k other)
+      (λ e k below. elim (cases_lt k (slot_count f.version bytes)) [
+        | inl less ↦ rw (slot_at-append_before f.version bytes slot s.whole long k less) (others d k (slot_name (slot_at f.version bytes k)) (led k less))
+        | inr not_less ↦
+            let last : k ≡ slot_count f.version bytes = omega (arith, slot_count-append f.version bytes slot s.whole long) in
+            rw (slot_at-append_last f.version bytes slot s.whole long k last, named, last ∙ sym counted) this
+      ]))
+
+  -- a hole closed by the last entry
+  module _ (hole last : ℕ) (long : length (bytes_at f d) ≡ entry_length f.version * suc last) (within : hole ≤ last) (less new : Index)
+      (removed : (e k : ℕ) (other : Bytes) → (e ≡ d → k ≢ hole) → Leads ix e other k → Leads less e other k)
+      (moved : Leads less d (slot_name (slot_at f.version (bytes_at f d) last)) last → Leads new d (slot_name (slot_at f.version (bytes_at f d) last)) hole)
+      (changed : (e k : ℕ) (other : Bytes) → (e ≡ d → k ≢ last) → Leads less e other k → Leads new e other k) where
+    closed_led : AreLed new f.version d (closed_bytes f.version (bytes_at f d) hole last)
+    closed_led k below =
+        let bytes = bytes_at f d in
+        let v = f.version in
+        let in_front : k < last = omega (arith, slot_count-closed v bytes hole last long within) in
+        let count = slot_count-old v bytes hole last long within in
+        elim (cases_eq k hole) [
+          | inl here ↦
+              let apart : hole < last = omega arith in
+              rw (here, slot_at-closed_hole v bytes hole last long within apart)
+              (moved (removed d last (slot_name (slot_at v bytes last)) (λ e same. omega arith) (led last (omega arith))))
+          | inr there ↦
+              rw (slot_at-closed_other v bytes hole last long within k in_front there)
+              (changed d k (slot_name (slot_at v bytes k)) (λ e same. omega arith) (removed d k (slot_name (slot_at v bytes k)) (λ e. there) (led k (omega arith))))
+        ]
+
+    pub indexed-removed : IsIndexed (shortened f d hole (slot_at f.version (bytes_at f d) last) last) new
+    indexed-removed =
+        rw (shortened_is f b d h is hole last long within)
+        (indexed-with_bytes f d (record { sort = Directory; bytes = bytes_at f d }) (closed_bytes f.version (bytes_at f d) hole last) ix new (directory_held f d is) indexed
+        (λ m k other apart leads. changed m k other (λ same. absurd (apart same)) (removed m k other (λ same. absurd (apart same)) leads))
+        (λ e. closed_led))

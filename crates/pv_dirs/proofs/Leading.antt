@@ -1,0 +1,68 @@
+-- To which entries an index leads.
+use Rattle.std.proofs.Common.{◌≡◌, ◌≢◌, ℕ, ◌<◌, length, get_or, set, replicate, refl, sym, ap, ◌∙◌, inl, inr, arith, List}
+use Rattle.std.proofs.lemmas.Bool.{cases_eq}
+use Rattle.std.proofs.lemmas.List.{get_or-replicate, get_or-set_same, get_or-set_other}
+use Rattle.pv_model.specs.Bytes.{Bytes}
+use Rattle.pv_dirs.specs.declared.index.Index.{Index}
+use Rattle.pv_dirs.specs.declared.index.Place.{Place}
+use Rattle.pv_dirs.specs.declared.index.Place.TheVariants.{Empty, Slot}
+use Rattle.pv_dirs.specs.Index.{place_of, said, Leads}
+
+pub place_of-within : (d : ℕ) (name : Bytes) → place_of d name < 8192
+unfolding place_of
+place_of-within d name = omega arith
+
+pub said-is : (ix : Index) (d : ℕ) (name : Bytes) → said ix d name ≡ get_or ix.places (place_of d name) Empty
+unfolding said
+said-is ix d name = refl
+
+pub said-at : (ix : Index) (d : ℕ) (name : Bytes) (at : ℕ) (p : Place) → place_of d name ≡ at → get_or ix.places at Empty ≡ p → said ix d name ≡ p
+said-at ix d name at p here is = said-is ix d name ∙ ap (λ i. get_or ix.places i Empty) here ∙ is
+
+-- where a place says that it is empty, the index leads to no entry that falls on it
+pub leads-empty : (ix : Index) (d : ℕ) (name : Bytes) (k : ℕ) → said ix d name ≡ Empty → Leads ix d name k → ⊥
+leads-empty ix d name k empty leads = elim leads [
+  | inl slot ↦ let no = sym empty ∙ slot in cc
+  | inr shared ↦ let no = sym empty ∙ shared in cc
+]
+
+-- where it names a slot, to the entry in that slot alone
+pub leads-slot : (ix : Index) (d : ℕ) (name : Bytes) (k e j : ℕ) → said ix d name ≡ Slot e j → Leads ix d name k → (d ≡ e) × (k ≡ j)
+leads-slot ix d name k e j is leads = elim leads [
+  | inl slot ↦
+      let same : Slot d k ≡ Slot e j = sym slot ∙ is in
+      let directory : d ≡ e = cc in
+      let number : k ≡ j = cc in
+      (directory, number)
+  | inr shared ↦ let no = sym shared ∙ is in cc
+]
+
+-- an index of places that all say the same
+pub said-replicate : (ix : Index) (p : Place) (d : ℕ) (name : Bytes) → ix.places ≡ replicate 8192 p → said ix d name ≡ p
+said-replicate ix p d name is = said-is ix d name ∙ ap (λ (ps : List Place). get_or ps (place_of d name) Empty) is ∙ get_or-replicate 8192 (place_of d name) p Empty (place_of-within d name)
+
+-- one place says something else
+module _ (old new : Index) (at : ℕ) (p : Place) (within : at < length old.places) (is : new.places ≡ set old.places at p) where
+  pub said-here : (d : ℕ) (name : Bytes) → place_of d name ≡ at → said new d name ≡ p
+  said-here d name here =
+      said-is new d name
+      ∙ ap (λ (ps : List Place). get_or ps (place_of d name) Empty) is
+      ∙ ap (λ i. get_or (set old.places at p) i Empty) here
+      ∙ get_or-set_same old.places at p Empty within
+
+  said-there : (d : ℕ) (name : Bytes) → place_of d name ≢ at → said new d name ≡ said old d name
+  said-there d name there =
+      said-is new d name
+      ∙ ap (λ (ps : List Place). get_or ps (place_of d name) Empty) is
+      ∙ get_or-set_other old.places at (place_of d name) p Empty there
+      ∙ sym (said-is old d name)
+
+  -- it leads to the entries that fall on other places as before
+  pub leads-others : (d : ℕ) (name : Bytes) (k : ℕ) → (place_of d name ≡ at → Leads old d name k → Leads new d name k) → Leads old d name k → Leads new d name k
+  leads-others d name k here leads = elim (cases_eq (place_of d name) at) [
+    | inl same ↦ here same leads
+    | inr other ↦ elim leads [
+      | inl slot ↦ inl (said-there d name other ∙ slot)
+      | inr shared ↦ inr (said-there d name other ∙ shared)
+    ]
+  ]

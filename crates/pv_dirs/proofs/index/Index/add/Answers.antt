@@ -1,0 +1,21 @@
+use Rattle.std.proofs.Common.{refl, sym, ◌∙◌, inl, inr, arith}
+use Rattle.pv_dirs.specs.declared.index.Place.TheVariants.{Empty}
+use Rattle.pv_dirs.proofs.Leading.{said-here, said-at, leads-empty, leads-others}
+use Rattle.pv_dirs.proofs.index.Index.add.Goals as goal
+use Rattle.pv_dirs.proofs.index.Index.add.Goals.{in-Empty, in_default}
+
+pub returns-clause-this : goal.returns-clause-this
+returns-clause-this c =
+    let here = said-here c.args.self.now _ c.place_of-at.result c.match-self-at.self (omega (arith, c.place_of-at.ensures.within)) refl c.args.directory c.args.name.now (sym c.place_of-at.ensures.value) in
+    elim c.match-self-at.branch [
+      | in-Empty w ↦ inl (here ∙ w.self-is)
+      | in_default w ↦ inr (here ∙ w.self-is)
+    ]
+
+pub returns-clause-others : goal.returns-clause-others
+returns-clause-others c = λ d k other leads.
+    leads-others c.args.self.now _ c.place_of-at.result c.match-self-at.self (omega (arith, c.place_of-at.ensures.within)) refl d other k
+    (λ same before. elim c.match-self-at.branch [
+      | in-Empty w ↦ absurd (leads-empty c.args.self.now d other k (said-at c.args.self.now d other c.place_of-at.result Empty same w.in-Empty.is) before)
+      | in_default w ↦ inr (said-here c.args.self.now _ c.place_of-at.result c.match-self-at.self (omega (arith, c.place_of-at.ensures.within)) refl d other same ∙ w.self-is)
+    ]) leads

@@ -1,0 +1,42 @@
+-- What an index says of the entries of directories.
+use Rattle.std.specs.Prelude.{◌≡◌, ◌⊎◌, ℕ, ◌+◌, ◌*◌, ◌%◌, ◌<◌, [], ◌∷◌, slice_index_or, Some}
+use Rattle.pv_model.specs.declared.sort.Sort.TheVariants.{Directory}
+use Rattle.pv_model.specs.declared.version.Version.{Version}
+use Rattle.pv_model.specs.Bytes.{Bytes}
+use Rattle.pv_inodes.specs.Files.{Contained, Files, held}
+use Rattle.pv_dirs.specs.declared.index.Index.{Index}
+use Rattle.pv_dirs.specs.declared.index.TheConstants.{PLACES, FACTOR}
+use Rattle.pv_dirs.specs.declared.index.Place.{Place}
+use Rattle.pv_dirs.specs.declared.index.Place.TheVariants.{Empty, Slot, Shared}
+use Rattle.pv_dirs.specs.Slots.{slot_at, slot_count, slot_name}
+use Rattle.pv_dirs.specs.Trees.{IsHolding}
+
+-- a number and the bytes behind it, each of which counts so many times as much as the one behind it
+unfoldable pub sum_behind : ℕ → Bytes → ℕ
+sum_behind sum [] = sum
+sum_behind sum (byte ∷ bytes) = sum_behind ((sum * FACTOR + byte) % 65536) bytes
+
+-- the place on which a name of a directory falls
+unfoldable pub place_of : ℕ → Bytes → ℕ
+place_of d name = sum_behind d name % PLACES
+
+-- what an index says of the entries whose names fall where this one does
+unfoldable pub said : Index → ℕ → Bytes → Place
+said ix d name = slice_index_or ix.places (place_of d name) Empty
+
+-- an index leads to the entry in slot k of directory d, if it has this name: it says so, or that there may be several
+abbrev pub Leads : Index → ℕ → Bytes → ℕ → Type 0
+Leads ix d name k = (said ix d name ≡ Slot d k) ⊎ (said ix d name ≡ Shared)
+
+-- an index leads to each entry of a directory with these bytes
+abbrev pub AreLed : Index → Version → ℕ → Bytes → Type 0
+AreLed ix v d bytes = (k : ℕ) → k < slot_count v bytes → Leads ix d (slot_name (slot_at v bytes k)) k
+
+-- an index leads to each entry of each directory
+abbrev pub IsIndexed : Files → Index → Type 0
+IsIndexed f ix = (n : ℕ) (c : Contained) → held f n ≡ Some c → c.sort ≡ Directory → AreLed ix f.version n c.bytes
+
+-- what directories keep
+pub record IsKept (f : Files) (blocks : ℕ) (ix : Index) : Type 0 where
+  pub holding : IsHolding f blocks
+  pub indexed : IsIndexed f ix
