@@ -9,7 +9,7 @@ ghost use Rattle.pv_procs.specs.Parts.{first_record};
 ghost use Rattle.std.specs.List.{list_any};
 ghost use Rattle.pv_procs.specs.Places.{is_ended_child, ascends, entries_of};
 
-use crate::Record;
+use crate::record::Stored;
 use pv_model::limits::PROCESSES;
 use std::alloc::{AllocError, Global};
 
@@ -25,7 +25,7 @@ pub(crate) struct Place {
     /// The place of its program.
     pub(crate) program: usize,
     /// What it owns while it is live.
-    pub(crate) record: Record,
+    pub(crate) record: Stored,
 }
 
 /// A place with the record of a process before its first step.
@@ -37,7 +37,7 @@ pub(crate) fn blank(alloc: Global, number: u32) -> Result<Place, AllocError>
         parent: 0,
         status: None,
         program: 0,
-        record: Record::new(alloc)?,
+        record: Stored::new(alloc)?,
     })
 }
 
@@ -61,8 +61,9 @@ pub(crate) fn make_child(place: &mut Place, number: u32, parent: &Place)
     place.parent = parent.number;
     place.status = None;
     place.program = parent.program;
-    place.record.copy_from(&parent.record);
-    place.record.machine.tell(0, 0);
+    let owned = place.record.get_mut();
+    owned.copy_from(parent.record.get());
+    owned.machine.tell(0, 0);
 }
 
 // The index of a process's place.

@@ -123,7 +123,7 @@ impl Processes {
         ensures { option_map record_of (process_in self.now pid) ≡ Some result.now }
     {
         let k = live_index(&self.places, pid);
-        &self.places[k].record
+        self.places[k].record.get()
     }
 
     /// What a live process owns, to be changed.
@@ -133,7 +133,7 @@ impl Processes {
         ensures value { option_map record_of (process_in self.old pid) ≡ Some result.now }
     {
         let k = live_index(&self.places, pid);
-        &mut self.places[k].record
+        self.places[k].record.get_mut()
     }
 
     /// The child that fork(2) makes of a live process: its number is the answer. It has a copy of what its parent
@@ -208,7 +208,7 @@ impl Processes {
         };
         self.programs[free] = Shared { program, users: 1 };
         place.program = free;
-        place.record.after_exec();
+        place.record.get_mut().after_exec();
     }
 
     /// Ends a live process, with the status that a parent's wait(2) tells.
@@ -249,6 +249,7 @@ impl Processes {
         let place = &self.places[k];
         place
             .record
+            .get()
             .machine
             .is_register_next(&self.programs[place.program].program)
     }
@@ -263,6 +264,7 @@ impl Processes {
         let place = &self.places[k];
         place
             .record
+            .get()
             .machine
             .put_next_call(&self.programs[place.program].program, call);
     }
@@ -276,6 +278,7 @@ impl Processes {
         let place = &self.places[k];
         place
             .record
+            .get()
             .machine
             .next(&self.programs[place.program].program)
     }
@@ -289,7 +292,7 @@ impl Processes {
         let k = live_index(&self.places, pid);
         let place = &mut self.places[k];
         let shared = &self.programs[place.program];
-        place.record.machine.register(&shared.program);
+        place.record.get_mut().machine.register(&shared.program);
     }
 
     /// A live process goes on to its next line, at most to the one behind the last.
@@ -300,7 +303,7 @@ impl Processes {
         let k = live_index(&self.places, pid);
         let place = &mut self.places[k];
         let shared = &self.programs[place.program];
-        place.record.machine.advance(&shared.program);
+        place.record.get_mut().machine.advance(&shared.program);
     }
 
     /// Tells a live process what a call came to: r0 has the value, and r1 the error, 0 where there is none.
@@ -310,7 +313,7 @@ impl Processes {
     {
         let k = live_index(&self.places, pid);
         let place = &mut self.places[k];
-        place.record.machine.tell(value, error);
+        place.record.get_mut().machine.tell(value, error);
     }
 
     /// Puts bytes, at most 4,096, to the front of a live process's buffer.
@@ -321,6 +324,6 @@ impl Processes {
     {
         let k = live_index(&self.places, pid);
         let place = &mut self.places[k];
-        place.record.machine.put_front(bytes);
+        place.record.get_mut().machine.put_front(bytes);
     }
 }

@@ -1,5 +1,6 @@
 //! What a live process owns.
 ghost use Rattle.std.specs.Prelude.{◌≡◌, IfOk};
+ghost use Rattle.std.specs.Borrow.{sem};
 
 use pv_files::Descriptors;
 use pv_model::limits::ROOT;
@@ -7,6 +8,7 @@ use pv_promises::Pledge;
 use pv_script::Machine;
 use pv_unveil::Table;
 use std::alloc::{AllocError, Global};
+use std::marker::Model;
 
 /// What a live process owns. Its program, which it may share, and its parent stand beside it.
 #[derive(Drop)]
@@ -61,5 +63,48 @@ impl Record {
         self.unveiled.after_exec(keeps);
         self.descriptors.after_exec();
         self.machine.reset();
+    }
+}
+
+/// A record that stands apart, so that what has it is small to move: a contract sees the record.
+#[derive(Drop)]
+pub(crate) struct Stored {
+    owned: Box<Record>,
+}
+
+impl Model for Stored {
+    ghost use Rattle.pv_procs.specs.declared.record.Record.{Record};
+
+    ghost Value = { Record };
+
+    ghost view = { λ s. s.owned.value };
+}
+
+impl Stored {
+    ghost use Rattle.pv_procs.specs.Lent.{LendsStored};
+    ghost use Rattle.pv_procs.specs.Parts.{first_record};
+
+    // That of a process before its first step.
+    pub(crate) fn new(alloc: Global) -> Result<Stored, AllocError>
+        ensures { IfOk result (λ r. r ≡ first_record) }
+    {
+        Ok(Stored {
+            owned: Box::new(alloc, Record::new(alloc)?)?,
+        })
+    }
+
+    // The record.
+    pub(crate) fn get(&self) -> &Record
+        ensures { result.now ≡ self.now }
+    {
+        &*self.owned
+    }
+
+    // The record, to be changed.
+    pub(crate) fn get_mut(&mut self) -> &mut Record
+        ensures* writes_back { sem 𝓛 (LendsStored self.entry result) }
+        ensures value { result.now ≡ self.old }
+    {
+        &mut *self.owned
     }
 }

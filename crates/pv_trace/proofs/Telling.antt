@@ -52,23 +52,9 @@ module _ (ls : List Line) (i : ℕ) (x : Line) (is : x ≡ get_or ls i x) (withi
       ap trace_bytes (take_more ls i x within) ∙ flat_map-append line_bytes (take i ls) (get_or ls i x ∷ [])
       ∙ ap (λ bs. trace_bytes (take i ls) ++ bs) (append-nil (line_bytes (get_or ls i x)) ∙ ap line_bytes (sym is))
 
-  lines_all : trace_bytes ls ≡ (trace_bytes (take i ls) ++ line_bytes x) ++ trace_bytes (drop (i + 1) ls)
-  lines_all =
-      ap trace_bytes (sym (take-append-drop (i + 1) ls)) ∙ flat_map-append line_bytes (take (i + 1) ls) (drop (i + 1) ls)
-      ∙ ap (λ bs. bs ++ trace_bytes (drop (i + 1) ls)) lines_more
-
-  -- one line more
-  pub told_line : (before mid after : Option Bytes) → mid ≡ and_all before (trace_bytes (take i ls)) → after ≡ and_all mid (line_bytes x)
-      → after ≡ and_all before (trace_bytes (take (i + 1) ls))
-  told_line before mid after first second =
-      told_both (trace_bytes (take i ls)) (line_bytes x) before mid after first second ∙ ap (and_all before) (sym lines_more)
-
-  -- a beginning of one line more
-  pub begins_line : (before mid after : Option Bytes) → mid ≡ and_all before (trace_bytes (take i ls)) → TellsBeginning (line_bytes x) mid after
-      → TellsBeginning (trace_bytes ls) before after
-  begins_line before mid after first begun =
-      subst (λ (bs : Bytes). TellsBeginning bs before after) (sym lines_all)
-      (begins_first (trace_bytes (take i ls) ++ line_bytes x) (trace_bytes (drop (i + 1) ls)) before after (begins_then (trace_bytes (take i ls)) (line_bytes x) before mid after first begun))
+  -- a text that has the lines so far has them and one more, once that is put behind it
+  pub text_more : (before after : Bytes) → before ≡ trace_bytes (take i ls) → after ≡ before ++ line_bytes x → after ≡ trace_bytes (take (i + 1) ls)
+  text_more before after so_far put = put ∙ ap (λ bs. bs ++ line_bytes x) so_far ∙ sym lines_more
 
 -- what holds holds where something succeeded, and where it failed
 pub on_ok : {T E P : Type 0} (r : Result T E) → P → OnOk r P

@@ -1,8 +1,9 @@
 //! The lines of a trace, in the manner of kdump(1), byte by byte.
 //!
-//! `line` has the lines as values, `steps` those of a step, and `stream` writes bytes whole. A line is made
-//! on a sheet of fixed size, and a sink is given it in one piece: `sheet` puts on it what lines are made of,
-//! `calls` a call with its arguments, and `words` the text behind each word. No call takes memory.
+//! `line` has the lines as values, `steps` those of a step, and `stream` writes bytes whole. The lines
+//! of a step are made on a sheet of fixed size, and a sink is given them in one piece: `sheet` puts on it
+//! what lines are made of, `calls` a call with its arguments, and `words` the text behind each word. No call
+//! takes memory.
 //!
 //! A clause sees a line as `pv_model`'s definitions have it.
 #![tactic(auto)]

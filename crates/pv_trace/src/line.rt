@@ -2,7 +2,7 @@
 ghost use Rattle.std.specs.Prelude.{◌≡◌, ◌++◌, ◌+◌, ◌≤◌, length, OnOk, OnErr};
 ghost use Rattle.pv_model.specs.Stream.{Rose};
 ghost use Rattle.pv_model.specs.Trace.{line_bytes};
-ghost use Rattle.pv_trace.specs.declared.sheet.TheConstants.{SHEET};
+ghost use Rattle.pv_trace.specs.declared.sheet.TheConstants.{LINE_BYTES, SHEET};
 ghost use Rattle.pv_trace.specs.Streams.{and_all, TellsBeginning};
 ghost use Rattle.pv_trace.specs.Words.{word_of, line_front};
 
@@ -119,12 +119,13 @@ fn begin_line(out: &mut Sheet, pid: u32, word: &Word)
     put(out, b"  ");
 }
 
-// Makes a line on a sheet.
+// Puts a line on a sheet, behind what it has.
 #[tactic(auto, unfolding(pv_model::specs::Trace::text_line))]
-fn make_line(out: &mut Sheet, line: &Line)
-    ensures { out.new.items ≡ line_bytes line.now }
+pub(crate) fn put_line(out: &mut Sheet, line: &Line)
+    requires { length out.old.items + LINE_BYTES ≤ SHEET }
+    ensures text { out.new.items ≡ out.old.items ++ line_bytes line.now }
+    ensures growth { length out.new.items ≤ length out.old.items + LINE_BYTES }
 {
-    out.clear();
     begin_line(out, line.pid, &line.word);
     put_word(out, &line.word);
     put(out, b"\n");
@@ -141,6 +142,7 @@ pub fn write_line<W: Sink>(out: &mut W, sheet: &mut Sheet, line: &Line) -> Resul
     ensures failed { OnErr result (Rose (W.failures out.old) (W.failures out.new)) }
     ensures quiet { OnOk result (W.failures out.new ≡ W.failures out.old) }
 {
-    make_line(sheet, line);
+    sheet.clear();
+    put_line(sheet, line);
     write_whole(out, sheet.as_slice())
 }

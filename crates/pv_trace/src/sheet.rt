@@ -1,4 +1,4 @@
-//! The sheet that a line is made on, and numbers, texts and bytes as a trace spells them.
+//! The sheet that lines are made on, and numbers, texts and bytes as a trace spells them.
 //!
 //! Each call says how much room it asks for and how much the text grows by, at most.
 ghost use Rattle.std.specs.Prelude.{◌≡◌, ◌++◌, ◌+◌, ◌*◌, ◌<◌, ◌≤◌, replicate, ◌∷◌, length, codes, decimal, flat_map};
@@ -11,10 +11,13 @@ use arrayvec::ArrayVec;
 use itoa::Buffer;
 use pv_model::{Perms, Text};
 
-/// Bytes of a sheet: more than any line has.
-pub const SHEET: usize = 9_216;
+/// Bytes that a line may have: more than any has.
+pub const LINE_BYTES: usize = 9_216;
 
-/// What a line is made on: one sheet serves for any number of lines.
+/// Bytes of a sheet: room for the seven lines that a step has at most.
+pub const SHEET: usize = 64_512;
+
+/// What the lines of a step are made on: one sheet serves for any number of steps.
 pub type Sheet = ArrayVec<u8, SHEET>;
 
 pub(crate) fn put(out: &mut Sheet, bytes: &[u8])

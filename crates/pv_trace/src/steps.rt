@@ -10,8 +10,9 @@ ghost use Rattle.pv_trace.specs.Streams.{and_all, TellsBeginning};
 ghost use Rattle.pv_trace.specs.Words.{word_of, promise_verdict_of, HasFewBytes};
 ghost use Rattle.pv_trace.specs.declared.steps.TheConstants.{STEP_LINES};
 
-use crate::line::{Line, PromiseVerdict, Returned, UnveilVerdict, Way, Word, write_line};
+use crate::line::{Line, PromiseVerdict, Returned, UnveilVerdict, Way, Word, put_line, write_line};
 use crate::sheet::Sheet;
+use crate::stream::write_whole;
 use arrayvec::ArrayVec;
 use pv_model::{Call, Cause, Errno, Failed, Outcome, Perms, Sink, Text};
 
@@ -258,21 +259,31 @@ fn lines_of<'a>(pid: u32, front: &'a [u8], call: &'a Call, outcome: Outcome, wal
     lines
 }
 
-// Writes lines in their order.
-#[tactic(auto)]
+// Puts lines on a sheet in their order, whatever that had.
+#[tactic(auto, using(crate::proofs::Telling::text_more))]
+fn put_lines(sheet: &mut Sheet, lines: &[Line])
+    requires { length lines.now ≤ STEP_LINES }
+    ensures { sheet.new.items ≡ trace_bytes lines.now }
+{
+    sheet.clear();
+    for line in lines {
+        put_line(sheet, line);
+    }
+}
+
+// Writes lines in their order, in one piece.
 fn write_lines<W: Sink>(out: &mut W, sheet: &mut Sheet, lines: &[Line]) -> Result<(), Failed>
+    requires { length lines.now ≤ STEP_LINES }
     ensures whole { OnOk result (W.told out.new ≡ and_all (W.told out.old) (trace_bytes lines.now)) }
     ensures beginning { OnErr result (TellsBeginning (trace_bytes lines.now) (W.told out.old) (W.told out.new)) }
     ensures failed { OnErr result (Rose (W.failures out.old) (W.failures out.new)) }
     ensures quiet { OnOk result (W.failures out.new ≡ W.failures out.old) }
 {
-    for line in lines {
-        write_line(out, sheet, line)?;
-    }
-    Ok(())
+    put_lines(sheet, lines);
+    write_whole(out, sheet.as_slice())
 }
 
-/// Writes the lines of a call, line by line, and answers how many they are, at most seven. Each is made on the sheet.
+/// Writes the lines of a call in one piece, and answers how many they are, at most seven. They are made on the sheet.
 ///
 /// `front` has the bytes that the call gave or took at its front: the buffer of its process, at most 4,096
 /// bytes. `walks` is how many walks the call began.

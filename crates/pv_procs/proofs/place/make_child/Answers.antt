@@ -14,4 +14,4 @@ returns c =
     let told = ap context_of (c.tell.ensures [] (first_process [])) in
     let made = λ (r : Record) (m : Context). record (child_place c.args.number c.args.parent.now) { «record» = record r { machine = m } } in
     ap (made c.copy_from.new.self) told
-    ∙ ap (λ (r : Record). made r (record r.machine { registers = Rattle.std.specs.Prelude.slice_set (Rattle.std.specs.Prelude.slice_set r.machine.registers 0 (Rattle.std.specs.Prelude.pos 0)) 1 (Rattle.std.specs.Prelude.pos 0) })) c.copy_from.ensures
+    ∙ ap (λ (r : Record). made r (record r.machine { registers = Rattle.std.specs.Prelude.slice_set (Rattle.std.specs.Prelude.slice_set r.machine.registers 0 (Rattle.std.specs.Prelude.pos 0)) 1 (Rattle.std.specs.Prelude.pos 0) })) (rw c.get.ensures at c.copy_from.ensures)

@@ -35,5 +35,5 @@ returns c =
     let table = c.self.invariant.0.table in
     let below = program-within i.places.items i.programs.items i.last c.self.invariant.0 c.args.pid k place at lives in
     let program = program-read i.programs.items place.program c.index-shared.result.now (omega (arith, below, table)) c.index-shared.ensures in
-    machine-changed i.places.items i.programs.items i.last c.args.self.now c.self.view_is c.args.pid c.self.invariant.0.ascending k place at c.requires c.advance.new.self at_next_line
-    (subst (λ (instructions : Program). Changes at_next_line instructions place.record.machine c.advance.new.self) (sym program) c.advance.ensures (process_of (program_at i.programs.items place.program) place))
+    rw c.get_mut.ensures.value (machine-changed i.places.items i.programs.items i.last c.args.self.now c.self.view_is c.args.pid c.self.invariant.0.ascending k place at c.requires c.advance.new.self at_next_line
+    (subst (λ (instructions : Program). Changes at_next_line instructions place.record.machine c.advance.new.self) (sym program) (rw c.get_mut.ensures.value at c.advance.ensures) (process_of (program_at i.programs.items place.program) place)))

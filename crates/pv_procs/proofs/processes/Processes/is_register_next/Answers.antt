@@ -27,4 +27,4 @@ returns c = λ me is.
     let process = process-at i.places.items i.programs.items i.last c.args.self.now c.self.view_is c.args.pid c.self.invariant.0.ascending k place at c.requires in
     let mine = mine-is c.args.self.now c.args.pid _ me process is in
     subst (λ (p : Process). c.is_register_next.result ≡ is_inside p.program (context_of p)) (sym mine)
-    (subst (λ (instructions : Program). c.is_register_next.result ≡ is_inside instructions place.record.machine) (sym program) c.is_register_next.ensures)
+    (subst (λ (instructions : Program). c.is_register_next.result ≡ is_inside instructions place.record.machine) (sym program) (rw c.get.ensures at c.is_register_next.ensures))

@@ -61,7 +61,7 @@ invariant_of-self c =
     let searched = ap (position has_user) (sym (c.deref-2.ensures.value ∙ same)) ∙ sym c.free_program.ensures in
     let free = c.in-Some.free in
     let unused = free-users go free (searched ∙ c.in-Some.is) in
-    let places = ap (λ (r : Record). slice_set i.places.items k (record place { program = free; «record» = r })) c.after_exec.ensures in
+    let places = ap (λ (r : Record). slice_set i.places.items k (record place { program = free; «record» = r })) (rw c.get_mut.ensures.value at c.after_exec.ensures) in
     let programs = ap (λ (gs : List Shared). slice_set gs free (record { program = c.args.program; users = 1 })) same in
     let loaded = kept-loaded i.places.items i.programs.items i.last kept c.args.pid k place at lives go long fewer rest free unused.0 unused.1 c.args.program in
     let changed : List Place = slice_set i.places.items k (record place { program = free; «record» = after_exec place.record }) in
@@ -87,7 +87,7 @@ returns c = λ s.
     let searched = ap (position has_user) (sym (c.deref-2.ensures.value ∙ same)) ∙ sym c.free_program.ensures in
     let free = c.in-Some.free in
     let unused = free-users go free (searched ∙ c.in-Some.is) in
-    let places = ap (λ (r : Record). slice_set i.places.items k (record place { program = free; «record» = r })) c.after_exec.ensures in
+    let places = ap (λ (r : Record). slice_set i.places.items k (record place { program = free; «record» = r })) (rw c.get_mut.ensures.value at c.after_exec.ensures) in
     let programs = ap (λ (gs : List Shared). slice_set gs free (record { program = c.args.program; users = 1 })) same in
     let program = rw c.deref_mut.ensures.value at c.let_go.ensures.programs in
     let process = process-at i.places.items i.programs.items i.last c.args.self.now c.self.view_is c.args.pid kept.ascending k place at c.requires in

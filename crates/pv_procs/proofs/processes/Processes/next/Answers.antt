@@ -27,4 +27,4 @@ returns c = λ me is.
     let process = process-at i.places.items i.programs.items i.last c.args.self.now c.self.view_is c.args.pid c.self.invariant.0.ascending k place at c.requires in
     let mine = mine-is c.args.self.now c.args.pid _ me process is in
     subst (λ (p : Process). IsNext p.program (context_of p) c.next.result) (sym mine)
-    (subst (λ (instructions : Program). IsNext instructions place.record.machine c.next.result) (sym program) c.next.ensures)
+    (subst (λ (instructions : Program). IsNext instructions place.record.machine c.next.result) (sym program) (rw c.get.ensures at c.next.ensures))

@@ -29,5 +29,5 @@ returns c =
     let found = rw c.deref.ensures.value at c.live_index-k.ensures in
     let at = found-at i.places.items c.args.pid k place found c.index_mut-place.ensures.value in
     let lives = status-at i.places.items i.programs.items i.last c.args.self.now c.self.view_is c.args.pid c.self.invariant.0.ascending k place at c.requires.live in
-    machine-changed i.places.items i.programs.items i.last c.args.self.now c.self.view_is c.args.pid c.self.invariant.0.ascending k place at c.requires.live c.put_front.new.self (with_front c.args.bytes.now)
-    (c.put_front.ensures (program_at i.programs.items place.program) (process_of (program_at i.programs.items place.program) place))
+    rw c.get_mut.ensures.value (machine-changed i.places.items i.programs.items i.last c.args.self.now c.self.view_is c.args.pid c.self.invariant.0.ascending k place at c.requires.live c.put_front.new.self (with_front c.args.bytes.now)
+    (rw c.get_mut.ensures.value at (c.put_front.ensures (program_at i.programs.items place.program) (process_of (program_at i.programs.items place.program) place))))

@@ -26,7 +26,7 @@ put_next_call-requires c =
     let below = program-within i.places.items i.programs.items i.last c.self.invariant.0 c.args.pid k place at lives in
     let program = program-read i.programs.items place.program c.index.result.now (omega (arith, below, table)) c.index.ensures in
     let process = process-at i.places.items i.programs.items i.last c.args.self.now c.self.view_is c.args.pid c.self.invariant.0.ascending k place at c.requires.live in
-    subst (λ (instructions : Program). is_inside instructions place.record.machine ≡ false) program (c.requires.call (process_of (program_at i.programs.items place.program) place) process)
+    rw c.get.ensures (subst (λ (instructions : Program). is_inside instructions place.record.machine ≡ false) program (c.requires.call (process_of (program_at i.programs.items place.program) place) process))
 
 pub returns : goal.returns
 returns c = λ me is.
@@ -43,4 +43,4 @@ returns c = λ me is.
     let mine = mine-is c.args.self.now c.args.pid _ me process is in
     subst (λ (p : Process). next p ≡ calls_for c.put_next_call.new.call) (sym mine)
     (subst (λ (instructions : Program). next (in_context (process_of (program_at i.programs.items place.program) place) instructions place.record.machine) ≡ calls_for c.put_next_call.new.call)
-    (sym program) (c.put_next_call.ensures (process_of (program_at i.programs.items place.program) place)))
+    (sym program) (rw c.get.ensures at (c.put_next_call.ensures (process_of (program_at i.programs.items place.program) place))))

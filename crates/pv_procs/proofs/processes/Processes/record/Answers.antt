@@ -13,4 +13,4 @@ returns c =
     let i = c.self.inside in
     let found = rw c.deref.ensures.value at c.live_index-k.ensures in
     let at = found-at i.places.items c.args.pid c.live_index-k.result c.index.result.now found c.index.ensures in
-    ap (option_map record_of) (process-at i.places.items i.programs.items i.last c.args.self.now c.self.view_is c.args.pid c.self.invariant.0.ascending c.live_index-k.result c.index.result.now at c.requires)
+    rw c.get.ensures (ap (option_map record_of) (process-at i.places.items i.programs.items i.last c.args.self.now c.self.view_is c.args.pid c.self.invariant.0.ascending c.live_index-k.result c.index.result.now at c.requires))

@@ -28,5 +28,5 @@ returns c =
     let process = process-at i.places.items i.programs.items i.last c.args.self.now c.self.view_is c.args.pid c.self.invariant.0.ascending c.live_index-k.result place at c.requires in
     let none = status-at i.places.items i.programs.items i.last c.args.self.now c.self.view_is c.args.pid c.self.invariant.0.ascending c.live_index-k.result place at c.requires in (
       (refl, λ w. changed-at i.places.items i.programs.items i.last c.args.self.now c.self.view_is c.args.pid c.self.invariant.0.ascending c.live_index-k.result place at c.requires _ (λ p. with_record p w) at.number none refl),
-      record { writes_back = tt; value = ap (option_map record_of) process },
+      record { writes_back = tt; value = rw c.get_mut.ensures.value (ap (option_map record_of) process) },
     )

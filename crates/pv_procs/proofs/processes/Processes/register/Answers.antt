@@ -29,7 +29,7 @@ register-requires c =
     let below = program-within i.places.items i.programs.items i.last c.self.invariant.0 c.args.pid k place at lives in
     let program = program-read i.programs.items place.program c.index-shared.result.now (omega (arith, below, table)) c.index-shared.ensures in
     let process = process-at i.places.items i.programs.items i.last c.args.self.now c.self.view_is c.args.pid c.self.invariant.0.ascending k place at c.requires.live in
-    subst (λ (instructions : Program). IsTrue (is_inside instructions place.record.machine)) program (c.requires.inside (process_of (program_at i.programs.items place.program) place) process)
+    rw c.get_mut.ensures.value (subst (λ (instructions : Program). IsTrue (is_inside instructions place.record.machine)) program (c.requires.inside (process_of (program_at i.programs.items place.program) place) process))
 
 pub invariant_of-self : goal.invariant_of-self
 invariant_of-self c =
@@ -54,10 +54,10 @@ returns c = λ me is.
     let program = program-read i.programs.items place.program c.index-shared.result.now (omega (arith, below, table)) c.index-shared.ensures in
     let process = process-at i.places.items i.programs.items i.last c.args.self.now c.self.view_is c.args.pid c.self.invariant.0.ascending k place at c.requires.live in
     let mine = mine-is c.args.self.now c.args.pid _ me process is in
-    let step = subst (λ (instructions : Program). (p : Process) → next (in_context p instructions place.record.machine) ≡ inside (in_context p instructions c.register.new.self)) (sym program) c.register.ensures in
+    let step = subst (λ (instructions : Program). (p : Process) → next (in_context p instructions place.record.machine) ≡ inside (in_context p instructions c.register.new.self)) (sym program) (rw c.get_mut.ensures.value at c.register.ensures) in
     let turned : ProcessTable = table_of (slice_set i.places.items k (record place { «record» = record place.record { machine = c.register.new.self } })) i.programs.items i.last in
-    subst (λ (p : Process). Performs c.args.pid p c.args.self.now turned) (sym mine) (record {
+    rw c.get_mut.ensures.value (subst (λ (p : Process). Performs c.args.pid p c.args.self.now turned) (sym mine) (record {
       after = in_context (process_of (program_at i.programs.items place.program) place) (program_at i.programs.items place.program) c.register.new.self;
       step = step (process_of (program_at i.programs.items place.program) place);
       only = machine-put i.places.items i.programs.items i.last c.args.self.now c.self.view_is c.args.pid c.self.invariant.0.ascending k place at c.requires.live c.register.new.self;
-    })
+    }))
