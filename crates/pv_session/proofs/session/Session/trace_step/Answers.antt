@@ -1,4 +1,4 @@
-use Rattle.std.proofs.Common.{◌≡◌, ap, sym, ◌∙◌, subst, length, List}
+use Rattle.std.proofs.Common.{ap, sym, ◌∙◌, subst, length, List}
 use Rattle.pv_model.specs.Step.{Stepped}
 use Rattle.pv_model.specs.Trace.{Line, buffer_of}
 use Rattle.pv_model.specs.State.{process_at}
