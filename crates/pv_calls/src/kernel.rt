@@ -1,7 +1,7 @@
 //! The kernel: the parts of the system, and the calls on them.
 ghost use Rattle.std.specs.Prelude.{◌≡◌, ◌⊎◌, ◌≤◌, ℕ, IfOk, IfErr, OnErr, IsOk, IsSome, IsTrue, Ok, Err, Some, length, List, Option};
 ghost use Rattle.pv_calls.specs.Kernel.{Fetches, IsAhead, IsCallable};
-ghost use Rattle.pv_laws.specs.States.{IsFirstTree, is_call};
+ghost use Rattle.pv_laws.specs.States.{IsFirstTree, IsWhole, is_call};
 ghost use Rattle.pv_model.specs.Answer.{answer};
 ghost use Rattle.pv_model.specs.Grammar.Programs.{program_of};
 ghost use Rattle.pv_model.specs.Start.{booted};
@@ -192,5 +192,13 @@ impl<L: Lookup + Drop> Kernel<L> {
         ensures { result.now.tree ≡ self.now.state.tree }
     {
         self.parts.tree()
+    }
+
+    /// The tree, the open files and the processes: between any two calls their state is one that a run may reach.
+    pub fn parts(&self) -> &Parts
+        ensures value { result.now ≡ self.now.state }
+        ensures whole { IsWhole self.now.state }
+    {
+        &self.parts
     }
 }

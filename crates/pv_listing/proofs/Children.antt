@@ -16,16 +16,16 @@ use Rattle.pv_model.specs.Tree.{Entries}
 use Rattle.pv_tree_laws.proofs.Entries.{by_name, tied_itself, tied-same, find_behind}
 use Rattle.pv_listing.specs.Lines.{entries_behind, last_name, IsNextChild}
 
-less_from : (o : Ordering) → is_lt o ≡ true → o ≡ Less
+pub less_from : (o : Ordering) → is_lt o ≡ true → o ≡ Less
 less_from Less is = refl
 less_from Equal is = cc
 less_from Greater is = cc
 
 -- a name is not behind one that it comes before
-not_behind : (a b : Bytes) → by_name a b ≡ Less → is_behind (Some b) a ≡ false
+pub not_behind : (a b : Bytes) → by_name a b ≡ Less → is_behind (Some b) a ≡ false
 not_behind a b less = ap is_lt (nat_list_cmp_total.antisymm b a ∙ ap ordering_reverse less)
 
-not_behind_itself : (a : Bytes) → is_behind (Some a) a ≡ false
+pub not_behind_itself : (a : Bytes) → is_behind (Some a) a ≡ false
 not_behind_itself a =
     elim (is_behind (Some a) a) as (λ b. is_behind (Some a) a ≡ b → b ≡ false) [
       | true ↦ λ is. sym is ∙ not_behind a a (less_from (by_name a a) is)
@@ -33,7 +33,7 @@ not_behind_itself a =
     ] refl
 
 -- what is behind a name behind the last one is behind the last one
-behind_more : (last : Option Bytes) (a b : Bytes) → is_behind last a ≡ true → is_lt (by_name a b) ≡ true → is_behind last b ≡ true
+pub behind_more : (last : Option Bytes) (a b : Bytes) → is_behind last a ≡ true → is_lt (by_name a b) ≡ true → is_behind last b ≡ true
 behind_more None a b is less = refl
 behind_more (Some l) a b is less = ap is_lt (nat_list_cmp_total.trans l a b (less_from (by_name l a) is) (less_from (by_name a b) less))
 

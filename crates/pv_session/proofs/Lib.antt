@@ -1,3 +1,4 @@
+pub mod Audited
 pub mod Stepping
 pub mod Turns
 pub mod Writes

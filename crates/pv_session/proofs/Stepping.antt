@@ -11,7 +11,7 @@ use Rattle.pv_model.specs.declared.outcome.Outcome.{Outcome}
 use Rattle.pv_model.specs.declared.outcome.Outcome.TheVariants.{Value, Text, Failed, Killed, Exited, Blocked, Gone}
 use Rattle.pv_model.specs.Answer.{Answered, answer}
 use Rattle.pv_model.specs.Grammar.Programs.{program_of}
-use Rattle.pv_model.specs.Program.{Next, inside, calls_for, next}
+use Rattle.pv_model.specs.Program.{inside, calls_for, next}
 use Rattle.pv_model.specs.State.{Process, State, process_at, with_process}
 use Rattle.pv_model.specs.Step.{Stepped, step, step_of, step_by}
 use Rattle.pv_model.specs.Trace.{Line, buffer_of, call_lines, gone_lines, moved_words}

@@ -1,8 +1,7 @@
 -- A write leaves its process's buffer.
-use Rattle.std.proofs.Common.{◌≡◌, ◌∙◌, ap, sym, subst, refl, ℕ, zero, suc, ℤ, pos, Option, None, Some}
+use Rattle.std.proofs.Common.{◌≡◌, ◌∙◌, ap, sym, subst, refl, ℕ, zero, suc, ℤ, pos, Option, Some}
 use Rattle.pv_model.specs.declared.call.Call.TheVariants.{Write}
-use Rattle.pv_model.specs.declared.errno.Errno.TheVariants.{EBADF, EINVAL, EFBIG, ENOSYS}
-use Rattle.pv_model.specs.declared.outcome.Cause.TheVariants.{Promise as ByPromise}
+use Rattle.pv_model.specs.declared.errno.Errno.TheVariants.{EBADF, EINVAL, EFBIG}
 use Rattle.pv_model.specs.declared.outcome.Outcome.TheVariants.{Value}
 use Rattle.pv_model.specs.declared.limits.TheConstants.{BUFFER}
 use Rattle.pv_model.specs.Answer.{Answered, answer, answer_by_attempt, at_next_line, effect, update}
@@ -11,7 +10,6 @@ use Rattle.pv_model.specs.Bytes.{Bytes}
 use Rattle.pv_model.specs.Calls.Descriptors.{open_file_for, within, write, write_end, after_write, is_past_greatest}
 use Rattle.pv_model.specs.Calls.Processes.{with_result}
 use Rattle.pv_model.specs.Effect.{Effect, answers, returns, returns_bytes, ends, waits}
-use Rattle.pv_model.specs.Held.{trim}
 use Rattle.pv_model.specs.State.{OpenFile, Program, Process, State, writes, process_at, with_process}
 use Rattle.pv_model.specs.Trace.{buffer_of}
 use Rattle.pv_laws.proofs.Attempts.{Leads, leads-demand, leads-refuse_if, leads-room}

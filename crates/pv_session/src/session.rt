@@ -2,14 +2,17 @@
 ghost use Rattle.std.specs.Prelude.{◌≡◌, ◌⊎◌, ◌≤◌, IfOk, IfErr, OnOk, OnErr, Ok, Err, length};
 ghost use Rattle.pv_calls.specs.Kernel.{IsAhead};
 ghost use Rattle.pv_laws.specs.States.{IsFirstTree};
+ghost use Rattle.pv_model.specs.Sealed.{audit as audit_by_definition};
 ghost use Rattle.pv_model.specs.Start.{booted};
 ghost use Rattle.pv_model.specs.Trace.{buffer_of};
 ghost use Rattle.pv_model.specs.State.{process_at};
+ghost use Rattle.pv_session.specs.Audits.{KeepsSecret};
 ghost use Rattle.pv_session.specs.declared.session.Stop.TheVariants.{Memory, Write};
 ghost use Rattle.pv_session.specs.Running.{BeginsLines, FailsBy, ToldLines, stepped};
 
+use pv_audit::audit;
 use pv_calls::{Ahead, Kernel};
-use pv_model::{BootFault, Call, Failed, Outcome, Sink, StepFault};
+use pv_model::{AuditFault, BootFault, Call, Failed, Outcome, Sink, StepFault, Verdict};
 use pv_namei::PlainLookup;
 use pv_trace::{Sheet, write_call_lines, write_gone_line};
 use pv_tree::{Store, Tree};
@@ -147,6 +150,24 @@ impl Session {
         ensures { result.now.tree ≡ self.now.tree }
     {
         self.kernel.tree()
+    }
+
+    /// What is found of the file that a path names: walked from the root, following links, unjudged. It takes no memory.
+    ///
+    /// Where a file is found sealed, nothing that any process does from here on depends on its bytes: with any others, as
+    /// many, every run tells the same text, byte for byte, and leaves the same state but for those bytes. Where it is found
+    /// sealed and frozen, no run changes them either. Else the least process is told that is not closed to it, and the first
+    /// reason why.
+    ///
+    /// # Errors
+    ///
+    /// `Walk` with the error that the walk answers, or `ENOENT` where it ends with no node; `NotFile` where the path names
+    /// no file.
+    pub fn audit(&self, path: &[u8]) -> Result<Verdict, AuditFault>
+        ensures found { result ≡ audit_by_definition self.now path.now }
+        ensures secret { KeepsSecret self.now path.now result }
+    {
+        audit(self.kernel.parts(), path)
     }
 
     /// Makes a step of a process and writes its lines, which are at most seven: answers how many.

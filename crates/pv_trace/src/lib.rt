@@ -18,6 +18,6 @@ mod tests;
 mod words;
 
 pub use line::{Line, PromiseVerdict, Returned, UnveilVerdict, Way, Word, write_line};
-pub use sheet::Sheet;
+pub use sheet::{Sheet, put, put_decimal};
 pub use steps::{write_call_lines, write_gone_line};
 pub use stream::write_whole;

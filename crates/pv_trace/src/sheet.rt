@@ -20,7 +20,8 @@ pub const SHEET: usize = 64_512;
 /// What the lines of a step are made on: one sheet serves for any number of steps.
 pub type Sheet = ArrayVec<u8, SHEET>;
 
-pub(crate) fn put(out: &mut Sheet, bytes: &[u8])
+/// Puts bytes behind what the sheet has, which has room for them.
+pub fn put(out: &mut Sheet, bytes: &[u8])
     requires { length out.old.items + length bytes.now ≤ SHEET }
     ensures text { out.new.items ≡ out.old.items ++ bytes.now }
     ensures growth { length out.new.items ≡ length out.old.items + length bytes.now }
@@ -28,7 +29,8 @@ pub(crate) fn put(out: &mut Sheet, bytes: &[u8])
     let _ = out.try_extend_from_slice(bytes);
 }
 
-pub(crate) fn put_decimal(out: &mut Sheet, n: u32)
+/// Puts a number in decimal digits behind what the sheet has, which has room for 40 bytes.
+pub fn put_decimal(out: &mut Sheet, n: u32)
     requires { length out.old.items + 40 ≤ SHEET }
     ensures text { out.new.items ≡ out.old.items ++ decimal n }
     ensures growth { length out.new.items ≤ length out.old.items + 40 }

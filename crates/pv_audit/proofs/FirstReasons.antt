@@ -1,0 +1,137 @@
+-- What is told of a process of which all is found is what the definitions say of it.
+use Rattle.std.proofs.Common.{◌≡◌, ℕ, Bool, true, false, not, ◌&&◌, ◌||◌, if◌then◌else◌, ◌==◌, List, [], ◌∷◌, ◌++◌, map, filter, Option, None, Some, refl, ap, sym, ◌∙◌, append_assoc}
+use Rattle.std.specs.Option.{is_none}
+use Rattle.pv_model.specs.declared.open_flags.Mode.{Mode}
+use Rattle.pv_model.specs.declared.open_flags.Mode.TheVariants.{Read, Write, ReadWrite}
+use Rattle.pv_model.specs.declared.perms.Perms.{Perms}
+use Rattle.pv_model.specs.declared.promise.Promise.TheVariants.{Rpath, Wpath, Cpath, Exec as ExecPromise}
+use Rattle.pv_model.specs.declared.verdict.Why.{Why}
+use Rattle.pv_model.specs.declared.verdict.Why.TheVariants.{Reads, NotLocked, Gives, Above, Exec}
+use Rattle.pv_model.specs.Bytes.{is_empty}
+use Rattle.pv_model.specs.Calls.Restraints.{entries_of_table}
+use Rattle.pv_model.specs.Closed.{opens_or_moves}
+use Rattle.pv_model.specs.Needs.{letters_of_mode}
+use Rattle.pv_model.specs.Numbered.{at_number, numbered}
+use Rattle.pv_model.specs.Perms.{covers, letter_r, letter_w}
+use Rattle.pv_model.specs.Sealed
+use Rattle.pv_model.specs.State.{OpenFile, Descriptor, Process, State, reads, writes, process_at}
+use Rattle.pv_model.specs.Tree.{names_of}
+use Rattle.pv_model.specs.Unveil.{Table}
+use Rattle.pv_procs.specs.Parts.{record_of}
+use Rattle.pv_audit.specs.declared.found.Found.{Found}
+use Rattle.pv_audit.specs.Findings.{least, nothing, table_of, suspect, noted_by}
+use Rattle.pv_audit.specs.Reasons.{first_of, is_on, descriptors_for, by_number, unless, reason_of_table, reason_of, is_kept_by, is_kept, reason_for, reason_at, kept_for, kept_at}
+use Rattle.pv_audit.proofs.LeastOnes.{least-fold}
+use Rattle.pv_audit.proofs.FoundOnes.{gives-all, above-all, writes-all, noted-pid, noted-found}
+
+-- ---- lists of reasons
+
+first-least : (why : ℕ → Why) (ks : List ℕ) (rest : List Why) → first_of (Sealed.least_first why ks ++ rest) ≡ by_number why (least ks) (first_of rest)
+first-least why [] rest = refl
+first-least why (k ∷ ks) rest = sym (ap (λ (o : Option ℕ). by_number why o (first_of rest)) (least-fold k ks))
+
+first-unless : (b : Bool) (why : Why) (rest : List Why) → first_of (Sealed.when (not b) why ++ rest) ≡ unless b why (first_of rest)
+first-unless true why rest = refl
+first-unless false why rest = refl
+
+last-unless : (b : Bool) (why : Why) → first_of (Sealed.when (not b) why) ≡ unless b why None
+last-unless true why = refl
+last-unless false why = refl
+
+none-empty : (ks : List ℕ) → is_none (least ks) ≡ is_empty ks
+none-empty [] = refl
+none-empty (k ∷ ks) = ap is_none (least-fold k ks)
+
+not-not : (b : Bool) → not (not b) ≡ b
+not-not true = refl
+not-not false = refl
+
+-- ---- modes and letters
+
+reads-r : (m : Mode) → reads m ≡ covers (letters_of_mode m) letter_r
+reads-r Read = refl
+reads-r Write = refl
+reads-r ReadWrite = refl
+
+writes-w : (m : Mode) → writes m ≡ covers (letters_of_mode m) letter_w
+writes-w Read = refl
+writes-w Write = refl
+writes-w ReadWrite = refl
+
+module _ (s : State) (p : Process) (f : ℕ) where
+  opens-on : (test : Mode → Bool) (needed : Perms) → ((m : Mode) → test m ≡ covers (letters_of_mode m) needed) → (o : Option OpenFile) → Sealed.opens s p f test o ≡ is_on f needed o
+  opens-on test needed same None = refl
+  opens-on test needed same (Some file) = ap (λ b. (file.node == f) && b) (same file.mode)
+
+  descriptors-for : (test : Mode → Bool) (needed : Perms) → ((m : Mode) → test m ≡ covers (letters_of_mode m) needed) → Sealed.descriptors_on s p f test ≡ descriptors_for s.files p.descriptors f needed
+  descriptors-for test needed same = λ i. map (λ (d : ℕ × Descriptor). d.0) (filter (λ (d : ℕ × Descriptor). opens-on test needed same (at_number s.files d.1.file) i) (numbered p.descriptors))
+
+  -- ---- of which all is found
+
+  -- what is found is what the definitions list
+  pub record IsAllOf (table : Table) (found : Found) : Type 0 where
+    pub gives : found.gives ≡ least (Sealed.giving s p f opens_or_moves table)
+    pub above : found.above ≡ least (Sealed.above s p f table)
+    pub writes : found.writes ≡ not (is_empty (Sealed.giving s p f (λ letters. letters.w) table))
+
+  by_table : (found : Found) (o : Option Table) → ((table : Table) → o ≡ Some table → IsAllOf table found) → first_of (Sealed.leaks_of_table s p f o)
+      ≡ reason_of_table (record_of p) found o
+  by_table found None all = refl
+  by_table found (Some table) all =
+      let is = all table refl in
+      let a = Sealed.when (not p.locked) NotLocked in
+      let b = Sealed.least_first Gives (Sealed.giving s p f opens_or_moves table) in
+      let c = Sealed.least_first Above (Sealed.above s p f table) in
+      let d = Sealed.when (not (Sealed.is_held_over_exec s p f)) Exec in
+      ap first_of (append_assoc (a ++ b) c d ∙ append_assoc a b (c ++ d))
+      ∙ first-unless p.locked NotLocked (b ++ (c ++ d))
+      ∙ ap (unless p.locked NotLocked)
+      (first-least Gives (Sealed.giving s p f opens_or_moves table) (c ++ d)
+      ∙ (λ i. by_number Gives (sym is.gives i)
+      ((first-least Above (Sealed.above s p f table) d ∙ (λ j. by_number Above (sym is.above j) (last-unless (Sealed.is_held_over_exec s p f) Exec j))) i)))
+
+  pub leaks-reason : (found : Found) → ((table : Table) → p.table ≡ Some table → IsAllOf table found) → first_of (Sealed.leaks s p f) ≡ reason_of s.files (record_of p) f found
+  unfolding Sealed.leaks
+  leaks-reason found all =
+      first-least Reads (Sealed.descriptors_on s p f reads) _
+      ∙ (λ i. by_number Reads (least (descriptors-for reads letter_r reads-r i)) (pick (Sealed.is_pledged_without (Rpath ∷ ExecPromise ∷ Cpath ∷ []) p) i))
+    where
+      pick : (b : Bool) → first_of (if b then [] else Sealed.leaks_of_table s p f p.table) ≡ (if b then None else reason_of_table (record_of p) found p.table)
+      pick true = refl
+      pick false = by_table found p.table all
+
+  kept_by : (found : Found) (o : Option Table) → ((table : Table) → o ≡ Some table → IsAllOf table found) → Sealed.is_kept_by_table s p f o ≡ is_kept_by (record_of p) found o
+  kept_by found None all = refl
+  kept_by found (Some table) all =
+      let is = all table refl in
+      let none = sym (not-not (is_empty (Sealed.giving s p f (λ letters. letters.w) table))) ∙ ap not (sym is.writes) in
+      ap (λ b. (p.locked && b) && Sealed.is_held_over_exec s p f) none
+
+  pub frozen-kept : (found : Found) → ((table : Table) → p.table ≡ Some table → IsAllOf table found) → Sealed.is_frozen_to s p f ≡ is_kept s.files (record_of p) f found
+  unfolding Sealed.is_frozen_to
+  frozen-kept found all = λ i.
+      (sym (none-empty (Sealed.descriptors_on s p f writes)) ∙ ap (λ (ks : List ℕ). is_none (least ks)) (descriptors-for writes letter_w writes-w)) i
+      && (Sealed.is_pledged_without (Wpath ∷ ExecPromise ∷ []) p || kept_by found p.table all i)
+
+  module _ (pid : ℕ) (at : process_at s pid ≡ Some p) where
+    abbrev mine : Found
+    mine = (noted_by s (names_of s.tree f) (suspect pid)).found
+
+    pub all-of : (table : Table) → p.table ≡ Some table → IsAllOf table mine
+    all-of table is =
+        let same : table_of (process_at s pid) ≡ table = ap table_of at ∙ ap entries_of_table is in
+        let found = noted-found s (names_of s.tree f) (suspect pid) in
+        record {
+          gives = ap (λ (x : Found). x.gives) found ∙ gives-all s.tree (table_of (process_at s pid)) nothing (names_of s.tree f) ∙ ap (λ (t : Table). least (Sealed.giving s p f opens_or_moves t)) same;
+          above = ap (λ (x : Found). x.above) found ∙ above-all s.tree (table_of (process_at s pid)) nothing (names_of s.tree f) ∙ ap (λ (t : Table). least (Sealed.above s p f t)) same;
+          writes = ap (λ (x : Found). x.writes) found ∙ writes-all s.tree (table_of (process_at s pid)) nothing (names_of s.tree f) ∙ ap (λ (t : Table). not (is_empty (Sealed.giving s p f (λ letters. letters.w) t))) same;
+        }
+
+    there : process_at s (noted_by s (names_of s.tree f) (suspect pid)).pid ≡ Some p
+    there = ap (process_at s) (noted-pid s (names_of s.tree f) (suspect pid)) ∙ at
+
+    pub reason-first : reason_at s f (noted_by s (names_of s.tree f) (suspect pid)) ≡ first_of (Sealed.leaks s p f)
+    reason-first = ap (λ (o : Option Process). reason_for s f o mine) there ∙ sym (leaks-reason mine all-of)
+
+    pub kept-frozen : kept_at s f (noted_by s (names_of s.tree f) (suspect pid)) ≡ Sealed.is_frozen_to s p f
+    kept-frozen = ap (λ (o : Option Process). kept_for s f o mine) there ∙ sym (frozen-kept mine all-of)

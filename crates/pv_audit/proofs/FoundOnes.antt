@@ -1,0 +1,160 @@
+-- What is found by all names of a file.
+use Rattle.std.proofs.Common.{◌≡◌, ℕ, ◌<◌, Bool, true, false, cond, not, ◌&&◌, ◌||◌, List, [], ◌∷◌, ◌++◌, map, flat_map, fold, length, Option, None, Some, is_some, refl, ap, sym, ◌∙◌, arith, get_or, zero, suc, take, drop}
+use Rattle.std.specs.Bool.{⊤}
+use Rattle.std.proofs.lemmas.Bool.{and_parts}
+use Rattle.std.proofs.lemmas.List.{map-append}
+use Rattle.pv_model.specs.declared.perms.Perms.{Perms}
+use Rattle.pv_model.specs.Bytes.{is_empty}
+use Rattle.pv_model.specs.Closed.{opens_or_moves}
+use Rattle.pv_model.specs.State.{State, process_at}
+use Rattle.pv_model.specs.Tree.{Tree, ancestors, find_entry, is_directory_at}
+use Rattle.pv_model.specs.Unveil.{Table, letters_at, directory_rights}
+use Rattle.pv_tree_laws.proofs.Changes.{has_entry-directory}
+use Rattle.pv_audit.specs.declared.found.Found.{Found}
+use Rattle.pv_audit.specs.declared.suspects.Suspect.{Suspect}
+use Rattle.pv_audit.specs.Findings.{lesser, least, governing, passing, entries_passing, least_above, noted, table_of, note_of, noted_by, are_live}
+use Rattle.pv_audit.specs.NextName.{first_after, IsNextName}
+use Rattle.pv_audit.proofs.LeastOnes.{lesser-none, lesser-assoc, least-cons, passing-append}
+use Rattle.pv_audit.proofs.Rising.{Named, names_after, names_on, rises, after-next, after-none}
+
+-- ---- name by name
+
+abbrev pub with_c : Perms → Bool
+with_c letters = letters.c
+
+abbrev pub with_w : Perms → Bool
+with_w letters = letters.w
+
+module _ (t : Tree) (table : Table) where
+  abbrev all_noted : Found → List Named → Found
+  all_noted found ns = fold (λ (f : Found) (name : Named). noted t table f name) found ns
+
+  abbrev governed : List Named → List (Option ℕ)
+  governed ns = map (governing t table) ns
+
+  abbrev higher : List Named → List (Option ℕ)
+  higher ns = map (directory_rights t table) (flat_map (λ (name : Named). ancestors t name.0) ns)
+
+  pub gives-all : (found : Found) (ns : List Named) → (all_noted found ns).gives ≡ lesser found.gives (least (entries_passing opens_or_moves table (governed ns)))
+  gives-all found [] = sym (lesser-none found.gives)
+  gives-all found (x ∷ ns) =
+      gives-all (noted t table found x) ns
+      ∙ lesser-assoc found.gives (passing opens_or_moves table (governing t table x)) (least (entries_passing opens_or_moves table (governed ns)))
+      ∙ ap (lesser found.gives) (sym (least-cons opens_or_moves table (governing t table x) (governed ns)))
+
+  pub above-all : (found : Found) (ns : List Named) → (all_noted found ns).above ≡ lesser found.above (least (entries_passing with_c table (higher ns)))
+  above-all found [] = sym (lesser-none found.above)
+  above-all found (x ∷ ns) =
+      above-all (noted t table found x) ns
+      ∙ lesser-assoc found.above (least_above t table x.0) (least (entries_passing with_c table (higher ns)))
+      ∙ ap (lesser found.above)
+      (sym (ap (λ (os : List (Option ℕ)). least (entries_passing with_c table os)) (map-append (directory_rights t table) (ancestors t x.0) (flat_map (λ (name : Named). ancestors t name.0) ns))
+      ∙ passing-append with_c table (map (directory_rights t table) (ancestors t x.0)) (higher ns)))
+
+  or_assoc : (a b c : Bool) → ((a || b) || c) ≡ (a || (b || c))
+  or_assoc true b c = refl
+  or_assoc false b c = refl
+
+  some-cons : (o : Option ℕ) (os : List (Option ℕ)) → (is_some (passing with_w table o) || not (is_empty (entries_passing with_w table os))) ≡ not (is_empty (entries_passing with_w table (o ∷ os)))
+  some-cons None os = refl
+  some-cons (Some k) os =
+      elim (with_w (letters_at table k)) as (λ b. (is_some (cond b (Some k) None) || not (is_empty (entries_passing with_w table os)))
+      ≡ not (is_empty (cond b (k ∷ entries_passing with_w table os) (entries_passing with_w table os)))) [
+        | true ↦ refl
+        | false ↦ refl
+      ]
+
+  or_false : (b : Bool) → (b || false) ≡ b
+  or_false true = refl
+  or_false false = refl
+
+  pub writes-all : (found : Found) (ns : List Named) → (all_noted found ns).writes ≡ (found.writes || not (is_empty (entries_passing with_w table (governed ns))))
+  writes-all found [] = sym (or_false found.writes)
+  writes-all found (x ∷ ns) =
+      writes-all (noted t table found x) ns
+      ∙ or_assoc found.writes (is_some (passing with_w table (governing t table x))) (not (is_empty (entries_passing with_w table (governed ns))))
+      ∙ ap (λ b. found.writes || b) (some-cons (governing t table x) (governed ns))
+
+-- ---- process by process
+
+pub noted-pid : (s : State) (ns : List Named) (x : Suspect) → (noted_by s ns x).pid ≡ x.pid
+noted-pid s [] x = refl
+noted-pid s (n ∷ ns) x = noted-pid s ns (note_of s n x)
+
+pub noted-found : (s : State) (ns : List Named) (x : Suspect) → (noted_by s ns x).found ≡ all_noted s.tree (table_of (process_at s x.pid)) x.found ns
+noted-found s [] x = refl
+noted-found s (n ∷ ns) x = noted-found s ns (note_of s n x)
+
+pub noted-more : (s : State) (x : Named) (ns : List Named) (ys : List Suspect) → map (noted_by s (x ∷ ns)) ys ≡ map (noted_by s ns) (map (note_of s x) ys)
+noted-more s x ns [] = refl
+noted-more s x ns (y ∷ ys) = ap (λ (zs : List Suspect). noted_by s (x ∷ ns) y ∷ zs) (noted-more s x ns ys)
+
+pub noted-nothing : (s : State) (ys : List Suspect) → map (noted_by s []) ys ≡ ys
+noted-nothing s [] = refl
+noted-nothing s (y ∷ ys) = ap (λ (zs : List Suspect). y ∷ zs) (noted-nothing s ys)
+
+pub note-live : (s : State) (x : Named) (ys : List Suspect) → are_live s (map (note_of s x) ys) ≡ are_live s ys
+note-live s x [] = refl
+note-live s x (y ∷ ys) = ap (λ b. is_some (process_at s y.pid) && b) (note-live s x ys)
+
+pub noted-live : (s : State) (ns : List Named) (ys : List Suspect) → are_live s (map (noted_by s ns) ys) ≡ are_live s ys
+noted-live s ns [] = refl
+noted-live s ns (y ∷ ys) = λ i. is_some (process_at s (noted-pid s ns y i)) && noted-live s ns ys i
+
+pub live-at : (s : State) (ys : List Suspect) (k : ℕ) (d : Suspect) → are_live s ys ≡ true → k < length ys → is_some (process_at s (get_or ys k d).pid) ≡ true
+live-at s [] k d live within = absurd (omega arith)
+live-at s (y ∷ ys) zero d live within = (and_parts (is_some (process_at s y.pid)) (are_live s ys) live).0
+live-at s (y ∷ ys) (suc k) d live within = live-at s ys k d (and_parts (is_some (process_at s y.pid)) (are_live s ys) live).1 (omega arith)
+
+-- ---- through the names of a file
+
+module _ (s : State) (ns : List Named) where
+  -- what is found so far, and what the names that are left add, is what all names add
+  pub record IsNotedTo (next : Option Named) (old ys : List Suspect) : Type 0 where
+    pub same : map (noted_by s ns) old ≡ map (noted_by s (names_on next ns)) ys
+    pub live : are_live s ys ≡ true
+
+  pub noted-all : (old ys : List Suspect) → IsNotedTo None old ys → ys ≡ map (noted_by s ns) old
+  noted-all old ys so = sym (so.same ∙ noted-nothing s ys)
+
+  module _ (up : rises ns ≡ true) where
+    pub noted-first : (next : Option Named) (ys : List Suspect) → are_live s ys ≡ true → next ≡ first_after None ns → IsNotedTo next ys ys
+    noted-first next ys live is = record {
+      same = ap (λ (xs : List Named). map (noted_by s xs) ys) (sym (after-none ns) ∙ after-next None ns up ∙ ap (λ (o : Option Named). names_on o ns) (sym is));
+      live = live;
+    }
+
+    left : (x : Named) (next : Option Named) → next ≡ first_after (Some x) ns → names_after (Some x) ns ≡ names_on next ns
+    left x next is = after-next (Some x) ns up ∙ ap (λ (o : Option Named). names_on o ns) (sym is)
+
+    pub noted-next : (x : Named) (next : Option Named) (old ys zs : List Suspect) → IsNotedTo (Some x) old ys → next ≡ first_after (Some x) ns → zs ≡ map (note_of s x) ys → IsNotedTo next old zs
+    noted-next x next old ys zs so is new = record {
+      same =
+          so.same ∙ noted-more s x (names_after (Some x) ns) ys
+          ∙ (λ i. map (noted_by s (left x next is i)) (sym new i));
+      live = ap (are_live s) new ∙ note-live s x ys ∙ so.live;
+    }
+
+    pub noted-fewer : (x : Named) (next : Option Named) → next ≡ first_after (Some x) ns → length (names_on next ns) < length (names_on (Some x) ns)
+    noted-fewer x next is = omega (arith, ap length (left x next is))
+
+-- a name that comes next is one of the node
+pub IsOfNode : Tree → ℕ → Option Named → Type 0
+IsOfNode t n None = ⊤
+IsOfNode t n (Some x) = find_entry t x.0 x.1 ≡ Some n
+
+pub of-next : (t : Tree) (n : ℕ) (last next : Option Named) → IsNextName t n last next → IsOfNode t n next
+unfolding IsOfNode
+of-next t n last None is = tt
+of-next t n last (Some x) is = is.named
+
+pub of-directory : (t : Tree) (n : ℕ) (x : Named) → IsOfNode t n (Some x) → is_directory_at t x.0 ≡ true
+unfolding IsOfNode
+of-directory t n x is = has_entry-directory t x.0 x.1 n is
+
+-- ---- place by place
+
+pub undone : (g : Suspect → Suspect) (all : List Suspect) (k : ℕ) (d : Suspect) → k < length all → get_or (map g (take k all) ++ drop k all) k d ≡ get_or all k d
+undone g [] k d within = absurd (omega arith)
+undone g (y ∷ ys) zero d within = refl
+undone g (y ∷ ys) (suc k) d within = undone g ys k d (omega arith)

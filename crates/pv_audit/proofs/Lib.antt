@@ -1,0 +1,9 @@
+pub mod Rising
+pub mod NextOnes
+pub mod LeastOnes
+pub mod TableEntries
+pub mod FoundOnes
+pub mod DescriptorOnes
+pub mod LiveOnes
+pub mod FirstReasons
+pub mod AllVerdicts

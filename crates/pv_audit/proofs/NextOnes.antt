@@ -1,0 +1,168 @@
+-- From one name to the next: in a directory, and from directory to directory.
+use Rattle.std.proofs.Common.{◌≡◌, ◌≢◌, ℕ, ◌+◌, ◌<◌, ◌≤◌, true, false, not, eqb, length, Option, None, Some, refl, ap, sym, subst, ◌∙◌, ◌⊎◌, ⊎_elim, inl, inr, arith}
+use Rattle.std.specs.Option.{IsSome, option_eq}
+use Rattle.std.specs.FinMap.Entries.{is_sorted}
+use Rattle.std.specs.Ordering.{is_lt}
+use Rattle.std.specs.declared.cmp.Ordering.{Ordering}
+use Rattle.std.specs.declared.cmp.Ordering.TheVariants.{Less, Equal, Greater}
+use Rattle.std.proofs.lemmas.Bool.{cases_lt, eq-eqb}
+use Rattle.pv_model.specs.Bytes.{Bytes}
+use Rattle.pv_model.specs.Calls.Descriptors.{is_behind, next_name}
+use Rattle.pv_model.specs.Tree.{Tree, entries_at, find_entry, is_directory_at}
+use Rattle.pv_tree_laws.proofs.Changes.{has_entry-directory, directory-below}
+use Rattle.pv_tree_laws.proofs.Entries.{by_name}
+use Rattle.pv_dirs.specs.Listing as dirs
+use Rattle.pv_listing.specs.Lines.{entries_behind}
+use Rattle.pv_listing.proofs.Children.{behind_more, next-first}
+use Rattle.pv_audit.specs.NextName.{is_after, IsNextIn, IsNextName}
+use Rattle.pv_audit.proofs.Rising.{Named, same-name, after-cases, after-lower, after-same, never, bool_cases}
+
+not_less : (o : Ordering) → o ≢ Less → is_lt o ≡ false
+not_less Less isnt = absurd (isnt refl)
+not_less Equal isnt = refl
+not_less Greater isnt = refl
+
+-- ---- in a directory
+
+module _ (t : Tree) (d n : ℕ) (last : Option Bytes) where
+  -- no name of the node behind the last one comes before this one
+  pub record IsSoFar (name : Bytes) : Type 0 where
+    pub behind : is_behind last name ≡ true
+    pub least : (other : Bytes) → find_entry t d other ≡ Some n → is_behind last other ≡ true → is_behind (Some other) name ≡ false
+
+  listed : (name : Bytes) → find_entry t d name ≡ Some n → dirs.IsListed (entries_at t d) name
+  listed name is = subst IsSome (sym is) refl
+
+  pub so_far-first : (name : Bytes) → dirs.IsNextName last (entries_at t d) (Some name) → IsSoFar name
+  so_far-first name next = record {
+    behind = next.behind;
+    least = λ other is after. not_less (by_name other name) (next.least other (listed other is) after);
+  }
+
+  -- one that is not the node's is left behind
+  apart : (name other : Bytes) → find_entry t d name ≢ Some n → find_entry t d other ≡ Some n → is_behind (Some other) name ≡ false → is_behind (Some name) other ≡ true
+  apart name other isnt is low =
+      ⊎_elim (λ yes. yes)
+      (λ none. let same : name ≡ other = same-name name other none low in absurd (isnt (ap (find_entry t d) same ∙ is)))
+      (bool_cases (is_behind (Some name) other))
+
+  pub so_far-next : (name next : Bytes) → IsSoFar name → find_entry t d name ≢ Some n → dirs.IsNextName (Some name) (entries_at t d) (Some next) → IsSoFar next
+  so_far-next name next so isnt more = record {
+    behind = behind_more last name next so.behind more.behind;
+    least = λ other is after.
+        not_less (by_name other next) (more.least other (listed other is) (apart name other isnt is (so.least other is after)));
+  }
+
+  pub so_far-found : (name : Bytes) → IsSoFar name → find_entry t d name ≡ Some n → IsNextIn t d n last (Some name)
+  so_far-found name so is = record { named = is; behind = so.behind; least = so.least }
+
+  pub none-first : dirs.IsNextName last (entries_at t d) None → IsNextIn t d n last None
+  none-first none = λ other is. never (is_behind last other) (λ after. none other (listed other is) after)
+
+  pub none-next : (name : Bytes) → IsSoFar name → find_entry t d name ≢ Some n → dirs.IsNextName (Some name) (entries_at t d) None → IsNextIn t d n last None
+  none-next name so isnt none =
+      λ other is. never (is_behind last other) (λ after. none other (listed other is) (apart name other isnt is (so.least other is after)))
+
+pub behind-fewer : (t : Tree) (d : ℕ) (name next : Bytes) → is_sorted by_name (entries_at t d) ≡ true → next_name (Some name) (entries_at t d) ≡ Some next
+    → length (entries_behind (Some next) (entries_at t d)) < length (entries_behind (Some name) (entries_at t d))
+behind-fewer t d name next sorted is =
+    let first = next-first (Some name) (entries_at t d) next sorted is in
+    omega (arith, ap length first.1.first)
+
+-- ---- from directory to directory
+
+-- what comes behind the last name: names of greater directories, and of this one those behind a name
+pub record IsCut (last : Option Named) (first : ℕ) (behind : Option Bytes) : Type 0 where
+  pub low : (x : Named) → is_after last x ≡ true → first ≤ x.0
+  pub here : (name : Bytes) → is_after last (first, name) ≡ is_behind behind name
+  pub higher : (x : Named) → first < x.0 → is_after last x ≡ true
+
+pub cut-none : IsCut None 0 None
+cut-none = record { low = λ x is. omega arith; here = λ name. refl; higher = λ x less. refl }
+
+pub cut-some : (d : ℕ) (name : Bytes) → IsCut (Some (d, name)) d (Some name)
+cut-some d name = record {
+  low = λ x is. ⊎_elim (λ less. omega arith) (λ same. omega (arith, same.0)) (after-cases (d, name) x is);
+  here = λ other. ⊎_elim (λ yes. after-same (d, name) (d, other) refl yes ∙ sym yes) (λ isnt. unless other isnt ∙ sym isnt) (bool_cases (is_behind (Some name) other));
+  higher = λ x less. after-lower (d, name) x less;
+}
+  where
+    unless : (other : Bytes) → is_behind (Some name) other ≡ false → is_after (Some (d, name)) (d, other) ≡ false
+    unless other isnt = never (is_after (Some (d, name)) (d, other))
+        (λ is. ⊎_elim (λ (less : d < d). omega arith) (λ same. let both : true ≡ false = sym same.1 ∙ isnt in cc both) (after-cases (d, name) (d, other) is))
+
+-- in a directory those behind a name come behind the last one
+pub IsFrom : Option Named → ℕ → Option Bytes → Type 0
+IsFrom last d from = (name : Bytes) → is_after last (d, name) ≡ is_behind from name
+
+module _ (t : Tree) (n : ℕ) (last : Option Named) where
+  -- the names that come behind the last one stand in no lower directory
+  pub record IsDownTo (d : ℕ) : Type 0 where
+    pub low : (x : Named) → find_entry t x.0 x.1 ≡ Some n → is_after last x ≡ true → d ≤ x.0
+
+  pub down-first : (first : ℕ) (behind : Option Bytes) → IsCut last first behind → IsDownTo first
+  down-first first behind cut = record { low = λ x is after. cut.low x after }
+
+  at_next : (d : ℕ) → IsDownTo d → ((name : Bytes) → find_entry t d name ≡ Some n → is_after last (d, name) ≡ false) → IsDownTo (d + 1)
+  at_next d down none = record {
+    low = λ x is after.
+        ⊎_elim (λ (less : d < x.0). omega arith)
+        (λ same.
+        let there : find_entry t d x.1 ≡ Some n = ap (λ k. find_entry t k x.1) same ∙ is in
+        let yes : is_after last (d, x.1) ≡ true = ap (λ k. is_after last (k, x.1)) same ∙ after in
+        let both : true ≡ false = sym yes ∙ none x.1 there in cc both)
+        (split d x.0 (down.low x is after));
+  }
+    where
+      split : (a b : ℕ) → a ≤ b → (a < b) ⊎ (a ≡ b)
+      split a b le = ⊎_elim (λ less. inl less) (λ other. inr (omega arith)) (cases_lt a b)
+
+  -- where the directory has no such name
+  pub down-none : (d : ℕ) (from : Option Bytes) → IsDownTo d → IsFrom last d from → IsNextIn t d n from None → IsDownTo (d + 1)
+  unfolding IsFrom
+  down-none d from down is none = at_next d down (λ name there. is name ∙ none name there)
+
+  -- and where it is no directory
+  pub down-past : (d : ℕ) → IsDownTo d → is_directory_at t d ≡ false → IsDownTo (d + 1)
+  down-past d down isnt =
+      at_next d down (λ name there. let both : true ≡ false = sym (has_entry-directory t d name n there) ∙ isnt in cc both)
+
+  pub down-found : (d : ℕ) (from : Option Bytes) (name : Bytes) → IsDownTo d → IsFrom last d from → IsNextIn t d n from (Some name) → IsNextName t n last (Some (d, name))
+  unfolding IsFrom
+  down-found d from name down is next = record {
+    named = next.named;
+    after = is name ∙ next.behind;
+    least = λ x there after.
+        never (is_after (Some x) (d, name))
+        (λ before.
+        ⊎_elim (λ (less : x.0 < d). let low = down.low x there after in omega arith)
+        (λ same.
+        let here : find_entry t d x.1 ≡ Some n = ap (λ k. find_entry t k x.1) (sym same.0) ∙ there in
+        let behind : is_behind from x.1 ≡ true = sym (is x.1) ∙ ap (λ k. is_after last (k, x.1)) (sym same.0) ∙ after in
+        let both : true ≡ false = sym same.1 ∙ next.least x.1 here behind in cc both)
+        (after-cases x (d, name) before));
+  }
+
+  -- past all directories
+  pub down-all : (d : ℕ) → IsDownTo d → length t.nodes ≤ d → IsNextName t n last None
+  down-all d down all = λ x there.
+      never (is_after last x) (λ after. let low = down.low x there after in let below = directory-below t x.0 (has_entry-directory t x.0 x.1 n there) in absurd (omega arith))
+
+pub from-here : (last : Option Named) (first : ℕ) (behind : Option Bytes) → IsCut last first behind → IsFrom last first behind
+unfolding IsFrom
+from-here last first behind cut = cut.here
+
+pub from-higher : (last : Option Named) (first : ℕ) (behind : Option Bytes) (d : ℕ) → IsCut last first behind → first < d → IsFrom last d None
+unfolding IsFrom
+from-higher last first behind d cut less = λ name. cut.higher (d, name) less
+
+pub from-of : (last : Option Named) (first : ℕ) (behind : Option Bytes) (d : ℕ) → IsCut last first behind → d ≡ first → IsFrom last d behind
+from-of last first behind d cut same = subst (λ k. IsFrom last k behind) (sym same) (from-here last first behind cut)
+
+-- ---- tests
+
+-- a node that is found is not the one that is looked for
+pub unlike : (o : Option ℕ) (n : ℕ) → not (option_eq eqb o (Some n)) ≡ true → o ≢ Some n
+unlike o n is same =
+    let here : not (eqb n n) ≡ true = subst (λ (x : Option ℕ). not (option_eq eqb x (Some n)) ≡ true) same is in
+    let both : true ≡ false = sym here ∙ ap not (eq-eqb n n refl) in cc both

@@ -1,0 +1,5 @@
+use Rattle.pv_audit.proofs.DescriptorOnes.{IsQuietTo}
+use Rattle.pv_audit.proofs.reasons.least_descriptor.Given as goal
+
+abbrev pub invariant-loop-d : goal.invariant-loop-d
+invariant-loop-d l = IsQuietTo l.files.files l.descriptors l.node l.needed l.d

@@ -1,0 +1,14 @@
+use Rattle.std.proofs.Common.{length}
+use Rattle.pv_model.specs.Tree.{names_of}
+use Rattle.pv_audit.proofs.FoundOnes.{IsNotedTo, IsOfNode}
+use Rattle.pv_audit.proofs.Rising.{names_on}
+use Rattle.pv_audit.proofs.suspects.note_names.Given as goal
+
+abbrev pub invariant-loop-next : goal.invariant-loop-next
+invariant-loop-next l = record {
+  noted : IsNotedTo l.fn.parts (names_of l.fn.parts.tree l.node) l.next l.initial.suspects l.suspects;
+  of_node : IsOfNode l.fn.parts.tree l.node l.next;
+}
+
+abbrev pub decreases-loop-next : goal.decreases-loop-next
+decreases-loop-next l = length (names_on l.next (names_of l.fn.parts.tree l.node))

@@ -1,0 +1,3 @@
+pub mod NextName
+pub mod Findings
+pub mod Reasons

@@ -1,0 +1,186 @@
+//! Whether a process is closed to a file, and whether it can write it.
+ghost use Rattle.std.specs.Prelude.{◌≡◌, not, option_map, IsSome, Some};
+ghost use Rattle.std.specs.List.{list_all};
+ghost use Rattle.pv_audit.specs.Findings.{least};
+ghost use Rattle.pv_audit.specs.Reasons.{descriptors_for, first_of, is_held as is_held_over_exec_by, is_kept, is_on as is_open_on, kept_at, reason_at, reason_of as first_reason_of, reason_of_table as table_reason_of};
+ghost use Rattle.pv_model.specs.Numbered.{at_number};
+ghost use Rattle.pv_model.specs.Promises.{contains};
+ghost use Rattle.pv_model.specs.Sealed.{has_none_of, is_frozen_to, leaks};
+ghost use Rattle.pv_model.specs.State.{Process, process_at};
+
+use crate::found::Found;
+use crate::suspects::{Suspect, note_names};
+use bitflags::Flags;
+use pv_files::{Descriptors, OpenFiles};
+use pv_model::limits::DESCRIPTORS;
+use pv_model::{Perms, Promise, Promises, Why};
+use pv_parts::Parts;
+use pv_procs::Record;
+use pv_promises::Pledge;
+
+// Whether a promise is in a set.
+fn has(held: Promises, promise: Promise) -> bool
+    ensures { result ≡ contains held.0 promise }
+{
+    held.contains(Promises::from_bits_retain(1 << promise.bit()))
+}
+
+// Whether a set has none of these promises.
+fn has_none(held: Promises, promises: &[Promise]) -> bool
+    ensures { result ≡ list_all (λ promise. not (contains held.0 promise)) promises.now }
+{
+    promises.iter().all(|promise| !has(held, *promise))
+}
+
+// Whether a process is pledged, without any of these promises.
+fn is_pledged_without(pledge: &Pledge, promises: &[Promise]) -> bool
+    ensures { result ≡ has_none_of promises.now pledge.now.promises }
+{
+    match pledge.promises() {
+        None => false,
+        Some(held) => has_none(held, promises),
+    }
+}
+
+// Whether a program that is executed has restraints of its own, or none can be.
+fn is_held_over_exec(pledge: &Pledge) -> bool
+    ensures { result ≡ is_held_over_exec_by pledge.now }
+{
+    is_pledged_without(pledge, &[Promise::Exec]) || pledge.execpromises().is_some()
+}
+
+// Whether a number is that of an open file on a node, whose mode has these letters.
+fn is_open_on(files: &OpenFiles, file: usize, node: u16, needed: Perms) -> bool
+    ensures { result ≡ is_open_on node needed (at_number files.now.files file) }
+{
+    files.is_open(file) && files.node(file) == node && files.mode(file).letters().covers(needed)
+}
+
+// The number of the open file of a descriptor, where there is one.
+fn file_at(descriptors: &Descriptors, d: u8) -> Option<usize>
+    ensures { result ≡ option_map (λ e. e.file) (at_number descriptors.now d) }
+{
+    descriptors.at(i32::from(d)).ok()
+}
+
+// The least descriptor on a node, with a mode that has these letters.
+fn least_descriptor(
+    files: &OpenFiles,
+    descriptors: &Descriptors,
+    node: u16,
+    needed: Perms,
+) -> Option<u8>
+    ensures { result ≡ least (descriptors_for files.now.files descriptors.now node needed) }
+{
+    descriptors.facts();
+    for d in 0..DESCRIPTORS as u8 {
+        if let Some(file) = file_at(descriptors, d) {
+            if is_open_on(files, file, node, needed) {
+                return Some(d);
+            }
+        }
+    }
+    None
+}
+
+// Why the table of a process leaves a file open.
+fn reason_of_table(record: &Record, found: &Found) -> Option<Why>
+    ensures { result ≡ table_reason_of record.now found.now record.now.unveiled.table }
+{
+    if record.unveiled.is_empty() {
+        return Some(Why::NoTable);
+    }
+    if !record.unveiled.is_locked() {
+        return Some(Why::NotLocked);
+    }
+    if let Some(k) = found.gives {
+        return Some(Why::Gives(k));
+    }
+    if let Some(k) = found.above {
+        return Some(Why::Above(k));
+    }
+    if is_held_over_exec(&record.pledge) {
+        None
+    } else {
+        Some(Why::Exec)
+    }
+}
+
+// The first reason why a process is not closed to a file.
+fn first_reason(record: &Record, files: &OpenFiles, node: u16, found: &Found) -> Option<Why>
+    ensures { result ≡ first_reason_of files.now.files record.now node found.now }
+{
+    if let Some(d) = least_descriptor(files, &record.descriptors, node, Perms::R) {
+        return Some(Why::Reads(d));
+    }
+    let opening = [Promise::Rpath, Promise::Exec, Promise::Cpath];
+    if is_pledged_without(&record.pledge, &opening) {
+        None
+    } else {
+        reason_of_table(record, found)
+    }
+}
+
+// Whether a process can't write a file, beside what keeps it closed.
+fn can_not_write(record: &Record, files: &OpenFiles, node: u16, found: &Found) -> bool
+    ensures { result ≡ is_kept files.now.files record.now node found.now }
+{
+    if least_descriptor(files, &record.descriptors, node, Perms::W).is_some() {
+        return false;
+    }
+    if is_pledged_without(&record.pledge, &[Promise::Wpath, Promise::Exec]) {
+        return true;
+    }
+    !record.unveiled.is_empty()
+        && record.unveiled.is_locked()
+        && !found.writes
+        && is_held_over_exec(&record.pledge)
+}
+
+/// The first reason why a process is not closed to a file, of which all is found.
+pub(crate) fn reason_for(parts: &Parts, suspect: &Suspect, node: u16) -> Option<Why>
+    requires { IsSome (process_at parts.now suspect.now.pid) }
+    ensures { result ≡ reason_at parts.now node suspect.now }
+{
+    first_reason(
+        parts.record(suspect.pid),
+        parts.files(),
+        node,
+        &suspect.found,
+    )
+}
+
+/// Whether a process can't write a file, of which all is found, beside what keeps it closed.
+pub(crate) fn is_kept_from(parts: &Parts, suspect: &Suspect, node: u16) -> bool
+    requires { IsSome (process_at parts.now suspect.now.pid) }
+    ensures { result ≡ kept_at parts.now node suspect.now }
+{
+    can_not_write(
+        parts.record(suspect.pid),
+        parts.files(),
+        node,
+        &suspect.found,
+    )
+}
+
+/// Why a live process is not closed to a file: the first reason, by its descriptors, then its table, its lock, an entry for a
+/// name of the file, one for a directory above it, and execve(2). None where it is closed: it reads the file by no
+/// descriptor, and never will.
+pub fn leak(parts: &Parts, pid: u32, node: u16) -> Option<Why>
+    requires { IsSome (process_at parts.now pid) }
+    ensures { (p : Process) → process_at parts.now pid ≡ Some p → result ≡ first_of (leaks parts.now p node) }
+{
+    let mut suspects = [Suspect::new(pid)];
+    note_names(parts, node, &mut suspects);
+    reason_for(parts, &suspects[0], node)
+}
+
+/// Whether a live process writes a file by no descriptor, and never will, if it is closed to it.
+pub fn frozen_to(parts: &Parts, pid: u32, node: u16) -> bool
+    requires { IsSome (process_at parts.now pid) }
+    ensures { (p : Process) → process_at parts.now pid ≡ Some p → result ≡ is_frozen_to parts.now p node }
+{
+    let mut suspects = [Suspect::new(pid)];
+    note_names(parts, node, &mut suspects);
+    is_kept_from(parts, &suspects[0], node)
+}

@@ -1,0 +1,100 @@
+//! The live processes, with what is found of each.
+ghost use Rattle.std.specs.Prelude.{◌≡◌, map, true, IsTrue, IsSome};
+ghost use Rattle.std.specs.FinMap.Entries.{is_sorted};
+ghost use Rattle.std.specs.Ordering.{nat_cmp};
+ghost use Rattle.pv_audit.specs.Findings.{are_live, note_of, noted_by, suspect};
+ghost use Rattle.pv_model.specs.Held.{live_processes};
+ghost use Rattle.pv_model.specs.State.{process_at};
+ghost use Rattle.pv_model.specs.Tree.{is_directory_at, names_of};
+
+use crate::found::Found;
+use crate::names::next_name;
+use arrayvec::ArrayVec;
+use pv_model::Name;
+use pv_model::limits::{LAST_PROCESS, PROCESSES};
+use pv_parts::Parts;
+
+/// A live process, with what is found of its table and a file.
+#[derive(Clone, Copy, Debug, PartialEq, Eq, Default)]
+pub(crate) struct Suspect {
+    /// The number of the process.
+    pub(crate) pid: u32,
+    /// What is found.
+    pub(crate) found: Found,
+}
+
+/// All live processes.
+pub(crate) type Suspects = ArrayVec<Suspect, PROCESSES>;
+
+impl Suspect {
+    /// A process of which nothing is found yet.
+    pub(crate) fn new(pid: u32) -> Suspect
+        ensures { result ≡ suspect pid }
+    {
+        Suspect {
+            pid,
+            found: Found::nothing(),
+        }
+    }
+
+    // Adds what the table of the process leaves open by another name of the file.
+    fn note(&mut self, parts: &Parts, directory: u16, name: &Name)
+        requires live { IsSome (process_at parts.now self.old.pid) }
+        requires directory { IsTrue (is_directory_at parts.now.tree directory) }
+        ensures { self.new ≡ note_of parts.now (directory, name.now) self.old }
+    {
+        let table = &parts.record(self.pid).unveiled;
+        self.found.note(table, parts.tree(), directory, name);
+    }
+}
+
+// Adds what the table of each process leaves open by another name of the file.
+fn note_name(parts: &Parts, suspects: &mut [Suspect], directory: u16, name: &Name)
+    requires live { are_live parts.now suspects.old ≡ true }
+    requires directory { IsTrue (is_directory_at parts.now.tree directory) }
+    ensures { suspects.new ≡ map (note_of parts.now (directory, name.now)) suspects.old }
+{
+    for k in 0..suspects.len() {
+        suspects[k].note(parts, directory, name);
+    }
+}
+
+/// Goes once through the names of a file, and adds to each process what its table leaves open by them.
+pub(crate) fn note_names(parts: &Parts, node: u16, suspects: &mut [Suspect])
+    requires { are_live parts.now suspects.old ≡ true }
+    ensures { suspects.new ≡ map (noted_by parts.now (names_of parts.now.tree node)) suspects.old }
+{
+    let tree = parts.tree();
+    // What its sizes tell with them: every tree is well-formed.
+    let _ = tree.sizes();
+    let mut next = next_name(tree, node, None);
+    while let Some((directory, name)) = next {
+        note_name(parts, suspects, directory, &name);
+        next = next_name(tree, node, Some((directory, name.as_slice())));
+    }
+}
+
+// All live processes, of which nothing is found yet, in the order of their numbers.
+fn live_suspects(parts: &Parts) -> Suspects
+    ensures { result.items ≡ map (λ p. suspect p.0) (live_processes parts.now.processes) }
+{
+    parts.facts();
+    let mut suspects = Suspects::new();
+    for pid in 0..LAST_PROCESS + 1 {
+        if parts.processes().live(pid) {
+            suspects.push(Suspect::new(pid));
+        }
+    }
+    suspects
+}
+
+/// All live processes, with all that is found of each and a file, in the order of their numbers.
+pub(crate) fn found_suspects(parts: &Parts, node: u16) -> Suspects
+    ensures items { result.items ≡ map (noted_by parts.now (names_of parts.now.tree node)) (map (λ p. suspect p.0) (live_processes parts.now.processes)) }
+    ensures ordered { is_sorted nat_cmp parts.now.processes ≡ true }
+{
+    parts.facts();
+    let mut suspects = live_suspects(parts);
+    note_names(parts, node, suspects.as_mut_slice());
+    suspects
+}

@@ -1,0 +1,116 @@
+//! What an audit finds of a file.
+ghost use Rattle.std.specs.Prelude.{◌≡◌, true, IsSome};
+ghost use Rattle.std.specs.List.{list_all};
+ghost use Rattle.pv_audit.specs.Findings.{are_live};
+ghost use Rattle.pv_audit.specs.Reasons.{kept_at, leak_among};
+ghost use Rattle.pv_model.specs.Sealed.{audit as audit_by_definition, audit_node, is_file, verdict};
+ghost use Rattle.pv_model.specs.Effect.{node_of as node_at_place};
+ghost use Rattle.pv_model.specs.Tree.{node_at};
+
+use crate::reasons::{is_kept_from, reason_for};
+use crate::suspects::{Suspect, found_suspects};
+use pv_model::limits::ROOT;
+use pv_model::{AuditFault, Errno, Follow, Leak, Place, Sort, Verdict};
+use pv_namei::{PlainLookup, resolve};
+use pv_parts::Parts;
+use pv_tree::Tree;
+
+// The first process that is not closed to a file, with its first reason.
+fn first_leak(parts: &Parts, suspects: &[Suspect], node: u16) -> Option<Leak>
+    requires { are_live parts.now suspects.now ≡ true }
+    ensures { result ≡ leak_among parts.now node suspects.now }
+{
+    for suspect in suspects {
+        if let Some(why) = reason_for(parts, suspect, node) {
+            return Some(Leak {
+                pid: suspect.pid,
+                why,
+            });
+        }
+    }
+    None
+}
+
+// Whether no process can write a file, beside what keeps each closed.
+fn are_all_kept(parts: &Parts, suspects: &[Suspect], node: u16) -> bool
+    requires { are_live parts.now suspects.now ≡ true }
+    ensures { result ≡ list_all (kept_at parts.now node) suspects.now }
+{
+    for suspect in suspects {
+        if !is_kept_from(parts, suspect, node) {
+            return false;
+        }
+    }
+    true
+}
+
+/// What is found of a file: sealed, sealed and frozen, or exposed to the least process that is not closed to it. None
+/// where the file has no name.
+pub fn verdict_of(parts: &Parts, node: u16) -> Option<Verdict>
+    requires { IsSome (node_at parts.now.tree node) }
+    ensures { result ≡ verdict parts.now node }
+{
+    if parts.tree().names(node) == 0 {
+        return None;
+    }
+    let found = found_suspects(parts, node);
+    let suspects = found.as_slice();
+    if let Some(leak) = first_leak(parts, suspects, node) {
+        return Some(Verdict::Exposed(leak));
+    }
+    if are_all_kept(parts, suspects, node) {
+        Some(Verdict::Frozen)
+    } else {
+        Some(Verdict::Sealed)
+    }
+}
+
+// Whether a number is that of a file.
+fn is_file(tree: &Tree, node: u16) -> bool
+    ensures { result ≡ is_file (node_at tree.now.tree node) }
+{
+    tree.is_used(node) && matches!(tree.kind(node), Sort::File | Sort::Executable)
+}
+
+// The node at a place.
+fn node_of(place: &Place) -> Option<u16>
+    ensures { result ≡ node_at_place place.now }
+{
+    match place {
+        Place::Node(node) => Some(*node),
+        Place::At { node, .. } => *node,
+    }
+}
+
+// What is found of a node.
+fn audit_node(parts: &Parts, node: Option<u16>) -> Result<Verdict, AuditFault>
+    ensures { result ≡ audit_node parts.now node }
+{
+    let Some(node) = node else {
+        return Err(AuditFault::Walk(Errno::ENOENT));
+    };
+    if !is_file(parts.tree(), node) {
+        return Err(AuditFault::NotFile);
+    }
+    match verdict_of(parts, node) {
+        Some(found) => Ok(found),
+        None => Err(AuditFault::Walk(Errno::ENOENT)),
+    }
+}
+
+/// What is found of the file that a path names, walked from the root, following links, unjudged: sealed, sealed and frozen,
+/// or exposed to the least process that is not closed to it, with the first reason. It takes no memory.
+///
+/// # Errors
+///
+/// `Walk` with the error that the walk answers, or `ENOENT` where it ends with no node; `NotFile` where the path names no
+/// file.
+pub fn audit(parts: &Parts, path: &[u8]) -> Result<Verdict, AuditFault>
+    ensures { result ≡ audit_by_definition parts.now path.now }
+{
+    let _ = parts.tree().sizes();
+    match resolve(parts.tree(), &mut PlainLookup, ROOT, path, Follow::Last) {
+        Ok(place) => audit_node(parts, node_of(&place)),
+        Err(errno) => Err(AuditFault::Walk(errno)),
+    }
+}

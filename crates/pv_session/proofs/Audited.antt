@@ -1,0 +1,55 @@
+-- What is found of a file, and what it says of all runs.
+use Rattle.std.proofs.Common.{◌≡◌, ℕ, Bool, true, false, List, length, Option, None, Some, Result, Ok, Err, refl, ap, sym, subst, ◌∙◌}
+use Rattle.std.proofs.lemmas.Bool.{and_parts}
+use Rattle.pv_model.specs.declared.errno.Errno.{Errno}
+use Rattle.pv_model.specs.declared.follow.Follow.TheVariants.{Last}
+use Rattle.pv_model.specs.declared.place.Place.{Place}
+use Rattle.pv_model.specs.declared.verdict.AuditFault.{AuditFault}
+use Rattle.pv_model.specs.declared.verdict.Verdict.{Verdict}
+use Rattle.pv_model.specs.declared.verdict.Verdict.TheVariants.{Sealed as SealedVerdict, Frozen, Exposed}
+use Rattle.pv_model.specs.Bytes.{Bytes}
+use Rattle.pv_model.specs.Effect.{node_of}
+use Rattle.pv_model.specs.Grammar.Programs.{program_of}
+use Rattle.pv_model.specs.Sealed
+use Rattle.pv_model.specs.State.{State}
+use Rattle.pv_model.specs.Tree.{root, node_at}
+use Rattle.pv_model.specs.Walk.{resolve}
+use Rattle.pv_laws.specs.States.{IsWhole}
+use Rattle.pv_rights.proofs.Verdicts.{verdicts-exact}
+use Rattle.pv_runs.proofs.Ranges.{program_of-spells}
+use Rattle.pv_secrets.proofs.ForEver.{sealed-for_ever, frozen-for_ever}
+use Rattle.pv_session.specs.Audits.{node_there, node_named, IsSecret, IsUnchanging, KeepsSecret}
+
+module _ (s : State) (whole : IsWhole s) where
+  secret : (f : ℕ) → Sealed.is_file (node_at s.tree f) ≡ true → Sealed.is_sealed s f ≡ true → IsSecret s f
+  secret f file sealed = λ pids bytes long. sealed-for_ever program_of program_of-spells s pids f bytes whole (record { file = file; sealed = sealed }) long
+
+  unchanging : (f : ℕ) → Sealed.is_file (node_at s.tree f) ≡ true → Sealed.is_frozen s f ≡ true → IsUnchanging s f
+  unchanging f file frozen = λ pids. frozen-for_ever program_of program_of-spells s pids f whole (record { file = file; frozen = frozen })
+
+  sealed-by_frozen : (f : ℕ) → Sealed.is_frozen s f ≡ true → Sealed.is_sealed s f ≡ true
+  sealed-by_frozen f frozen = (and_parts (Sealed.is_sealed s f) _ frozen).0
+
+  module _ (path : Bytes) where
+    by_verdict : (f : ℕ) → node_named s path ≡ Some f → Sealed.is_file (node_at s.tree f) ≡ true → (v : Option Verdict) → Sealed.verdict s f ≡ v → KeepsSecret s path (Sealed.audit_file v)
+    by_verdict f named file None is = tt
+    by_verdict f named file (Some SealedVerdict) is = (f, named, secret f file ((verdicts-exact s f).sealed.0 is).0)
+    by_verdict f named file (Some Frozen) is =
+        let frozen : Sealed.is_frozen s f ≡ true = (verdicts-exact s f).frozen.0 is in
+        (f, named, secret f file (sealed-by_frozen f frozen), unchanging f file frozen)
+    by_verdict f named file (Some (Exposed leak)) is = tt
+
+    by_node : (o : Option ℕ) → node_named s path ≡ o → KeepsSecret s path (Sealed.audit_node s o)
+    by_node None named = tt
+    by_node (Some f) named = by (Sealed.is_file (node_at s.tree f)) refl
+      where
+        by : (b : Bool) → Sealed.is_file (node_at s.tree f) ≡ b → KeepsSecret s path (Rattle.std.proofs.Common.cond b (Sealed.audit_file (Sealed.verdict s f)) (Err Rattle.pv_model.specs.declared.verdict.AuditFault.TheVariants.NotFile))
+        by true file = by_verdict f named file (Sealed.verdict s f) refl
+        by false other = tt
+
+    by_place : (r : Result Place Errno) → resolve s.tree Last root path ≡ r → KeepsSecret s path (Sealed.audit_place s r)
+    by_place (Err e) is = tt
+    by_place (Ok place) is = by_node (node_of place) (ap node_there is)
+
+    pub audit-keeps_secret : KeepsSecret s path (Sealed.audit s path)
+    audit-keeps_secret = by_place (resolve s.tree Last root path) refl

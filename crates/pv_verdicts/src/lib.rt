@@ -1,0 +1,10 @@
+//! What an audit finds, as text.
+//!
+//! `line` makes the line of a verdict on a sheet, and writes it.
+#![tactic(auto)]
+
+mod line;
+#[cfg(test)]
+mod tests;
+
+pub use line::write_verdict;
