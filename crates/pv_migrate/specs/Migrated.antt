@@ -1,7 +1,7 @@
 -- What the tree of an image of version 1 becomes in one of version 2.
-use Rattle.std.specs.Prelude.{◌≡◌, ◌↔◌, ℕ, suc, ◌+◌, ◌-◌, Bool, ◌&&◌, if◌then◌else◌, nat_le, nat_lt, IsTrue, IsFalse, length, take, sum_by, bytes_eq, Result, Ok, Err}
+use Rattle.std.specs.Prelude.{◌≡◌, ◌↔◌, ⊤, ℕ, suc, ◌+◌, ◌-◌, Bool, ◌&&◌, if◌then◌else◌, nat_le, nat_lt, IsTrue, IsFalse, length, take, sum_by, bytes_eq, Result, Ok, Err}
 use Rattle.pv_model.specs.declared.fault.ImageFault.{ImageFault}
-use Rattle.pv_model.specs.declared.fault.ImageFault.TheVariants.{Short, Magic}
+use Rattle.pv_model.specs.declared.fault.ImageFault.TheVariants.{Short, Magic, Memory as ImageMemory}
 use Rattle.pv_model.specs.declared.limits.TheConstants.{BLOCK}
 use Rattle.pv_model.specs.declared.store_fault.MigrateFault.{MigrateFault}
 use Rattle.pv_model.specs.declared.store_fault.MigrateFault.TheVariants.{Image, Small}
@@ -91,6 +91,13 @@ SmallIsWantOfRoom = (bytes : Bytes) (blocks inodes : ℕ) → (migrated bytes bl
 abbrev pub ImagesAreJudgedFirst : Type 0
 ImagesAreJudgedFirst =
     (bytes : Bytes) (blocks inodes : ℕ) (fault : ImageFault) → (migrated bytes blocks inodes ≡ Err (Image fault)) ↔ (mounted_first bytes ≡ Err fault)
+
+-- ---- what is answered
+
+-- want of memory is told as such
+abbrev pub IsMigrateFault : MigrateFault → Type 0
+IsMigrateFault (Image ImageMemory) = ⊥
+IsMigrateFault fault = ⊤
 
 -- ---- what is written
 

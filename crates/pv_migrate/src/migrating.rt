@@ -1,6 +1,6 @@
 //! An image of version 1 made into one of version 2.
 ghost use Rattle.std.specs.Prelude.{◌≡◌, ◌⊎◌, Ok, Err, IfOk, IfErr};
-ghost use Rattle.pv_migrate.specs.Migrated.{migrated, IsMigrated};
+ghost use Rattle.pv_migrate.specs.Migrated.{migrated, IsMigrated, IsMigrateFault};
 ghost use Rattle.pv_model.specs.Image.{IsWrittenImageOf};
 ghost use Rattle.pv_model.specs.Tree.{Tree};
 
@@ -29,6 +29,7 @@ pub fn migrate(
 ) -> Result<Vec<u8>, MigrateFault>
     ensures written { IfOk result (λ image. (t : Tree) × (migrated bytes.items blocks inodes ≡ Ok t) × IsWrittenImageOf image.items t) }
     ensures kept { IfOk result (λ image. IsMigrated bytes.items blocks inodes image.items) }
+    ensures kind { IfErr result IsMigrateFault }
     ensures refused { IfErr result (λ fault. (fault ≡ MigrateFault.Memory) ⊎ (migrated bytes.items blocks inodes ≡ Err fault)) }
 {
     let store = mount_first(alloc, bytes)?;
