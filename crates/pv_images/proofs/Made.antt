@@ -1,6 +1,5 @@
 -- What a manifest makes, check by check, and the image of its tree.
-use Rattle.std.proofs.Common.{◌≡◌, ◌∙◌, ap, sym, subst, refl, ◌==◌, ◌∷◌, is_some, Option, Result, Ok, Err, IfErr, OnOk, ⊎_elim}
-use Rattle.std.proofs.lemmas.Bool.{eq-eqb, cases_eq, or_left, or_right}
+use Rattle.std.proofs.Common.{◌≡◌, ◌∙◌, ap, subst, refl, Option, Result, Ok, Err, IfErr, OnOk}
 use Rattle.pv_model.specs.declared.fault.ManifestFault.{ManifestFault}
 use Rattle.pv_model.specs.declared.fault.ManifestFault.TheVariants.{Form, Size, Parent, Exists, Source, Room, Memory as ManifestMemory}
 use Rattle.pv_model.specs.declared.run_fault.RunFault.{RunFault}
@@ -10,10 +9,10 @@ use Rattle.pv_model.specs.Grammar.Manifests.{Manifest, read_manifest, tree_of}
 use Rattle.pv_model.specs.Held.{named_tree}
 use Rattle.pv_model.specs.Image.{IsWrittenImageOf}
 use Rattle.pv_model.specs.RunFault.{of_manifest}
-use Rattle.pv_model.specs.Tree.{Tree, root, named_numbers}
+use Rattle.pv_model.specs.Tree.{Tree}
 use Rattle.pv_image.specs.Reading.{RefusesManifest}
 use Rattle.pv_tree_laws.specs.Kept.{EachIsNamed}
-use Rattle.pv_tree_laws.proofs.Keeping.{only_nodes_all}
+use Rattle.pv_migrate.proofs.Named.{named_tree-all}
 use Rattle.pv_run.specs.Images.{BeginsImage, IsWriteFault, ToldImage}
 use Rattle.pv_images.specs.Making.{HasBegunMaking, HasMade, StandsInManifest, tree_made}
 
@@ -54,15 +53,6 @@ module _ (bytes : Bytes) (told : Option Bytes) where
     refuses_tree ManifestMemory e is refused = rw is refl
 
 -- ---- the image of the tree
-
--- a tree of which each node but the root is named is the tree of its named nodes
-pub named_tree-all : (t : Tree) → EachIsNamed t → named_tree t ≡ t
-named_tree-all t each =
-    only_nodes_all t (root ∷ named_numbers t) (λ n node is.
-    ⊎_elim
-    (λ same. or_left (root == n) _ (eq-eqb root n (sym same)))
-    (λ other. or_right (root == n) _ (each.named n other (ap is_some is)))
-    (cases_eq n root))
 
 module _ (made : Result Tree ManifestFault) (t u : Tree) (is : made ≡ Ok t) (named : EachIsNamed t) (same : u ≡ t) (before after : Option Bytes) where
   is_whole : named_tree u ≡ t

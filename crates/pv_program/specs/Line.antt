@@ -1,16 +1,19 @@
 -- What the words of a command line ask for.
-use Rattle.std.specs.Prelude.{◌≡◌, ◌≢◌, ◌⊎◌, ⊤, ◌<◌, true, false, if◌then◌else◌, bytes_eq, List, [], ◌∷◌, length, codes, Option, None, Some}
-use Rattle.clap.specs.Words.{App, Row, Rule, Text, IsAmong, app_of, fault_of, first_of, is_broken, kind_of, new_app, new_rule, subcommand_of, takes, with_rule, with_subcommand}
+use Rattle.std.specs.Prelude.{◌≡◌, ◌≢◌, ◌⊎◌, ⊤, ℕ, ◌<◌, true, false, if◌then◌else◌, bytes_eq, List, [], ◌∷◌, length, codes, Option, None, Some}
+use Rattle.clap.specs.Words.{App, Row, Rule, Text, IsAmong, app_of, fault_of, first_of, kind_of, new_app, new_rule, subcommand_of, takes, with_rule, with_subcommand}
 use Rattle.clap.specs.declared.builder.ArgAction.TheVariants.{Set}
 use Rattle.clap.specs.declared.builder.command.Command.{Command as Parser}
 use Rattle.clap.specs.declared.builder.command.Command.TheViews.{out-Command}
 use Rattle.clap.specs.declared.error.Error.{Error}
 use Rattle.clap.specs.declared.error.kind.ErrorKind.{ErrorKind}
 use Rattle.clap.specs.declared.error.kind.ErrorKind.TheVariants.{OutOfMemory, MissingSubcommand}
+use Rattle.pv_model.specs.Grammar.Arguments.{in_range}
+use Rattle.pv_model.specs.Grammar.Lines.{decimal_of}
 use Rattle.pv_program.specs.declared.command.Command.{Command}
-use Rattle.pv_program.specs.declared.command.Command.TheVariants.{RunTree, MakeImage, ListImage, RunImage}
+use Rattle.pv_program.specs.declared.command.Command.TheVariants.{RunTree, MakeImage, ListImage, RunImage, MigrateImage}
 use Rattle.pv_program.specs.declared.command.LineFault.{LineFault}
 use Rattle.pv_program.specs.declared.command.LineFault.TheVariants as line
+use Rattle.pv_program.specs.declared.command.Migration.{Migration}
 
 -- ---- what the parser is told of the program
 
@@ -35,6 +38,12 @@ abbrev pub run_app : App
 run_app =
     with_rule (with_rule (with_rule (new_app (codes "run")) (text_rule (codes "IMAGE"))) (text_rule (codes "SCHEDULE"))) (text_rule (codes "OUT"))
 
+-- `migrate IMAGE OUT BLOCKS INODES`
+abbrev pub migrate_app : App
+migrate_app =
+    with_rule (with_rule (with_rule (with_rule (new_app (codes "migrate")) (text_rule (codes "IMAGE"))) (text_rule (codes "OUT"))) (text_rule (codes "BLOCKS")))
+    (text_rule (codes "INODES"))
+
 -- the program's own: it has a version, and wants a command
 abbrev pub bare_app : App
 bare_app = record (new_app (codes "pvsim")) {
@@ -49,7 +58,7 @@ abbrev pub image_app : App
 image_app = with_subcommand (with_subcommand bundle_app make_image_app.top) list_app.top
 
 abbrev pub pvsim_app : App
-pvsim_app = with_subcommand image_app run_app.top
+pvsim_app = with_subcommand (with_subcommand image_app run_app.top) migrate_app.top
 
 -- a parser that reads just this
 pub record IsParserOf (app : App) (parser : Parser) : Type 0 where
@@ -63,6 +72,16 @@ abbrev pub entered_text : Option (Text × List Row) → Text → Text → Option
 entered_text None command argument = None
 entered_text (Some p) command argument = if bytes_eq p.0 command then first_of argument p.1 else None
 
+-- the number that a word spells, a decimal without leading zeros, where it is one of 32 bits
+unfoldable pub size_in : Text → Option ℕ
+size_in word = in_range 4294967295 (decimal_of word)
+
+-- a text is entered that spells a number
+pub record SpellsSize (entered : Option (Text × List Row)) (command argument : Text) (size : ℕ) : Type 0 where
+  pub word : Text
+  pub is_entered : entered_text entered command argument ≡ Some word
+  pub is_size : size_in word ≡ Some size
+
 -- the command and its texts stand in the matches of a subcommand
 abbrev pub IsCommandIn : Option (Text × List Row) → Command → Type 0
 IsCommandIn entered (RunTree file) = entered_text entered (codes "run-tree") (codes "FILE") ≡ Some file.now
@@ -72,6 +91,27 @@ IsCommandIn entered (ListImage image) = entered_text entered (codes "ls") (codes
 IsCommandIn entered (RunImage image schedule out) =
     (entered_text entered (codes "run") (codes "IMAGE") ≡ Some image.now) × (entered_text entered (codes "run") (codes "SCHEDULE") ≡ Some schedule.now)
     × (entered_text entered (codes "run") (codes "OUT") ≡ Some out.now)
+IsCommandIn entered (MigrateImage image out blocks inodes) =
+    (entered_text entered (codes "migrate") (codes "IMAGE") ≡ Some image.now) × (entered_text entered (codes "migrate") (codes "OUT") ≡ Some out.now)
+    × SpellsSize entered (codes "migrate") (codes "BLOCKS") blocks × SpellsSize entered (codes "migrate") (codes "INODES") inodes
+
+-- the texts of a migration stand there
+pub record HasTexts (entered : Option (Text × List Row)) (image out blocks inodes : Text) : Type 0 where
+  pub has_image : entered_text entered (codes "migrate") (codes "IMAGE") ≡ Some image
+  pub has_out : entered_text entered (codes "migrate") (codes "OUT") ≡ Some out
+  pub has_blocks : entered_text entered (codes "migrate") (codes "BLOCKS") ≡ Some blocks
+  pub has_inodes : entered_text entered (codes "migrate") (codes "INODES") ≡ Some inodes
+
+-- the command that they ask for, where both numbers are
+abbrev pub IsMigrationOf : Migration → Command → Type 0
+IsMigrationOf texts (MigrateImage image out blocks inodes) =
+    (image.now ≡ texts.image.now) × (out.now ≡ texts.out.now) × (size_in texts.blocks.now ≡ Some blocks) × (size_in texts.inodes.now ≡ Some inodes)
+IsMigrationOf texts command = ⊥
+
+-- a command in which no number stands
+abbrev pub IsWithoutNumbers : Command → Type 0
+IsWithoutNumbers (MigrateImage image out blocks inodes) = ⊥
+IsWithoutNumbers command = ⊤
 
 -- with no words: the bundle on the standard input
 abbrev pub IsWithoutWords : Command → Type 0
@@ -100,10 +140,19 @@ pub record IsRefused (words : List Text) (error : Error) : Type 0 where
   pub is_among : IsAmong (kind_of error) (fault_of pvsim_app words) ⊎ (kind_of error ≡ MissingSubcommand)
   pub none : takes pvsim_app words ≡ true → (command : Command) → IsCommandIn (subcommand_of pvsim_app words) command → ⊥
 
+-- the texts of a migration were entered, and one that is to be a number is none
+pub record LacksNumber (entered : Option (Text × List Row)) : Type 0 where
+  pub image : Text
+  pub out : Text
+  pub blocks : Text
+  pub inodes : Text
+  pub are_entered : HasTexts entered image out blocks inodes
+  pub is_none : (size_in blocks ≡ None) ⊎ (size_in inodes ≡ None)
+
 -- a refusal of words behind the program's name
 abbrev pub RefusesWords : List Text → LineFault → Type 0
 RefusesWords words (line.Parser error) = IsRefused words error
-RefusesWords words line.Number = ⊥
+RefusesWords words line.Number = LacksNumber (subcommand_of pvsim_app words)
 RefusesWords words line.Memory = ⊤
 
 -- a refusal of a line: without words only memory may be wanting

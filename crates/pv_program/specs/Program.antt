@@ -8,6 +8,8 @@ use Rattle.pv_model.specs.declared.run_fault.RunFault.{RunFault}
 use Rattle.pv_model.specs.declared.run_fault.RunFault.TheVariants.{Read, Memory, WriteTrace, WriteImage}
 use Rattle.pv_model.specs.declared.store_fault.ListFault.{ListFault}
 use Rattle.pv_model.specs.declared.store_fault.ListFault.TheVariants.{Read as ListRead, Write as ListWrite}
+use Rattle.pv_model.specs.declared.store_fault.MigrateFault.TheVariants.{Memory as MigrateMemory}
+use Rattle.pv_migrate.specs.Migrated.{migrated}
 use Rattle.pv_run.specs.declared.turns.Summary.{Summary}
 use Rattle.pv_run.specs.declared.stream.TheConstants.{SOURCE_BYTES}
 use Rattle.pv_run.specs.Images.{HasRunOn, IsRunFault, StandsOn}
@@ -15,10 +17,13 @@ use Rattle.pv_run.specs.Run.{HasRun, IsBundleFault, StandsIn, TellsNothingUnless
 use Rattle.pv_run.specs.Streams.{GivesMoreThan}
 use Rattle.pv_images.specs.Listings.{HasListed, IsListFault, StandsInImage, TellsNothingUnlessBegun}
 use Rattle.pv_images.specs.Making.{HasMade, IsMakeFault, StandsInManifest, TellsNothingUnlessWritten, tree_made}
+use Rattle.pv_images.specs.declared.migrating.MigrateStop.{MigrateStop}
+use Rattle.pv_images.specs.declared.migrating.MigrateStop.TheVariants.{Read as MigrateRead, Refused, Write as MigrateWrite}
+use Rattle.pv_images.specs.Migrating.{HasMigrated, IsMigrateStop, StandsInOldImage, TellsNothingUnlessBroken}
 use Rattle.pv_program.specs.declared.command.Command.{Command}
-use Rattle.pv_program.specs.declared.command.Command.TheVariants.{RunTree, MakeImage, ListImage, RunImage}
+use Rattle.pv_program.specs.declared.command.Command.TheVariants.{RunTree, MakeImage, ListImage, RunImage, MigrateImage}
 use Rattle.pv_program.specs.declared.fault.Fault.{Fault}
-use Rattle.pv_program.specs.declared.fault.Fault.TheVariants.{Run, Listing, Line, Words}
+use Rattle.pv_program.specs.declared.fault.Fault.TheVariants.{Run, Listing, Migrating, Line, Words}
 use Rattle.pv_program.specs.Line.{IsAsked, RefusesLine}
 use Rattle.pv_program.specs.Status.{line_status}
 
@@ -32,10 +37,16 @@ abbrev pub IsOfListing : (ListFault → Type 0) → Fault → Type 0
 IsOfListing holds (Listing fault) = holds fault
 IsOfListing holds fault = ⊥
 
+-- it is the end of a migration, of which this holds
+abbrev pub IsOfMigrating : (MigrateStop → Type 0) → Fault → Type 0
+IsOfMigrating holds (Migrating stop) = holds stop
+IsOfMigrating holds fault = ⊥
+
 -- it is a fault of a command that was asked for, and none of the line
 abbrev pub IsOfCommand : Fault → Type 0
 IsOfCommand (Run fault) = ⊤
 IsOfCommand (Listing fault) = ⊤
+IsOfCommand (Migrating stop) = ⊤
 IsOfCommand (Line fault) = ⊥
 IsOfCommand Words = ⊥
 
@@ -131,6 +142,28 @@ RunsFiles {R} {W} remaining failures file_of told write_failures image schedule 
     × RunsImage remaining failures first last turns turns_last had has failed fails told write_failures before after result)
     ⊎ ((((((image ≡ None) ⊎ (schedule ≡ None)) × (result ≡ Err (Run Read))) ⊎ (result ≡ Err (Run Memory)))) × (has ≡ had))
 
+-- an image of version 1 was made into one of version 2 of so many blocks and inodes, from a source to a sink
+pub record MigratesImage {S W : Type 0} (remaining : S → Option Bytes) (failures : S → ℕ) (first last : S) (blocks inodes : ℕ)
+    (told : W → Option Bytes) (write_failures : W → ℕ) (before after : W) (result : Result (Unit {0}) Fault) : Type 0 where
+  -- done: the sink was told just bytes that hold the tree that comes of the image
+  pub made : OnOk result (IfSome (remaining first) (λ bytes. HasMigrated (migrated bytes blocks inodes) (told before) (told after)))
+  -- refused: the first fault stands in the bytes and the sizes, and nothing was written but where the new image could not be written whole
+  pub refused : IfErr result (IsOfMigrating (λ stop. IfSome (remaining first) (λ bytes. StandsInOldImage (migrated bytes blocks inodes) (told before) (told after) stop)))
+  pub kind : IfErr result (IsOfMigrating IsMigrateStop)
+  pub unwritten : IfErr result (IsOfMigrating (TellsNothingUnlessBroken (told before) (told after)))
+  -- a failed read or write was counted
+  pub read : result ≡ Err (Migrating MigrateRead) → Rose (failures first) (failures last) ⊎ GivesMoreThan SOURCE_BYTES (remaining first)
+  pub write : result ≡ Err (Migrating MigrateWrite) → Rose (write_failures before) (write_failures after)
+
+-- the image in a file of these bytes was made into one of version 2, in the file of a name; or a file whose bytes are not known
+-- did not open, or memory was refused for the name
+abbrev pub MigratesFile : {R W : Type 0} → (R → Option Bytes) → (R → ℕ) → (W → Bytes) → (W → Option Bytes) → (W → ℕ) → Option Bytes → Bytes → (blocks inodes : ℕ)
+    → Result (Unit {0}) Fault → Type 0
+MigratesFile {R} {W} remaining failures file_of told write_failures bytes name blocks inodes result =
+    ((first last : R) × (before after : W) × (remaining first ≡ bytes) × IsCreated file_of told name before
+    × MigratesImage remaining failures first last blocks inodes told write_failures before after result)
+    ⊎ (((bytes ≡ None) × (result ≡ Err (Migrating MigrateRead))) ⊎ (result ≡ Err (Migrating (Refused MigrateMemory))))
+
 -- what holds of the file of `run-tree`
 abbrev pub OnRunTree : Command → (Bytes → Type 0) → Type 0
 OnRunTree (RunTree name) holds = holds name.now
@@ -151,6 +184,17 @@ abbrev pub OnRunImage : Command → (Bytes → Bytes → Bytes → Type 0) → T
 OnRunImage (RunImage image schedule out) holds = holds image.now schedule.now out.now
 OnRunImage command holds = ⊤
 
+-- of the files and the sizes of `migrate`
+abbrev pub OnMigrateImage : Command → (Bytes → Bytes → ℕ → ℕ → Type 0) → Type 0
+OnMigrateImage (MigrateImage image out blocks inodes) holds = holds image.now out.now blocks inodes
+OnMigrateImage command holds = ⊤
+
+-- the command writes to a file alone
+abbrev pub WritesFile : Command → Type 0
+WritesFile (MakeImage manifest image) = ⊤
+WritesFile (MigrateImage image out blocks inodes) = ⊤
+WritesFile command = ⊥
+
 -- the command reads files alone
 abbrev pub ReadsFiles : Command → Type 0
 ReadsFiles (RunTree name) = name.now ≢ codes "-"
@@ -161,5 +205,6 @@ abbrev pub IsOutcome : List Bytes → Result (Unit {0}) Fault → Type 0 → (Co
 IsOutcome words (Ok done) stays does = (command : Command) × IsAsked words command × does command
 IsOutcome words (Err (Run fault)) stays does = (command : Command) × IsAsked words command × does command
 IsOutcome words (Err (Listing fault)) stays does = (command : Command) × IsAsked words command × does command
+IsOutcome words (Err (Migrating stop)) stays does = (command : Command) × IsAsked words command × does command
 IsOutcome words (Err (Line fault)) stays does = RefusesLine words fault × (line_status fault ≢ 0 → stays)
 IsOutcome words (Err Words) stays does = ⊥

@@ -9,10 +9,13 @@ use Rattle.pv_model.specs.declared.run_fault.RunFault.{RunFault}
 use Rattle.pv_model.specs.declared.run_fault.RunFault.TheVariants.{Read, Image, Manifest, Schedule, Init, Memory, WriteTrace, WriteImage}
 use Rattle.pv_model.specs.declared.store_fault.ListFault.{ListFault}
 use Rattle.pv_model.specs.declared.store_fault.ListFault.TheVariants.{Read as ListRead, Image as ListedImage, Memory as ListMemory, Write as ListWrite}
+use Rattle.pv_model.specs.declared.store_fault.MigrateFault.TheVariants.{Image as MigratedImage, Small, Memory as MigrateMemory}
+use Rattle.pv_images.specs.declared.migrating.MigrateStop.{MigrateStop}
+use Rattle.pv_images.specs.declared.migrating.MigrateStop.TheVariants.{Read as MigrateRead, Refused, Write as MigrateWrite}
 use Rattle.pv_program.specs.declared.command.LineFault.{LineFault}
 use Rattle.pv_program.specs.declared.command.LineFault.TheVariants as line
 use Rattle.pv_program.specs.declared.fault.Fault.{Fault}
-use Rattle.pv_program.specs.declared.fault.Fault.TheVariants.{Run, Listing, Line, Words}
+use Rattle.pv_program.specs.declared.fault.Fault.TheVariants.{Run, Listing, Migrating, Line, Words}
 
 abbrev pub run_status_of : RunFault → ℕ
 run_status_of (Image ImageMemory) = 3
@@ -33,6 +36,14 @@ list_status_of ListMemory = 3
 list_status_of ListRead = 4
 list_status_of ListWrite = 4
 
+abbrev pub migrate_status_of : MigrateStop → ℕ
+migrate_status_of (Refused (MigratedImage ImageMemory)) = 3
+migrate_status_of (Refused (MigratedImage fault)) = 1
+migrate_status_of (Refused Small) = 1
+migrate_status_of (Refused MigrateMemory) = 3
+migrate_status_of MigrateRead = 4
+migrate_status_of MigrateWrite = 4
+
 -- help and the version are what was asked for; else the words are wrong
 abbrev pub kind_status : ErrorKind → ℕ
 kind_status DisplayHelp = 0
@@ -47,6 +58,7 @@ line_status line.Memory = 3
 abbrev pub status_of : Fault → ℕ
 status_of (Run fault) = run_status_of fault
 status_of (Listing fault) = list_status_of fault
+status_of (Migrating stop) = migrate_status_of stop
 status_of (Line fault) = line_status fault
 status_of Words = 2
 

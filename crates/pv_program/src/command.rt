@@ -1,10 +1,11 @@
 //! The command line.
-ghost use Rattle.std.specs.Prelude.{◌≡◌, ℕ, List, codes, map, false, None, Some, IfOk, IfErr, IfSome, option_map};
+ghost use Rattle.std.specs.Prelude.{◌≡◌, ◌⊎◌, ℕ, List, codes, map, false, None, Some, IfOk, IfErr, IfSome, option_map};
 ghost use Rattle.clap.specs.Words.{app_of, rule_of, subcommand_of, subcommand_rows_of};
-ghost use Rattle.pv_program.specs.Line.{IsAsked, IsCommandIn, IsParserOf, RefusesLine, RefusesWords, bundle_app, entered_text, image_app, list_app, make_image_app, pvsim_app, run_app, run_tree_app, text_rule};
+ghost use Rattle.pv_program.specs.Line.{HasTexts, IsAsked, IsCommandIn, IsMigrationOf, IsParserOf, IsWithoutNumbers, RefusesLine, RefusesWords, bundle_app, entered_text, image_app, list_app, make_image_app, migrate_app, pvsim_app, run_app, run_tree_app, size_in, text_rule};
 
 use clap::error::ErrorKind;
 use clap::{Arg, ArgAction, ArgMatches, Command as Parser, Error as ParserError};
+use pv_text::words::decimal;
 use std::alloc::{AllocError, Global};
 use std::convert::AsStr;
 use thiserror::Error;
@@ -32,6 +33,17 @@ pub enum Command<'a> {
         /// The file that gets the image of what the run leaves.
         out: &'a str,
     },
+    /// Make an image of version 2 of one of version 1.
+    MigrateImage {
+        /// The file of the image.
+        image: &'a str,
+        /// The file that gets the new image.
+        out: &'a str,
+        /// The blocks of the new image.
+        blocks: u32,
+        /// Its inodes.
+        inodes: u32,
+    },
 }
 
 /// Why a command line is none.
@@ -40,7 +52,7 @@ pub enum LineFault {
     /// The parser's refusal; also the text of `--help` and `--version`.
     #[error("{0}")]
     Parser(ParserError),
-    /// A number is none, or out of range. No command that is offered today has one.
+    /// A number is none, or out of range.
     #[error("pvsim: number\n")]
     Number,
     /// Memory was refused.
@@ -138,6 +150,22 @@ fn run_parser<'a>(alloc: Global) -> Result<Parser<'a>, AllocError>
         ))
 }
 
+// The parser of `migrate`.
+fn migrate_parser<'a>(alloc: Global) -> Result<Parser<'a>, AllocError>
+    ensures { IfOk result (IsParserOf migrate_app) }
+{
+    Parser::new(alloc, "migrate")
+        .about("Make an image of version 2 of one of version 1: each node keeps its number")
+        .arg(text(alloc, "IMAGE", "an image of version 1"))?
+        .arg(text(alloc, "OUT", "the file that gets the new image"))?
+        .arg(text(alloc, "BLOCKS", "the new image's blocks, at most 65535"))?
+        .arg(text(
+            alloc,
+            "INODES",
+            "its inodes, at most 4096, and no fewer than before",
+        ))
+}
+
 // The parser of the program, with its command on bundles.
 fn bundle_parser<'a>(alloc: Global) -> Result<Parser<'a>, AllocError>
     ensures { IfOk result (λ parser. app_of parser ≡ bundle_app) }
@@ -160,11 +188,13 @@ fn image_parser<'a>(alloc: Global) -> Result<Parser<'a>, AllocError>
         .subcommand(list_parser(alloc)?)
 }
 
-// The parser of the command line: the same, with the command that runs an image.
+// The parser of the command line: the same, with the commands that run an image and migrate one.
 fn parser<'a>(alloc: Global) -> Result<Parser<'a>, AllocError>
     ensures { IfOk result (λ parser. app_of parser ≡ pvsim_app) }
 {
-    image_parser(alloc)?.subcommand(run_parser(alloc)?)
+    image_parser(alloc)?
+        .subcommand(run_parser(alloc)?)?
+        .subcommand(migrate_parser(alloc)?)
 }
 
 // The text of an argument of a command, where the matches are those of that command.
@@ -205,11 +235,69 @@ fn run_image_in<'a>(matches: &ArgMatches<'a>) -> Option<Command<'a>>
     })
 }
 
-// The command that stands in the matches of a line.
+// The number that a word spells, where it is one of 32 bits.
+fn size_of(word: &str) -> Option<u32>
+    ensures { result ≡ size_in word.now }
+{
+    if word == "4294967295" {
+        return Some(u32::MAX);
+    }
+    let size = decimal(word.as_bytes())?;
+    // What is greater is read as the greatest.
+    if size == u32::MAX {
+        return None;
+    }
+    Some(size)
+}
+
+// The texts of `migrate`.
+#[derive(Clone, Copy)]
+struct Migration<'a> {
+    image: &'a str,
+    out: &'a str,
+    blocks: &'a str,
+    inodes: &'a str,
+}
+
+impl<'a> Migration<'a> {
+    // The command, if both numbers are.
+    fn command(self) -> Option<Command<'a>>
+        ensures found { IfSome result (IsMigrationOf self.entry) }
+        ensures none { result ≡ None → (size_in self.entry.blocks.now ≡ None) ⊎ (size_in self.entry.inodes.now ≡ None) }
+    {
+        let blocks = size_of(self.blocks)?;
+        let inodes = size_of(self.inodes)?;
+        Some(Command::MigrateImage {
+            image: self.image,
+            out: self.out,
+            blocks,
+            inodes,
+        })
+    }
+}
+
+// The texts of `migrate`, where the matches are those.
+fn migration_in<'a>(matches: &ArgMatches<'a>) -> Option<Migration<'a>>
+    ensures found { IfSome result (λ texts. HasTexts (subcommand_rows_of matches.now) texts.image.now texts.out.now texts.blocks.now texts.inodes.now) }
+    ensures none { result ≡ None → (image out blocks inodes : List ℕ) → HasTexts (subcommand_rows_of matches.now) image out blocks inodes → ⊥ }
+{
+    let image = text_of(matches, "migrate", "IMAGE")?;
+    let out = text_of(matches, "migrate", "OUT")?;
+    let blocks = text_of(matches, "migrate", "BLOCKS")?;
+    let inodes = text_of(matches, "migrate", "INODES")?;
+    Some(Migration {
+        image,
+        out,
+        blocks,
+        inodes,
+    })
+}
+
+// The command without numbers that stands in the matches of a line.
 #[tactic(auto, using(crate::proofs::LineLemmas::no_command))]
 fn command_in<'a>(matches: &ArgMatches<'a>) -> Option<Command<'a>>
     ensures found { IfSome result (IsCommandIn (subcommand_rows_of matches.now)) }
-    ensures none { result ≡ None → (command : Command) → IsCommandIn (subcommand_rows_of matches.now) command → ⊥ }
+    ensures none { result ≡ None → (command : Command) → IsWithoutNumbers command → IsCommandIn (subcommand_rows_of matches.now) command → ⊥ }
 {
     if let Some(file) = text_of(matches, "run-tree", "FILE") {
         return Some(Command::RunTree(file));
@@ -230,6 +318,9 @@ fn parsed<'a, S: AsStr>(alloc: Global, words: &'a [S]) -> Result<Command<'a>, Li
 {
     let mut parser = parser(alloc)?;
     let matches = parser.try_get_matches_from_mut(words)?;
+    if let Some(migration) = migration_in(&matches) {
+        return migration.command().ok_or(LineFault::Number);
+    }
     match command_in(&matches) {
         Some(command) => Ok(command),
         None => Err(LineFault::Parser(parser.error(
@@ -246,6 +337,7 @@ fn parsed<'a, S: AsStr>(alloc: Global, words: &'a [S]) -> Result<Command<'a>, Li
 /// # Errors
 ///
 /// - `Parser`: the parser does not take the words, or they ask for help or the version.
+/// - `Number`: a word that is to be a number is no decimal without leading zeros, or one above 4,294,967,295.
 /// - `Memory`: memory was refused.
 pub fn command_of<'a, S: AsStr>(alloc: Global, words: &'a [S]) -> Result<Command<'a>, LineFault>
     ensures asked { IfOk result (IsAsked (map S.text words.entry.now)) }

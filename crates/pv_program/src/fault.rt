@@ -1,10 +1,11 @@
 //! What is told to a person, and the exit status.
 ghost use Rattle.std.specs.Prelude.{◌≡◌, ◌↔◌, IsTrue};
-ghost use Rattle.pv_program.specs.Status.{kind_status, list_status_of, run_status_of, status_of};
+ghost use Rattle.pv_program.specs.Status.{kind_status, list_status_of, migrate_status_of, run_status_of, status_of};
 
 use crate::command::LineFault;
 use clap::error::ErrorKind;
-use pv_model::{ImageFault, ListFault, ManifestFault, RunFault};
+use pv_images::MigrateStop;
+use pv_model::{ImageFault, ListFault, ManifestFault, MigrateFault, RunFault};
 use std::fmt;
 use thiserror::Error;
 
@@ -18,6 +19,9 @@ pub enum Fault {
     /// An image was not listed, or not whole.
     #[error("pvsim: {}\n", ListText(*.0))]
     Listing(ListFault),
+    /// An image was not migrated, or not whole.
+    #[error("pvsim: {}\n", MigrateText(*.0))]
+    Migrating(MigrateStop),
     /// The words of the command line are no command, or ask for help or the version.
     #[error("{0}")]
     Line(LineFault),
@@ -50,6 +54,17 @@ fn list_status(fault: ListFault) -> u8
     }
 }
 
+// The status of a migration that was refused or ended early.
+fn migrate_status(stop: MigrateStop) -> u8
+    ensures { result ≡ migrate_status_of stop }
+{
+    match stop {
+        MigrateStop::Refused(MigrateFault::Memory | MigrateFault::Image(ImageFault::Memory)) => 3,
+        MigrateStop::Read | MigrateStop::Write => 4,
+        MigrateStop::Refused(MigrateFault::Small | MigrateFault::Image(_)) => 1,
+    }
+}
+
 // The status of what the parser answers in place of matches.
 fn parser_status(kind: ErrorKind) -> u8
     ensures { result ≡ kind_status kind }
@@ -69,6 +84,7 @@ impl Fault {
         match self {
             Fault::Run(fault) => run_status(*fault),
             Fault::Listing(fault) => list_status(*fault),
+            Fault::Migrating(stop) => migrate_status(*stop),
             Fault::Line(LineFault::Parser(error)) => parser_status(error.kind()),
             Fault::Line(LineFault::Memory) => 3,
             Fault::Line(LineFault::Number) | Fault::Words => 2,
@@ -105,6 +121,22 @@ impl fmt::Display for ListText {
             ListFault::Image(fault) => write!(f, "{}", ImageText(fault)),
             ListFault::Memory => write!(f, "memory"),
             ListFault::Write => write!(f, "write"),
+        }
+    }
+}
+
+// What the end of a migration is called.
+#[derive(Clone, Copy)]
+struct MigrateText(MigrateStop);
+
+impl fmt::Display for MigrateText {
+    fn fmt<W: fmt::Write>(&self, f: &mut fmt::Formatter<W>) -> fmt::Result {
+        match self.0 {
+            MigrateStop::Read => write!(f, "read"),
+            MigrateStop::Refused(MigrateFault::Image(fault)) => write!(f, "{}", ImageText(fault)),
+            MigrateStop::Refused(MigrateFault::Small) => write!(f, "migrate: too small"),
+            MigrateStop::Refused(MigrateFault::Memory) => write!(f, "memory"),
+            MigrateStop::Write => write!(f, "write"),
         }
     }
 }

@@ -1,14 +1,14 @@
 //! What each command reads and writes, and a whole run of the program.
 ghost use Rattle.std.specs.Prelude.{◌≡◌, ◌≢◌, codes, map, Err, Result, IfErr};
 ghost use Rattle.pv_program.specs.declared.fault.Fault.{Fault as Told};
-ghost use Rattle.pv_program.specs.Program.{IsOfCommand, IsOutcome, ListsFile, ListsImage, MakesFile, MakesImage, OnListImage, OnMakeImage, OnRunImage, OnRunTree, ReadsFiles, RunsBundle, RunsFile, RunsFiles, RunsImage};
+ghost use Rattle.pv_program.specs.Program.{IsOfCommand, IsOutcome, ListsFile, ListsImage, MakesFile, MakesImage, MigratesFile, MigratesImage, OnListImage, OnMakeImage, OnMigrateImage, OnRunImage, OnRunTree, ReadsFiles, RunsBundle, RunsFile, RunsFiles, RunsImage, WritesFile};
 ghost use Rattle.pv_program.specs.Status.{IsStatusOf, status_of};
 
 use crate::command::{Command, command_of};
 use crate::fault::Fault;
 use crate::system::{Files, System};
-use pv_images::{list, make_image};
-use pv_model::{Failed, ListFault, RunFault, Sink, Source};
+use pv_images::{MigrateStop, list, make_image, migrate_image};
+use pv_model::{Failed, ListFault, MigrateFault, RunFault, Sink, Source};
 use pv_run::run_tree;
 use pv_trace::write_whole;
 use std::alloc::Global;
@@ -99,6 +99,44 @@ fn list_file<F: Files, W: Sink>(
     }
 }
 
+// Makes an image of version 2 of the image that a source gives.
+fn migrate_from<S: Source, W: Sink>(
+    alloc: Global,
+    image: &mut S,
+    blocks: u32,
+    inodes: u32,
+    out: &mut W,
+) -> Result<(), Fault>
+    ensures migrates { MigratesImage S.remaining S.failures image.old image.new blocks inodes W.told W.failures out.old out.new result }
+    ensures kind { IfErr result IsOfCommand }
+{
+    match migrate_image(alloc, image, blocks, inodes, out) {
+        Ok(()) => Ok(()),
+        Err(stop) => Err(Fault::Migrating(stop)),
+    }
+}
+
+// Makes an image of version 2 of the image in a file, in another file.
+fn migrate_file<F: Files>(
+    alloc: Global,
+    files: &F,
+    image: &str,
+    out: &str,
+    blocks: u32,
+    inodes: u32,
+) -> Result<(), Fault>
+    ensures migrates { MigratesFile F.Reader.remaining F.Reader.failures F.file_of F.Writer.told F.Writer.failures (F.bytes files.now image.now) out.now blocks inodes result }
+    ensures kind { IfErr result IsOfCommand }
+{
+    let Ok(mut image) = files.open(image) else {
+        return Err(Fault::Migrating(MigrateStop::Read));
+    };
+    let Ok(mut out) = files.create(alloc, out) else {
+        return Err(Fault::Migrating(MigrateStop::Refused(MigrateFault::Memory)));
+    };
+    migrate_from(alloc, &mut image, blocks, inodes, &mut out)
+}
+
 // Runs the image that a source gives under the schedule of another.
 fn run_image_from<S: Source, W: Sink, O: Sink>(
     alloc: Global,
@@ -148,10 +186,11 @@ fn run_files<F: Files, W: Sink>(
 /// - `ListImage` lists the image in a file, on the standard output.
 /// - `RunImage` runs the image in a file under the schedule in another, writes the trace to the standard output, and
 ///   then the image that the run leaves to a third file.
+/// - `MigrateImage` makes an image of version 2 of the image in a file, and writes it to another file.
 ///
 /// # Errors
 ///
-/// `Run`, and of `ListImage` `Listing`: a file did not open or could not be read, the input was refused, memory was
+/// `Run`, of `ListImage` `Listing`, and of `MigrateImage` `Migrating`: a file did not open or could not be read, the input was refused, memory was
 /// refused, or the output could not be written. Where the input was refused, nothing was written.
 pub fn perform<F: Files + Drop, I: Source + Drop, O: Sink + Drop, E: Drop>(
     alloc: Global,
@@ -164,11 +203,13 @@ pub fn perform<F: Files + Drop, I: Source + Drop, O: Sink + Drop, E: Drop>(
     ensures lists { OnListImage command.entry (λ name. ListsFile F.Reader.remaining F.Reader.failures (F.bytes system.old.files name) (O.told system.old.output) (O.told system.new.output) (O.failures system.old.output) (O.failures system.new.output) result) }
     ensures runs { OnRunImage command.entry (λ image schedule out. RunsFiles F.Reader.remaining F.Reader.failures F.file_of F.Writer.told F.Writer.failures (F.bytes system.old.files image) (F.bytes system.old.files schedule) out (O.told system.old.output) (O.told system.new.output) (O.failures system.old.output) (O.failures system.new.output) result) }
 
+    ensures migrates { OnMigrateImage command.entry (λ image out blocks inodes. MigratesFile F.Reader.remaining F.Reader.failures F.file_of F.Writer.told F.Writer.failures (F.bytes system.old.files image) out blocks inodes result) }
+
     ensures kind { IfErr result IsOfCommand }
 
     // The rest of the system is left as it was.
     ensures unread { ReadsFiles command.entry → system.new.input ≡ system.old.input }
-    ensures silent { OnMakeImage command.entry (λ _ _. system.new.output ≡ system.old.output) }
+    ensures silent { WritesFile command.entry → system.new.output ≡ system.old.output }
     ensures rest { system.new ≡ record system.old { input = system.new.input; output = system.new.output } }
 {
     match command {
@@ -195,6 +236,12 @@ pub fn perform<F: Files + Drop, I: Source + Drop, O: Sink + Drop, E: Drop>(
             out,
             &mut system.output,
         ),
+        Command::MigrateImage {
+            image,
+            out,
+            blocks,
+            inodes,
+        } => migrate_file(alloc, &system.files, image, out, blocks, inodes),
     }
 }
 
@@ -252,9 +299,10 @@ pub fn run<S: AsStr, F: Files + Drop, I: Source + Drop, O: Sink + Drop, E: Sink 
         (λ command. OnRunTree command (λ name. name ≡ codes "-" → RunsBundle I.remaining I.failures system.old.input system.new.input (O.told system.old.output) (O.told system.new.output) (O.failures system.old.output) (O.failures system.new.output) outcome)
         × OnRunTree command (λ name. name ≢ codes "-" → RunsFile F.Reader.remaining F.Reader.failures (F.bytes system.old.files name) (O.told system.old.output) (O.told system.new.output) (O.failures system.old.output) (O.failures system.new.output) outcome)
         × OnMakeImage command (λ manifest image. MakesFile F.Reader.remaining F.Reader.failures F.file_of F.Writer.told F.Writer.failures (F.bytes system.old.files manifest) image outcome)
-        × OnMakeImage command (λ _ _. system.new.output ≡ system.old.output)
+        × (WritesFile command → system.new.output ≡ system.old.output)
         × OnListImage command (λ name. ListsFile F.Reader.remaining F.Reader.failures (F.bytes system.old.files name) (O.told system.old.output) (O.told system.new.output) (O.failures system.old.output) (O.failures system.new.output) outcome)
-        × OnRunImage command (λ image schedule out. RunsFiles F.Reader.remaining F.Reader.failures F.file_of F.Writer.told F.Writer.failures (F.bytes system.old.files image) (F.bytes system.old.files schedule) out (O.told system.old.output) (O.told system.new.output) (O.failures system.old.output) (O.failures system.new.output) outcome)) }
+        × OnRunImage command (λ image schedule out. RunsFiles F.Reader.remaining F.Reader.failures F.file_of F.Writer.told F.Writer.failures (F.bytes system.old.files image) (F.bytes system.old.files schedule) out (O.told system.old.output) (O.told system.new.output) (O.failures system.old.output) (O.failures system.new.output) outcome)
+        × OnMigrateImage command (λ image out blocks inodes. MigratesFile F.Reader.remaining F.Reader.failures F.file_of F.Writer.told F.Writer.failures (F.bytes system.old.files image) out blocks inodes outcome)) }
 {
     let command = match command_of(alloc, words) {
         Ok(command) => command,

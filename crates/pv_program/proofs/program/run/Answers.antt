@@ -1,4 +1,4 @@
-use Rattle.std.proofs.Common.{◌≡◌, map, Err}
+use Rattle.std.proofs.Common.{map, Err}
 use Rattle.pv_program.specs.Program.{IsOfCommand}
 use Rattle.pv_program.proofs.Outcomes.{command_status-not_zero, fault_is_outcome}
 use Rattle.pv_program.proofs.program.run.Goals as goal
@@ -17,5 +17,6 @@ returns-in-Err-perform g c =
         rw after c.in-Err-perform.ensures.silent,
         rw after c.in-Err-perform.ensures.lists,
         rw after c.in-Err-perform.ensures.runs,
+        c.in-Err-perform.ensures.migrates,
       ),
     )

@@ -1,0 +1,33 @@
+//! Images of version 1 made into images of version 2: `migrate`.
+//!
+//! The definition, `migrated` in `specs/Migrated`, computes the new tree from the old bytes, or the fault; the laws below say
+//! in other words when it is which. The new tree has the same nodes under the same numbers, in an image of just the sizes
+//! that were asked for. `first` mounts bytes as an image of version 1 alone, `room` tells whether the tree has room, and
+//! `migrating` has the whole.
+#![tactic(auto)]
+
+ghost use Rattle.pv_migrate.specs.Migrated.{ImagesAreJudgedFirst, MigratesImages, SmallIsWantOfRoom};
+
+mod first;
+mod migrating;
+mod room;
+#[cfg(test)]
+mod tests;
+
+pub use migrating::migrate;
+
+/// A tree comes of bytes exactly where they are an image of version 1 and there is room for its nodes; it has just these
+/// nodes, under the same numbers, in an image of version 2 of the sizes that were asked for.
+pub fn images_are_migrated()
+    ensures { MigratesImages }
+{}
+
+/// What is refused as too small is an image of version 1 for which there is no room.
+pub fn small_is_want_of_room()
+    ensures { SmallIsWantOfRoom }
+{}
+
+/// What is refused as no image is so whatever the sizes.
+pub fn images_are_judged_first()
+    ensures { ImagesAreJudgedFirst }
+{}
