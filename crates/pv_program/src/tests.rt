@@ -4,7 +4,8 @@ ghost use Rattle.std.specs.Str.{bytes_eq};
 ghost use Rattle.std.specs.String.{string_bytes};
 
 use crate::{Command, Fault, Files, LineFault, System, command_of, run};
-use pv_model::{Failed, ImageFault, ListFault, ManifestFault, RunFault, Sink};
+use pv_images::MigrateStop;
+use pv_model::{Failed, ImageFault, ListFault, ManifestFault, MigrateFault, RunFault, Sink};
 use pv_run::stream::{Bytes, Gathered};
 use std::alloc::{AllocError, Global};
 use std::cell::RefCell;
@@ -247,6 +248,7 @@ fn refused_words_are_told_on_the_errors(rt: HostRuntime) {
     expect_refused_words(&rt, &["pvsim", "ls"]);
     expect_refused_words(&rt, &["pvsim", "ls", "motd", "motd"]);
     expect_refused_words(&rt, &["pvsim", "run", "motd", "motd"]);
+    expect_refused_words(&rt, &["pvsim", "migrate", "motd", "out", "8"]);
 }
 
 #[test]
@@ -277,7 +279,37 @@ fn a_command_has_its_texts(rt: HostRuntime) -> Result<(), Fail> {
                 out
             }
     );
+    let words = ["pvsim", "migrate", "i", "o", "0", "4294967295"];
+    let command = command_of(rt.alloc(), &words)?;
+    let (blocks, inodes) = (0, 4_294_967_295);
+    assert!(rt;
+        command
+            == Command::MigrateImage {
+                image,
+                out,
+                blocks,
+                inodes
+            }
+    );
     Ok(())
+}
+
+#[test]
+fn a_word_that_is_no_number_is_refused_before_the_file_is_read(rt: HostRuntime) {
+    for size in ["", "+8", "08", "8 ", "0x8", "4294967296", "42949672950"] {
+        let words = ["pvsim", "migrate", "no", "out", size, "16"];
+        expect_run(&rt, &words, 2, b"", b"pvsim: number\n");
+        let words = ["pvsim", "migrate", "no", "out", "16", size];
+        expect_run(&rt, &words, 2, b"", b"pvsim: number\n");
+    }
+}
+
+#[test]
+fn a_refused_image_is_not_migrated(rt: HostRuntime) {
+    let words = ["pvsim", "migrate", "motd", "out", "8", "16"];
+    expect_run_of(&rt, b"", &words, 1, b"", b"pvsim: image: short\n");
+    let words = ["pvsim", "migrate", "no", "out", "8", "16"];
+    expect_run(&rt, &words, 4, b"", b"pvsim: read\n");
 }
 
 #[test]
@@ -393,6 +425,24 @@ fn faults_of_listings_have_their_texts(rt: HostRuntime) -> Result<(), Fail> {
     expect_fault(&rt, &memory, "pvsim: memory\n", 3)?;
     expect_fault(&rt, &Fault::Listing(ListFault::Read), "pvsim: read\n", 4)?;
     expect_fault(&rt, &Fault::Listing(ListFault::Write), "pvsim: write\n", 4)
+}
+
+#[test]
+fn ends_of_migrations_have_their_texts(rt: HostRuntime) -> Result<(), Fail> {
+    let small = Fault::Migrating(MigrateStop::Refused(MigrateFault::Small));
+    expect_fault(&rt, &small, "pvsim: migrate: too small\n", 1)?;
+    let image = MigrateFault::Image(ImageFault::Magic);
+    let image = Fault::Migrating(MigrateStop::Refused(image));
+    expect_fault(&rt, &image, "pvsim: image: magic\n", 1)?;
+    let image = MigrateFault::Image(ImageFault::Memory);
+    let image = Fault::Migrating(MigrateStop::Refused(image));
+    expect_fault(&rt, &image, "pvsim: memory\n", 3)?;
+    let memory = Fault::Migrating(MigrateStop::Refused(MigrateFault::Memory));
+    expect_fault(&rt, &memory, "pvsim: memory\n", 3)?;
+    let read = Fault::Migrating(MigrateStop::Read);
+    expect_fault(&rt, &read, "pvsim: read\n", 4)?;
+    let write = Fault::Migrating(MigrateStop::Write);
+    expect_fault(&rt, &write, "pvsim: write\n", 4)
 }
 
 #[test]
