@@ -30,7 +30,7 @@ use Rattle.pv_order.proofs.Orphans.{orphan, orphaned, next-orphan}
 use Rattle.pv_order.proofs.Twice.{acts, Two, two-bind, two-refused, StepsTwice, behind_k, at-behind, heir, passes-by, commute-steps, call-twice, lacking-twice}
 
 -- such a step has no act
-abbrev no_act : ⊥ → State → State
+abbrev pub no_act : ⊥ → State → State
 no_act a = absurd a
 
 -- ---- calls
@@ -98,13 +98,13 @@ module _ (program_of : Bytes → Option Program) (spells : SpellsPrograms progra
           call-twice program_of spells s j k p whole apart at ⊥ no_act (λ a z. absurd a) (λ a q h same. absurd a) (λ a q h same. absurd a) call is held (alone-two s t j n (at_next_line p) program_of call lone)
       by (Some a) missing lenient = lacking-twice program_of spells s j k p whole apart at ⊥ no_act (λ a z. absurd a) (λ a q h same. absurd a) (λ a q h same. absurd a) call is a missing lenient
 
-  passes : (o : Option ⊥) (q : Process) → SameHolds p q
+  pub alone-passes : (o : Option ⊥) (q : Process) → SameHolds p q
       → SteppedBeside (λ x. acts no_act o (with_change x j (become q))) (step program_of s k) (step program_of (acts no_act o (with_change s j (become q))) k)
-  passes None q same = passes-by program_of spells s j k p whole apart at q same
-  passes (Some a) q same = absurd a
+  alone-passes None q same = passes-by program_of spells s j k p whole apart at q same
+  alone-passes (Some a) q same = absurd a
 
   pub alone-commutes : IsAlone p (next p) → Commute program_of s j k
-  alone-commutes lone = commute-steps program_of spells s j k p whole apart at ⊥ no_act (alone-twice (next p) refl lone) passes
+  alone-commutes lone = commute-steps program_of spells s j k p whole apart at ⊥ no_act (alone-twice (next p) refl lone) alone-passes
 
 -- the second may be the one that goes alone
 pub lone-commute : (program_of : Bytes → Option Program) → SpellsPrograms program_of → (s : State) (j k : ℕ) (p : Process) → IsWhole s → j ≢ k → process_at s k ≡ Some p → IsAlone p (next p)

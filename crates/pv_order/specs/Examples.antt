@@ -1,17 +1,23 @@
--- Two processes whose next steps may be made in either order, and two whose steps may not: so the laws of order speak of something, and not of everything.
-use Rattle.std.specs.Prelude.{◌≡◌, ℕ, true, false, IsTrue, List, [], ◌∷◌, codes, pos, Option, None, Some, is_some}
-use Rattle.pv_model.specs.declared.call.Whence.TheVariants.{Current}
-use Rattle.pv_model.specs.declared.instruction.Instruction.TheVariants.{Fork, GetPid, Open, Lseek}
+-- Processes whose next steps may be made in either order, and such whose steps may not, one for each clause of a law: so the laws of order speak of something, and not of everything.
+use Rattle.std.specs.Prelude.{◌≡◌, ℕ, Bool, true, false, IsTrue, List, [], ◌∷◌, ◌++◌, replicate, codes, pos, Option, None, Some, is_some}
+use Rattle.pv_model.specs.declared.call.Call.TheVariants as TheCall
+use Rattle.pv_model.specs.declared.call.Whence.TheVariants.{Set, Current, End}
+use Rattle.pv_model.specs.declared.instruction.Instruction.TheVariants.{Put, JumpIfZero, Fork, GetPid, Exit, Open, Read, Write, Lseek, Getdents, Stat, Mkdir, Unlink}
+use Rattle.pv_model.specs.declared.instruction.Instruction.{Instruction}
 use Rattle.pv_model.specs.declared.instruction.Operand.TheVariants.{Number}
-use Rattle.pv_model.specs.declared.open_flags.Mode.TheVariants.{Read}
+use Rattle.pv_model.specs.declared.open_flags.Mode.{Mode}
+use Rattle.pv_model.specs.declared.open_flags.Mode.TheVariants.{Read as Reading, Write as Writing, ReadWrite}
 use Rattle.pv_model.specs.declared.open_flags.OpenFlags.{OpenFlags}
-use Rattle.pv_model.specs.declared.outcome.Outcome.TheVariants.{Value}
+use Rattle.pv_model.specs.declared.outcome.Outcome.TheVariants.{Value, Text}
 use Rattle.pv_model.specs.Bytes.{Bytes}
 use Rattle.pv_model.specs.Manifest.{manifest_tree}
-use Rattle.pv_model.specs.Program.{next}
+use Rattle.pv_model.specs.Program.{calls_for, next}
 use Rattle.pv_model.specs.State.{Program, Process, State, first_state, process_at}
 use Rattle.pv_model.specs.Step.{step, run}
+use Rattle.pv_model.specs.Touch.{file_bytes}
 use Rattle.pv_order.specs.Commuting.{IsAlone}
+use Rattle.pv_order.specs.Offsets.{LeavesOpenFile}
+use Rattle.pv_order.specs.Writes.{LeavesWrite, StaysWithin}
 
 -- no execve is made
 abbrev pub no_programs : Bytes → Option Program
@@ -25,8 +31,11 @@ abbrev pub apart : Program
 apart = Fork ∷ GetPid ∷ []
 
 -- a process opens a file that it makes, forks, and both go on by one byte through the open file that they share
+abbrev pub flags : Mode → Bool → OpenFlags
+flags mode create = record { mode = mode; append = false; create = create; truncate = false; exclusive = false; no_follow = false; directory = false; close_on_exec = false }
+
 abbrev pub making : OpenFlags
-making = record { mode = Read; append = false; create = true; truncate = false; exclusive = false; no_follow = false; directory = false; close_on_exec = false }
+making = flags Reading true
 
 abbrev pub sharing : Program
 sharing = Open (codes "/x") making ∷ Fork ∷ Lseek (Number (pos 0)) (Number (pos 1)) Current ∷ []
@@ -38,3 +47,84 @@ pub record OrderHappens : Type 0 where
   pub other : IsTrue (is_some (process_at (state_behind apart (1 ∷ [])) 2))
   pub first : (step no_programs (state_behind sharing (1 ∷ 1 ∷ [])) 1).outcome ≡ Value 1
   pub second : (step no_programs (state_behind sharing (1 ∷ 1 ∷ 2 ∷ [])) 1).outcome ≡ Value 2
+
+-- ---- where open files stand
+
+-- a process opens a file that it makes, and forks; then it reads, and the child does something else
+abbrev pub reading_beside : List Instruction → Program
+reading_beside others = Open (codes "/x") (flags ReadWrite true) ∷ Fork ∷ JumpIfZero 0 6 ∷ Read (Number (pos 0)) (Number (pos 5)) ∷ Exit (Number (pos 0)) ∷ others
+
+-- the child takes away the file's name
+abbrev pub unlinking : State
+unlinking = state_behind (reading_beside (Unlink (codes "/x") ∷ [])) (replicate 3 1 ++ 2 ∷ [])
+
+-- the child writes to the file, which is node 2, through an open file of its own
+abbrev pub writing_there : Program
+writing_there = reading_beside (Open (codes "/x") (flags Writing false) ∷ Write (Number (pos 1)) (Number (pos 5)) ∷ [])
+
+-- a process lists a directory, and its child makes a name there
+abbrev pub making_a_name : Program
+making_a_name = Open (codes "/") (flags Reading false) ∷ Fork ∷ JumpIfZero 0 6 ∷ Getdents (Number (pos 0)) ∷ Exit (Number (pos 0)) ∷ Mkdir (codes "/d") ∷ []
+
+pub record OffsetsHappen : Type 0 where
+  -- a read beside an unlink of the file: the law's premises
+  pub process : Process
+  pub there : process_at unlinking 1 ≡ Some process
+  pub next_is : next process ≡ calls_for (TheCall.Read (pos 0) (pos 5))
+  pub leaves : LeavesOpenFile no_programs unlinking process (TheCall.Read (pos 0) (pos 5)) 2
+  pub unlinks : (step no_programs unlinking 2).outcome ≡ Value 0
+  -- a read beside a write to the file: it is told what is there
+  pub none_written : (step no_programs (state_behind writing_there (replicate 3 1 ++ 2 ∷ 2 ∷ [])) 1).outcome ≡ Text (record { value = 0; len = 0 })
+  pub five_written : (step no_programs (state_behind writing_there (replicate 3 1 ++ 2 ∷ 2 ∷ 2 ∷ [])) 1).outcome ≡ Text (record { value = 5; len = 5 })
+  -- a listing beside a new name: it is told the name
+  pub none_named : (step no_programs (state_behind making_a_name (replicate 3 1 ++ 2 ∷ [])) 1).outcome ≡ Text (record { value = 0; len = 0 })
+  pub one_named : (step no_programs (state_behind making_a_name (replicate 3 1 ++ 2 ∷ 2 ∷ [])) 1).outcome ≡ Text (record { value = 1; len = 1 })
+
+-- ---- writes
+
+-- a process makes a file of five bytes, and forks; then it writes over the first of them, and the child does something else
+abbrev pub writing_beside : List Instruction → Program
+writing_beside others =
+    Open (codes "/x") (flags ReadWrite true)
+    ∷ Put (codes "hello")
+    ∷ Write (Number (pos 0)) (Number (pos 5))
+    ∷ Lseek (Number (pos 0)) (Number (pos 0)) Set
+    ∷ Fork
+    ∷ JumpIfZero 0 9
+    ∷ Write (Number (pos 0)) (Number (pos 2))
+    ∷ Exit (Number (pos 0))
+    ∷ others
+
+-- the child asks for the file's size
+abbrev pub asking_size : State
+asking_size = state_behind (writing_beside (Stat (codes "/x") ∷ [])) (replicate 6 1 ++ 2 ∷ [])
+
+-- the child writes there too, through an open file of its own
+abbrev pub writing_both : Program
+writing_both = writing_beside (Open (codes "/x") (flags Writing false) ∷ Put (codes "HE") ∷ Write (Number (pos 1)) (Number (pos 2)) ∷ [])
+
+-- a write that makes its file longer, beside a child that goes to the file's end through an open file of its own
+abbrev pub growing : Program
+growing =
+    Open (codes "/x") (flags ReadWrite true)
+    ∷ Fork
+    ∷ JumpIfZero 0 6
+    ∷ Write (Number (pos 0)) (Number (pos 5))
+    ∷ Exit (Number (pos 0))
+    ∷ Open (codes "/x") (flags Reading false)
+    ∷ Lseek (Number (pos 1)) (Number (pos 0)) End
+    ∷ []
+
+pub record WritesHappen : Type 0 where
+  -- a write within the file beside a stat of it: the law's premises
+  pub process : Process
+  pub there : process_at asking_size 1 ≡ Some process
+  pub next_is : next process ≡ calls_for (TheCall.Write (pos 0) (pos 2))
+  pub within : StaysWithin asking_size 1 process (pos 0) (pos 2)
+  pub leaves : LeavesWrite asking_size process (pos 0) 2
+  -- two writes to the same bytes: the later one's stay
+  pub theirs : file_bytes (state_behind writing_both (replicate 6 1 ++ 2 ∷ 2 ∷ 2 ∷ 1 ∷ 2 ∷ [])) 2 ≡ codes "HEllo"
+  pub its : file_bytes (state_behind writing_both (replicate 6 1 ++ 2 ∷ 2 ∷ 2 ∷ 2 ∷ 1 ∷ [])) 2 ≡ codes "hello"
+  -- a write that makes the file longer: the other goes farther
+  pub short : (step no_programs (state_behind growing (replicate 3 1 ++ 2 ∷ 2 ∷ [])) 2).outcome ≡ Value 0
+  pub long : (step no_programs (state_behind growing (replicate 3 1 ++ 2 ∷ 2 ∷ 1 ∷ [])) 2).outcome ≡ Value 5

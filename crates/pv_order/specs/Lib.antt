@@ -1,5 +1,6 @@
 pub mod Beside
 pub mod Commuting
+pub mod Asking
 pub mod Offsets
 pub mod Writes
 pub mod Tableless

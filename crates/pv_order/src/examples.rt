@@ -1,9 +1,21 @@
-//! Worked runs of two processes.
+//! Worked runs of two processes, by computing.
 
-ghost use Rattle.pv_order.specs.Examples.{OrderHappens};
+ghost use Rattle.pv_order.specs.Examples.{OrderHappens, OffsetsHappen, WritesHappen};
 
 /// Behind a fork each of two processes may ask for its number first; but of two that go on through one open file which they
 /// share, each is told where the other left it.
 pub fn order_happens()
     ensures { OrderHappens }
+{}
+
+/// A read and an unlink of the file may be made in either order; but a read beside a write to the file, and a listing beside a new
+/// name in the directory, are told something else in the other order.
+pub fn offsets_happen()
+    ensures { OffsetsHappen }
+{}
+
+/// A write within its file and a stat of the file may be made in either order; but of two writes to the same bytes the later one's
+/// stay, and a step to the file's end goes farther behind a write that made the file longer.
+pub fn writes_happen()
+    ensures { WritesHappen }
 {}

@@ -5,10 +5,14 @@
 //!
 //! - `beside`: what of a process the steps of others do not depend on.
 //! - `commuting`: steps of different processes in either order.
+//! - `asking`: steps that ask the tree, beside steps that leave it.
+//! - `offsets`: what of open files steps do not depend on, and steps that move where one stands.
+//! - `writes`: writes that stay within their files.
 //! - `tableless`: calls on descriptors do not ask the table.
 //! - `examples`: steps that may be made in either order, and steps that may not.
 #![tactic(auto)]
 
+pub mod asking;
 pub mod beside;
 pub mod commuting;
 pub mod examples;
