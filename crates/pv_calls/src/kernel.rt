@@ -11,8 +11,9 @@ ghost use Rattle.pv_model.specs.Tree.{find_entry};
 ghost use Rattle.pv_parts.specs.Changes.{StepsInside};
 
 use crate::carry::carry_out;
+use pv_cache::CachedLookup;
 use pv_model::{BootFault, Call, Outcome, StepFault};
-use pv_namei::{Lookup, PlainLookup};
+use pv_namei::Lookup;
 use pv_parts::Parts;
 use pv_paths::programs::init;
 use pv_script::Next;
@@ -66,18 +67,19 @@ impl<L: Lookup + Drop> Model for Kernel<L> {
     ghost invariant = { λ k. IsWhole k.parts × L.agrees k.lookup (find_entry k.parts.tree) };
 }
 
-impl Kernel<PlainLookup> {
-    /// The kernel before the first step on a tree, with a lookup that keeps nothing.
+impl Kernel<CachedLookup> {
+    /// The kernel before the first step on a tree, with the name cache.
     ///
     /// # Errors
     ///
     /// As `boot_with`.
-    pub fn boot(alloc: Global, store: Store) -> Result<Kernel<PlainLookup>, BootFault>
+    pub fn boot(alloc: Global, store: Store) -> Result<Kernel<CachedLookup>, BootFault>
         requires { IsFirstTree store }
         ensures booted { IfOk result (λ k. (booted store ≡ Ok k.state) × (k.walks ≡ 0)) }
         ensures refused { IfErr result (λ fault. (fault ≡ BootFault.Memory) ⊎ (booted store ≡ Err fault)) }
     {
-        Kernel::boot_with(alloc, store, PlainLookup)
+        let lookup = CachedLookup::new(alloc)?;
+        Kernel::boot_with(alloc, store, lookup)
     }
 }
 

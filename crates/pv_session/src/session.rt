@@ -11,9 +11,9 @@ ghost use Rattle.pv_session.specs.declared.session.Stop.TheVariants.{Memory, Wri
 ghost use Rattle.pv_session.specs.Running.{BeginsLines, FailsBy, ToldLines, stepped};
 
 use pv_audit::audit;
+use pv_cache::CachedLookup;
 use pv_calls::{Ahead, Kernel};
 use pv_model::{AuditFault, BootFault, Call, Failed, Outcome, Sink, StepFault, Verdict};
-use pv_namei::PlainLookup;
 use pv_trace::{Sheet, write_call_lines, write_gone_line};
 use pv_tree::{Store, Tree};
 use std::alloc::Global;
@@ -47,7 +47,7 @@ impl From<Failed> for Stop {
 /// The machine on a tree: its state, which `step` moves on.
 #[derive(Drop)]
 pub struct Session {
-    kernel: Kernel<PlainLookup>,
+    kernel: Kernel<CachedLookup>,
     // The call that was made last: each next one takes its place.
     call: Call,
     // What the lines of a trace are made on.
