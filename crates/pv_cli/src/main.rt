@@ -10,8 +10,12 @@ use std::{env, io};
 
 // The words of the command line, of which the first is the program's name.
 fn words_of(rt: &HostRuntime) -> Result<Vec<String>, Fault> {
-    let Ok(words) = env::args(rt) else {
-        return Err(Fault::Words);
+    let words = match env::args(rt) {
+        Ok(words) => words,
+        Err(error) if error.kind() == io::ErrorKind::OutOfMemory => {
+            return Err(Fault::Line(LineFault::Memory));
+        }
+        Err(_) => return Err(Fault::Words),
     };
     match words.collect(rt.alloc()) {
         Ok(words) => Ok(words),
