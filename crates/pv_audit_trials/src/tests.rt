@@ -128,6 +128,8 @@ struct Kept {
 impl Sink for Kept {
     ghost told = { λ _. None };
 
+    ghost waits = { λ _. 0 };
+
     ghost failures = { λ s. s.failures };
 
     fn write(&mut self, buffer: &[u8]) -> Result<usize, Failed> {
@@ -136,6 +138,10 @@ impl Sink for Kept {
         }
         self.failures = self.failures.saturating_add(1);
         Err(Failed)
+    }
+
+    fn flush(&mut self) -> Result<(), Failed> {
+        Ok(())
     }
 }
 

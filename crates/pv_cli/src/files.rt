@@ -80,6 +80,8 @@ impl WrittenFile<'_> {
 impl Sink for WrittenFile<'_> {
     ghost told = { λ _. None };
 
+    ghost waits = { λ _. 0 };
+
     ghost failures = { λ s. s.failures };
 
     fn write(&mut self, buffer: &[u8]) -> Result<usize, Failed> {
@@ -94,6 +96,10 @@ impl Sink for WrittenFile<'_> {
                 Err(Failed)
             }
         }
+    }
+
+    fn flush(&mut self) -> Result<(), Failed> {
+        Ok(())
     }
 }
 
@@ -177,6 +183,8 @@ impl<W: Write + Drop> Output<W> {
 impl<W: Write + Drop> Sink for Output<W> {
     ghost told = { λ _. None };
 
+    ghost waits = { λ _. 0 };
+
     ghost failures = { λ s. s.failures };
 
     fn write(&mut self, buffer: &[u8]) -> Result<usize, Failed> {
@@ -191,5 +199,9 @@ impl<W: Write + Drop> Sink for Output<W> {
                 Err(Failed)
             }
         }
+    }
+
+    fn flush(&mut self) -> Result<(), Failed> {
+        Ok(())
     }
 }

@@ -49,11 +49,17 @@ impl Sink for Full {
 
     ghost told = { λ _. None };
 
+    ghost waits = { λ _. 0 };
+
     ghost failures = { λ sink. sink.failures };
 
     fn write(&mut self, _buffer: &[u8]) -> Result<usize, Failed> {
         self.failures = self.failures.saturating_add(1);
         Err(Failed)
+    }
+
+    fn flush(&mut self) -> Result<(), Failed> {
+        Ok(())
     }
 }
 

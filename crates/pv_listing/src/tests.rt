@@ -23,6 +23,8 @@ struct Narrow {
 impl Sink for Narrow {
     ghost told = { λ _. None };
 
+    ghost waits = { λ _. 0 };
+
     ghost failures = { λ s. s.failures };
 
     fn write(&mut self, buffer: &[u8]) -> Result<usize, Failed> {
@@ -33,6 +35,10 @@ impl Sink for Narrow {
         }
         self.failures = self.failures.saturating_add(1);
         Err(Failed)
+    }
+
+    fn flush(&mut self) -> Result<(), Failed> {
+        Ok(())
     }
 }
 

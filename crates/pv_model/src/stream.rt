@@ -30,10 +30,13 @@ pub trait Source {
 /// Where bytes go.
 ///
 /// A clause sees the bytes that it was given so far, where the type knows them (a file's are not known),
-/// and how many writes have failed so far.
+/// how many of them wait, and how many writes have failed so far.
 pub trait Sink {
     /// The bytes that it was given so far, where they are known.
     ghost told: { Self → Option (List ℕ) };
+
+    /// How many of the bytes that it was given wait to be handed on: none, but where the sink gathers them.
+    ghost waits: { Self → ℕ };
 
     /// How many writes have failed: the count stops at 2^64 - 1.
     ghost failures: { Self → ℕ };
@@ -45,4 +48,11 @@ pub trait Sink {
         ensures bytes { IfOk result (λ n. told self.new ≡ and_front (told self.old) n buffer.now) }
         ensures kept { OnErr result (told self.new ≡ told self.old) }
         ensures failed { CountsNothingTaken (failures self.old) (failures self.new) result buffer.now };
+
+    /// Hands on all that waits. On `Err` the failure has been counted, and some may still wait.
+    fn flush(&mut self) -> Result<(), Failed>
+        ensures kept { told self.new ≡ told self.old }
+        ensures empty { OnOk result (waits self.new ≡ 0) }
+        ensures quiet { OnOk result (failures self.new ≡ failures self.old) }
+        ensures failed { OnErr result (Rose (failures self.old) (failures self.new)) };
 }

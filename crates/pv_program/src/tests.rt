@@ -59,6 +59,8 @@ impl Written<'_> {
 impl Sink for Written<'_> {
     ghost told = { λ _. None };
 
+    ghost waits = { λ _. 0 };
+
     ghost failures = { λ sink. sink.failures };
 
     fn write(&mut self, buffer: &[u8]) -> Result<usize, Failed> {
@@ -67,6 +69,10 @@ impl Sink for Written<'_> {
         }
         self.failures = self.failures.saturating_add(1);
         Err(Failed)
+    }
+
+    fn flush(&mut self) -> Result<(), Failed> {
+        Ok(())
     }
 }
 
@@ -106,11 +112,17 @@ struct Full {
 impl Sink for Full {
     ghost told = { λ _. None };
 
+    ghost waits = { λ _. 0 };
+
     ghost failures = { λ sink. sink.failures };
 
     fn write(&mut self, _buffer: &[u8]) -> Result<usize, Failed> {
         self.failures = self.failures.saturating_add(1);
         Err(Failed)
+    }
+
+    fn flush(&mut self) -> Result<(), Failed> {
+        Ok(())
     }
 }
 

@@ -62,6 +62,8 @@ impl Gathered {
 impl Sink for Gathered {
     ghost told = { λ s. Some s.bytes.items };
 
+    ghost waits = { λ _. 0 };
+
     ghost failures = { λ s. s.failures };
 
     fn write(&mut self, buffer: &[u8]) -> Result<usize, Failed> {
@@ -72,6 +74,10 @@ impl Sink for Gathered {
                 Err(Failed)
             }
         }
+    }
+
+    fn flush(&mut self) -> Result<(), Failed> {
+        Ok(())
     }
 }
 

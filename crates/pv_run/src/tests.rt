@@ -53,6 +53,8 @@ struct Full {
 impl Sink for Full {
     ghost told = { λ _. None };
 
+    ghost waits = { λ _. 0 };
+
     ghost failures = { λ s. s.failures };
 
     fn write(&mut self, buffer: &[u8]) -> Result<usize, Failed> {
@@ -66,6 +68,10 @@ impl Sink for Full {
             return Ok(0);
         }
         Err(Failed)
+    }
+
+    fn flush(&mut self) -> Result<(), Failed> {
+        Ok(())
     }
 }
 

@@ -1,7 +1,7 @@
 -- What sinks are told, text by text.
-use Rattle.std.proofs.Common.{◌≡◌, ◌<◌, ◌+◌, ◌++◌, ◌∙◌, ap, sym, ℕ, List, [], ◌∷◌, length, take, drop, get_or, append_assoc, refl, subst, zero, suc, Option, None, Some}
+use Rattle.std.proofs.Common.{◌≡◌, ◌<◌, ◌+◌, ◌++◌, ◌∙◌, ap, sym, ℕ, List, [], ◌∷◌, length, take, get_or, append_assoc, refl, zero, suc, Option, None, Some}
 use Rattle.std.specs.Prelude.{OnOk, OnErr, Result, Ok, Err}
-use Rattle.std.proofs.lemmas.List.{append-nil, take_more, take-append-drop}
+use Rattle.std.proofs.lemmas.List.{append-nil, take_more}
 use Rattle.std.proofs.lemmas.Grind.{flat_map-append}
 use Rattle.pv_model.specs.Bytes.{Bytes}
 use Rattle.pv_model.specs.Stream.{and_front}

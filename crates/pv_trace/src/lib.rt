@@ -1,6 +1,6 @@
 //! The lines of a trace, in the manner of kdump(1), byte by byte.
 //!
-//! `line` has the lines as values, `steps` those of a step, and `stream` writes bytes whole. The lines
+//! `line` has the lines as values, `steps` those of a step, `stream` writes bytes whole, and `buffered` gathers them. The lines
 //! of a step are made on a sheet of fixed size, and a sink is given them in one piece: `sheet` puts on it
 //! what lines are made of, `calls` a call with its arguments, and `words` the text behind each word. No call
 //! takes memory.
@@ -8,6 +8,7 @@
 //! A clause sees a line as `pv_model`'s definitions have it.
 #![tactic(auto)]
 
+mod buffered;
 mod calls;
 mod line;
 mod sheet;
@@ -17,7 +18,8 @@ mod stream;
 mod tests;
 mod words;
 
+pub use buffered::{Buffered, PIECE};
 pub use line::{Line, PromiseVerdict, Returned, UnveilVerdict, Way, Word, write_line};
 pub use sheet::{Sheet, put, put_decimal};
 pub use steps::{write_call_lines, write_gone_line};
-pub use stream::write_whole;
+pub use stream::{write_through, write_whole};

@@ -7,7 +7,7 @@ use pv_model::{Failed, Sink};
 
 // Writes some of the bytes, at least one.
 #[tactic(auto, using(crate::proofs::Streaming::told_nothing))]
-fn write_some<W: Sink>(sink: &mut W, bytes: &[u8]) -> Result<usize, Failed>
+pub(crate) fn write_some<W: Sink>(sink: &mut W, bytes: &[u8]) -> Result<usize, Failed>
     requires { 0 < length bytes.now }
     ensures some { IfOk result (λ n. 0 < n) }
     ensures bound { IfOk result (λ n. n ≤ length bytes.now) }
@@ -39,4 +39,21 @@ pub fn write_whole<W: Sink>(sink: &mut W, bytes: &[u8]) -> Result<(), Failed>
         at += write_some(sink, &bytes[at..])?;
     }
     Ok(())
+}
+
+/// Writes all the bytes and has the sink hand them on.
+///
+/// # Errors
+///
+/// `Failed` where a write or the handing on failed: the sink was told a beginning of the bytes.
+#[tactic(auto, using(crate::proofs::Streaming::begins_whole))]
+pub fn write_through<W: Sink>(sink: &mut W, bytes: &[u8]) -> Result<(), Failed>
+    ensures whole { OnOk result (W.told sink.new ≡ and_all (W.told sink.old) bytes.now) }
+    ensures empty { OnOk result (W.waits sink.new ≡ 0) }
+    ensures beginning { OnErr result (TellsBeginning bytes.now (W.told sink.old) (W.told sink.new)) }
+    ensures failed { OnErr result (Rose (W.failures sink.old) (W.failures sink.new)) }
+    ensures quiet { OnOk result (W.failures sink.new ≡ W.failures sink.old) }
+{
+    write_whole(sink, bytes)?;
+    sink.flush()
 }

@@ -3,8 +3,8 @@ ghost use Rattle.std.specs.Prelude.{None};
 ghost use Rattle.pv_trace.specs.Words.{HasFewBytes};
 
 use crate::{
-    Line, PromiseVerdict, Returned, Sheet, UnveilVerdict, Way, Word, write_call_lines,
-    write_gone_line, write_line,
+    Buffered, Line, PIECE, PromiseVerdict, Returned, Sheet, UnveilVerdict, Way, Word,
+    write_call_lines, write_gone_line, write_line, write_through, write_whole,
 };
 use pv_model::{
     Call, Cause, Errno, Failed, Mode, OpenFlags, Outcome, Perms, Promise, Sink, Start, Taken, Text,
@@ -37,6 +37,8 @@ struct Narrow {
 impl Sink for Narrow {
     ghost told = { λ _. None };
 
+    ghost waits = { λ _. 0 };
+
     ghost failures = { λ s. s.failures };
 
     fn write(&mut self, buffer: &[u8]) -> Result<usize, Failed> {
@@ -48,6 +50,10 @@ impl Sink for Narrow {
         }
         self.failures = self.failures.saturating_add(1);
         Err(Failed)
+    }
+
+    fn flush(&mut self) -> Result<(), Failed> {
+        Ok(())
     }
 }
 
@@ -333,4 +339,39 @@ fn step_of_a_process_that_is_gone_has_one_line(rt: HostRuntime) {
     let mut out = sink_of(&rt, 11, 2);
     assert!(rt; write_gone_line(&mut out, &mut Sheet::new(), 2).is_err());
     assert!(rt; out.bytes.as_slice() == b"    2 GONE  ".as_slice().split_at(11).0);
+}
+
+// How many bytes more than one piece.
+const MORE: usize = PIECE + 9;
+
+#[test]
+fn pieces_are_handed_on_when_they_are_full(rt: HostRuntime) {
+    let mut out = Buffered::new(sink_of(&rt, 2 * MORE, 2 * MORE));
+    assert!(rt; write_whole(&mut out, b"abc").is_ok());
+    assert!(rt; write_whole(&mut out, b"de").is_ok());
+    assert!(rt; out.sink().writes == 0);
+    assert!(rt; write_whole(&mut out, &[7; PIECE]).is_ok());
+    assert!(rt; out.sink().writes == 1);
+    assert!(rt; out.sink().bytes.as_slice() == b"abcde");
+    assert!(rt; out.flush().is_ok());
+    assert!(rt; out.sink().writes == 2);
+    assert!(rt; out.sink().bytes.len() == PIECE + 5);
+    assert!(rt; write_through(&mut out, &[8; MORE]).is_ok());
+    assert!(rt; out.sink().bytes.len() == PIECE + 5 + MORE);
+    assert!(rt; out.sink().bytes.ends_with(b"\x08\x08"));
+    assert!(rt; out.sink().failures == 0);
+}
+
+#[test]
+fn what_is_not_handed_on_waits(rt: HostRuntime) {
+    for room in 0..5 {
+        let mut out = Buffered::new(sink_of(&rt, room, 2));
+        assert!(rt; write_whole(&mut out, b"abcde").is_ok());
+        assert!(rt; out.flush().is_err());
+        assert!(rt; out.sink().failures == 1);
+        assert!(rt; out.sink().bytes.as_slice() == b"abcde".as_slice().split_at(room).0);
+        assert!(rt; out.flush().is_err());
+        assert!(rt; out.sink().bytes.as_slice() == b"abcde".as_slice().split_at(room).0);
+        assert!(rt; write_through(&mut out, b"f").is_err());
+    }
 }

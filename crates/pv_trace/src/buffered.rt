@@ -1,0 +1,96 @@
+//! Bytes that are gathered, and handed on in large pieces.
+ghost use Rattle.std.specs.Prelude.{◌≡◌, ◌+◌, ◌++◌, ◌≤◌, [], drop, length, OnOk, OnErr};
+ghost use Rattle.pv_model.specs.Stream.{Rose};
+ghost use Rattle.pv_trace.specs.Streams.{and_all};
+
+use crate::stream::write_some;
+use arrayvec::ArrayVec;
+use pv_model::{Failed, Sink};
+
+/// How many bytes may wait.
+pub const PIECE: usize = 65_536;
+
+/// A sink that gathers what it is given, and hands it on to another when it is full, or by `flush`. It takes no memory.
+///
+/// Nothing is handed on when it is dropped: its owner calls `flush` at the end.
+#[derive(Drop)]
+pub struct Buffered<W: Sink + Drop> {
+    sink: W,
+    waiting: ArrayVec<u8, PIECE>,
+}
+
+impl<W: Sink + Drop> Buffered<W> {
+    /// A sink that hands on to this one, and that was given nothing yet.
+    pub fn new(sink: W) -> Buffered<W>
+        ensures sink { result.sink ≡ sink }
+        ensures empty { result.waiting.items ≡ [] }
+    {
+        Buffered {
+            sink,
+            waiting: ArrayVec::new(),
+        }
+    }
+
+    /// The sink that is handed on to.
+    pub fn sink(&self) -> &W
+        ensures { result.now ≡ self.now.sink }
+    {
+        &self.sink
+    }
+
+    // Forgets so many bytes at the front, which were handed on.
+    fn forget(&mut self, count: usize)
+        requires { count ≤ length self.old.waiting.items }
+        ensures waiting { self.new.waiting.items ≡ drop count self.old.waiting.items }
+        ensures sink { self.new.sink ≡ self.old.sink }
+    {
+        let mut rest = ArrayVec::new();
+        let _ = rest.try_extend_from_slice(&self.waiting[count..]);
+        self.waiting = rest;
+    }
+
+    // Hands on all that waits here: where that fails, what was not taken still waits.
+    #[tactic(auto, using(crate::proofs::Streaming::handed_part, crate::proofs::Streaming::handed_all, crate::proofs::Streaming::told_more))]
+    fn hand_on(&mut self) -> Result<(), Failed>
+        ensures told { and_all (W.told self.new.sink) self.new.waiting.items ≡ and_all (W.told self.old.sink) self.old.waiting.items }
+        ensures empty { OnOk result (self.new.waiting.items ≡ []) }
+        ensures quiet { OnOk result (W.failures self.new.sink ≡ W.failures self.old.sink) }
+        ensures failed { OnErr result (Rose (W.failures self.old.sink) (W.failures self.new.sink)) }
+    {
+        let mut at = 0;
+        while at < self.waiting.len() {
+            match write_some(&mut self.sink, &self.waiting[at..]) {
+                Ok(count) => at += count,
+                Err(Failed) => {
+                    self.forget(at);
+                    return Err(Failed);
+                }
+            }
+        }
+        self.waiting.clear();
+        Ok(())
+    }
+}
+
+impl<W: Sink + Drop> Sink for Buffered<W> {
+    ghost told = { λ s. and_all (W.told s.sink) s.waiting.items };
+
+    ghost waits = { λ s. length s.waiting.items + W.waits s.sink };
+
+    ghost failures = { λ s. W.failures s.sink };
+
+    #[tactic(auto, using(crate::proofs::Streaming::more_waits))]
+    fn write(&mut self, buffer: &[u8]) -> Result<usize, Failed> {
+        if self.waiting.remaining_capacity() < buffer.len() {
+            self.hand_on()?;
+        }
+        let count = buffer.len().min(PIECE);
+        let _ = self.waiting.try_extend_from_slice(&buffer[..count]);
+        Ok(count)
+    }
+
+    fn flush(&mut self) -> Result<(), Failed> {
+        self.hand_on()?;
+        self.sink.flush()
+    }
+}
