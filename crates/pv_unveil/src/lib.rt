@@ -2,14 +2,13 @@
 //!
 //! An entry is for a directory's node, or for a name in a directory: no text of a path is kept or compared.
 //! `table` holds the entries and the lock, `entries` searches them, and `rights` finds the entry that governs
-//! a place of a tree, climbing its stored parents, and `plain` the same of a plain tree. `law` says that the
-//! entry found by climbing is the one that flows down from above, and that a path leads to a place that can be
-//! judged. Nothing here allocates. Clauses see a `Table` as the record of `specs/Unveiled.antt`.
+//! a place of a tree, climbing its stored parents. `law` says that the entry found by climbing is the one that
+//! flows down from above, and that a path leads to a place that can be judged. Nothing here allocates. Clauses
+//! see a `Table` as the record of `specs/Unveiled.antt`.
 #![tactic(auto)]
 
 mod entries;
 pub mod law;
-mod plain;
 mod rights;
 pub mod table;
 #[cfg(test)]

@@ -5,10 +5,10 @@ ghost use Rattle.pv_model.specs.Unveil.{entry_for, letters_at};
 ghost use Rattle.pv_unveil.specs.Added.{refusal, put_in};
 
 use crate::entries::{entry_for, letters_at};
-use crate::{plain, rights};
+use crate::rights;
 use arrayvec::ArrayVec;
 use pv_model::limits::UNVEILS;
-use pv_model::{Judgement, Perms, Place, PlainTree, Target};
+use pv_model::{Judgement, Perms, Place, Target};
 use pv_tree::Tree;
 use std::marker::Model;
 
@@ -211,13 +211,5 @@ impl Table {
         ensures by_entry { IsJudged tree.now.tree self.now.table place.now needed result }
     {
         rights::judge_in(self.entries.as_slice(), tree, place, needed)
-    }
-
-    /// The same of a place of a plain tree.
-    pub fn judge_plain(&self, tree: &PlainTree, place: &Place, needed: Perms) -> Judgement
-        ensures value { result ≡ judgement tree.now self.now.table place.now needed }
-        ensures by_entry { IsJudged tree.now self.now.table place.now needed result }
-    {
-        plain::judge_in(self.entries.as_slice(), tree, place, needed)
     }
 }

@@ -5,9 +5,7 @@ ghost use Rattle.pv_model.specs.Tree.{is_node};
 ghost use Rattle.pv_tree.specs.Changes.{new_node};
 
 use crate::{AddFault, Table};
-use pv_model::{
-    Judgement, Kind, Name, Perms, Place, PlainNode, PlainTree, Target, Version, is_name,
-};
+use pv_model::{Judgement, Kind, Name, Perms, Place, Target, Version, is_name};
 use pv_tree::{Space, Store, Tree};
 use std::alloc::{AllocError, Global};
 use std::process::Abort;
@@ -236,48 +234,6 @@ fn judges_by_a_name(rt: HostRuntime) -> Result<(), Fail> {
     assert_eq!(rt; make(&rt, &mut tree, 2, b"new", Kind::Directory), Ok(8));
     assert_eq!(rt;
         judge_name(&rt, &table, &tree, 2, b"new", R),
-        Judgement::Hidden
-    );
-    Ok(())
-}
-
-fn directory(
-    rt: &impl Abort,
-    alloc: Global,
-    entries: &[(&[u8], u16)],
-) -> Result<Option<PlainNode>, AllocError> {
-    let mut kept = Vec::new(alloc);
-    for entry in entries {
-        kept.push((name(rt, entry.0), entry.1))?;
-    }
-    Ok(Some(PlainNode::Directory(kept)))
-}
-
-#[test]
-fn judges_places_of_a_plain_tree(rt: HostRuntime) -> Result<(), Fail> {
-    let alloc = rt.alloc();
-    let nodes = vec![in alloc;
-        None,
-        directory(&rt, alloc, &[(b"a", 2)])?,
-        directory(&rt, alloc, &[])?,
-        directory(&rt, alloc, &[])?,
-    ]?;
-    let tree = PlainTree::of_nodes(nodes, 16, 3);
-    let mut table = Table::new();
-    let new = Place::At {
-        dir: 2,
-        name: name(&rt, b"new"),
-        node: None,
-    };
-    assert_eq!(rt; table.add(Target::Directory(2), R), Ok(0));
-    assert_eq!(rt; table.judge_plain(&tree, &new, R), Judgement::Allowed);
-    assert_eq!(rt; table.judge_plain(&tree, &new, RW), Judgement::Denied(0));
-    assert_eq!(rt;
-        table.judge_plain(&tree, &Place::Node(1), R),
-        Judgement::Hidden
-    );
-    assert_eq!(rt;
-        table.judge_plain(&tree, &Place::Node(3), R),
         Judgement::Hidden
     );
     Ok(())
