@@ -1,3 +1,4 @@
+pub mod Auditing
 pub mod Listings
 pub mod Making
 pub mod Migrating

@@ -1,5 +1,5 @@
 -- What the listing of an image leaves.
-use Rattle.std.specs.Prelude.{◌≡◌, ◌⊎◌, ⊤, Option, Result, Ok, Err}
+use Rattle.std.specs.Prelude.{◌≡◌, ◌⊎◌, ⊤, ℕ, Option, Result, Ok, Err}
 use Rattle.pv_model.specs.declared.fault.ImageFault.{ImageFault}
 use Rattle.pv_model.specs.declared.fault.ImageFault.TheVariants.{Memory as ImageMemory}
 use Rattle.pv_model.specs.declared.store_fault.ListFault.{ListFault}
@@ -52,3 +52,8 @@ abbrev pub TellsNothingUnlessBegun : Option Bytes → Option Bytes → ListFault
 TellsNothingUnlessBegun before after Memory = ⊤
 TellsNothingUnlessBegun before after Write = ⊤
 TellsNothingUnlessBegun before after fault = after ≡ before
+
+-- all that was told was handed on, but where a write failed
+abbrev pub WaitsOnlyIfUnlisted : ListFault → ℕ → Type 0
+WaitsOnlyIfUnlisted Write waiting = ⊤
+WaitsOnlyIfUnlisted fault waiting = waiting ≡ 0

@@ -18,6 +18,7 @@ fn make_from<W: Sink>(alloc: Global, bytes: &[u8], image: &mut W) -> Result<(), 
     ensures kind { IfErr result IsMakingFault }
     ensures unwritten { IfErr result (TellsNothingUnlessWritten (W.told image.old) (W.told image.new)) }
     ensures write { result ≡ Err RunFault.WriteImage → Rose (W.failures image.old) (W.failures image.new) }
+    ensures handed { OnOk result (W.waits image.new ≡ 0) }
 {
     let manifest = Manifest::parse(alloc, bytes)?;
     let store = build(alloc, &manifest)?;
@@ -29,7 +30,7 @@ fn make_from<W: Sink>(alloc: Global, bytes: &[u8], image: &mut W) -> Result<(), 
 /// which all that no node uses is zero.
 ///
 /// The manifest is read whole, and it is judged before anything is written. Where the answer is `Ok`, `image` has grown
-/// by bytes that hold the manifest's tree.
+/// by bytes that hold the manifest's tree, all of which were handed on.
 ///
 /// # Errors
 ///
@@ -52,6 +53,7 @@ pub fn make_image<S: Source, W: Sink>(
     ensures unwritten { IfErr result (TellsNothingUnlessWritten (W.told image.old) (W.told image.new)) }
     ensures read { result ≡ Err RunFault.Read → Rose (S.failures manifest.old) (S.failures manifest.new) ⊎ GivesMoreThan SOURCE_BYTES (S.remaining manifest.old) }
     ensures write { result ≡ Err RunFault.WriteImage → Rose (W.failures image.old) (W.failures image.new) }
+    ensures handed { OnOk result (W.waits image.new ≡ 0) }
 {
     let bytes = read_whole(alloc, manifest)?;
     make_from(alloc, &bytes, image)

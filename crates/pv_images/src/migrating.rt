@@ -9,7 +9,7 @@ ghost use Rattle.pv_images.specs.Migrating.{HasMigrated, IsMigrateStop, IsMigrat
 use pv_migrate::migrate;
 use pv_model::{Failed, MigrateFault, RunFault, Sink, Source};
 use pv_run::stream::{SOURCE_BYTES, read_whole};
-use pv_trace::write_whole;
+use pv_trace::write_through;
 use std::alloc::Global;
 
 /// Why an image is not made into one of version 2, or not whole.
@@ -57,9 +57,10 @@ fn migrate_bytes<W: Sink>(
     ensures kind { IfErr result IsMigratingStop }
     ensures unwritten { IfErr result (TellsNothingUnlessBroken (W.told out.old) (W.told out.new)) }
     ensures write { result ≡ Err MigrateStop.Write → Rose (W.failures out.old) (W.failures out.new) }
+    ensures handed { OnOk result (W.waits out.new ≡ 0) }
 {
     let image = migrate(alloc, bytes, blocks, inodes)?;
-    match write_whole(out, &image) {
+    match write_through(out, &image) {
         Ok(()) => Ok(()),
         Err(Failed) => Err(MigrateStop::Write),
     }
@@ -69,7 +70,7 @@ fn migrate_bytes<W: Sink>(
 /// holds. Each node keeps its number, and what none uses is zero.
 ///
 /// The image is read whole, and it and the sizes are judged before anything is written. Where the answer is `Ok`, `out`
-/// has grown by bytes that hold just that tree.
+/// has grown by bytes that hold just that tree, all of which were handed on.
 ///
 /// # Errors
 ///
@@ -94,6 +95,7 @@ pub fn migrate_image<S: Source, W: Sink>(
     ensures unwritten { IfErr result (TellsNothingUnlessBroken (W.told out.old) (W.told out.new)) }
     ensures read { result ≡ Err MigrateStop.Read → Rose (S.failures image.old) (S.failures image.new) ⊎ GivesMoreThan SOURCE_BYTES (S.remaining image.old) }
     ensures write { result ≡ Err MigrateStop.Write → Rose (W.failures out.old) (W.failures out.new) }
+    ensures handed { OnOk result (W.waits out.new ≡ 0) }
 {
     let bytes = read_image(alloc, image)?;
     migrate_bytes(alloc, bytes, blocks, inodes, out)

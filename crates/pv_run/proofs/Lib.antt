@@ -1,4 +1,5 @@
 pub mod Begun
+pub mod Left
 pub mod Starting
 pub mod Streaming
 pub mod Written

@@ -15,10 +15,7 @@ use Rattle.pv_run.specs.Run.{HasBegun, IsSummaryOf, IsTextOf, StopsBy, started_f
 use Rattle.pv_run.specs.declared.turns.Summary.{Summary}
 use Rattle.pv_session.specs.Running.{BeginsLines, ToldLines, run_of}
 use Rattle.pv_trace.specs.Streams.{TellsBeginning, and_all}
-
--- what was told whole was told from its beginning
-whole_begins : (text : Bytes) (before after : Option Bytes) → after ≡ and_all before text → TellsBeginning text before after
-whole_begins text before after told = (length text, told ∙ ap (and_all before) (sym (take_all (length text) text (omega arith))))
+use Rattle.pv_trace.proofs.Streaming.{begins_whole}
 
 -- an answer that is this fault
 abbrev pub answered : RunFault → Result (Unit {0}) RunFault
@@ -54,7 +51,7 @@ module _ (asked : Result Started RunFault) (s : State) (schedule : Schedule) (is
       begun = subst (λ (x : Tree). BeginsImage x ib ia) is_last (cut refl);
     })
     unwritten Memory e same_fault kind cut memory =
-        rw same_fault (inr (has_begun asked s schedule is machine tb ta (whole_begins (text_of (started_from s schedule)) tb ta told)), memory refl)
+        rw same_fault (inr (has_begun asked s schedule is machine tb ta (begins_whole (text_of (started_from s schedule)) tb ta told)), memory refl)
     unwritten Read e same_fault kind cut memory = elim kind [ ]
     unwritten (Image f) e same_fault kind cut memory = elim kind [ ]
     unwritten (Manifest f) e same_fault kind cut memory = elim kind [ ]

@@ -77,3 +77,10 @@ IsImageRunFault fault = IsImageFault fault
 abbrev pub IsRunFault : RunFault → Type 0
 IsRunFault Read = ⊤
 IsRunFault fault = IsImageRunFault fault
+
+-- nothing was told, but of a run that stopped; and no image, but where its writing failed
+abbrev pub TellsNeitherUnlessCut : Option Bytes → Option Bytes → Option Bytes → Option Bytes → RunFault → Type 0
+TellsNeitherUnlessCut tb ta ib ia WriteImage = ⊤
+TellsNeitherUnlessCut tb ta ib ia WriteTrace = ia ≡ ib
+TellsNeitherUnlessCut tb ta ib ia Memory = ia ≡ ib
+TellsNeitherUnlessCut tb ta ib ia fault = (ta ≡ tb) × (ia ≡ ib)

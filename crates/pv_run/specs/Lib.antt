@@ -1,3 +1,4 @@
 pub mod Images
+pub mod Machines
 pub mod Run
 pub mod Streams

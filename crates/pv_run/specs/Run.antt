@@ -94,6 +94,11 @@ TellsNothingUnlessCut before after WriteTrace = ⊤
 TellsNothingUnlessCut before after Memory = ⊤
 TellsNothingUnlessCut before after fault = after ≡ before
 
+-- all of a trace was handed on, but where it could not be written
+abbrev pub WaitsOnlyIfCut : RunFault → ℕ → Type 0
+WaitsOnlyIfCut WriteTrace waiting = ⊤
+WaitsOnlyIfCut fault waiting = waiting ≡ 0
+
 -- a refusal is that of what was asked, but for memory
 abbrev pub RefusesStart : {A : Type 0} → RunFault → Result A RunFault → Type 0
 RefusesStart Memory asked = ⊤

@@ -1,10 +1,10 @@
 //! Runs of bundles.
-ghost use Rattle.std.specs.Prelude.{◌≡◌, ◌⊎◌, ◌≤◌, length, Some, Ok, IfOk, IfErr, IfSome};
+ghost use Rattle.std.specs.Prelude.{◌≡◌, ◌⊎◌, ◌≤◌, length, Some, Ok, IfOk, IfErr, IfSome, OnOk};
 ghost use Rattle.pv_model.specs.Grammar.Programs.{program_of};
 ghost use Rattle.pv_model.specs.Start.{bundle_started};
 ghost use Rattle.pv_model.specs.Step.{boot};
 ghost use Rattle.pv_model.specs.Stream.{Rose};
-ghost use Rattle.pv_run.specs.Run.{HasRun, IsBundleFault, IsBytesFault, IsStartFault, RefusesStart, StandsIn, TellsNothingUnlessCut, started_from};
+ghost use Rattle.pv_run.specs.Run.{HasRun, IsBundleFault, IsBytesFault, IsStartFault, RefusesStart, StandsIn, TellsNothingUnlessCut, WaitsOnlyIfCut, started_from};
 ghost use Rattle.pv_run.specs.Streams.{GivesMoreThan};
 
 use crate::stream::{SOURCE_BYTES, read_whole};
@@ -34,6 +34,8 @@ fn run_bytes<W: Sink>(alloc: Global, bytes: &[u8], trace: &mut W) -> Result<Summ
     ensures kind { IfErr result IsBytesFault }
     ensures unwritten { IfErr result (TellsNothingUnlessCut (W.told trace.old) (W.told trace.new)) }
     ensures write { result ≡ Err RunFault.WriteTrace → Rose (W.failures trace.old) (W.failures trace.new) }
+    ensures empty { OnOk result (W.waits trace.new ≡ 0) }
+    ensures stopped { IfErr result (λ fault. W.waits trace.old ≡ 0 → WaitsOnlyIfCut fault (W.waits trace.new)) }
 {
     let mut ready = start_bundle(alloc, bytes)?;
     make_turns(alloc, &mut ready, trace)
@@ -44,7 +46,8 @@ fn run_bytes<W: Sink>(alloc: Global, bytes: &[u8], trace: &mut W) -> Result<Summ
 /// The bundle is read whole. Then its manifest, the manifest's entries, the schedule and the program of
 /// `init` are checked in this order, and nothing is written before all of them have passed. Then the lines
 /// of each step are written before the next step is made. Where the answer is `Ok`, the trace has grown by
-/// just the text of the machine's run on the manifest's tree, and the summary counts its steps and its lines.
+/// just the text of the machine's run on the manifest's tree, all of it was handed on, and the summary counts its steps
+/// and its lines.
 ///
 /// # Errors
 ///
@@ -56,7 +59,7 @@ fn run_bytes<W: Sink>(alloc: Global, bytes: &[u8], trace: &mut W) -> Result<Summ
 /// - `WriteTrace`: a write failed; the trace has grown by a beginning of the text, and no step was made
 ///   after it.
 ///
-/// After each other fault nothing was written.
+/// After each other fault nothing was written. What was written before a fault was handed on, but for `WriteTrace`.
 pub fn run_tree<S: Source, W: Sink>(
     alloc: Global,
     bundle: &mut S,
@@ -70,6 +73,8 @@ pub fn run_tree<S: Source, W: Sink>(
     ensures unwritten { IfErr result (TellsNothingUnlessCut (W.told trace.old) (W.told trace.new)) }
     ensures read { result ≡ Err RunFault.Read → Rose (S.failures bundle.old) (S.failures bundle.new) ⊎ GivesMoreThan SOURCE_BYTES (S.remaining bundle.old) }
     ensures write { result ≡ Err RunFault.WriteTrace → Rose (W.failures trace.old) (W.failures trace.new) }
+    ensures empty { OnOk result (W.waits trace.new ≡ 0) }
+    ensures stopped { IfErr result (λ fault. W.waits trace.old ≡ 0 → WaitsOnlyIfCut fault (W.waits trace.new)) }
 {
     let bytes = read_whole(alloc, bundle)?;
     run_bytes(alloc, &bytes, trace)

@@ -4,21 +4,21 @@ ghost use Rattle.pv_model.specs.Grammar.Programs.{program_of};
 ghost use Rattle.pv_model.specs.Start.{image_started};
 ghost use Rattle.pv_model.specs.Step.{boot};
 ghost use Rattle.pv_model.specs.Stream.{Rose};
-ghost use Rattle.pv_run.specs.Images.{BeginsImage, HasRunOn, IsImageFault, IsImageRunFault, IsRunFault, IsWriteFault, StandsOn, ToldImage};
-ghost use Rattle.pv_run.specs.Run.{IsStartFault, RefusesStart, started_from};
+ghost use Rattle.pv_run.specs.Images.{BeginsImage, HasRunOn, IsImageFault, IsImageRunFault, IsRunFault, IsWriteFault, StandsOn, TellsNeitherUnlessCut, ToldImage};
+ghost use Rattle.pv_run.specs.Run.{IsStartFault, RefusesStart, WaitsOnlyIfCut, started_from};
 ghost use Rattle.pv_run.specs.Streams.{GivesMoreThan};
 
 use crate::stream::{SOURCE_BYTES, read_whole};
 use crate::turns::{Ready, Summary, make_turns, start_on};
 use pv_model::{Failed, RunFault, Sink, Source};
 use pv_mount::mount;
-use pv_trace::write_whole;
+use pv_trace::write_through;
 use pv_tree::Tree;
 use pv_writer::to_bytes;
 use std::alloc::Global;
 
 // What a run on an image starts from, by the text of its schedule.
-fn start_image(alloc: Global, image: Vec<u8>, schedule: &[u8]) -> Result<Ready, RunFault>
+pub(crate) fn start_image(alloc: Global, image: Vec<u8>, schedule: &[u8]) -> Result<Ready, RunFault>
     requires { length schedule.now ≤ SOURCE_BYTES }
     ensures asked { IfOk result (λ r. image_started image.items schedule.now ≡ Ok (started_from r.session r.schedule)) }
     ensures machine { IfOk result (λ r. boot program_of r.session.tree ≡ Some r.session) }
@@ -41,10 +41,11 @@ pub fn write_image<O: Sink>(alloc: Global, tree: &Tree, image: &mut O) -> Result
     ensures cut { result ≡ Err RunFault.WriteImage → BeginsImage tree.now.tree (O.told image.old) (O.told image.new) }
     ensures failed { result ≡ Err RunFault.WriteImage → Rose (O.failures image.old) (O.failures image.new) }
     ensures memory { result ≡ Err RunFault.Memory → O.told image.new ≡ O.told image.old }
+    ensures handed { OnOk result (O.waits image.new ≡ 0) }
     ensures kind { IfErr result IsWriteFault }
 {
     let bytes = to_bytes(alloc, tree)?;
-    match write_whole(image, &bytes) {
+    match write_through(image, &bytes) {
         Ok(()) => Ok(()),
         Err(Failed) => Err(RunFault::WriteImage),
     }
@@ -64,6 +65,12 @@ fn run_image<W: Sink, O: Sink>(
     ensures kind { IfErr result IsImageRunFault }
     ensures write_trace { result ≡ Err RunFault.WriteTrace → Rose (W.failures trace.old) (W.failures trace.new) }
     ensures write_image { result ≡ Err RunFault.WriteImage → Rose (O.failures image.old) (O.failures image.new) }
+
+    // Nothing is written but the text and the image, and what was written was handed on.
+    ensures unwritten { IfErr result (TellsNeitherUnlessCut (W.told trace.old) (W.told trace.new) (O.told image.old) (O.told image.new)) }
+    ensures empty { OnOk result (W.waits trace.new ≡ 0) }
+    ensures stopped { IfErr result (λ fault. W.waits trace.old ≡ 0 → WaitsOnlyIfCut fault (W.waits trace.new)) }
+    ensures handed { OnOk result (O.waits image.new ≡ 0) }
 {
     let mut ready = start_image(alloc, bytes, schedule)?;
     let summary = make_turns(alloc, &mut ready, trace)?;
@@ -78,7 +85,7 @@ fn run_image<W: Sink, O: Sink>(
 /// are written before the next step is made, and at the end an image of the tree that is left: its root and
 /// its nodes that have a name, under their numbers, with the sizes and the version of the image. Where the
 /// answer is `Ok`, the trace has grown by just the text of the machine's run on the image's tree, `image` by
-/// bytes that hold that machine's last tree, and the summary counts the steps and the lines.
+/// bytes that hold that machine's last tree, both were handed on, and the summary counts the steps and the lines.
 ///
 /// # Errors
 ///
@@ -91,7 +98,8 @@ fn run_image<W: Sink, O: Sink>(
 ///   and no image was written.
 /// - `WriteImage`: a write failed; the trace is whole, and `image` has grown by a beginning of the bytes.
 ///
-/// After each other fault nothing was written.
+/// After each other fault nothing was written. What was written of the trace before a fault was handed on, but for
+/// `WriteTrace`.
 pub fn run<I: Source, S: Source, W: Sink, O: Sink>(
     alloc: Global,
     bytes: &mut I,
@@ -110,6 +118,12 @@ pub fn run<I: Source, S: Source, W: Sink, O: Sink>(
         ⊎ (Rose (S.failures schedule.old) (S.failures schedule.new) ⊎ GivesMoreThan SOURCE_BYTES (S.remaining schedule.old)) }
     ensures write_trace { result ≡ Err RunFault.WriteTrace → Rose (W.failures trace.old) (W.failures trace.new) }
     ensures write_image { result ≡ Err RunFault.WriteImage → Rose (O.failures image.old) (O.failures image.new) }
+
+    // Nothing is written but the text and the image, and what was written was handed on.
+    ensures unwritten { IfErr result (TellsNeitherUnlessCut (W.told trace.old) (W.told trace.new) (O.told image.old) (O.told image.new)) }
+    ensures empty { OnOk result (W.waits trace.new ≡ 0) }
+    ensures stopped { IfErr result (λ fault. W.waits trace.old ≡ 0 → WaitsOnlyIfCut fault (W.waits trace.new)) }
+    ensures handed { OnOk result (O.waits image.new ≡ 0) }
 {
     let bytes = read_whole(alloc, bytes)?;
     let schedule = read_whole(alloc, schedule)?;

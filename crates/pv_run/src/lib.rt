@@ -3,6 +3,7 @@
 
 pub mod bundle;
 pub mod image;
+pub mod machine;
 pub mod stream;
 #[cfg(test)]
 mod tests;
@@ -10,4 +11,5 @@ pub mod turns;
 
 pub use bundle::run_tree;
 pub use image::{run, write_image};
+pub use machine::machine_after;
 pub use turns::Summary;

@@ -4,11 +4,12 @@ ghost use Rattle.pv_model.specs.Grammar.Lines.{lines_of};
 ghost use Rattle.pv_model.specs.Grammar.Programs.{program_of};
 ghost use Rattle.pv_model.specs.Start.{started_on};
 ghost use Rattle.pv_model.specs.Step.{boot};
-ghost use Rattle.pv_run.specs.Run.{IsFaultOnTree, IsSummaryOf, RefusesStart, StopsBy, started_from};
+ghost use Rattle.pv_model.specs.Stream.{Rose};
+ghost use Rattle.pv_run.specs.Run.{IsFaultOnTree, IsSummaryOf, RefusesStart, StopsBy, WaitsOnlyIfCut, started_from};
 ghost use Rattle.pv_session.specs.Running.{BeginsLines, ToldLines, run_of};
 
 use crate::stream::SOURCE_BYTES;
-use pv_model::{RunFault, Sink};
+use pv_model::{Failed, RunFault, Sink};
 use pv_script::Schedule;
 use pv_session::{Session, Stop, run_schedule, step_count};
 use pv_tree::Store;
@@ -44,7 +45,22 @@ pub(crate) fn start_on(alloc: Global, store: Store, schedule: &[u8]) -> Result<R
     Ok(Ready { session, schedule })
 }
 
-// Makes the turns of a schedule: the summary counts their steps and their lines.
+// Hands on what waits of a trace.
+fn hand_on<W: Sink>(trace: &mut W) -> Result<(), RunFault>
+    ensures kept { W.told trace.new ≡ W.told trace.old }
+    ensures empty { OnOk result (W.waits trace.new ≡ 0) }
+    ensures quiet { OnOk result (W.failures trace.new ≡ W.failures trace.old) }
+    ensures failed { OnErr result (Rose (W.failures trace.old) (W.failures trace.new)) }
+    ensures kind { IfErr result (λ f. f ≡ RunFault.WriteTrace) }
+{
+    match trace.flush() {
+        Ok(()) => Ok(()),
+        Err(Failed) => Err(RunFault::WriteTrace),
+    }
+}
+
+// Makes the turns of a schedule, and hands on what waits of their lines: the summary counts the steps and the lines.
+#[tactic(auto, using(pv_trace::proofs::Streaming::begins_whole))]
 pub(crate) fn make_turns<W: Sink>(
     alloc: Global,
     ready: &mut Ready,
@@ -56,11 +72,19 @@ pub(crate) fn make_turns<W: Sink>(
     ensures quiet { OnOk result (W.failures trace.new ≡ W.failures trace.old) }
     ensures beginning { OnErr result (BeginsLines (run_of ready.old.session ready.old.schedule).lines (W.told trace.old) (W.told trace.new)) }
     ensures failed { IfErr result (λ fault. StopsBy fault (W.failures trace.old) (W.failures trace.new)) }
+    ensures empty { OnOk result (W.waits trace.new ≡ 0) }
+    ensures stopped { IfErr result (λ fault. WaitsOnlyIfCut fault (W.waits trace.new)) }
 {
     let steps = step_count(ready.schedule.turns());
     match run_schedule(alloc, &mut ready.session, ready.schedule.turns(), trace) {
-        Ok(lines) => Ok(Summary { steps, lines }),
-        Err(Stop::Memory) => Err(RunFault::Memory),
+        Ok(lines) => {
+            hand_on(trace)?;
+            Ok(Summary { steps, lines })
+        }
+        Err(Stop::Memory) => {
+            hand_on(trace)?;
+            Err(RunFault::Memory)
+        }
         Err(Stop::Write) => Err(RunFault::WriteTrace),
     }
 }

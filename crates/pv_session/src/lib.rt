@@ -4,5 +4,5 @@
 mod running;
 mod session;
 
-pub use running::{run_schedule, step_count};
+pub use running::{pass_schedule, run_schedule, step_count};
 pub use session::{Session, Stop};

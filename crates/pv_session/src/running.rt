@@ -4,7 +4,7 @@ ghost use Rattle.pv_model.specs.Step.{steps_of};
 ghost use Rattle.pv_session.specs.Running.{BeginsLines, FailsBy, ToldLines, stepped, turn, run_of};
 
 use crate::session::{Session, Stop};
-use pv_model::Sink;
+use pv_model::{Sink, StepFault};
 use std::alloc::Global;
 
 // Makes so many steps of a process and writes the lines of each before the next: answers how many.
@@ -56,6 +56,34 @@ pub fn run_schedule<W: Sink>(
         lines += run_turn(alloc, session, turn.0, turn.1, trace)?;
     }
     Ok(lines)
+}
+
+// Makes so many steps of a process, whose lines nobody reads.
+fn pass_turn(alloc: Global, session: &mut Session, pid: u32, count: u32) -> Result<(), StepFault>
+    ensures { OnOk result (session.new ≡ (turn session.old pid count).final) }
+{
+    for _made in 0..count {
+        session.step(alloc, pid)?;
+    }
+    Ok(())
+}
+
+/// Makes the steps of a schedule, whose lines nobody reads.
+///
+/// # Errors
+///
+/// `NoMemory` where memory was refused for a step: no step was made after it.
+pub fn pass_schedule(
+    alloc: Global,
+    session: &mut Session,
+    schedule: &[(u32, u32)],
+) -> Result<(), StepFault>
+    ensures { OnOk result (session.new ≡ (run_of session.old schedule.now).final) }
+{
+    for turn in schedule {
+        pass_turn(alloc, session, turn.0, turn.1)?;
+    }
+    Ok(())
 }
 
 /// How many steps a schedule makes.

@@ -1,0 +1,64 @@
+//! The machine that a schedule leaves on an image.
+ghost use Rattle.std.specs.Prelude.{◌≡◌, ◌⊎◌, ◌≤◌, length, Err, IfOk, IfErr, IfSome};
+ghost use Rattle.pv_model.specs.Start.{image_started};
+ghost use Rattle.pv_model.specs.Stream.{Rose};
+ghost use Rattle.pv_run.specs.Images.{IsImageFault};
+ghost use Rattle.pv_run.specs.Machines.{IsLeftBy, IsMachineFault, RefusesMachine};
+ghost use Rattle.pv_run.specs.Run.{RefusesStart};
+ghost use Rattle.pv_run.specs.Streams.{GivesMoreThan};
+
+use crate::image::start_image;
+use crate::stream::{SOURCE_BYTES, read_whole};
+use crate::turns::Ready;
+use pv_model::{RunFault, Source, StepFault};
+use pv_session::{Session, pass_schedule};
+use std::alloc::Global;
+
+// The machine that the bytes of a schedule leave on those of an image.
+#[tactic(auto, using(crate::proofs::Left::left_by))]
+fn machine_of(alloc: Global, image: Vec<u8>, schedule: &[u8]) -> Result<Session, RunFault>
+    requires { length schedule.now ≤ SOURCE_BYTES }
+    ensures left { IfOk result (IsLeftBy (image_started image.items schedule.now)) }
+    ensures refused { IfErr result (λ fault. RefusesStart fault (image_started image.items schedule.now)) }
+    ensures kind { IfErr result IsImageFault }
+{
+    let Ready {
+        mut session,
+        schedule,
+    } = start_image(alloc, image, schedule)?;
+    match pass_schedule(alloc, &mut session, schedule.turns()) {
+        Ok(()) => Ok(session),
+        Err(StepFault::NoMemory) => Err(RunFault::Memory),
+    }
+}
+
+/// The machine that a schedule leaves on an image: the one that `run` would leave, of which nothing is written.
+///
+/// The image and the schedule are read whole. Then the image, the schedule and the program of `init` are checked in this
+/// order, and then the steps are made.
+///
+/// # Errors
+///
+/// - `Read`: a read failed, or a source gave more than 67,108,864 bytes.
+/// - `Image`, `Schedule`, `Init`: the first fault, in the order of the checks; each names the least inode, or
+///   the least line, of its kind.
+/// - `Memory`: memory was refused.
+pub fn machine_after<I: Source, S: Source>(
+    alloc: Global,
+    image: &mut I,
+    schedule: &mut S,
+) -> Result<Session, RunFault>
+    ensures left { IfOk result (λ session. IfSome (I.remaining image.old) (λ bytes. IfSome (S.remaining schedule.old) (λ turns.
+        IsLeftBy (image_started bytes turns) session))) }
+    ensures refused { IfErr result (λ fault. IfSome (I.remaining image.old) (λ bytes. IfSome (S.remaining schedule.old) (λ turns.
+        RefusesMachine fault (image_started bytes turns)))) }
+    ensures kind { IfErr result IsMachineFault }
+
+    // A fault of reading was counted.
+    ensures read { result ≡ Err RunFault.Read → (Rose (I.failures image.old) (I.failures image.new) ⊎ GivesMoreThan SOURCE_BYTES (I.remaining image.old))
+        ⊎ (Rose (S.failures schedule.old) (S.failures schedule.new) ⊎ GivesMoreThan SOURCE_BYTES (S.remaining schedule.old)) }
+{
+    let image = read_whole(alloc, image)?;
+    let schedule = read_whole(alloc, schedule)?;
+    machine_of(alloc, image, &schedule)
+}
