@@ -2,8 +2,8 @@
 ghost use Rattle.std.specs.Prelude.{◌≡◌, ◌≤◌, length, None, IfOk};
 ghost use Rattle.std.specs.String.{string_bytes};
 
+use pv_commands::Files;
 use pv_model::{Failed, Sink, Source};
-use pv_program::Files;
 use std::alloc::{AllocError, Global};
 use std::fs;
 use std::fs::File;

@@ -4,7 +4,9 @@
 mod files;
 
 use files::{HostFiles, Input, Output};
-use pv_program::{Fault, LineFault, System, run, tell};
+use pv_commands::System;
+use pv_program::{Fault, LineFault, run, tell};
+use pv_trace::Buffered;
 use std::process::ExitCode;
 use std::{env, io};
 
@@ -27,7 +29,7 @@ fn main(rt: HostRuntime) -> ExitCode {
     let mut system = System {
         files: HostFiles::new(&rt),
         input: Input::new(rt.reader()),
-        output: Output::new(io::writer(&rt)),
+        output: Buffered::new(Output::new(io::writer(&rt))),
         errors: Output::new(rt.stderr()),
     };
     let status = match words_of(&rt) {
