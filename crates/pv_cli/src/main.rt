@@ -1,10 +1,8 @@
 //! `pvsim`: the program of `pv_program` over the files and the streams of its system.
 #![tactic(auto)]
 
-mod files;
-
-use files::{HostFiles, Input, Output};
 use pv_commands::System;
+use pv_host::{HostFiles, Input, Output};
 use pv_program::{Fault, LineFault, run, tell};
 use pv_trace::Buffered;
 use std::process::ExitCode;
