@@ -2,11 +2,11 @@
 use Rattle.std.proofs.Common.{◌≡◌, ℕ, zero, suc, ◌-◌, ◌<◌, false, [], ◌∷◌, ◌++◌, ◌∙◌, flat_map, length, codes, Option, None, Some, refl, ap, sym, subst, append_assoc, arith}
 use Rattle.std.proofs.lemmas.List.{append-nil}
 use Rattle.pv_model.specs.Bytes.{Bytes}
-use Rattle.pv_model.specs.Listing.{node_line, lines_within, listing}
+use Rattle.pv_model.specs.Listing.{node_line, listing}
 use Rattle.pv_model.specs.Tree.{Entries, Node, directory_node, file_node, link_node, Tree, root, node_at, entries_of, entries_at, is_directory, is_directory_at}
 use Rattle.pv_trace.specs.Streams.{TellsBeginning}
 use Rattle.pv_trace.proofs.Telling.{begins_first}
-use Rattle.pv_listing.specs.Lines.{entries_behind}
+use Rattle.pv_listing.specs.Lines.{entries_behind, lines_within}
 use Rattle.pv_listing.specs.Waiting.{TellsAllBut}
 use Rattle.pv_listing.proofs.Waiting.{waits_behind, waits_then, begins_behind}
 

@@ -1,11 +1,11 @@
 //! The listing of a tree.
 ghost use Rattle.std.specs.Prelude.{◌≡◌, ◌++◌, ◌≤◌, drop, take, vec_len, IsTrue, IsSome, IfOk, IfErr, OnOk, OnErr};
 ghost use Rattle.std.specs.Option.{ForSome};
-ghost use Rattle.pv_model.specs.Listing.{lines_within, listing};
+ghost use Rattle.pv_model.specs.Listing.{listing};
 ghost use Rattle.pv_model.specs.Tree.{node_at, entries_at, is_directory_at, IsWellFormed};
 ghost use Rattle.pv_trace.specs.Streams.{and_all, TellsBeginning};
 ghost use Rattle.pv_listing.specs.Failing.{FailsBy};
-ghost use Rattle.pv_listing.specs.Lines.{IsNextChild, last_name};
+ghost use Rattle.pv_listing.specs.Lines.{IsNextChild, last_name, lines_within};
 ghost use Rattle.pv_listing.specs.Waiting.{TellsAllBut};
 ghost use Rattle.pv_listing.specs.declared.listing.ListStop.TheVariants.{Memory, Write};
 

@@ -1,11 +1,11 @@
 use Rattle.std.proofs.Common.{◌≡◌, ◌++◌, ◌-◌, ◌∙◌, ℕ, ap, sym, subst, drop, take, length, codes, arith, Option}
 use Rattle.std.proofs.lemmas.List.{take_all, drop_all}
 use Rattle.pv_model.specs.Bytes.{Bytes}
-use Rattle.pv_model.specs.Listing.{lines_within, node_line}
+use Rattle.pv_model.specs.Listing.{node_line}
 use Rattle.pv_model.specs.Tree.{Entries, node_at, entries_at}
 use Rattle.pv_trace.specs.Streams.{TellsBeginning}
 use Rattle.pv_trace.proofs.Telling.{on_err}
-use Rattle.pv_listing.specs.Lines.{entries_behind, last_name, IsNextChild}
+use Rattle.pv_listing.specs.Lines.{entries_behind, last_name, lines_within, IsNextChild}
 use Rattle.pv_listing.specs.Waiting.{TellsAllBut}
 use Rattle.pv_listing.proofs.Children.{behind-none, last-is, front-is, length-path}
 use Rattle.pv_listing.proofs.Entries.{entry_lines, no-entries, node_waits, node_begins, none_wait, entry_waits, entry_begins}
