@@ -1,5 +1,5 @@
 -- The definitions' walk, step by step.
-use Rattle.std.proofs.Common.{◌≡◌, ℕ, zero, suc, ◌-◌, ◌<◌, ◌≤◌, Bool, true, false, if◌then◌else◌, ◌&&◌, ◌||◌, ◌==◌, nat_lt, List, [], ◌∷◌, ◌++◌, length, Result, Ok, Err, refl, ap, sym, ◌∙◌, arith}
+use Rattle.std.proofs.Common.{◌≡◌, ℕ, zero, suc, ◌-◌, ◌<◌, ◌≤◌, Bool, true, false, if◌then◌else◌, ◌&&◌, ◌||◌, ◌==◌, nat_lt, List, [], ◌∷◌, ◌++◌, length, Result, Ok, Err, refl, ap, ap₂, sym, ◌∙◌, arith}
 use Rattle.std.proofs.lemmas.Bool.{lt-ltb, le-ltb, ne_eqb}
 use Rattle.pv_model.specs.declared.errno.Errno.{Errno}
 use Rattle.pv_model.specs.declared.errno.Errno.TheVariants.{ENOENT, ELOOP, ENAMETOOLONG}
@@ -18,14 +18,12 @@ pub walk-along : (t : Tree) (last : Bool) (links : ℕ) (ps : List Bytes) (mark 
 walk-along t last zero ps mark at = refl
 walk-along t last (suc links) ps mark at = refl
 
-pub remaining-none : (t : Tree) (w : Walk) → w.rest ≡ [] → remaining t w ≡ Ok (Unnamed w.at)
-remaining-none t w none = walk-along t w.last w.links w.rest w.mark w.at ∙ ap (λ ps. along t w.last (behind t w.last w.links) ps w.mark w.at) none
-
-pub remaining-led : (t : Tree) (w : Walk) (piece : Bytes) (ps : List Bytes) → w.rest ≡ piece ∷ ps → (r : Result Ahead Errno)
-    → along t w.last (behind t w.last w.links) (piece ∷ ps) w.mark w.at ≡ led t w.last (behind t w.last w.links) ps w.mark w.at r
-    → remaining t w ≡ led t w.last (behind t w.last w.links) ps w.mark w.at r
-remaining-led t w piece ps is r leads =
-    walk-along t w.last w.links w.rest w.mark w.at ∙ ap (λ ps. along t w.last (behind t w.last w.links) ps w.mark w.at) is ∙ leads
+-- a walk goes on where its first piece leads
+pub remaining-led : (t : Tree) (w : Walk) (ps : List Bytes) (piece : Bytes) (rest : List Bytes) → ps ≡ piece ∷ rest → (r : Result Ahead Errno)
+    → along t w.last (behind t w.last w.links) (piece ∷ rest) w.mark w.at ≡ led t w.last (behind t w.last w.links) rest w.mark w.at piece r
+    → remaining t w ps ≡ led t w.last (behind t w.last w.links) rest w.mark w.at piece r
+remaining-led t w ps piece rest is r leads =
+    walk-along t w.last w.links ps w.mark w.at ∙ ap (λ ps. along t w.last (behind t w.last w.links) ps w.mark w.at) is ∙ leads
 
 -- ---- behind a link
 
@@ -87,8 +85,14 @@ unfolding resolve
 resolve-long t follow start path some long =
     refused (is_empty path) (nat_lt 1023 (length path)) (Err ENOENT) (Err ENAMETOOLONG) _ (empty-is path ∙ some) (lt-ltb 1023 (length path) long)
 
-pub resolve-walk : (t : Tree) (follow : Follow) (start : ℕ) (path : Bytes) → (length path == 0) ≡ false → length path ≤ 1023
-    → resolve t follow start path ≡ remaining t (first_walk start path follow)
+resolve-walk : (t : Tree) (follow : Follow) (start : ℕ) (path : Bytes) → (length path == 0) ≡ false → length path ≤ 1023
+    → resolve t follow start path ≡ remaining t (first_walk start path follow) (pieces path)
 unfolding resolve
 resolve-walk t follow start path some short =
     picked (is_empty path) (nat_lt 1023 (length path)) (Err ENOENT) (Err ENAMETOOLONG) _ (empty-is path ∙ some) (le-ltb 1023 (length path) short)
+
+-- it is what the walk answers that begins there
+pub resolve-remaining : (t : Tree) (follow : Follow) (start : ℕ) (path : Bytes) → (length path == 0) ≡ false → length path ≤ 1023
+    → (w : Walk) (rest : List Bytes) → w ≡ first_walk start path follow → rest ≡ pieces path → resolve t follow start path ≡ remaining t w rest
+resolve-remaining t follow start path some short w rest walk-is rest-is =
+    resolve-walk t follow start path some short ∙ sym (ap₂ (remaining t) walk-is rest-is)
