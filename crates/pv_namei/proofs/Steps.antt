@@ -1,17 +1,15 @@
 -- The definitions' walk, step by step.
-use Rattle.std.proofs.Common.{◌≡◌, ℕ, zero, suc, ◌-◌, ◌<◌, ◌≤◌, Bool, true, false, if◌then◌else◌, ◌&&◌, ◌||◌, ◌==◌, nat_lt, List, [], ◌∷◌, ◌++◌, length, Result, Ok, Err, refl, ap, ap₂, sym, ◌∙◌, arith}
+use Rattle.std.proofs.Common.{◌≡◌, ℕ, zero, suc, ◌<◌, ◌≤◌, Bool, true, false, if◌then◌else◌, ◌==◌, nat_lt, List, [], ◌∷◌, length, Result, Err, refl, ap, ap₂, sym, ◌∙◌, arith}
 use Rattle.std.proofs.lemmas.Bool.{lt-ltb, le-ltb, ne_eqb}
 use Rattle.pv_model.specs.declared.errno.Errno.{Errno}
-use Rattle.pv_model.specs.declared.errno.Errno.TheVariants.{ENOENT, ELOOP, ENAMETOOLONG}
+use Rattle.pv_model.specs.declared.errno.Errno.TheVariants.{ENOENT, ENAMETOOLONG}
 use Rattle.pv_model.specs.declared.follow.Follow.{Follow}
-use Rattle.pv_model.specs.declared.place.Place.TheVariants.{Node as Unnamed}
 use Rattle.pv_model.specs.Bytes.{Bytes, is_empty}
 use Rattle.pv_model.specs.Tree.{Tree, root}
-use Rattle.pv_model.specs.Walk.{pieces, is_absolute, ends_in_slash, weight, follows_last, end_mark, Walked, along, walk, resolve}
+use Rattle.pv_model.specs.Walk.{pieces, is_absolute, follows_last, end_mark, Walked, along, walk, resolve}
 use Rattle.pv_namei.specs.declared.ahead.Ahead.{Ahead}
 use Rattle.pv_namei.specs.declared.walk.Walk.{Walk}
 use Rattle.pv_namei.specs.Onward.{behind, first_walk, remaining, led}
-use Rattle.pv_namei.proofs.Spelling.{weight-cons}
 
 -- a walk goes along its pieces, up to the first link
 pub walk-along : (t : Tree) (last : Bool) (links : ℕ) (ps : List Bytes) (mark : Bool) (at : ℕ) → walk t last links ps mark at ≡ along t last (behind t last links) ps mark at
@@ -24,39 +22,6 @@ pub remaining-led : (t : Tree) (w : Walk) (ps : List Bytes) (piece : Bytes) (res
     → remaining t w ps ≡ led t w.last (behind t w.last w.links) rest w.mark w.at piece r
 remaining-led t w ps piece rest is r leads =
     walk-along t w.last w.links ps w.mark w.at ∙ ap (λ ps. along t w.last (behind t w.last w.links) ps w.mark w.at) is ∙ leads
-
--- ---- behind a link
-
-pub behind-none : (t : Tree) (last : Bool) (links : ℕ) (text : Bytes) (rest : List Bytes) (mark : Bool) (at : ℕ) → links ≡ 0 → behind t last links text rest mark at ≡ Err ELOOP
-behind-none t last links text rest mark at none = ap (λ links. behind t last links text rest mark at) none
-
-heavy : (long : Bool) (w : Walked) → long ≡ true → (if long then Err ENAMETOOLONG else w) ≡ Err ENAMETOOLONG
-heavy true w is = refl
-heavy false w is = cc
-
-light : (long : Bool) (w : Walked) → long ≡ false → (if long then Err ENAMETOOLONG else w) ≡ w
-light false w is = refl
-light true w is = cc
-
-pub behind-heavy : (t : Tree) (last : Bool) (links : ℕ) (text : Bytes) (rest : List Bytes) (mark : Bool) (at : ℕ) → 0 < links → 1024 < weight (pieces text ++ rest)
-    → behind t last links text rest mark at ≡ Err ENAMETOOLONG
-behind-heavy t last zero text rest mark at some long = absurd (omega arith)
-behind-heavy t last (suc links) text rest mark at some long =
-    heavy (nat_lt 1024 (weight (pieces text ++ rest))) _ (lt-ltb 1024 (weight (pieces text ++ rest)) long)
-
-pub behind-through : (t : Tree) (last : Bool) (links : ℕ) (text : Bytes) (rest : List Bytes) (mark : Bool) (at : ℕ) → 0 < links → weight (pieces text ++ rest) ≤ 1024
-    → behind t last links text rest mark at ≡ walk t last (links - 1) (pieces text ++ rest) (mark || (is_empty rest && ends_in_slash text)) (if is_absolute text then root else at)
-behind-through t last zero text rest mark at some short = absurd (omega arith)
-behind-through t last (suc links) text rest mark at some short =
-    let less : suc links - 1 ≡ links = omega arith in
-    light (nat_lt 1024 (weight (pieces text ++ rest))) (walk t last links (pieces text ++ rest) (mark || (is_empty rest && ends_in_slash text)) (if is_absolute text then root else at))
-    (le-ltb 1024 (weight (pieces text ++ rest)) short)
-    ∙ ap (λ links. walk t last links (pieces text ++ rest) (mark || (is_empty rest && ends_in_slash text)) (if is_absolute text then root else at)) (sym less)
-
--- there are no more pieces than they weigh
-pub length-weight : (ps : List Bytes) → length ps ≤ weight ps
-length-weight [] = omega arith
-length-weight (p ∷ ps) = omega (arith, weight-cons p ps, length-weight ps)
 
 -- ---- the walk of a path
 

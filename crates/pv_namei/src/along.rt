@@ -66,7 +66,7 @@ mod tests {
         assert!(rt; rest.take_first() == Some(b"bc"));
         assert!(rt; !rest.is_empty());
         assert!(rt; rest.take_first() == Some(b".."));
-        assert!(rt; rest.as_slice() == b"//");
+        assert!(rt; rest.as_slice() == b"//".as_slice());
         assert!(rt; rest.is_empty());
         assert!(rt; rest.take_first().is_none());
     }

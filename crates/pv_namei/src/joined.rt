@@ -119,9 +119,15 @@ mod tests {
     fn pieces_weigh_at_most_1024(rt: HostRuntime) {
         let mut joined = Joined::new();
         let long = [b'a'; 1_021];
-        assert_eq!(rt; joined.join(b"bc", &Along::new(&long)), Err(Errno::ENAMETOOLONG));
+        assert_eq!(rt;
+            joined.join(b"bc", &Along::new(&long)),
+            Err(Errno::ENAMETOOLONG)
+        );
         assert_eq!(rt; joined.join(b"/b/", &Along::new(&long)), Ok(()));
-        assert_eq!(rt; joined.join(&long, &Along::new(b"bc")), Err(Errno::ENAMETOOLONG));
+        assert_eq!(rt;
+            joined.join(&long, &Along::new(b"bc")),
+            Err(Errno::ENAMETOOLONG)
+        );
         assert_eq!(rt; joined.join(&long, &Along::new(b"/b/")), Ok(()));
     }
 }

@@ -101,12 +101,7 @@ impl Walk {
     }
 
     // Takes the first piece.
-    fn step<'a, L: Lookup>(
-        &mut self,
-        tree: &Tree,
-        lookup: &mut L,
-        rest: &mut Along<'a>,
-    ) -> Step<'a>
+    fn step<'a, L: Lookup>(&mut self, tree: &Tree, lookup: &mut L, rest: &mut Along<'a>) -> Step<'a>
         requires well_formed { IsWellFormed tree.now.tree }
         requires directory { IsTrue (is_directory_at tree.now.tree self.old.at) }
         requires agrees { L.agrees lookup.old (find_entry tree.now.tree) }

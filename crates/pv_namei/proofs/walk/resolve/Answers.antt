@@ -18,7 +18,7 @@ returns-in_err-end-clause-place g c =
     rw (p.1, p.2)
     (sym
     (resolve-remaining c.args.tree.now.tree c.args.follow c.args.start c.args.path.now (sym c.is_empty.ensures ∙ c.if-is_empty.false) c.if-path-gt-PATH.false c.new-walk.result c.new-rest.result c.new-walk.ensures
-        c.new-rest.ensures
+    c.new-rest.ensures
     ∙ c.in_err-end.ensures.onward))
 
 pub returns-in-End-clause-place : goal.returns-in-End-clause-place
@@ -26,7 +26,7 @@ returns-in-End-clause-place g c =
     ap Ok c.into_place.ensures
     ∙ sym
     (resolve-remaining c.args.tree.now.tree c.args.follow c.args.start c.args.path.now (sym c.is_empty.ensures ∙ c.if-is_empty.false) c.if-path-gt-PATH.false c.new-walk.result c.new-rest.result c.new-walk.ensures
-        c.new-rest.ensures
+    c.new-rest.ensures
     ∙ c.in_ok-end.ensures.onward ∙ ap (stopped c.args.tree.now.tree c.go.new.self c.go.new.rest) c.in-End.is)
 
 pub returns-in-Link-clause-place : goal.returns-in-Link-clause-place
@@ -34,5 +34,5 @@ returns-in-Link-clause-place g c =
     c.go_behind.ensures.place
     ∙ sym
     (resolve-remaining c.args.tree.now.tree c.args.follow c.args.start c.args.path.now (sym c.is_empty.ensures ∙ c.if-is_empty.false) c.if-path-gt-PATH.false c.new-walk.result c.new-rest.result c.new-walk.ensures
-        c.new-rest.ensures
+    c.new-rest.ensures
     ∙ c.in_ok-end.ensures.onward ∙ ap (stopped c.args.tree.now.tree c.go.new.self c.go.new.rest) c.in-Link.is)

@@ -1,7 +1,6 @@
-use Rattle.std.proofs.Common.{Ok, Err, ap, sym, ◌∙◌}
+use Rattle.std.proofs.Common.{Ok, Err, ap, ◌∙◌}
 use Rattle.std.proofs.lemmas.Result.{err_from_is_err_and}
-use Rattle.pv_model.specs.Walk.{along}
-use Rattle.pv_namei.specs.Onward.{behind, led, settled}
+use Rattle.pv_namei.specs.Onward.{behind, led}
 use Rattle.pv_namei.proofs.Steps.{remaining-led}
 use Rattle.pv_namei.proofs.walk.Walk.step.Goals as goal
 
