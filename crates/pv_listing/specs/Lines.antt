@@ -6,9 +6,8 @@ use Rattle.pv_model.specs.declared.sort.Sort.TheVariants.{Directory, File, Execu
 use Rattle.pv_model.specs.Bytes.{Bytes}
 use Rattle.pv_model.specs.Calls.Descriptors.{is_behind}
 use Rattle.pv_model.specs.Effect.{size_of}
-use Rattle.pv_model.specs.Listing as all
-use Rattle.pv_model.specs.Listing.{sort_letter, node_line}
-use Rattle.pv_model.specs.Tree.{Entries, Node, Tree, node_at}
+use Rattle.pv_model.specs.Listing.{sort_letter}
+use Rattle.pv_model.specs.Tree.{Entries, Node}
 
 -- the letter of what a node is
 abbrev pub letter_of : Sort → Bytes
@@ -36,7 +35,3 @@ abbrev pub IsNextChild : Entries → Option Bytes → Bytes → Option ℕ → B
 IsNextChild es last directory None path = (entries_behind last es ≡ []) × (path ≡ directory)
 IsNextChild es last directory (Some child) path =
     (name : Bytes) × (entries_behind last es ≡ (name, child) ∷ entries_behind (Some name) es) × (path ≡ directory ++ codes "/" ++ name)
-
--- the lines of a listing, so deep
-abbrev pub lines_within : Tree → ℕ → Bytes → ℕ → Bytes
-lines_within t = all.lines_within t (λ path n. node_line path n (node_at t n))
