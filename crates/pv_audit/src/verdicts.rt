@@ -1,9 +1,9 @@
-//! What an audit finds of a file.
+//! What an audit finds of a file, by its number or by a path.
 ghost use Rattle.std.specs.Prelude.{◌≡◌, true, IsSome};
 ghost use Rattle.std.specs.List.{list_all};
 ghost use Rattle.pv_audit.specs.Findings.{are_live};
 ghost use Rattle.pv_audit.specs.Reasons.{kept_at, leak_among};
-ghost use Rattle.pv_model.specs.Sealed.{audit as audit_by_definition, audit_node, is_file, verdict};
+ghost use Rattle.pv_model.specs.Sealed.{audit as audit_by_definition, audit_node as audit_of, is_file, verdict};
 ghost use Rattle.pv_model.specs.Effect.{node_of as node_at_place};
 ghost use Rattle.pv_model.specs.Tree.{node_at};
 
@@ -72,6 +72,24 @@ fn is_file(tree: &Tree, node: u16) -> bool
     tree.is_used(node) && matches!(tree.kind(node), Sort::File | Sort::Executable)
 }
 
+/// What is found of a file by its number: sealed, sealed and frozen, or exposed to the least process that is not closed to
+/// it, with the first reason. It takes no memory.
+///
+/// # Errors
+///
+/// `NotFile` where no file has the number, and `Walk` with `ENOENT` where the file has no name.
+pub fn audit_node(parts: &Parts, node: u16) -> Result<Verdict, AuditFault>
+    ensures { result ≡ audit_of parts.now (Some node) }
+{
+    if !is_file(parts.tree(), node) {
+        return Err(AuditFault::NotFile);
+    }
+    match verdict_of(parts, node) {
+        Some(found) => Ok(found),
+        None => Err(AuditFault::Walk(Errno::ENOENT)),
+    }
+}
+
 // The node at a place.
 fn node_of(place: &Place) -> Option<u16>
     ensures { result ≡ node_at_place place.now }
@@ -82,18 +100,12 @@ fn node_of(place: &Place) -> Option<u16>
     }
 }
 
-// What is found of a node.
-fn audit_node(parts: &Parts, node: Option<u16>) -> Result<Verdict, AuditFault>
-    ensures { result ≡ audit_node parts.now node }
+// What is found at a place.
+fn audit_place(parts: &Parts, place: &Place) -> Result<Verdict, AuditFault>
+    ensures { result ≡ audit_of parts.now (node_at_place place.now) }
 {
-    let Some(node) = node else {
-        return Err(AuditFault::Walk(Errno::ENOENT));
-    };
-    if !is_file(parts.tree(), node) {
-        return Err(AuditFault::NotFile);
-    }
-    match verdict_of(parts, node) {
-        Some(found) => Ok(found),
+    match node_of(place) {
+        Some(node) => audit_node(parts, node),
         None => Err(AuditFault::Walk(Errno::ENOENT)),
     }
 }
@@ -110,7 +122,7 @@ pub fn audit(parts: &Parts, path: &[u8]) -> Result<Verdict, AuditFault>
 {
     let _ = parts.tree().sizes();
     match resolve(parts.tree(), &mut PlainLookup, ROOT, path, Follow::Last) {
-        Ok(place) => audit_node(parts, node_of(&place)),
+        Ok(place) => audit_place(parts, &place),
         Err(errno) => Err(AuditFault::Walk(errno)),
     }
 }

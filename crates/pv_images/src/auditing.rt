@@ -54,6 +54,7 @@ impl From<Failed> for AuditStop {
 }
 
 // Writes the line of a verdict, and hands it on.
+#[tactic(auto, using(pv_trace::proofs::Streaming::begins_whole))]
 fn tell<W: Sink>(verdict: &Verdict, out: &mut W) -> Result<(), Failed>
     ensures whole { OnOk result (W.told out.new ≡ and_all (W.told out.old) (verdict_line verdict.now)) }
     ensures empty { OnOk result (W.waits out.new ≡ 0) }
@@ -65,6 +66,7 @@ fn tell<W: Sink>(verdict: &Verdict, out: &mut W) -> Result<(), Failed>
 }
 
 // Writes the report of a machine, and hands it on.
+#[tactic(auto, using(pv_trace::proofs::Streaming::begins_whole))]
 fn tell_all<W: Sink>(alloc: Global, session: &Session, out: &mut W) -> Result<(), ListStop>
     ensures whole { OnOk result (W.told out.new ≡ and_all (W.told out.old) (report session.now)) }
     ensures empty { OnOk result (W.waits out.new ≡ 0) }
@@ -72,11 +74,17 @@ fn tell_all<W: Sink>(alloc: Global, session: &Session, out: &mut W) -> Result<()
     ensures stopped { result ≡ Err ListStop.Memory → W.waits out.new ≡ 0 }
     ensures failed { result ≡ Err ListStop.Write → Rose (W.failures out.old) (W.failures out.new) }
 {
-    let written = write_report(alloc, session, out);
-    if written != Err(ListStop::Write) {
-        out.flush()?;
+    match write_report(alloc, session, out) {
+        Ok(()) => {
+            out.flush()?;
+            Ok(())
+        }
+        Err(ListStop::Memory) => {
+            out.flush()?;
+            Err(ListStop::Memory)
+        }
+        Err(ListStop::Write) => Err(ListStop::Write),
     }
-    written
 }
 
 // Writes what is found of a file of a machine, or of all its files where there is no path.

@@ -7,6 +7,10 @@
 #![tactic(auto)]
 
 pub mod auditing;
+#[cfg(test)]
+mod damaged;
+#[cfg(test)]
+mod failing;
 pub mod listing;
 pub mod making;
 pub mod migrating;

@@ -28,6 +28,7 @@ fn read_image<S: Source>(alloc: Global, image: &mut S) -> Result<Vec<u8>, ListFa
 }
 
 // Writes the listing of a tree, and hands it on.
+#[tactic(auto, using(pv_trace::proofs::Streaming::begins_whole))]
 fn write_all<W: Sink>(alloc: Global, tree: &Tree, out: &mut W) -> Result<(), ListStop>
     ensures whole { OnOk result (W.told out.new ≡ and_all (W.told out.old) (listing tree.now.tree)) }
     ensures empty { OnOk result (W.waits out.new ≡ 0) }
@@ -35,11 +36,17 @@ fn write_all<W: Sink>(alloc: Global, tree: &Tree, out: &mut W) -> Result<(), Lis
     ensures stopped { result ≡ Err ListStop.Memory → W.waits out.new ≡ 0 }
     ensures failed { result ≡ Err ListStop.Write → Rose (W.failures out.old) (W.failures out.new) }
 {
-    let written = write_listing(alloc, tree, out);
-    if written != Err(ListStop::Write) {
-        out.flush()?;
+    match write_listing(alloc, tree, out) {
+        Ok(()) => {
+            out.flush()?;
+            Ok(())
+        }
+        Err(ListStop::Memory) => {
+            out.flush()?;
+            Err(ListStop::Memory)
+        }
+        Err(ListStop::Write) => Err(ListStop::Write),
     }
-    written
 }
 
 // Writes the listing of the tree that bytes hold.

@@ -1,4 +1,4 @@
 pub mod Children
 pub mod Entries
-pub mod Waiting
 pub mod Parts
+pub mod Rests

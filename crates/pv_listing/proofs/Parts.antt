@@ -27,7 +27,7 @@ front_is n (Some node) sort size is measures =
     ap₂ (λ (l : Bytes) (z : ℕ). l ++ codes " " ++ decimal n ++ codes " " ++ decimal z ++ codes " ") (letter-is node ∙ ap letter_of same) long
 
 -- a line in three pieces
-pub line-is : (front listed path : Bytes) (n : ℕ) (node : Option Node) → IsSome node → front ≡ node_front n node → listed ≡ listed_path path
-    → (front ++ quote listed) ++ 10 ∷ [] ≡ node_line path n node
-line-is front listed path n None some first then = cc some
-line-is front listed path n (Some node) some first then = ap₂ (λ (a b : Bytes). (a ++ quote b) ++ 10 ∷ []) first then
+pub line-is : (front path : Bytes) (n : ℕ) (node : Option Node) → IsSome node → front ≡ node_front n node
+    → (front ++ quote (listed_path path)) ++ 10 ∷ [] ≡ node_line path n node
+line-is front path n None some is = cc some
+line-is front path n (Some node) some is = ap (λ (bs : Bytes). (bs ++ quote (listed_path path)) ++ 10 ∷ []) is

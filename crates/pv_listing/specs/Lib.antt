@@ -1,3 +1,2 @@
 pub mod Failing
 pub mod Lines
-pub mod Waiting

@@ -1,15 +1,19 @@
-//! The listing of a tree: a line for each name, each directory followed at once by all that is in it.
+//! The lines of a tree: what is said of each name, each directory followed at once by all that is in it.
 //!
-//! `listing` goes down the tree and keeps the path of the node at which it stands, which may be of any length;
-//! `line` has the parts of a line. Text waits on a sheet of fixed size (`sheet`) until that is full.
+//! `remarks` has what may be said of a node at a path. `listing` goes down a tree, keeps the path of the node at which it
+//! stands, which may be of any length, and has what is said there written. A listing's own remarks stand in `line`; `path`
+//! writes a path as a line has it.
 //!
-//! A clause sees the listing as `pv_model`'s definitions have it.
+//! A clause sees the lines as `pv_model`'s definitions have them.
 #![tactic(auto)]
 
 mod line;
 mod listing;
-mod sheet;
+mod path;
+mod remarks;
 #[cfg(test)]
 mod tests;
 
-pub use listing::{ListStop, write_listing};
+pub use listing::{ListStop, write_lines, write_listing};
+pub use path::write_path;
+pub use remarks::Remarks;

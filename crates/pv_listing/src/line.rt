@@ -1,16 +1,15 @@
-//! The line of a node.
-ghost use Rattle.std.specs.Prelude.{◌≡◌, ◌++◌, ◌+◌, ◌≤◌, length, codes, decimal, OnOk, OnErr, IsSome};
-ghost use Rattle.pv_model.specs.Listing.{listed_path as path_of_line, node_line};
-ghost use Rattle.pv_model.specs.Stream.{Rose};
+//! What a listing says of a node.
+ghost use Rattle.std.specs.Prelude.{◌≡◌, ◌++◌, ◌+◌, ◌≤◌, length, codes, decimal, IsSome};
+ghost use Rattle.pv_model.specs.Listing.{node_line};
 ghost use Rattle.pv_model.specs.Tree.{node_at};
-ghost use Rattle.pv_trace.specs.Streams.{and_all, TellsBeginning};
 ghost use Rattle.pv_listing.specs.Lines.{letter_of, node_front};
-ghost use Rattle.pv_listing.specs.Waiting.{TellsAllBut};
 
-use crate::sheet::{Sheet, put, put_quoted};
+use crate::path::write_path;
+use crate::remarks::Remarks;
 use arrayvec::ArrayVec;
 use itoa::Buffer;
 use pv_model::{Failed, Sink, Sort};
+use pv_trace::write_whole;
 use pv_tree::Tree;
 
 // Bytes before the path of a line, and more.
@@ -65,29 +64,22 @@ fn front_of(tree: &Tree, node: u16) -> Front
     front
 }
 
-// A path as a line has it: the root's is a slash.
-fn listed_path(path: &[u8]) -> &[u8]
-    ensures { result.now ≡ path_of_line path.now }
-{
-    if path.is_empty() { b"/" } else { path }
+/// The remarks of a listing: what a node is, its number, its size, and the path.
+#[derive(Clone, Copy)]
+pub(crate) struct NodeLines<'a> {
+    /// The tree of the nodes.
+    pub(crate) tree: &'a Tree,
 }
 
-/// The line of a node, at the end of a path.
-pub(crate) fn put_line<W: Sink>(
-    out: &mut W,
-    sheet: &mut Sheet,
-    tree: &Tree,
-    path: &[u8],
-    node: u16,
-) -> Result<(), Failed>
-    requires { IsSome (node_at tree.now.tree node) }
-    ensures waits { OnOk result (TellsAllBut sheet.new.items (sheet.old.items ++ node_line path.now node (node_at tree.now.tree node)) (W.told out.old) (W.told out.new)) }
-    ensures beginning { OnErr result (TellsBeginning (sheet.old.items ++ node_line path.now node (node_at tree.now.tree node)) (W.told out.old) (W.told out.new)) }
-    ensures failed { OnErr result (Rose (W.failures out.old) (W.failures out.new)) }
-    ensures quiet { OnOk result (W.failures out.new ≡ W.failures out.old) }
-{
-    let front = front_of(tree, node);
-    put(out, sheet, front.as_slice())?;
-    put_quoted(out, sheet, listed_path(path))?;
-    put(out, sheet, b"\n")
+impl<'a> Remarks for NodeLines<'a> {
+    ghost line = { λ s path n. node_line path n (node_at s.tree.now.tree n) };
+
+    fn write<W: Sink>(&self, out: &mut W, path: &[u8], node: u16) -> Result<(), Failed> {
+        if !self.tree.is_used(node) {
+            return Ok(());
+        }
+        write_whole(out, front_of(self.tree, node).as_slice())?;
+        write_path(out, path)?;
+        write_whole(out, b"\n")
+    }
 }

@@ -1,22 +1,20 @@
-//! The listing of a tree.
-ghost use Rattle.std.specs.Prelude.{◌≡◌, ◌++◌, ◌≤◌, drop, take, vec_len, IsTrue, IsSome, IfOk, IfErr, OnOk, OnErr};
-ghost use Rattle.std.specs.Option.{ForSome};
-ghost use Rattle.pv_model.specs.Listing.{lines_within, listing};
-ghost use Rattle.pv_model.specs.Tree.{node_at, entries_at, is_directory_at, IsWellFormed};
+//! The lines of a tree, and its listing.
+ghost use Rattle.std.specs.Prelude.{◌≡◌, ◌≤◌, drop, take, vec_len, IsTrue, IfOk, IfErr, OnOk, OnErr};
+ghost use Rattle.pv_model.specs.Listing.{lines_of_all, lines_within, listing};
+ghost use Rattle.pv_model.specs.Tree.{entries_at, is_directory_at, IsWellFormed};
 ghost use Rattle.pv_trace.specs.Streams.{and_all, TellsBeginning};
 ghost use Rattle.pv_listing.specs.Failing.{FailsBy};
 ghost use Rattle.pv_listing.specs.Lines.{IsNextChild, last_name};
-ghost use Rattle.pv_listing.specs.Waiting.{TellsAllBut};
 ghost use Rattle.pv_listing.specs.declared.listing.ListStop.TheVariants.{Memory, Write};
 
-use crate::line::put_line;
-use crate::sheet::{Sheet, flush};
+use crate::line::NodeLines;
+use crate::remarks::Remarks;
 use pv_model::limits::ROOT;
 use pv_model::{Failed, Sink};
 use pv_tree::Tree;
 use std::alloc::{AllocError, Global};
 
-/// Why a listing stops before its end.
+/// Why the lines of a tree stop before their end.
 #[derive(Clone, Copy, Debug, PartialEq, Eq)]
 pub enum ListStop {
     /// Memory was refused for a path.
@@ -52,8 +50,7 @@ fn next_child(
     requires well_formed { IsWellFormed tree.now.tree }
     requires directory { IsTrue (is_directory_at tree.now.tree directory) }
     requires within { base ≤ vec_len path.old }
-    ensures next { IfOk result (λ child. IsNextChild (entries_at tree.now.tree directory) (last_name (drop base path.old.items)) (take base path.old.items) child path.new.items) }
-    ensures used { IfOk result (λ child. ForSome child (λ node. IsSome (node_at tree.now.tree node))) }
+    ensures { IfOk result (λ child. IsNextChild (entries_at tree.now.tree directory) (last_name (drop base path.old.items)) (take base path.old.items) child path.new.items) }
 {
     let next = tree.next_after(directory, path.get(base + 1..));
     path.truncate(base);
@@ -65,35 +62,59 @@ fn next_child(
     Ok(tree.find(directory, name.as_slice()))
 }
 
-// Puts the line of a node at the end of a path on the sheet, and the lines of all that is in it, so deep.
-fn put_within<W: Sink>(
+// Writes what is said of a node at the end of a path, and of all that is in it, so deep.
+fn write_within<R: Remarks, W: Sink>(
     out: &mut W,
-    sheet: &mut Sheet,
     tree: &Tree,
+    remarks: &R,
     depth: u16,
     path: &mut Vec<u8>,
     node: u16,
 ) -> Result<(), ListStop>
-    requires well_formed { IsWellFormed tree.now.tree }
-    requires used { IsSome (node_at tree.now.tree node) }
-    ensures waits { OnOk result (TellsAllBut sheet.new.items (sheet.old.items ++ lines_within tree.now.tree depth path.old.items node) (W.told out.old) (W.told out.new)) }
+    requires { IsWellFormed tree.now.tree }
+    ensures whole { OnOk result (W.told out.new ≡ and_all (W.told out.old) (lines_within tree.now.tree (R.line remarks.now) depth path.old.items node)) }
     ensures path { OnOk result (path.new.items ≡ path.old.items) }
-    ensures beginning { OnErr result (TellsBeginning (sheet.old.items ++ lines_within tree.now.tree depth path.old.items node) (W.told out.old) (W.told out.new)) }
+    ensures beginning { OnErr result (TellsBeginning (lines_within tree.now.tree (R.line remarks.now) depth path.old.items node) (W.told out.old) (W.told out.new)) }
     ensures failed { IfErr result (λ stop. FailsBy stop (W.failures out.old) (W.failures out.new)) }
     ensures quiet { OnOk result (W.failures out.new ≡ W.failures out.old) }
 {
     if depth == 0 {
         return Ok(());
     }
-    put_line(out, sheet, tree, path.as_slice(), node)?;
+    remarks.write(out, path.as_slice(), node)?;
     if !tree.is_directory(node) {
         return Ok(());
     }
     let base = path.len();
     while let Some(child) = next_child(tree, node, base, path)? {
-        put_within(out, sheet, tree, depth - 1, path, child)?;
+        write_within(out, tree, remarks, depth - 1, path, child)?;
     }
     Ok(())
+}
+
+/// Writes what is said of each name of a tree, each directory followed at once by all that is in it, names in the order
+/// of their bytes.
+///
+/// Memory is taken for the path alone.
+///
+/// # Errors
+///
+/// `Write` where a write failed, `Memory` where memory was refused for a path: the sink was told a beginning of the
+/// lines.
+pub fn write_lines<R: Remarks, W: Sink>(
+    alloc: Global,
+    tree: &Tree,
+    remarks: &R,
+    out: &mut W,
+) -> Result<(), ListStop>
+    ensures whole { OnOk result (W.told out.new ≡ and_all (W.told out.old) (lines_of_all tree.now.tree (R.line remarks.now))) }
+    ensures beginning { OnErr result (TellsBeginning (lines_of_all tree.now.tree (R.line remarks.now)) (W.told out.old) (W.told out.new)) }
+    ensures failed { IfErr result (λ stop. FailsBy stop (W.failures out.old) (W.failures out.new)) }
+    ensures quiet { OnOk result (W.failures out.new ≡ W.failures out.old) }
+{
+    let mut path = Vec::new(alloc);
+    let depth = tree.sizes().inodes + 1;
+    write_within(out, tree, remarks, depth, &mut path, ROOT)
 }
 
 /// Writes the listing of a tree: a line for each name, each directory followed at once by all that is in it, names in
@@ -106,16 +127,12 @@ fn put_within<W: Sink>(
 ///
 /// `Write` where a write failed, `Memory` where memory was refused for a path: the sink was told a beginning of the
 /// listing.
+#[tactic(auto, unfolding(pv_model::specs::Listing::listing))]
 pub fn write_listing<W: Sink>(alloc: Global, tree: &Tree, out: &mut W) -> Result<(), ListStop>
     ensures whole { OnOk result (W.told out.new ≡ and_all (W.told out.old) (listing tree.now.tree)) }
     ensures beginning { OnErr result (TellsBeginning (listing tree.now.tree) (W.told out.old) (W.told out.new)) }
     ensures failed { IfErr result (λ stop. FailsBy stop (W.failures out.old) (W.failures out.new)) }
     ensures quiet { OnOk result (W.failures out.new ≡ W.failures out.old) }
 {
-    let mut sheet = Sheet::new();
-    let mut path = Vec::new(alloc);
-    let depth = tree.sizes().inodes + 1;
-    put_within(out, &mut sheet, tree, depth, &mut path, ROOT)?;
-    flush(out, &mut sheet)?;
-    Ok(())
+    write_lines(alloc, tree, &NodeLines { tree }, out)
 }

@@ -1,11 +1,12 @@
-//! Listings, and sinks that take little.
-ghost use Rattle.std.specs.Prelude.{◌≤◌, IsTrue, None};
+//! Listings and other remarks, and sinks that take little.
+ghost use Rattle.std.specs.Prelude.{◌≤◌, [], ◌∷◌, IsTrue, None};
 ghost use Rattle.pv_model.specs.declared.version.Version.{Version};
 ghost use Rattle.pv_model.specs.Tree.{is_node};
 ghost use Rattle.pv_tree.specs.Changes.{new_node};
 
-use crate::{ListStop, write_listing};
+use crate::{ListStop, Remarks, write_lines, write_listing, write_path};
 use pv_model::{Failed, Kind, Sink, Sort, Version, is_name};
+use pv_trace::write_whole;
 use pv_tree::{Store, Tree};
 use std::alloc::{AllocError, Global};
 use std::process::Abort;
@@ -168,6 +169,33 @@ fn a_full_sink_has_a_beginning_of_the_listing(rt: HostRuntime) -> Result<(), Fai
     Ok(())
 }
 
+// Says a dot of each name.
+struct Dots;
+
+impl Remarks for Dots {
+    ghost line = { λ _ _ _. 46 ∷ [] };
+
+    fn write<W: Sink>(&self, out: &mut W, _path: &[u8], _node: u16) -> Result<(), Failed> {
+        write_whole(out, b".")
+    }
+}
+
+#[test]
+fn each_name_is_told_as_the_remarks_say(rt: HostRuntime) -> Result<(), Fail> {
+    let mut tree = small_tree(rt.alloc(), 30)?;
+    make_some(&rt, &mut tree);
+    let mut out = sink_of(&rt, 1_000, 1_000);
+    assert_eq!(rt; write_lines(rt.alloc(), &tree, &Dots, &mut out), Ok(()));
+    assert!(rt; out.bytes.as_slice() == b"........".as_slice());
+    let mut full = sink_of(&rt, 3, 1_000);
+    assert_eq!(rt;
+        write_lines(rt.alloc(), &tree, &Dots, &mut full),
+        Err(ListStop::Write)
+    );
+    assert!(rt; full.bytes.as_slice() == b"...".as_slice());
+    Ok(())
+}
+
 // The path of the last node of a chain, as a program writes it.
 fn chain_path(alloc: Global, count: usize, piece: &[u8]) -> Result<Vec<u8>, AllocError> {
     let mut path = Vec::from_slice(alloc, b"\"")?;
@@ -176,6 +204,22 @@ fn chain_path(alloc: Global, count: usize, piece: &[u8]) -> Result<Vec<u8>, Allo
     }
     path.extend_from_slice(b"\"\n")?;
     Ok(path)
+}
+
+#[test]
+fn a_path_of_any_length_is_quoted(rt: HostRuntime) -> Result<(), Fail> {
+    for count in [1, 63, 64, 65, 128, 1_000] {
+        let bytes = vec![in rt.alloc(); 255; count]?;
+        let path = chain_path(rt.alloc(), count, b"\\xff")?;
+        let mut out = sink_of(&rt, 100_000, 100_000);
+        assert!(rt; write_path(&mut out, bytes.as_slice()).is_ok());
+        assert!(rt; write_whole(&mut out, b"\n").is_ok());
+        assert!(rt; out.bytes.as_slice() == path.as_slice());
+    }
+    let mut out = sink_of(&rt, 1_000, 1_000);
+    assert!(rt; write_path(&mut out, b"").is_ok());
+    assert!(rt; out.bytes.as_slice() == b"\"/\"".as_slice());
+    Ok(())
 }
 
 #[test]

@@ -1,5 +1,5 @@
 -- Whether the last of some pieces is `.` or `..`, piece by piece.
-use Rattle.std.proofs.Common.{◌≡◌, ◌∙◌, Bool, true, false, ◌||◌, List, [], ◌∷◌, refl, ap}
+use Rattle.std.proofs.Common.{◌≡◌, ◌∙◌, Bool, false, ◌||◌, List, [], ◌∷◌, refl, ap}
 use Rattle.pv_model.specs.Bytes.{Bytes}
 use Rattle.pv_model.specs.Calls.Paths.{last_is_dot}
 use Rattle.pv_model.specs.Walk.{is_dot, is_dot_dot}

@@ -1,5 +1,5 @@
 -- The pieces of a path, cut off one by one.
-use Rattle.std.proofs.Common.{◌≡◌, ◌<◌, ℕ, zero, suc, ◌==◌, not, Bool, true, false, filter, List, [], ◌∷◌, length, get_or, take, drop, None, Some, refl, sym, ap, ◌∙◌, arith, position, unwrap_or}
+use Rattle.std.proofs.Common.{◌≡◌, ◌<◌, ℕ, zero, suc, ◌==◌, not, Bool, true, false, filter, List, [], ◌∷◌, length, get_or, take, drop, Option, None, Some, is_some, refl, sym, ap, ◌∙◌, arith, position, unwrap_or}
 use Rattle.std.proofs.lemmas.List.{drop_all, length-drop}
 use Rattle.std.proofs.lemmas.List.Quantifiers.{position-Some}
 use Rattle.std.proofs.lemmas.List.Sums.{prefix_len-le-length, prefix_len-drop_yes}
@@ -106,3 +106,14 @@ module _ (path : Bytes) (start end : ℕ) (found : position is_other path ≡ So
       let some : 0 < others (drop start path) = omega (arith, others_next, some_next) in
       let there : 0 < length (drop start path) = omega (arith, length-drop start path, at.0) in
       sym (pieces_skip path) ∙ ap (λ n. pieces (drop n path)) from ∙ rw others_next (pieces_cut (drop start path) some there)
+
+-- there is none exactly where no other byte is found
+none_found : (path : Bytes) (found : Option ℕ) → position is_other path ≡ found → (none : Bool) → is_some found ≡ not none → none ≡ is_empty (pieces path)
+none_found path None e true is = sym (ap is_empty (pieces_none path e))
+none_found path None e false is = cc is
+none_found path (Some start) e true is = cc is
+none_found path (Some start) e false is =
+    sym (ap is_empty (pieces_next path start (unwrap_or (position is_slash (drop start path)) (length (drop start path))) e refl))
+
+pub pieces_empty : (path : Bytes) (none : Bool) → is_some (position is_other path) ≡ not none → none ≡ is_empty (pieces path)
+pieces_empty path none is = none_found path (position is_other path) refl none is

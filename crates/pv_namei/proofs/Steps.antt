@@ -1,64 +1,27 @@
 -- The definitions' walk, step by step.
-use Rattle.std.proofs.Common.{◌≡◌, ℕ, zero, suc, ◌-◌, ◌<◌, ◌≤◌, Bool, true, false, if◌then◌else◌, ◌&&◌, ◌||◌, ◌==◌, nat_lt, List, [], ◌∷◌, ◌++◌, length, Result, Ok, Err, refl, ap, sym, ◌∙◌, arith}
+use Rattle.std.proofs.Common.{◌≡◌, ℕ, zero, suc, ◌<◌, ◌≤◌, Bool, true, false, if◌then◌else◌, ◌==◌, nat_lt, List, [], ◌∷◌, length, Result, Err, refl, ap, ap₂, sym, ◌∙◌, arith}
 use Rattle.std.proofs.lemmas.Bool.{lt-ltb, le-ltb, ne_eqb}
 use Rattle.pv_model.specs.declared.errno.Errno.{Errno}
-use Rattle.pv_model.specs.declared.errno.Errno.TheVariants.{ENOENT, ELOOP, ENAMETOOLONG}
+use Rattle.pv_model.specs.declared.errno.Errno.TheVariants.{ENOENT, ENAMETOOLONG}
 use Rattle.pv_model.specs.declared.follow.Follow.{Follow}
-use Rattle.pv_model.specs.declared.place.Place.TheVariants.{Node as Unnamed}
 use Rattle.pv_model.specs.Bytes.{Bytes, is_empty}
 use Rattle.pv_model.specs.Tree.{Tree, root}
-use Rattle.pv_model.specs.Walk.{pieces, is_absolute, ends_in_slash, weight, follows_last, end_mark, Walked, along, walk, resolve}
+use Rattle.pv_model.specs.Walk.{pieces, is_absolute, follows_last, end_mark, Walked, along, walk, resolve}
 use Rattle.pv_namei.specs.declared.ahead.Ahead.{Ahead}
 use Rattle.pv_namei.specs.declared.walk.Walk.{Walk}
 use Rattle.pv_namei.specs.Onward.{behind, first_walk, remaining, led}
-use Rattle.pv_namei.proofs.Spelling.{weight-cons}
 
 -- a walk goes along its pieces, up to the first link
 pub walk-along : (t : Tree) (last : Bool) (links : ℕ) (ps : List Bytes) (mark : Bool) (at : ℕ) → walk t last links ps mark at ≡ along t last (behind t last links) ps mark at
 walk-along t last zero ps mark at = refl
 walk-along t last (suc links) ps mark at = refl
 
-pub remaining-none : (t : Tree) (w : Walk) → w.rest ≡ [] → remaining t w ≡ Ok (Unnamed w.at)
-remaining-none t w none = walk-along t w.last w.links w.rest w.mark w.at ∙ ap (λ ps. along t w.last (behind t w.last w.links) ps w.mark w.at) none
-
-pub remaining-led : (t : Tree) (w : Walk) (piece : Bytes) (ps : List Bytes) → w.rest ≡ piece ∷ ps → (r : Result Ahead Errno)
-    → along t w.last (behind t w.last w.links) (piece ∷ ps) w.mark w.at ≡ led t w.last (behind t w.last w.links) ps w.mark w.at r
-    → remaining t w ≡ led t w.last (behind t w.last w.links) ps w.mark w.at r
-remaining-led t w piece ps is r leads =
-    walk-along t w.last w.links w.rest w.mark w.at ∙ ap (λ ps. along t w.last (behind t w.last w.links) ps w.mark w.at) is ∙ leads
-
--- ---- behind a link
-
-pub behind-none : (t : Tree) (last : Bool) (links : ℕ) (text : Bytes) (rest : List Bytes) (mark : Bool) (at : ℕ) → links ≡ 0 → behind t last links text rest mark at ≡ Err ELOOP
-behind-none t last links text rest mark at none = ap (λ links. behind t last links text rest mark at) none
-
-heavy : (long : Bool) (w : Walked) → long ≡ true → (if long then Err ENAMETOOLONG else w) ≡ Err ENAMETOOLONG
-heavy true w is = refl
-heavy false w is = cc
-
-light : (long : Bool) (w : Walked) → long ≡ false → (if long then Err ENAMETOOLONG else w) ≡ w
-light false w is = refl
-light true w is = cc
-
-pub behind-heavy : (t : Tree) (last : Bool) (links : ℕ) (text : Bytes) (rest : List Bytes) (mark : Bool) (at : ℕ) → 0 < links → 1024 < weight (pieces text ++ rest)
-    → behind t last links text rest mark at ≡ Err ENAMETOOLONG
-behind-heavy t last zero text rest mark at some long = absurd (omega arith)
-behind-heavy t last (suc links) text rest mark at some long =
-    heavy (nat_lt 1024 (weight (pieces text ++ rest))) _ (lt-ltb 1024 (weight (pieces text ++ rest)) long)
-
-pub behind-through : (t : Tree) (last : Bool) (links : ℕ) (text : Bytes) (rest : List Bytes) (mark : Bool) (at : ℕ) → 0 < links → weight (pieces text ++ rest) ≤ 1024
-    → behind t last links text rest mark at ≡ walk t last (links - 1) (pieces text ++ rest) (mark || (is_empty rest && ends_in_slash text)) (if is_absolute text then root else at)
-behind-through t last zero text rest mark at some short = absurd (omega arith)
-behind-through t last (suc links) text rest mark at some short =
-    let less : suc links - 1 ≡ links = omega arith in
-    light (nat_lt 1024 (weight (pieces text ++ rest))) (walk t last links (pieces text ++ rest) (mark || (is_empty rest && ends_in_slash text)) (if is_absolute text then root else at))
-    (le-ltb 1024 (weight (pieces text ++ rest)) short)
-    ∙ ap (λ links. walk t last links (pieces text ++ rest) (mark || (is_empty rest && ends_in_slash text)) (if is_absolute text then root else at)) (sym less)
-
--- there are no more pieces than they weigh
-pub length-weight : (ps : List Bytes) → length ps ≤ weight ps
-length-weight [] = omega arith
-length-weight (p ∷ ps) = omega (arith, weight-cons p ps, length-weight ps)
+-- a walk goes on where its first piece leads
+pub remaining-led : (t : Tree) (w : Walk) (ps : List Bytes) (piece : Bytes) (rest : List Bytes) → ps ≡ piece ∷ rest → (r : Result Ahead Errno)
+    → along t w.last (behind t w.last w.links) (piece ∷ rest) w.mark w.at ≡ led t w.last (behind t w.last w.links) rest w.mark w.at piece r
+    → remaining t w ps ≡ led t w.last (behind t w.last w.links) rest w.mark w.at piece r
+remaining-led t w ps piece rest is r leads =
+    walk-along t w.last w.links ps w.mark w.at ∙ ap (λ ps. along t w.last (behind t w.last w.links) ps w.mark w.at) is ∙ leads
 
 -- ---- the walk of a path
 
@@ -87,8 +50,14 @@ unfolding resolve
 resolve-long t follow start path some long =
     refused (is_empty path) (nat_lt 1023 (length path)) (Err ENOENT) (Err ENAMETOOLONG) _ (empty-is path ∙ some) (lt-ltb 1023 (length path) long)
 
-pub resolve-walk : (t : Tree) (follow : Follow) (start : ℕ) (path : Bytes) → (length path == 0) ≡ false → length path ≤ 1023
-    → resolve t follow start path ≡ remaining t (first_walk start path follow)
+resolve-walk : (t : Tree) (follow : Follow) (start : ℕ) (path : Bytes) → (length path == 0) ≡ false → length path ≤ 1023
+    → resolve t follow start path ≡ remaining t (first_walk start path follow) (pieces path)
 unfolding resolve
 resolve-walk t follow start path some short =
     picked (is_empty path) (nat_lt 1023 (length path)) (Err ENOENT) (Err ENAMETOOLONG) _ (empty-is path ∙ some) (le-ltb 1023 (length path) short)
+
+-- it is what the walk answers that begins there
+pub resolve-remaining : (t : Tree) (follow : Follow) (start : ℕ) (path : Bytes) → (length path == 0) ≡ false → length path ≤ 1023
+    → (w : Walk) (rest : List Bytes) → w ≡ first_walk start path follow → rest ≡ pieces path → resolve t follow start path ≡ remaining t w rest
+resolve-remaining t follow start path some short w rest walk-is rest-is =
+    resolve-walk t follow start path some short ∙ sym (ap₂ (remaining t) walk-is rest-is)

@@ -1,15 +1,21 @@
 -- A walk on its way.
-use Rattle.std.specs.Prelude.{◌≡◌, ℕ, zero, suc, ◌+◌, ◌*◌, ◌<◌, Bool, IsTrue, List, length, if◌then◌else◌, nat_lt, Option, None, Some, Result, Ok, Err}
-use Rattle.pv_model.specs.declared.limits.TheConstants.{LINKS}
+use Rattle.std.specs.Prelude.{◌≡◌, ℕ, zero, suc, ◌<◌, ◌≤◌, ⊤, Bool, IsTrue, IsSome, List, length, if◌then◌else◌, nat_lt, Option, None, Some, Result, Ok, Err}
+use Rattle.pv_model.specs.declared.limits.TheConstants.{LINKS, NAME_V2}
 use Rattle.pv_model.specs.declared.errno.Errno.{Errno}
 use Rattle.pv_model.specs.declared.errno.Errno.TheVariants.{ENOENT, ENAMETOOLONG}
 use Rattle.pv_model.specs.declared.follow.Follow.{Follow}
 use Rattle.pv_model.specs.declared.place.Place.{Place}
+use Rattle.pv_model.specs.declared.place.Place.TheVariants.{At, Node}
 use Rattle.pv_model.specs.Bytes.{Bytes}
-use Rattle.pv_model.specs.Tree.{Tree, root, greatest_name, is_directory_at, is_removed, find_entry}
-use Rattle.pv_model.specs.Walk.{pieces, is_absolute, follows_last, end_mark, Walked, Behind, at_entry, along, no_link_left, through_link, walk}
+use Rattle.pv_model.specs.Calls.Paths.{link_text}
+use Rattle.pv_model.specs.Tree.{Tree, root, node_at, greatest_name, is_directory_at, is_removed, find_entry}
+use Rattle.pv_model.specs.Walk.{is_absolute, follows_last, end_mark, Walked, Behind, at_entry, along, no_link_left, through_link, walk}
 use Rattle.pv_namei.specs.declared.ahead.Ahead.{Ahead}
 use Rattle.pv_namei.specs.declared.ahead.Ahead.TheVariants.{Directory, Entry}
+use Rattle.pv_namei.specs.declared.stop.End.{End as Ending}
+use Rattle.pv_namei.specs.declared.stop.End.TheVariants.{Named, Unnamed}
+use Rattle.pv_namei.specs.declared.stop.Stop.{Stop}
+use Rattle.pv_namei.specs.declared.stop.Stop.TheVariants.{End, Link}
 use Rattle.pv_namei.specs.declared.walk.Walk.{Walk}
 
 -- how a walk goes on behind a link with so many links left
@@ -20,25 +26,47 @@ behind t last (suc links) = through_link t last (walk t last links)
 -- the walk of a path from a directory
 abbrev pub first_walk : ℕ → Bytes → Follow → Walk
 first_walk start path follow =
-    record { last = follows_last follow; links = LINKS; at = if is_absolute path then root else start; rest = pieces path; mark = end_mark follow path }
+    record { last = follows_last follow; links = LINKS; at = if is_absolute path then root else start; mark = end_mark follow path }
 
--- what a walk on its way will answer
-abbrev pub remaining : Tree → Walk → Walked
-remaining t w = walk t w.last w.links w.rest w.mark w.at
+-- what a walk on its way will answer, with these pieces left
+abbrev pub remaining : Tree → Walk → List Bytes → Walked
+remaining t w rest = walk t w.last w.links rest w.mark w.at
 
 -- what it will answer behind a link with this text
-abbrev pub followed : Tree → Walk → Bytes → Walked
-followed t w text = behind t w.last w.links text w.rest w.mark w.at
+abbrev pub followed : Tree → Walk → List Bytes → Option Bytes → Walked
+followed t w rest (Some text) = behind t w.last w.links text rest w.mark w.at
+followed t w rest None = Err ENOENT
 
 -- what it will answer where its directory has this under a name
-abbrev pub entered : Tree → Walk → Bytes → Option ℕ → Walked
-entered t w name node = at_entry t w.last (behind t w.last w.links) (along t w.last (behind t w.last w.links) w.rest w.mark) w.at name w.rest w.mark node
+abbrev pub entered : Tree → Walk → List Bytes → Bytes → Option ℕ → Walked
+entered t w rest name node = at_entry t w.last (behind t w.last w.links) (along t w.last (behind t w.last w.links) rest w.mark) w.at name rest w.mark node
 
--- a step has settled the walk, or leaves it to what remains
-abbrev pub settled : Result (Option Place) Errno → Walked → Walked
-settled (Err e) onward = Err e
-settled (Ok (Some place)) onward = Ok place
-settled (Ok None) onward = onward
+-- the place where it ends
+abbrev pub place_of : Ending → Place
+place_of (Named dir piece node) = At dir piece.now node
+place_of (Unnamed n) = Node n
+
+-- what it will answer where it has stopped
+abbrev pub stopped : Tree → Walk → List Bytes → Stop → Walked
+stopped t w rest (End end) = Ok (place_of end)
+stopped t w rest (Link n) = followed t w rest (link_text (node_at t n))
+
+-- a step has stopped the walk, or leaves it to what remains
+abbrev pub settled : Tree → Walk → List Bytes → Result (Option Stop) Errno → Walked
+settled t w rest (Err e) = Err e
+settled t w rest (Ok (Some stop)) = stopped t w rest stop
+settled t w rest (Ok None) = remaining t w rest
+
+-- the way along a path has stopped
+abbrev pub arrived : Tree → Walk → List Bytes → Result Stop Errno → Walked
+arrived t w rest (Err e) = Err e
+arrived t w rest (Ok stop) = stopped t w rest stop
+
+-- the way behind a link has led to the end, or leaves the walk to what remains
+abbrev pub passed : Result (Option Place) Errno → Walked → Walked
+passed (Err e) onward = Err e
+passed (Ok (Some place)) onward = Ok place
+passed (Ok None) onward = onward
 
 -- what the walk answers where its first piece is a name
 abbrev pub named : Tree → Bool → Behind → List Bytes → Bool → ℕ → Bytes → Walked
@@ -48,21 +76,27 @@ named t last onward rest mark at piece =
     else at_entry t last onward (along t last onward rest mark) at piece rest mark (find_entry t at piece)
 
 -- what the walk answers where its first piece has led somewhere
-abbrev pub led : Tree → Bool → Behind → List Bytes → Bool → ℕ → Result Ahead Errno → Walked
-led t last onward rest mark at (Err e) = Err e
-led t last onward rest mark at (Ok (Directory d)) = along t last onward rest mark d
-led t last onward rest mark at (Ok (Entry name node)) = at_entry t last onward (along t last onward rest mark) at name rest mark node
+abbrev pub led : Tree → Bool → Behind → List Bytes → Bool → ℕ → Bytes → Result Ahead Errno → Walked
+led t last onward rest mark at piece (Err e) = Err e
+led t last onward rest mark at piece (Ok (Directory d)) = along t last onward rest mark d
+led t last onward rest mark at piece (Ok (Entry node)) = at_entry t last onward (along t last onward rest mark) at piece rest mark node
 
 -- it leads to a directory, or to what the directory has under a name
-abbrev pub IsAheadIn : Tree → ℕ → Ahead → Type 0
-IsAheadIn t at (Directory d) = IsTrue (is_directory_at t d)
-IsAheadIn t at (Entry name node) = find_entry t at name ≡ node
+abbrev pub IsAheadIn : Tree → ℕ → Bytes → Ahead → Type 0
+IsAheadIn t at piece (Directory d) = IsTrue (is_directory_at t d)
+IsAheadIn t at piece (Entry node) = (find_entry t at piece ≡ node) × (length piece ≤ NAME_V2)
 
--- a bound on the steps that a walk can still make
-abbrev pub steps_left : Walk → ℕ
-steps_left w = w.links * 1025 + length w.rest
+-- the name is no longer than a name may be
+abbrev pub IsShort : Ending → Type 0
+IsShort (Named _ piece _) = length piece.now ≤ NAME_V2
+IsShort (Unnamed _) = ⊤
 
--- a step comes nearer to the end, or is the last
-abbrev pub IsNearer : Walk → Walk → Result (Option Place) Errno → Type 0
-IsNearer before after (Ok None) = steps_left after < steps_left before
-IsNearer before after _ = Unit {0}
+-- a place with a name, or a link
+abbrev pub IsStop : Tree → Stop → Type 0
+IsStop t (End end) = IsShort end
+IsStop t (Link n) = IsSome (link_text (node_at t n))
+
+-- a step takes a piece away, or is the last
+abbrev pub IsNearer : List Bytes → List Bytes → Result (Option Stop) Errno → Type 0
+IsNearer before after (Ok None) = length after < length before
+IsNearer before after _ = ⊤

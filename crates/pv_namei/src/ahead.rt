@@ -1,21 +1,21 @@
 //! Where one piece of a path leads.
-ghost use Rattle.std.specs.Prelude.{◌≡◌, ◌<◌, ◌≤◌, ◌∷◌, length, IsTrue, List, ℕ, Bool, OnOk, OnErr, IfOk, IfErr};
+ghost use Rattle.std.specs.Prelude.{◌≡◌, ◌∷◌, nat_lt, length, IsTrue, List, Bool, IfOk};
 ghost use Rattle.pv_model.specs.Bytes.{Bytes};
 ghost use Rattle.pv_model.specs.Tree.{greatest_name, is_directory_at, find_entry, IsWellFormed};
 ghost use Rattle.pv_model.specs.Walk.{is_dot, is_dot_dot, along, Behind};
 ghost use Rattle.pv_namei.specs.Onward.{led, named, IsAheadIn};
 
 use crate::lookup::Lookup;
-use pv_model::{Errno, Name, Version};
+use pv_model::{Errno, Version};
 use pv_tree::Tree;
 
 /// Where a piece leads from a directory.
-#[derive(Drop)]
+#[derive(Clone, Copy)]
 pub(crate) enum Ahead {
     /// To a directory: `.` to the same, and `..` to the one above it.
     Directory(u16),
-    /// To an entry of this name, whether or not there is one.
-    Entry(Name, Option<u16>),
+    /// To what the directory has under the piece: a node, or nothing.
+    Entry(Option<u16>),
 }
 
 /// Whether a piece is `.`.
@@ -32,36 +32,28 @@ pub(crate) fn is_dot_dot(piece: &[u8]) -> bool
     matches!(piece, b"..")
 }
 
-// A piece as a name; ENAMETOOLONG where it is longer than a name may be.
-fn read_name(version: Version, piece: &[u8]) -> Result<Name, Errno>
-    ensures ok { IfOk result (λ name. name ≡ piece.now) }
-    ensures fits { OnOk result (length piece.now ≤ greatest_name version) }
-    ensures too_long { OnErr result (greatest_name version < length piece.now) }
-    ensures err { IfErr result (λ e. e ≡ Errno.ENAMETOOLONG) }
+// Whether a piece is longer than a name may be.
+fn is_too_long(version: Version, piece: &[u8]) -> bool
+    ensures { result ≡ nat_lt (greatest_name version) (length piece.now) }
 {
-    if piece.len() > version.layout().name_limit {
-        return Err(Errno::ENAMETOOLONG);
-    }
-    match Name::new(piece) {
-        Some(name) => Ok(name),
-        None => unreachable!(),
-    }
+    piece.len() > version.layout().name_limit
 }
 
 // What a directory has under a piece that is a name.
 fn entry<L: Lookup>(tree: &Tree, lookup: &mut L, at: u16, piece: &[u8]) -> Result<Ahead, Errno>
     requires directory { IsTrue (is_directory_at tree.now.tree at) }
     requires agrees { L.agrees lookup.old (find_entry tree.now.tree) }
-    ensures leads { (last : Bool) → (behind : Behind) → (rest : List Bytes) → (mark : Bool) → named tree.now.tree last behind rest mark at piece.now ≡ led tree.now.tree last behind rest mark at result }
+    ensures leads { (last : Bool) → (behind : Behind) → (rest : List Bytes) → (mark : Bool) → named tree.now.tree last behind rest mark at piece.now ≡ led tree.now.tree last behind rest mark at piece.now result }
     ensures agrees { L.agrees lookup.new (find_entry tree.now.tree) }
-    ensures ahead { IfOk result (IsAheadIn tree.now.tree at) }
+    ensures ahead { IfOk result (IsAheadIn tree.now.tree at piece.now) }
 {
-    let name = read_name(tree.sizes().version, piece)?;
+    if is_too_long(tree.sizes().version, piece) {
+        return Err(Errno::ENAMETOOLONG);
+    }
     if tree.parent(at).is_none() {
         return Err(Errno::ENOENT);
     }
-    let node = lookup.look(tree, at, piece);
-    Ok(Ahead::Entry(name, node))
+    Ok(Ahead::Entry(lookup.look(tree, at, piece)))
 }
 
 /// Where a piece leads from a directory: ENOENT for `..` in a removed directory, and for every name in it;
@@ -75,9 +67,9 @@ pub(crate) fn look_ahead<L: Lookup>(
     requires well_formed { IsWellFormed tree.now.tree }
     requires directory { IsTrue (is_directory_at tree.now.tree at) }
     requires agrees { L.agrees lookup.old (find_entry tree.now.tree) }
-    ensures leads { (last : Bool) → (behind : Behind) → (rest : List Bytes) → (mark : Bool) → along tree.now.tree last behind (piece.now ∷ rest) mark at ≡ led tree.now.tree last behind rest mark at result }
+    ensures leads { (last : Bool) → (behind : Behind) → (rest : List Bytes) → (mark : Bool) → along tree.now.tree last behind (piece.now ∷ rest) mark at ≡ led tree.now.tree last behind rest mark at piece.now result }
     ensures agrees { L.agrees lookup.new (find_entry tree.now.tree) }
-    ensures ahead { IfOk result (IsAheadIn tree.now.tree at) }
+    ensures ahead { IfOk result (IsAheadIn tree.now.tree at piece.now) }
 {
     if is_dot(piece) {
         return Ok(Ahead::Directory(at));

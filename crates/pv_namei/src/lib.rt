@@ -2,16 +2,20 @@
 //!
 //! A contract sees the definitions' tree, and of a `Lookup` the maps with which it agrees; `resolve`
 //! answers exactly what the definitions' walk does, with every lookup that agrees with the tree. No call
-//! takes memory: the pieces that are still to walk stand in a buffer of 1,024 bytes.
+//! takes memory. A walk goes along the path where it lies, and what a link leaves to walk stands in a buffer
+//! of 1,024 bytes.
 //!
-//! `piece` cuts the first piece off a path, `rest` keeps the pieces that a walk has still before it,
-//! `lookup` has how entries are found, `ahead` where one piece leads, and `walk` the walk, step by step.
+//! `piece` cuts the first piece off a path, `along` has what is left of one, `joined` what is to walk behind
+//! a link, `lookup` how entries are found, `ahead` where one piece leads, `stop` where the way along a path
+//! stops, and `walk` the walk, step by step.
 #![tactic(auto)]
 
 mod ahead;
+mod along;
+mod joined;
 mod lookup;
 mod piece;
-mod rest;
+mod stop;
 #[cfg(test)]
 mod tests;
 mod walk;

@@ -1,5 +1,6 @@
 //! A path, piece by piece: a piece is what is not empty between slashes.
 ghost use Rattle.std.specs.Prelude.{◌≡◌, ◌<◌, ◌==◌, ◌∷◌, [], not, length, position, MatchOption, IfSome};
+ghost use Rattle.pv_model.specs.Bytes.{is_empty};
 ghost use Rattle.pv_model.specs.Calls.Paths.{ends_in_dot};
 ghost use Rattle.pv_model.specs.Walk.{pieces, is_absolute, ends_in_slash};
 
@@ -17,6 +18,13 @@ fn first_other(path: &[u8]) -> Option<usize>
     ensures { result ≡ position (λ b. not (b == 47)) path.now }
 {
     path.iter().position(|b| *b != b'/')
+}
+
+/// Whether a path has no piece.
+pub(crate) fn has_no_piece(path: &[u8]) -> bool
+    ensures { result ≡ is_empty (pieces path.now) }
+{
+    first_other(path).is_none()
 }
 
 /// The first piece of a path, and what follows it; None where the path has no piece.

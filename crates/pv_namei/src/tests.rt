@@ -196,6 +196,36 @@ fn a_link_leaves_1024_bytes_to_walk(rt: HostRuntime) -> Result<(), Fail> {
 }
 
 #[test]
+fn pieces_behind_a_link_weigh_at_most_1024(rt: HostRuntime) -> Result<(), Fail> {
+    let mut tree = empty_tree(rt.alloc(), 64)?;
+    let mut text = repeated(rt.alloc(), b'.', 978)?;
+    for k in 0..489 {
+        text[2 * k + 1] = b'/';
+    }
+    make_link(&rt, &mut tree, 1, b"k", &text);
+    let (unended, _) = text.split_at(977);
+    make_link(&rt, &mut tree, 1, b"u", unended);
+    let long = b"aaaaaaaaaabbbbbbbbbbccccccccccddddddddddeeeeee";
+    let (short, _) = long.split_at(45);
+    for link in [b'k', b'u'] {
+        let mut path = repeated(rt.alloc(), b'/', 2)?;
+        path[0] = link;
+        path.extend_from_slice(long)?;
+        let (fewer, _) = path.split_at(47);
+        expect_walk(&rt, &tree, 1, fewer, Follow::Keep, At(1, short, None));
+        expect_walk(
+            &rt,
+            &tree,
+            1,
+            &path,
+            Follow::Keep,
+            Fault(Errno::ENAMETOOLONG),
+        );
+    }
+    Ok(())
+}
+
+#[test]
 fn dots_and_links_lead_through_the_tree(rt: HostRuntime) -> Result<(), Fail> {
     let mut tree = empty_tree(rt.alloc(), 64)?;
     let tmp = make_directory(&rt, &mut tree, 1, b"tmp");
@@ -245,6 +275,73 @@ fn a_walk_follows_32_links(rt: HostRuntime) -> Result<(), Fail> {
     ];
     for (path, expected) in walks {
         expect_walk(&rt, &tree, 1, path, Follow::Last, expected);
+    }
+    Ok(())
+}
+
+#[test]
+fn a_path_has_32_links(rt: HostRuntime) -> Result<(), Fail> {
+    let mut tree = empty_tree(rt.alloc(), 64)?;
+    let d = make_directory(&rt, &mut tree, 1, b"d");
+    let u = make_link(&rt, &mut tree, 1, b"u", b"//d//");
+    make_link(&rt, &mut tree, d, b"v", b"./../d/..");
+    let mut turns = repeated(rt.alloc(), b'/', 66)?;
+    for k in 0..16 {
+        turns[4 * k + 1] = b'u';
+        turns[4 * k + 3] = b'v';
+    }
+    turns[65] = b'u';
+    let (fewer, _) = turns.split_at(64);
+    expect_walk(&rt, &tree, d, fewer, Follow::Last, Node(1));
+    expect_walk(&rt, &tree, d, &turns, Follow::Keep, At(1, b"u", Some(u)));
+    expect_walk(&rt, &tree, d, &turns, Follow::Last, Fault(Errno::ELOOP));
+    Ok(())
+}
+
+#[test]
+fn links_stand_between_slashes(rt: HostRuntime) -> Result<(), Fail> {
+    let mut tree = empty_tree(rt.alloc(), 64)?;
+    let d = make_directory(&rt, &mut tree, 1, b"d");
+    let x = make_file(&rt, &mut tree, d, b"x");
+    let l = make_link(&rt, &mut tree, 1, b"l", b"//d//");
+    make_link(&rt, &mut tree, d, b"y", b"x");
+    make_link(&rt, &mut tree, 1, b"n", b"no/");
+    let walks: [(&[u8], Follow, Expected); 9] = [
+        (b"//l///x", Follow::Keep, At(d, b"x", Some(x))),
+        (b"//l///x//", Follow::Keep, Fault(Errno::ENOTDIR)),
+        (b"l//", Follow::Keep, At(1, b"d", Some(d))),
+        (b"l//", Follow::KeepTrimmed, At(1, b"l", Some(l))),
+        (b"l//y", Follow::Last, At(d, b"x", Some(x))),
+        (b"l//y//", Follow::Last, Fault(Errno::ENOTDIR)),
+        (b"l/./no", Follow::Last, At(d, b"no", None)),
+        (b"n", Follow::Last, Fault(Errno::ENOENT)),
+        (b"n/x", Follow::Last, Fault(Errno::ENOENT)),
+    ];
+    for (path, follow, expected) in walks {
+        expect_walk(&rt, &tree, 1, path, follow, expected);
+    }
+    Ok(())
+}
+
+#[test]
+fn links_lead_from_the_root(rt: HostRuntime) -> Result<(), Fail> {
+    let mut tree = empty_tree(rt.alloc(), 64)?;
+    let f = make_file(&rt, &mut tree, 1, b"f");
+    let d = make_directory(&rt, &mut tree, 1, b"d");
+    let inner = make_file(&rt, &mut tree, d, b"f");
+    let a = make_link(&rt, &mut tree, d, b"a", b"/f");
+    make_link(&rt, &mut tree, d, b"b", b"f");
+    make_link(&rt, &mut tree, d, b"r", b"/");
+    let walks: [(&[u8], Follow, Expected); 6] = [
+        (b"a", Follow::Last, At(1, b"f", Some(f))),
+        (b"a", Follow::Keep, At(d, b"a", Some(a))),
+        (b"b", Follow::Last, At(d, b"f", Some(inner))),
+        (b"r/f", Follow::Keep, At(1, b"f", Some(f))),
+        (b"r/d/b", Follow::Last, At(d, b"f", Some(inner))),
+        (b"r", Follow::Last, Node(1)),
+    ];
+    for (path, follow, expected) in walks {
+        expect_walk(&rt, &tree, d, path, follow, expected);
     }
     Ok(())
 }

@@ -1,20 +1,21 @@
 //! The walk along a path, step by step.
-ghost use Rattle.std.specs.Prelude.{◌≡◌, ◌≤◌, ◌&&◌, not, length, take, IsTrue, Some, IsSome, IfSome};
-ghost use Rattle.pv_model.specs.Bytes.{is_empty};
+ghost use Rattle.std.specs.Prelude.{◌≡◌, ◌≤◌, ◌<◌, List, length, take, IsTrue, Some, IsSome, IfSome, OnOk, IfOk, IfErr};
 ghost use Rattle.pv_model.specs.Calls.Paths.{link_text};
 ghost use Rattle.pv_model.specs.Tree.{node_at, is_directory_at, find_entry, IsWellFormed};
 ghost use Rattle.pv_model.specs.Walk.{follows_last, end_mark, resolve};
-ghost use Rattle.pv_namei.specs.Onward.{first_walk, remaining, followed, entered, settled, steps_left, IsNearer};
+ghost use Rattle.pv_namei.specs.Onward.{first_walk, remaining, followed, entered, settled, arrived, passed, IsStop, IsNearer};
 
 use crate::ahead::{Ahead, look_ahead};
+use crate::along::Along;
+use crate::joined::Joined;
 use crate::lookup::Lookup;
 use crate::piece::{ends_in_slash, is_absolute};
-use crate::rest::Rest;
-use pv_model::limits::{LINKS, PATH, ROOT};
-use pv_model::{Errno, Follow, Name, Place, Sort};
+use crate::stop::{End, Stop};
+use pv_model::limits::{LINKS, NAME_V2, PATH, ROOT};
+use pv_model::{Errno, Follow, Place, Sort};
 use pv_tree::Tree;
 
-/// A walk on its way.
+/// A walk on its way. The pieces that it has still before it stand beside it.
 #[derive(Drop)]
 struct Walk {
     // Whether a link is followed that is the last piece.
@@ -23,104 +24,75 @@ struct Walk {
     links: usize,
     // The directory that it has reached.
     at: u16,
-    // The pieces that it has still before it.
-    rest: Rest,
     // Whether it has to end at a directory.
     mark: bool,
 }
 
-// What a step gives: the place where the walk ends, or none where it goes on.
-type Step = Result<Option<Place>, Errno>;
+// What a step gives: where the walk stops, or none where it goes on.
+type Step<'a> = Result<Option<Stop<'a>>, Errno>;
 
 impl Walk {
-    // The walk of a path of at most 1,023 bytes from a directory.
+    // The walk of a path from a directory.
     fn new(start: u16, path: &[u8], follow: Follow) -> Walk
-        requires { length path.now ≤ PATH }
         ensures { result ≡ first_walk start path.now follow }
     {
         Walk {
             last: follows_last(follow),
             links: LINKS,
             at: if is_absolute(path) { ROOT } else { start },
-            rest: Rest::of_path(path),
             mark: end_mark(follow, path),
         }
     }
 
-    // Whether what comes next is the end, and may be a file.
-    fn is_at_end(&self) -> bool
-        ensures { result ≡ (is_empty self.now.rest && not self.now.mark) }
-    {
-        self.rest.is_empty() && !self.mark
-    }
-
-    // Goes on behind a link: with the pieces of its text before the others, from its directory or, where
-    // the text begins with a slash, from the root. ELOOP comes where no link is left, else ENAMETOOLONG
-    // where the pieces weigh more than 1,024.
-    fn follow(&mut self, tree: &Tree, link: u16) -> Step
+    // Goes on from what the directory has under a piece: it stops there, or enters a directory.
+    fn enter<'a>(
+        &mut self,
+        tree: &Tree,
+        piece: &'a [u8],
+        node: Option<u16>,
+        rest: &Along<'_>,
+    ) -> Step<'a>
         requires well_formed { IsWellFormed tree.now.tree }
         requires directory { IsTrue (is_directory_at tree.now.tree self.old.at) }
-        requires link { IsSome (link_text (node_at tree.now.tree link)) }
-        ensures onward { IfSome (link_text (node_at tree.now.tree link)) (λ text. followed tree.now.tree self.old text ≡ settled result (remaining tree.now.tree self.new)) }
+        requires entry { find_entry tree.now.tree self.old.at piece.now ≡ node }
+        requires short { length piece.now ≤ NAME_V2 }
+        ensures onward { entered tree.now.tree self.old rest.now piece.now node ≡ settled tree.now.tree self.new rest.now result }
+        ensures stop { IfOk result (λ stop. IfSome stop (IsStop tree.now.tree)) }
         ensures directory { IsTrue (is_directory_at tree.now.tree self.new.at) }
-        ensures nearer { steps_left self.new ≤ steps_left self.old }
+        ensures links { self.new.links ≡ self.old.links }
     {
-        if self.links == 0 {
-            return Err(Errno::ELOOP);
-        }
-        let mut buffer = [0; PATH];
-        let length = read_link(tree, link, &mut buffer);
-        let text = &buffer[..length];
-        let was_last = self.rest.is_empty();
-        self.rest.put_before(text)?;
-        self.links -= 1;
-        self.mark = self.mark || (was_last && ends_in_slash(text));
-        if is_absolute(text) {
-            self.at = ROOT;
-        }
-        Ok(None)
-    }
-
-    // Goes on from what the directory has under a name: to the place, where the walk ends there, or into
-    // a directory, or behind a link.
-    fn enter(&mut self, tree: &Tree, name: Name, node: Option<u16>) -> Step
-        requires well_formed { IsWellFormed tree.now.tree }
-        requires directory { IsTrue (is_directory_at tree.now.tree self.old.at) }
-        requires entry { find_entry tree.now.tree self.old.at name ≡ node }
-        ensures onward { entered tree.now.tree self.old name node ≡ settled result (remaining tree.now.tree self.new) }
-        ensures directory { IsTrue (is_directory_at tree.now.tree self.new.at) }
-        ensures nearer { steps_left self.new ≤ steps_left self.old }
-    {
-        let place = Place::At {
+        let end = Stop::End(End::Named {
             dir: self.at,
-            name,
+            piece,
             node,
-        };
+        });
+        let is_last = rest.is_empty();
+        let may_end = is_last && !self.mark;
         let Some(number) = node else {
-            return if self.is_at_end() {
-                Ok(Some(place))
+            return if may_end {
+                Ok(Some(end))
             } else {
                 Err(Errno::ENOENT)
             };
         };
         match tree.kind(number) {
             Sort::Symlink => {
-                if self.is_at_end() && !self.last {
-                    Ok(Some(place))
+                if may_end && !self.last {
+                    Ok(Some(end))
                 } else {
-                    self.follow(tree, number)
+                    Ok(Some(Stop::Link(number)))
                 }
             }
             Sort::Directory => {
-                if self.rest.is_empty() {
-                    return Ok(Some(place));
+                if is_last {
+                    return Ok(Some(end));
                 }
                 self.at = number;
                 Ok(None)
             }
             Sort::File | Sort::Executable => {
-                if self.is_at_end() {
-                    Ok(Some(place))
+                if may_end {
+                    Ok(Some(end))
                 } else {
                     Err(Errno::ENOTDIR)
                 }
@@ -128,27 +100,142 @@ impl Walk {
         }
     }
 
-    // Takes the first piece. The place comes where the walk has reached its end.
-    fn step<L: Lookup>(&mut self, tree: &Tree, lookup: &mut L) -> Step
+    // Takes the first piece.
+    fn step<'a, L: Lookup>(&mut self, tree: &Tree, lookup: &mut L, rest: &mut Along<'a>) -> Step<'a>
         requires well_formed { IsWellFormed tree.now.tree }
         requires directory { IsTrue (is_directory_at tree.now.tree self.old.at) }
         requires agrees { L.agrees lookup.old (find_entry tree.now.tree) }
-        ensures onward { remaining tree.now.tree self.old ≡ settled result (remaining tree.now.tree self.new) }
+        ensures onward { remaining tree.now.tree self.old rest.old ≡ settled tree.now.tree self.new rest.new result }
+        ensures stop { IfOk result (λ stop. IfSome stop (IsStop tree.now.tree)) }
         ensures directory { IsTrue (is_directory_at tree.now.tree self.new.at) }
-        ensures nearer { IsNearer self.old self.new result }
+        ensures links { self.new.links ≡ self.old.links }
+        ensures nearer { IsNearer rest.old rest.new result }
         ensures agrees { L.agrees lookup.new (find_entry tree.now.tree) }
     {
-        let Some(piece) = self.rest.first() else {
-            return Ok(Some(Place::Node(self.at)));
+        let Some(piece) = rest.take_first() else {
+            return Ok(Some(Stop::End(End::Unnamed(self.at))));
         };
-        let ahead = look_ahead(tree, lookup, self.at, piece)?;
-        self.rest.remove_first();
-        match ahead {
+        match look_ahead(tree, lookup, self.at, piece)? {
             Ahead::Directory(directory) => {
                 self.at = directory;
                 Ok(None)
             }
-            Ahead::Entry(name, node) => self.enter(tree, name, node),
+            Ahead::Entry(node) => self.enter(tree, piece, node, rest),
+        }
+    }
+
+    // Goes along the pieces up to the end, or to the first link that is followed.
+    fn go<'a, L: Lookup>(
+        &mut self,
+        tree: &Tree,
+        lookup: &mut L,
+        rest: &mut Along<'a>,
+    ) -> Result<Stop<'a>, Errno>
+        requires well_formed { IsWellFormed tree.now.tree }
+        requires directory { IsTrue (is_directory_at tree.now.tree self.old.at) }
+        requires agrees { L.agrees lookup.old (find_entry tree.now.tree) }
+        ensures onward { remaining tree.now.tree self.old rest.old ≡ arrived tree.now.tree self.new rest.new result }
+        ensures stop { IfOk result (IsStop tree.now.tree) }
+        ensures directory { IsTrue (is_directory_at tree.now.tree self.new.at) }
+        ensures links { self.new.links ≡ self.old.links }
+        ensures agrees { L.agrees lookup.new (find_entry tree.now.tree) }
+    {
+        loop {
+            if let Some(stop) = self.step(tree, lookup, rest)? {
+                return Ok(stop);
+            }
+        }
+    }
+
+    // Goes on behind a link: along the pieces of its text and those that are left, from its directory or,
+    // where the text begins with a slash, from the root. ELOOP comes where no link is left, else
+    // ENAMETOOLONG where the pieces weigh more than 1,024.
+    fn follow(
+        &mut self,
+        tree: &Tree,
+        link: u16,
+        rest: &Along<'_>,
+        buffer: &mut [u8; PATH],
+        joined: &mut Joined,
+    ) -> Result<(), Errno>
+        requires well_formed { IsWellFormed tree.now.tree }
+        requires directory { IsTrue (is_directory_at tree.now.tree self.old.at) }
+        requires link { IsSome (link_text (node_at tree.now.tree link)) }
+        ensures ok { OnOk result (followed tree.now.tree self.old rest.now (link_text (node_at tree.now.tree link)) ≡ remaining tree.now.tree self.new joined.new) }
+        ensures err { IfErr result (λ e. followed tree.now.tree self.old rest.now (link_text (node_at tree.now.tree link)) ≡ Err e) }
+        ensures directory { IsTrue (is_directory_at tree.now.tree self.new.at) }
+        ensures fewer { OnOk result (self.new.links < self.old.links) }
+    {
+        if self.links == 0 {
+            return Err(Errno::ELOOP);
+        }
+        let length = read_link(tree, link, buffer);
+        let text = &buffer[..length];
+        joined.join(text, rest)?;
+        self.links -= 1;
+        self.mark = self.mark || (rest.is_empty() && ends_in_slash(text));
+        if is_absolute(text) {
+            self.at = ROOT;
+        }
+        Ok(())
+    }
+
+    // Goes along the pieces of `from` to the end, which comes, or behind a link: then `to` has the pieces
+    // that are left.
+    fn pass<L: Lookup>(
+        &mut self,
+        tree: &Tree,
+        lookup: &mut L,
+        from: &Joined,
+        buffer: &mut [u8; PATH],
+        to: &mut Joined,
+    ) -> Result<Option<Place>, Errno>
+        requires well_formed { IsWellFormed tree.now.tree }
+        requires directory { IsTrue (is_directory_at tree.now.tree self.old.at) }
+        requires agrees { L.agrees lookup.old (find_entry tree.now.tree) }
+        ensures onward { remaining tree.now.tree self.old from.now ≡ passed result (remaining tree.now.tree self.new to.new) }
+        ensures directory { IsTrue (is_directory_at tree.now.tree self.new.at) }
+        ensures fewer { OnOk result (result ≡ Ok None → self.new.links < self.old.links) }
+        ensures agrees { L.agrees lookup.new (find_entry tree.now.tree) }
+    {
+        let mut rest = from.along();
+        match self.go(tree, lookup, &mut rest)? {
+            Stop::End(end) => Ok(Some(end.into_place())),
+            Stop::Link(link) => {
+                self.follow(tree, link, &rest, buffer, to)?;
+                Ok(None)
+            }
+        }
+    }
+
+    // Goes on behind the first link, to the end. Two buffers take turns: along one the walk goes, and the
+    // other takes what the next link leaves to walk.
+    #[inline(never)]
+    fn go_behind<L: Lookup>(
+        &mut self,
+        tree: &Tree,
+        lookup: &mut L,
+        link: u16,
+        rest: &Along<'_>,
+    ) -> Result<Place, Errno>
+        requires well_formed { IsWellFormed tree.now.tree }
+        requires directory { IsTrue (is_directory_at tree.now.tree self.old.at) }
+        requires link { IsSome (link_text (node_at tree.now.tree link)) }
+        requires agrees { L.agrees lookup.old (find_entry tree.now.tree) }
+        ensures place { result ≡ followed tree.now.tree self.old rest.now (link_text (node_at tree.now.tree link)) }
+        ensures agrees { L.agrees lookup.new (find_entry tree.now.tree) }
+    {
+        let mut buffer = [0; PATH];
+        let mut here = Joined::new();
+        let mut next = Joined::new();
+        self.follow(tree, link, rest, &mut buffer, &mut here)?;
+        loop {
+            if let Some(place) = self.pass(tree, lookup, &here, &mut buffer, &mut next)? {
+                return Ok(place);
+            }
+            if let Some(place) = self.pass(tree, lookup, &next, &mut buffer, &mut here)? {
+                return Ok(place);
+            }
         }
     }
 }
@@ -208,9 +295,9 @@ pub fn resolve<L: Lookup>(
     // What its sizes tell with them: every tree is well-formed.
     let _ = tree.sizes();
     let mut walk = Walk::new(start, path, follow);
-    loop {
-        if let Some(place) = walk.step(tree, lookup)? {
-            return Ok(place);
-        }
+    let mut rest = Along::new(path);
+    match walk.go(tree, lookup, &mut rest)? {
+        Stop::End(end) => Ok(end.into_place()),
+        Stop::Link(link) => walk.go_behind(tree, lookup, link, &rest),
     }
 }

@@ -2,4 +2,5 @@ pub mod Begun
 pub mod Left
 pub mod Starting
 pub mod Streaming
+pub mod Unwritten
 pub mod Written

@@ -60,7 +60,6 @@ fn hand_on<W: Sink>(trace: &mut W) -> Result<(), RunFault>
 }
 
 // Makes the turns of a schedule, and hands on what waits of their lines: the summary counts the steps and the lines.
-#[tactic(auto, using(pv_trace::proofs::Streaming::begins_whole))]
 pub(crate) fn make_turns<W: Sink>(
     alloc: Global,
     ready: &mut Ready,

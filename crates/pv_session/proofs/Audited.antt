@@ -1,10 +1,11 @@
 -- What is found of a file, and what it says of all runs.
-use Rattle.std.proofs.Common.{◌≡◌, ℕ, Bool, true, false, List, length, Option, None, Some, Result, Ok, Err, refl, ap, sym, subst, ◌∙◌}
+use Rattle.std.proofs.Common.{◌≡◌, ℕ, Bool, true, false, Option, None, Some, Result, Ok, Err, refl, ap, cond}
 use Rattle.std.proofs.lemmas.Bool.{and_parts}
 use Rattle.pv_model.specs.declared.errno.Errno.{Errno}
 use Rattle.pv_model.specs.declared.follow.Follow.TheVariants.{Last}
 use Rattle.pv_model.specs.declared.place.Place.{Place}
 use Rattle.pv_model.specs.declared.verdict.AuditFault.{AuditFault}
+use Rattle.pv_model.specs.declared.verdict.AuditFault.TheVariants.{NotFile}
 use Rattle.pv_model.specs.declared.verdict.Verdict.{Verdict}
 use Rattle.pv_model.specs.declared.verdict.Verdict.TheVariants.{Sealed as SealedVerdict, Frozen, Exposed}
 use Rattle.pv_model.specs.Bytes.{Bytes}
@@ -18,7 +19,7 @@ use Rattle.pv_laws.specs.States.{IsWhole}
 use Rattle.pv_rights.proofs.Verdicts.{verdicts-exact}
 use Rattle.pv_runs.proofs.Ranges.{program_of-spells}
 use Rattle.pv_secrets.proofs.ForEver.{sealed-for_ever, frozen-for_ever}
-use Rattle.pv_session.specs.Audits.{node_there, node_named, IsSecret, IsUnchanging, KeepsSecret}
+use Rattle.pv_session.specs.Audits.{node_there, node_named, IsSecret, IsUnchanging, KeepsSecret, KeepsSecretAt}
 
 module _ (s : State) (whole : IsWhole s) where
   secret : (f : ℕ) → Sealed.is_file (node_at s.tree f) ≡ true → Sealed.is_sealed s f ≡ true → IsSecret s f
@@ -30,22 +31,30 @@ module _ (s : State) (whole : IsWhole s) where
   sealed-by_frozen : (f : ℕ) → Sealed.is_frozen s f ≡ true → Sealed.is_sealed s f ≡ true
   sealed-by_frozen f frozen = (and_parts (Sealed.is_sealed s f) _ frozen).0
 
+  by_verdict : (f : ℕ) → Sealed.is_file (node_at s.tree f) ≡ true → (v : Option Verdict) → Sealed.verdict s f ≡ v → KeepsSecretAt s f (Sealed.audit_file v)
+  by_verdict f file None is = tt
+  by_verdict f file (Some SealedVerdict) is = secret f file ((verdicts-exact s f).sealed.0 is).0
+  by_verdict f file (Some Frozen) is =
+      let frozen : Sealed.is_frozen s f ≡ true = (verdicts-exact s f).frozen.0 is in (secret f file (sealed-by_frozen f frozen), unchanging f file frozen)
+  by_verdict f file (Some (Exposed leak)) is = tt
+
+  pub audit_node-keeps_secret : (f : ℕ) → KeepsSecretAt s f (Sealed.audit_node s (Some f))
+  audit_node-keeps_secret f = by (Sealed.is_file (node_at s.tree f)) refl
+    where
+      by : (b : Bool) → Sealed.is_file (node_at s.tree f) ≡ b → KeepsSecretAt s f (cond b (Sealed.audit_file (Sealed.verdict s f)) (Err NotFile))
+      by true file = by_verdict f file (Sealed.verdict s f) refl
+      by false other = tt
+
   module _ (path : Bytes) where
-    by_verdict : (f : ℕ) → node_named s path ≡ Some f → Sealed.is_file (node_at s.tree f) ≡ true → (v : Option Verdict) → Sealed.verdict s f ≡ v → KeepsSecret s path (Sealed.audit_file v)
-    by_verdict f named file None is = tt
-    by_verdict f named file (Some SealedVerdict) is = (f, named, secret f file ((verdicts-exact s f).sealed.0 is).0)
-    by_verdict f named file (Some Frozen) is =
-        let frozen : Sealed.is_frozen s f ≡ true = (verdicts-exact s f).frozen.0 is in
-        (f, named, secret f file (sealed-by_frozen f frozen), unchanging f file frozen)
-    by_verdict f named file (Some (Exposed leak)) is = tt
+    named_secret : (f : ℕ) → node_named s path ≡ Some f → (r : Result Verdict AuditFault) → KeepsSecretAt s f r → KeepsSecret s path r
+    named_secret f named (Ok SealedVerdict) keeps = (f, named, keeps)
+    named_secret f named (Ok Frozen) keeps = (f, named, keeps.0, keeps.1)
+    named_secret f named (Ok (Exposed leak)) keeps = tt
+    named_secret f named (Err fault) keeps = tt
 
     by_node : (o : Option ℕ) → node_named s path ≡ o → KeepsSecret s path (Sealed.audit_node s o)
     by_node None named = tt
-    by_node (Some f) named = by (Sealed.is_file (node_at s.tree f)) refl
-      where
-        by : (b : Bool) → Sealed.is_file (node_at s.tree f) ≡ b → KeepsSecret s path (Rattle.std.proofs.Common.cond b (Sealed.audit_file (Sealed.verdict s f)) (Err Rattle.pv_model.specs.declared.verdict.AuditFault.TheVariants.NotFile))
-        by true file = by_verdict f named file (Sealed.verdict s f) refl
-        by false other = tt
+    by_node (Some f) named = named_secret f named (Sealed.audit_node s (Some f)) (audit_node-keeps_secret f)
 
     by_place : (r : Result Place Errno) → resolve s.tree Last root path ≡ r → KeepsSecret s path (Sealed.audit_place s r)
     by_place (Err e) is = tt

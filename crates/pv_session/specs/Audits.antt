@@ -32,7 +32,14 @@ IsSecret s f = (pids : List ℕ) (bytes : Bytes) → length bytes ≡ length (fi
 abbrev pub IsUnchanging : State → ℕ → Type 0
 IsUnchanging s f = (pids : List ℕ) → IsLeftFrozen f s (run program_of pids s).final
 
--- the file that was found sealed is secret, and one that was found frozen is unchanging too
+-- a file that was found sealed is secret, and one that was found frozen is unchanging too
+abbrev pub KeepsSecretAt : State → ℕ → Result Verdict AuditFault → Type 0
+KeepsSecretAt s f (Ok Sealed) = IsSecret s f
+KeepsSecretAt s f (Ok Frozen) = IsSecret s f × IsUnchanging s f
+KeepsSecretAt s f (Ok (Exposed leak)) = Unit {0}
+KeepsSecretAt s f (Err fault) = Unit {0}
+
+-- likewise the file that a path names
 abbrev pub KeepsSecret : State → Bytes → Result Verdict AuditFault → Type 0
 KeepsSecret s path (Ok Sealed) = (f : ℕ) × (node_named s path ≡ Some f) × IsSecret s f
 KeepsSecret s path (Ok Frozen) = (f : ℕ) × (node_named s path ≡ Some f) × IsSecret s f × IsUnchanging s f

@@ -62,7 +62,7 @@ pub fn run_schedule<W: Sink>(
 fn pass_turn(alloc: Global, session: &mut Session, pid: u32, count: u32) -> Result<(), StepFault>
     ensures { OnOk result (session.new ≡ (turn session.old pid count).final) }
 {
-    for _made in 0..count {
+    for made in 0..count {
         session.step(alloc, pid)?;
     }
     Ok(())

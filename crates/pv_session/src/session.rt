@@ -2,15 +2,15 @@
 ghost use Rattle.std.specs.Prelude.{◌≡◌, ◌⊎◌, ◌≤◌, IfOk, IfErr, OnOk, OnErr, Ok, Err, length};
 ghost use Rattle.pv_calls.specs.Kernel.{IsAhead};
 ghost use Rattle.pv_laws.specs.States.{IsFirstTree};
-ghost use Rattle.pv_model.specs.Sealed.{audit as audit_by_definition};
+ghost use Rattle.pv_model.specs.Sealed.{audit as audit_by_definition, audit_node as audit_of};
 ghost use Rattle.pv_model.specs.Start.{booted};
 ghost use Rattle.pv_model.specs.Trace.{buffer_of};
 ghost use Rattle.pv_model.specs.State.{process_at};
-ghost use Rattle.pv_session.specs.Audits.{KeepsSecret};
+ghost use Rattle.pv_session.specs.Audits.{KeepsSecret, KeepsSecretAt};
 ghost use Rattle.pv_session.specs.declared.session.Stop.TheVariants.{Memory, Write};
 ghost use Rattle.pv_session.specs.Running.{BeginsLines, FailsBy, ToldLines, stepped};
 
-use pv_audit::audit;
+use pv_audit::{audit, audit_node};
 use pv_cache::CachedLookup;
 use pv_calls::{Ahead, Kernel};
 use pv_model::{AuditFault, BootFault, Call, Failed, Outcome, Sink, StepFault, Verdict};
@@ -168,6 +168,18 @@ impl Session {
         ensures secret { KeepsSecret self.now path.now result }
     {
         audit(self.kernel.parts(), path)
+    }
+
+    /// What is found of a file by its number, as `audit` tells it of a path. It takes no memory.
+    ///
+    /// # Errors
+    ///
+    /// `NotFile` where no file has the number, and `Walk` with `ENOENT` where the file has no name.
+    pub fn audit_node(&self, node: u16) -> Result<Verdict, AuditFault>
+        ensures found { result ≡ audit_of self.now (Some node) }
+        ensures secret { KeepsSecretAt self.now node result }
+    {
+        audit_node(self.kernel.parts(), node)
     }
 
     /// Makes a step of a process and writes its lines, which are at most seven: answers how many.

@@ -8,8 +8,8 @@ use Rattle.pv_listing.specs.Lines.{last_name}
 use Rattle.pv_listing.proofs.Children.{child-none, child-some, last-got}
 use Rattle.pv_listing.proofs.listing.next_child.Goals as goal
 
-pub returns-in_default-clause-next : goal.returns-in_default-clause-next
-returns-in_default-clause-next c =
+pub returns-in_default : goal.returns-in_default
+returns-in_default c =
     let path = c.args.path.now.items in
     let es = entries_at c.args.tree.now.tree c.args.directory in
     let got = last-got path c.args.base c.get.result (omega (arith, c.requires.within, c.deref.ensures.len, ap length c.deref.ensures.value))
@@ -17,8 +17,8 @@ returns-in_default-clause-next c =
     child-none es (last_name (drop c.args.base path)) (take c.args.base path) c.truncate.new.self.items
     (ap (λ last. next_name last es) (sym got) ∙ sym c.next_after-next.ensures.value ∙ c.in_default.is) c.truncate.ensures.items
 
-pub returns-clause-next : goal.returns-clause-next
-returns-clause-next c =
+pub returns : goal.returns
+returns c =
     let path = c.args.path.now.items in
     let es = entries_at c.args.tree.now.tree c.args.directory in
     let got = last-got path c.args.base c.get.result (omega (arith, c.requires.within, c.deref.ensures.len, ap length c.deref.ensures.value))

@@ -1,10 +1,7 @@
-use Rattle.std.proofs.Common.{ap, sym, ◌∙◌}
-use Rattle.pv_model.specs.Tree.{is_directory_at}
-use Rattle.pv_model.specs.Walk.{is_absolute}
-use Rattle.pv_namei.specs.declared.walk.Walk.{Walk}
-use Rattle.pv_namei.specs.Onward.{remaining}
-use Rattle.pv_namei.proofs.Nodes.{start-directory}
-use Rattle.pv_namei.proofs.Steps.{resolve-empty, resolve-long, resolve-walk}
+use Rattle.std.proofs.Common.{Ok, ap, sym, ◌∙◌}
+use Rattle.std.proofs.lemmas.Result.{err_from_is_err_and}
+use Rattle.pv_namei.specs.Onward.{stopped}
+use Rattle.pv_namei.proofs.Steps.{resolve-empty, resolve-long, resolve-remaining}
 use Rattle.pv_namei.proofs.walk.resolve.Goals as goal
 
 pub returns-then-is_empty-clause-place : goal.returns-then-is_empty-clause-place
@@ -15,14 +12,27 @@ pub returns-then-path-gt-PATH-clause-place : goal.returns-then-path-gt-PATH-clau
 returns-then-path-gt-PATH-clause-place g c =
     sym (resolve-long c.args.tree.now.tree c.args.follow c.args.start c.args.path.now (sym c.is_empty.ensures ∙ c.if-is_empty.false) c.if-path-gt-PATH.true)
 
-pub loop-place-init : goal.loop-place-init
-loop-place-init g c =
-    let t = c.args.tree.now.tree in
-    record {
-      onward =
-          resolve-walk t c.args.follow c.args.start c.args.path.now (sym c.is_empty.ensures ∙ c.if-is_empty.false) c.if-path-gt-PATH.false ∙ ap (remaining t) (sym c.new-walk.ensures);
-      directory =
-          ap (λ (w : Walk). is_directory_at t w.at) c.new-walk.ensures ∙ start-directory t c.sizes.ensures.standing.well_formed (is_absolute c.args.path.now) c.args.start c.requires.start;
-      well_formed = c.sizes.ensures.standing.well_formed;
-      agrees = c.requires.agrees;
-    }
+pub returns-in_err-end-clause-place : goal.returns-in_err-end-clause-place
+returns-in_err-end-clause-place g c =
+    let p = err_from_is_err_and c.from_residual.result c.from_residual.ensures.1 in
+    rw (p.1, p.2)
+    (sym
+    (resolve-remaining c.args.tree.now.tree c.args.follow c.args.start c.args.path.now (sym c.is_empty.ensures ∙ c.if-is_empty.false) c.if-path-gt-PATH.false c.new-walk.result c.new-rest.result c.new-walk.ensures
+    c.new-rest.ensures
+    ∙ c.in_err-end.ensures.onward))
+
+pub returns-in-End-clause-place : goal.returns-in-End-clause-place
+returns-in-End-clause-place g c =
+    ap Ok c.into_place.ensures
+    ∙ sym
+    (resolve-remaining c.args.tree.now.tree c.args.follow c.args.start c.args.path.now (sym c.is_empty.ensures ∙ c.if-is_empty.false) c.if-path-gt-PATH.false c.new-walk.result c.new-rest.result c.new-walk.ensures
+    c.new-rest.ensures
+    ∙ c.in_ok-end.ensures.onward ∙ ap (stopped c.args.tree.now.tree c.go.new.self c.go.new.rest) c.in-End.is)
+
+pub returns-in-Link-clause-place : goal.returns-in-Link-clause-place
+returns-in-Link-clause-place g c =
+    c.go_behind.ensures.place
+    ∙ sym
+    (resolve-remaining c.args.tree.now.tree c.args.follow c.args.start c.args.path.now (sym c.is_empty.ensures ∙ c.if-is_empty.false) c.if-path-gt-PATH.false c.new-walk.result c.new-rest.result c.new-walk.ensures
+    c.new-rest.ensures
+    ∙ c.in_ok-end.ensures.onward ∙ ap (stopped c.args.tree.now.tree c.go.new.self c.go.new.rest) c.in-Link.is)

@@ -1,4 +1,4 @@
-use Rattle.std.proofs.Common.{◌≡◌, ap, sym, ◌∙◌, subst, length, List}
+use Rattle.std.proofs.Common.{ap, sym, ◌∙◌, subst, length, List}
 use Rattle.pv_calls.specs.Kernel.{IsAhead}
 use Rattle.pv_calls.specs.declared.kernel.Ahead.TheVariants.{Call as CallAhead}
 use Rattle.pv_model.specs.Step.{Stepped}

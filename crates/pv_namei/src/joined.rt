@@ -1,0 +1,133 @@
+//! What is to walk behind a link.
+ghost use Rattle.std.specs.Prelude.{◌≡◌, ◌≤◌, ◌<◌, ◌+◌, ◌-◌, ◌++◌, ◌∷◌, [], length, OnOk, OnErr, IfErr};
+ghost use Rattle.pv_model.specs.Walk.{pieces, weight};
+ghost use Rattle.pv_namei.specs.Pieces.{with_slashes};
+
+use crate::along::Along;
+use crate::piece::split_first;
+use arrayvec::ArrayVec;
+use pv_model::Errno;
+use pv_model::limits::WEIGHT;
+use std::marker::Model;
+
+/// The pieces that a link leaves to walk: together with a slash behind each they are at most
+/// 1,024 bytes. A contract sees the list of the pieces.
+#[derive(Drop)]
+pub(crate) struct Joined {
+    // Each piece with a slash behind it.
+    bytes: ArrayVec<u8, WEIGHT>,
+}
+
+impl Model for Joined {
+    ghost use Rattle.std.specs.Prelude.{List, ℕ};
+    ghost use Rattle.pv_model.specs.Walk.{pieces};
+
+    ghost Value = { List (List ℕ) };
+
+    ghost view = { λ j. pieces j.bytes.items };
+}
+
+impl Joined {
+    /// No pieces.
+    pub(crate) fn new() -> Joined
+        ensures { result ≡ [] }
+    {
+        Joined {
+            bytes: ArrayVec::new(),
+        }
+    }
+
+    /// Has in place of its pieces those of a link's text, and behind them those that were left at the link.
+    /// ENAMETOOLONG comes where all together, with a slash behind each, would be more than 1,024 bytes;
+    /// then it has some of them.
+    pub(crate) fn join(&mut self, text: &[u8], rest: &Along<'_>) -> Result<(), Errno>
+        ensures ok { OnOk result (self.new ≡ pieces text.now ++ rest.now) }
+        ensures fits { OnOk result (weight (pieces text.now ++ rest.now) ≤ WEIGHT) }
+        ensures too_long { OnErr result (WEIGHT < weight (pieces text.now ++ rest.now)) }
+        ensures err { IfErr result (λ e. e ≡ Errno.ENAMETOOLONG) }
+    {
+        self.bytes.clear();
+        push_pieces(&mut self.bytes, text)?;
+        push_pieces(&mut self.bytes, rest.as_slice())
+    }
+
+    /// The way along its pieces.
+    pub(crate) fn along(&self) -> Along<'_>
+        ensures { result ≡ self.now }
+    {
+        Along::new(self.bytes.as_slice())
+    }
+}
+
+// Puts the pieces of a path at the end, with a slash behind each; ENAMETOOLONG where there is no room for them.
+fn push_pieces(bytes: &mut ArrayVec<u8, WEIGHT>, path: &[u8]) -> Result<(), Errno>
+    ensures ok { OnOk result (bytes.new.items ≡ bytes.old.items ++ with_slashes (pieces path.now)) }
+    ensures fits { OnOk result (weight (pieces path.now) ≤ WEIGHT - length bytes.old.items) }
+    ensures too_long { OnErr result (WEIGHT - length bytes.old.items < weight (pieces path.now)) }
+    ensures err { IfErr result (λ e. e ≡ Errno.ENAMETOOLONG) }
+{
+    let mut left = path;
+    while let Some((piece, behind)) = split_first(left) {
+        push_bytes(bytes, piece)?;
+        push_bytes(bytes, b"/")?;
+        left = behind;
+    }
+    Ok(())
+}
+
+// Puts bytes at the end; ENAMETOOLONG where there is no room for them.
+fn push_bytes(bytes: &mut ArrayVec<u8, WEIGHT>, more: &[u8]) -> Result<(), Errno>
+    ensures ok { OnOk result (bytes.new.items ≡ bytes.old.items ++ more.now) }
+    ensures fits { OnOk result (length bytes.old.items + length more.now ≤ WEIGHT) }
+    ensures too_long { OnErr result (WEIGHT < length bytes.old.items + length more.now) }
+    ensures err { IfErr result (λ e. e ≡ Errno.ENAMETOOLONG) }
+{
+    match bytes.try_extend_from_slice(more) {
+        Ok(()) => Ok(()),
+        Err(_) => Err(Errno::ENAMETOOLONG),
+    }
+}
+
+#[cfg(test)]
+mod tests {
+    use super::Joined;
+    use crate::along::Along;
+    use pv_model::Errno;
+    use std::process::Abort;
+
+    // Joins a text and what is left of a path, and compares what is then to walk.
+    fn expect_joined(rt: &impl Abort, text: &[u8], rest: &[u8], pieces: &[&[u8]]) {
+        let mut joined = Joined::new();
+        assert_eq!(rt; joined.join(b"a/b", &Along::new(b"c")), Ok(()));
+        assert_eq!(rt; joined.join(text, &Along::new(rest)), Ok(()));
+        let mut left = joined.along();
+        for piece in pieces {
+            assert!(rt; left.take_first() == Some(*piece));
+        }
+        assert!(rt; left.is_empty());
+    }
+
+    #[test]
+    fn texts_come_before_the_rest(rt: HostRuntime) {
+        expect_joined(&rt, b"/x//y/", b"//bc///..", &[b"x", b"y", b"bc", b".."]);
+        expect_joined(&rt, b"x", b"", &[b"x"]);
+        expect_joined(&rt, b"//", b"bc", &[b"bc"]);
+        expect_joined(&rt, b"b", &[b'a'; 1_021], &[b"b", &[b'a'; 1_021]]);
+    }
+
+    #[test]
+    fn pieces_weigh_at_most_1024(rt: HostRuntime) {
+        let mut joined = Joined::new();
+        let long = [b'a'; 1_021];
+        assert_eq!(rt;
+            joined.join(b"bc", &Along::new(&long)),
+            Err(Errno::ENAMETOOLONG)
+        );
+        assert_eq!(rt; joined.join(b"/b/", &Along::new(&long)), Ok(()));
+        assert_eq!(rt;
+            joined.join(&long, &Along::new(b"bc")),
+            Err(Errno::ENAMETOOLONG)
+        );
+        assert_eq!(rt; joined.join(&long, &Along::new(b"/b/")), Ok(()));
+    }
+}

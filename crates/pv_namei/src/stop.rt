@@ -1,0 +1,46 @@
+//! Where the way along a path stops.
+ghost use Rattle.std.specs.Prelude.{◌≡◌};
+ghost use Rattle.pv_namei.specs.Onward.{place_of, IsShort};
+
+use pv_model::{Name, Place};
+
+/// Where the way along a path stops.
+#[derive(Clone, Copy)]
+pub(crate) enum Stop<'a> {
+    /// Where the walk ends.
+    End(End<'a>),
+    /// Before a link that is followed: its number.
+    Link(u16),
+}
+
+/// Where a walk ends, with no name of its own yet.
+#[derive(Clone, Copy)]
+pub(crate) enum End<'a> {
+    /// An entry of a directory, whether or not it is there.
+    Named {
+        /// The directory's number.
+        dir: u16,
+        /// The piece that is the name in it.
+        piece: &'a [u8],
+        /// The node under the name, if there is one.
+        node: Option<u16>,
+    },
+    /// A node without a name.
+    Unnamed(u16),
+}
+
+impl End<'_> {
+    /// The place, with the name.
+    pub(crate) fn into_place(self) -> Place
+        requires { IsShort self }
+        ensures { result ≡ place_of self.entry }
+    {
+        match self {
+            End::Named { dir, piece, node } => match Name::new(piece) {
+                Some(name) => Place::At { dir, name, node },
+                None => unreachable!(),
+            },
+            End::Unnamed(node) => Place::Node(node),
+        }
+    }
+}

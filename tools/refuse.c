@@ -1,0 +1,75 @@
+// Refuses one call of a program: the Nth allocation, open, read or write, as REFUSE=alloc:N, open:N, read:N or write:N asks.
+// With COUNT=FILE it refuses none and writes how many calls of each kind there were. It is loaded before the C library
+// (LD_PRELOAD). Only calls made after the program's own start count.
+#define _GNU_SOURCE
+#include <errno.h>
+#include <fcntl.h>
+#include <stdarg.h>
+#include <stddef.h>
+#include <stdio.h>
+#include <stdlib.h>
+#include <string.h>
+#include <sys/syscall.h>
+#include <unistd.h>
+
+extern void *__libc_malloc(size_t);
+extern void *__libc_calloc(size_t, size_t);
+extern void *__libc_realloc(void *, size_t);
+extern void *__libc_memalign(size_t, size_t);
+
+enum kind { ALLOC, OPEN, READ, WRITE, KINDS };
+static const char *const names[KINDS] = {"alloc", "open", "read", "write"};
+static long made[KINDS], refused[KINDS];
+static int started;
+
+// Whether this call is the one that is refused.
+static int is_refused(enum kind kind) { return started && ++made[kind] == refused[kind]; }
+
+__attribute__((constructor)) static void start(void) {
+    const char *asked = getenv("REFUSE");
+    for (int kind = 0; asked && kind < KINDS; kind++) {
+        size_t length = strlen(names[kind]);
+        if (!strncmp(asked, names[kind], length) && asked[length] == ':') refused[kind] = atol(asked + length + 1);
+    }
+    started = 1;
+}
+
+__attribute__((destructor)) static void tell(void) {
+    started = 0;
+    const char *file = getenv("COUNT");
+    if (!file) return;
+    char text[128];
+    int length = snprintf(text, sizeof text, "alloc %ld\nopen %ld\nread %ld\nwrite %ld\n", made[ALLOC], made[OPEN], made[READ], made[WRITE]);
+    int to = (int)syscall(SYS_openat, AT_FDCWD, file, O_WRONLY | O_CREAT | O_TRUNC, 0600);
+    syscall(SYS_write, to, text, (size_t)length);
+    syscall(SYS_close, to);
+}
+
+void *malloc(size_t size) { return is_refused(ALLOC) ? (errno = ENOMEM, NULL) : __libc_malloc(size); }
+void *calloc(size_t count, size_t size) { return is_refused(ALLOC) ? (errno = ENOMEM, NULL) : __libc_calloc(count, size); }
+void *realloc(void *old, size_t size) { return is_refused(ALLOC) ? (errno = ENOMEM, NULL) : __libc_realloc(old, size); }
+void *aligned_alloc(size_t align, size_t size) { return is_refused(ALLOC) ? (errno = ENOMEM, NULL) : __libc_memalign(align, size); }
+void *memalign(size_t align, size_t size) { return aligned_alloc(align, size); }
+int posix_memalign(void **to, size_t align, size_t size) {
+    void *got = aligned_alloc(align, size);
+    if (!got) return ENOMEM;
+    *to = got;
+    return 0;
+}
+
+static int open_at(int folder, const char *name, int flags, int mode) {
+    if (is_refused(OPEN)) return errno = EIO, -1;
+    return (int)syscall(SYS_openat, folder, name, flags, mode);
+}
+
+static int mode_of(int flags, va_list rest) { return flags & (O_CREAT | O_TMPFILE) ? va_arg(rest, int) : 0; }
+
+#define OPENS(name) int name(const char *file, int flags, ...) { va_list rest; va_start(rest, flags); int mode = mode_of(flags, rest); va_end(rest); return open_at(AT_FDCWD, file, flags, mode); }
+#define OPENS_AT(name) int name(int folder, const char *file, int flags, ...) { va_list rest; va_start(rest, flags); int mode = mode_of(flags, rest); va_end(rest); return open_at(folder, file, flags, mode); }
+OPENS(open)
+OPENS(open64)
+OPENS_AT(openat)
+OPENS_AT(openat64)
+
+ssize_t read(int from, void *to, size_t count) { return is_refused(READ) ? (errno = EIO, -1) : syscall(SYS_read, from, to, count); }
+ssize_t write(int to, const void *from, size_t count) { return is_refused(WRITE) ? (errno = EIO, -1) : syscall(SYS_write, to, from, count); }
