@@ -402,7 +402,7 @@ fn a_file_that_does_not_open_is_a_failed_read(rt: HostRuntime) {
 #[test]
 fn refused_input_makes_no_file(rt: HostRuntime) {
     let (motd, out) = ("motd", "out");
-    let image = ImageFault::Magic;
+    let short = ImageFault::Short;
     let form = Fault::Run(RunFault::Manifest(ManifestFault::Form(1)));
     expect_refused(
         &rt,
@@ -415,17 +415,13 @@ fn refused_input_makes_no_file(rt: HostRuntime) {
     let command = Command::RunTree("none");
     expect_refused(&rt, command, form);
     let command = Command::ListImage("none");
-    expect_refused(
-        &rt,
-        command,
-        Fault::Listing(ListFault::Image(ImageFault::Short)),
-    );
+    expect_refused(&rt, command, Fault::Listing(ListFault::Image(short)));
     let command = Command::RunImage {
         image: motd,
         schedule: motd,
         out,
     };
-    expect_refused(&rt, command, Fault::Run(RunFault::Image(image)));
+    expect_refused(&rt, command, Fault::Run(RunFault::Image(short)));
     let (blocks, inodes) = (8, 16);
     let command = Command::MigrateImage {
         image: motd,
@@ -433,7 +429,7 @@ fn refused_input_makes_no_file(rt: HostRuntime) {
         blocks,
         inodes,
     };
-    let stop = MigrateStop::Refused(MigrateFault::Image(image));
+    let stop = MigrateStop::Refused(MigrateFault::Image(short));
     expect_refused(&rt, command, Fault::Migrating(stop));
 }
 

@@ -260,7 +260,7 @@ fn a_word_that_is_no_number_is_refused_before_the_file_is_read(rt: HostRuntime) 
 #[test]
 fn a_command_tells_its_fault(rt: HostRuntime) {
     let words = ["pvsim", "ls", "motd"];
-    expect_run(&rt, &words, 1, b"", b"pvsim: image: magic\n");
+    expect_run(&rt, &words, 1, b"", b"pvsim: image: short\n");
     let words = ["pvsim", "mkimg", "motd", "out"];
     expect_run(&rt, &words, 3, b"", b"pvsim: memory\n");
     for command in ["run", "audit"] {
