@@ -1,10 +1,10 @@
 //! `pvsim`: the program of `pv_program` over the files and the streams of its system.
 #![tactic(auto)]
 
-mod files;
-
-use files::{HostFiles, Input, Output};
-use pv_program::{Fault, LineFault, System, run, tell};
+use pv_commands::System;
+use pv_host::{HostFiles, Input, Output};
+use pv_program::{Fault, LineFault, run, tell};
+use pv_trace::Buffered;
 use std::process::ExitCode;
 use std::{env, io};
 
@@ -27,7 +27,7 @@ fn main(rt: HostRuntime) -> ExitCode {
     let mut system = System {
         files: HostFiles::new(&rt),
         input: Input::new(rt.reader()),
-        output: Output::new(io::writer(&rt)),
+        output: Buffered::new(Output::new(io::writer(&rt))),
         errors: Output::new(rt.stderr()),
     };
     let status = match words_of(&rt) {

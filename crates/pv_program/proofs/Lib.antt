@@ -1,3 +1,3 @@
 pub mod LineLemmas
-pub mod Outcomes
 pub mod Sizes
+pub mod Told

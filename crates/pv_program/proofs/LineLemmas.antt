@@ -13,12 +13,13 @@ use Rattle.clap.specs.declared.parser.matches.SubCommand.{SubCommand}
 use Rattle.clap.specs.declared.parser.matches.ArgMatches.TheViews.{out-SubCommand}
 use Rattle.clap.proofs.OnLiterals.{clap_on_literals}
 use Rattle.clap.specs.Words.{is_simple, is_simple_and_free, subcommand_of}
-use Rattle.pv_program.specs.declared.command.Command.{Command}
-use Rattle.pv_program.specs.declared.command.Command.TheVariants.{RunTree, MakeImage, ListImage, RunImage, MigrateImage}
+use Rattle.pv_commands.specs.declared.command.Command.{Command}
+use Rattle.pv_commands.specs.declared.command.Command.TheVariants.{RunTree, MakeImage, ListImage, RunImage, MigrateImage, AuditImage}
 use Rattle.pv_program.specs.declared.command.LineFault.{LineFault}
 use Rattle.pv_program.specs.declared.command.LineFault.TheVariants.{Number}
 use Rattle.pv_program.specs.declared.command.Migration.{Migration}
-use Rattle.pv_program.specs.Line.{HasTexts, IsCommandIn, IsMigrationOf, IsRefused, IsWithoutNumbers, LacksNumber, RefusesWords, entered_text, of_kind, of_parser, pvsim_app, size_in}
+use Rattle.pv_program.specs.Line.{HasTexts, IsCommandIn, IsMigrationOf, IsRefused, IsWithoutNumbers, LacksNumber, RefusesWords, entered_text, of_kind, of_parser, size_in}
+use Rattle.pv_program.specs.Parser.{pvsim_app}
 
 module _ {Z : Type 0} where
   -- a subcommand's name and its rows
@@ -55,12 +56,14 @@ pub no_command : (entered : Option (Text × List Row))
     → ((manifest image : Text) → entered_text entered (codes "mkimg") (codes "MANIFEST") ≡ Some manifest → entered_text entered (codes "mkimg") (codes "IMAGE") ≡ Some image → ⊥)
     → ((image schedule out : Text) → entered_text entered (codes "run") (codes "IMAGE") ≡ Some image → entered_text entered (codes "run") (codes "SCHEDULE") ≡ Some schedule
     → entered_text entered (codes "run") (codes "OUT") ≡ Some out → ⊥)
+    → ((image schedule : Text) → entered_text entered (codes "audit") (codes "IMAGE") ≡ Some image → entered_text entered (codes "audit") (codes "SCHEDULE") ≡ Some schedule → ⊥)
     → (command : Command) → IsWithoutNumbers command → IsCommandIn entered command → ⊥
-no_command entered tree listed made ran (RunTree file) plain is = let both : None ≡ Some file.now = sym tree ∙ is in cc
-no_command entered tree listed made ran (ListImage image) plain is = let both : None ≡ Some image.now = sym listed ∙ is in cc
-no_command entered tree listed made ran (MakeImage manifest image) plain is = made manifest.now image.now is.0 is.1
-no_command entered tree listed made ran (RunImage image schedule out) plain is = ran image.now schedule.now out.now is.0 is.1 is.2
-no_command entered tree listed made ran (MigrateImage image out blocks inodes) plain is = absurd plain
+no_command entered tree listed made ran audited (RunTree file) plain is = let both : None ≡ Some file.now = sym tree ∙ is in cc
+no_command entered tree listed made ran audited (ListImage image) plain is = let both : None ≡ Some image.now = sym listed ∙ is in cc
+no_command entered tree listed made ran audited (MakeImage manifest image) plain is = made manifest.now image.now is.0 is.1
+no_command entered tree listed made ran audited (RunImage image schedule out) plain is = ran image.now schedule.now out.now is.0 is.1 is.2
+no_command entered tree listed made ran audited (AuditImage image schedule path) plain is = audited image.now schedule.now is.0 is.1
+no_command entered tree listed made ran audited (MigrateImage image out blocks inodes) plain is = absurd plain
 
 -- where neither a migration's texts stand nor another command, none does
 pub no_command_at_all : (entered : Option (Text × List Row))
@@ -71,6 +74,7 @@ no_command_at_all entered migrates other (RunTree file) is = other (RunTree file
 no_command_at_all entered migrates other (ListImage image) is = other (ListImage image) tt is
 no_command_at_all entered migrates other (MakeImage manifest image) is = other (MakeImage manifest image) tt is
 no_command_at_all entered migrates other (RunImage image schedule out) is = other (RunImage image schedule out) tt is
+no_command_at_all entered migrates other (AuditImage image schedule path) is = other (AuditImage image schedule path) tt is
 no_command_at_all entered migrates other (MigrateImage image out blocks inodes) is =
     migrates image.now out.now is.2.word is.3.word (record { has_image = is.0; has_out = is.1; has_blocks = is.2.is_entered; has_inodes = is.3.is_entered })
 
@@ -87,6 +91,7 @@ migration-stands entered texts (RunTree file) h is = absurd is
 migration-stands entered texts (ListImage image) h is = absurd is
 migration-stands entered texts (MakeImage manifest image) h is = absurd is
 migration-stands entered texts (RunImage image schedule out) h is = absurd is
+migration-stands entered texts (AuditImage image schedule path) h is = absurd is
 
 -- what the parser refuses, or want of memory
 pub refused_by_kind : (words : List Text) (error : Error) (kind : ErrorKind) → kind_of error ≡ kind

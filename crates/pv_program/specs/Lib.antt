@@ -1,3 +1,4 @@
 pub mod Line
+pub mod Parser
 pub mod Program
 pub mod Status

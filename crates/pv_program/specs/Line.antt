@@ -1,71 +1,17 @@
 -- What the words of a command line ask for.
-use Rattle.std.specs.Prelude.{◌≡◌, ◌≢◌, ◌⊎◌, ⊤, ℕ, ◌<◌, true, false, if◌then◌else◌, bytes_eq, List, [], ◌∷◌, length, codes, Option, None, Some}
-use Rattle.clap.specs.Words.{App, Row, Rule, Text, IsAmong, app_of, fault_of, first_of, kind_of, new_app, new_rule, subcommand_of, takes, with_rule, with_subcommand}
-use Rattle.clap.specs.declared.builder.ArgAction.TheVariants.{Set}
-use Rattle.clap.specs.declared.builder.command.Command.{Command as Parser}
-use Rattle.clap.specs.declared.builder.command.Command.TheViews.{out-Command}
+use Rattle.std.specs.Prelude.{◌≡◌, ◌≢◌, ◌⊎◌, ⊤, ℕ, ◌<◌, true, if◌then◌else◌, bytes_eq, List, [], ◌∷◌, length, codes, Option, None, Some, option_map}
+use Rattle.clap.specs.Words.{Row, Text, IsAmong, fault_of, first_of, kind_of, subcommand_of, takes}
 use Rattle.clap.specs.declared.error.Error.{Error}
 use Rattle.clap.specs.declared.error.kind.ErrorKind.{ErrorKind}
 use Rattle.clap.specs.declared.error.kind.ErrorKind.TheVariants.{OutOfMemory, MissingSubcommand}
 use Rattle.pv_model.specs.Grammar.Arguments.{in_range}
 use Rattle.pv_model.specs.Grammar.Lines.{decimal_of}
-use Rattle.pv_program.specs.declared.command.Command.{Command}
-use Rattle.pv_program.specs.declared.command.Command.TheVariants.{RunTree, MakeImage, ListImage, RunImage, MigrateImage}
+use Rattle.pv_commands.specs.declared.command.Command.{Command}
+use Rattle.pv_commands.specs.declared.command.Command.TheVariants.{RunTree, MakeImage, ListImage, RunImage, MigrateImage, AuditImage}
 use Rattle.pv_program.specs.declared.command.LineFault.{LineFault}
 use Rattle.pv_program.specs.declared.command.LineFault.TheVariants as line
 use Rattle.pv_program.specs.declared.command.Migration.{Migration}
-
--- ---- what the parser is told of the program
-
--- one text, and it must be there
-abbrev pub text_rule : Text → Rule
-text_rule name = record (new_rule name) { required = true; action = Some Set }
-
--- `run-tree FILE`
-abbrev pub run_tree_app : App
-run_tree_app = with_rule (new_app (codes "run-tree")) (text_rule (codes "FILE"))
-
--- `mkimg MANIFEST IMAGE`
-abbrev pub make_image_app : App
-make_image_app = with_rule (with_rule (new_app (codes "mkimg")) (text_rule (codes "MANIFEST"))) (text_rule (codes "IMAGE"))
-
--- `ls IMAGE`
-abbrev pub list_app : App
-list_app = with_rule (new_app (codes "ls")) (text_rule (codes "IMAGE"))
-
--- `run IMAGE SCHEDULE OUT`
-abbrev pub run_app : App
-run_app =
-    with_rule (with_rule (with_rule (new_app (codes "run")) (text_rule (codes "IMAGE"))) (text_rule (codes "SCHEDULE"))) (text_rule (codes "OUT"))
-
--- `migrate IMAGE OUT BLOCKS INODES`
-abbrev pub migrate_app : App
-migrate_app =
-    with_rule (with_rule (with_rule (with_rule (new_app (codes "migrate")) (text_rule (codes "IMAGE"))) (text_rule (codes "OUT"))) (text_rule (codes "BLOCKS")))
-    (text_rule (codes "INODES"))
-
--- the program's own: it has a version, and wants a command
-abbrev pub bare_app : App
-bare_app = record (new_app (codes "pvsim")) {
-  top = record (new_app (codes "pvsim")).top { has_version = true; subcommand_required = true };
-}
-
--- with its command on bundles, then with those that make an image and list one, and whole
-abbrev pub bundle_app : App
-bundle_app = with_subcommand bare_app run_tree_app.top
-
-abbrev pub image_app : App
-image_app = with_subcommand (with_subcommand bundle_app make_image_app.top) list_app.top
-
-abbrev pub pvsim_app : App
-pvsim_app = with_subcommand (with_subcommand image_app run_app.top) migrate_app.top
-
--- a parser that reads just this
-pub record IsParserOf (app : App) (parser : Parser) : Type 0 where
-  pub app_is : app_of parser ≡ app
-  pub no_globals : (out-Command parser).has_globals ≡ false
-
--- ---- the command that words ask for
+use Rattle.pv_program.specs.Parser.{pvsim_app}
 
 -- the text of an argument of a command, where that command was entered
 abbrev pub entered_text : Option (Text × List Row) → Text → Text → Option Text
@@ -94,6 +40,9 @@ IsCommandIn entered (RunImage image schedule out) =
 IsCommandIn entered (MigrateImage image out blocks inodes) =
     (entered_text entered (codes "migrate") (codes "IMAGE") ≡ Some image.now) × (entered_text entered (codes "migrate") (codes "OUT") ≡ Some out.now)
     × SpellsSize entered (codes "migrate") (codes "BLOCKS") blocks × SpellsSize entered (codes "migrate") (codes "INODES") inodes
+IsCommandIn entered (AuditImage image schedule path) =
+    (entered_text entered (codes "audit") (codes "IMAGE") ≡ Some image.now) × (entered_text entered (codes "audit") (codes "SCHEDULE") ≡ Some schedule.now)
+    × (entered_text entered (codes "audit") (codes "PATH") ≡ option_map (λ text. text.now) path)
 
 -- the texts of a migration stand there
 pub record HasTexts (entered : Option (Text × List Row)) (image out blocks inodes : Text) : Type 0 where

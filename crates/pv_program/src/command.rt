@@ -1,50 +1,17 @@
 //! The command line.
-ghost use Rattle.std.specs.Prelude.{◌≡◌, ◌⊎◌, ℕ, List, codes, map, false, None, Some, IfOk, IfErr, IfSome, option_map};
-ghost use Rattle.clap.specs.Words.{app_of, rule_of, subcommand_of, subcommand_rows_of};
-ghost use Rattle.pv_program.specs.Line.{HasTexts, IsAsked, IsCommandIn, IsMigrationOf, IsParserOf, IsWithoutNumbers, RefusesLine, RefusesWords, bundle_app, entered_text, image_app, list_app, make_image_app, migrate_app, pvsim_app, run_app, run_tree_app, size_in, text_rule};
+ghost use Rattle.std.specs.Prelude.{◌≡◌, ◌⊎◌, ℕ, List, codes, map, None, Some, IfOk, IfErr, IfSome, option_map};
+ghost use Rattle.clap.specs.Words.{subcommand_of, subcommand_rows_of};
+ghost use Rattle.pv_program.specs.Line.{HasTexts, IsAsked, IsCommandIn, IsMigrationOf, IsWithoutNumbers, RefusesLine, RefusesWords, entered_text, size_in};
+ghost use Rattle.pv_program.specs.Parser.{pvsim_app};
 
+use crate::parser::parser;
 use clap::error::ErrorKind;
-use clap::{Arg, ArgAction, ArgMatches, Command as Parser, Error as ParserError};
+use clap::{ArgMatches, Error as ParserError};
+use pv_commands::Command;
 use pv_text::words::decimal;
 use std::alloc::{AllocError, Global};
 use std::convert::AsStr;
 use thiserror::Error;
-
-/// What a command line asks for.
-#[derive(Clone, Copy, Debug, PartialEq, Eq)]
-pub enum Command<'a> {
-    /// Run the bundle of a file: `-` is the standard input.
-    RunTree(&'a str),
-    /// Make the image of a manifest.
-    MakeImage {
-        /// The file of the manifest.
-        manifest: &'a str,
-        /// The file that gets the image.
-        image: &'a str,
-    },
-    /// List the tree of the image in a file.
-    ListImage(&'a str),
-    /// Run an image under a schedule.
-    RunImage {
-        /// The file of the image.
-        image: &'a str,
-        /// The file of the schedule.
-        schedule: &'a str,
-        /// The file that gets the image of what the run leaves.
-        out: &'a str,
-    },
-    /// Make an image of version 2 of one of version 1.
-    MigrateImage {
-        /// The file of the image.
-        image: &'a str,
-        /// The file that gets the new image.
-        out: &'a str,
-        /// The blocks of the new image.
-        blocks: u32,
-        /// Its inodes.
-        inodes: u32,
-    },
-}
 
 /// Why a command line is none.
 #[derive(Debug, Drop, Error)]
@@ -84,119 +51,6 @@ impl From<ParserError> for LineFault {
     }
 }
 
-// An argument that is one text, and must be there.
-fn text<'a>(alloc: Global, name: &'a str, help: &'a str) -> Arg<'a>
-    ensures rule { rule_of result ≡ text_rule name.entry.now }
-    ensures local { result.global ≡ false }
-{
-    Arg::new(alloc, name)
-        .required(true)
-        .action(ArgAction::Set)
-        .help(help)
-}
-
-// The parser of `run-tree`.
-fn run_tree_parser<'a>(alloc: Global) -> Result<Parser<'a>, AllocError>
-    ensures { IfOk result (IsParserOf run_tree_app) }
-{
-    Parser::new(alloc, "run-tree")
-        .about("Run a bundle and write its trace")
-        .arg(text(
-            alloc,
-            "FILE",
-            "a bundle: a manifest, the line `schedule`, and a schedule; `-` is the standard input",
-        ))
-}
-
-// The parser of `mkimg`.
-fn make_image_parser<'a>(alloc: Global) -> Result<Parser<'a>, AllocError>
-    ensures { IfOk result (IsParserOf make_image_app) }
-{
-    Parser::new(alloc, "mkimg")
-        .about("Make the image of a manifest")
-        .arg(text(
-            alloc,
-            "MANIFEST",
-            "a manifest: the image's sizes, and what is in it",
-        ))?
-        .arg(text(alloc, "IMAGE", "the file that gets the image"))
-}
-
-// The parser of `ls`.
-fn list_parser<'a>(alloc: Global) -> Result<Parser<'a>, AllocError>
-    ensures { IfOk result (IsParserOf list_app) }
-{
-    Parser::new(alloc, "ls")
-        .about("List the tree of an image")
-        .arg(text(alloc, "IMAGE", "an image"))
-}
-
-// The parser of `run`.
-fn run_parser<'a>(alloc: Global) -> Result<Parser<'a>, AllocError>
-    ensures { IfOk result (IsParserOf run_app) }
-{
-    Parser::new(alloc, "run")
-        .about("Run an image under a schedule, write the trace, and then the image that is left")
-        .arg(text(alloc, "IMAGE", "an image"))?
-        .arg(text(
-            alloc,
-            "SCHEDULE",
-            "a schedule: which processes take their turns",
-        ))?
-        .arg(text(
-            alloc,
-            "OUT",
-            "the file that gets the image that the run leaves",
-        ))
-}
-
-// The parser of `migrate`.
-fn migrate_parser<'a>(alloc: Global) -> Result<Parser<'a>, AllocError>
-    ensures { IfOk result (IsParserOf migrate_app) }
-{
-    Parser::new(alloc, "migrate")
-        .about("Make an image of version 2 of one of version 1: each node keeps its number")
-        .arg(text(alloc, "IMAGE", "an image of version 1"))?
-        .arg(text(alloc, "OUT", "the file that gets the new image"))?
-        .arg(text(alloc, "BLOCKS", "the new image's blocks, at most 65535"))?
-        .arg(text(
-            alloc,
-            "INODES",
-            "its inodes, at most 4096, and no fewer than before",
-        ))
-}
-
-// The parser of the program, with its command on bundles.
-fn bundle_parser<'a>(alloc: Global) -> Result<Parser<'a>, AllocError>
-    ensures { IfOk result (λ parser. app_of parser ≡ bundle_app) }
-{
-    Parser::new(alloc, "pvsim")
-        .version("0.1.0")
-        .about(
-            "A teaching kernel with OpenBSD's pledge and unveil. With no words it runs the bundle on its standard input.",
-        )
-        .subcommand_required(true)
-        .subcommand(run_tree_parser(alloc)?)
-}
-
-// The same, with the commands that make an image and list one.
-fn image_parser<'a>(alloc: Global) -> Result<Parser<'a>, AllocError>
-    ensures { IfOk result (λ parser. app_of parser ≡ image_app) }
-{
-    bundle_parser(alloc)?
-        .subcommand(make_image_parser(alloc)?)?
-        .subcommand(list_parser(alloc)?)
-}
-
-// The parser of the command line: the same, with the commands that run an image and migrate one.
-fn parser<'a>(alloc: Global) -> Result<Parser<'a>, AllocError>
-    ensures { IfOk result (λ parser. app_of parser ≡ pvsim_app) }
-{
-    image_parser(alloc)?
-        .subcommand(run_parser(alloc)?)?
-        .subcommand(migrate_parser(alloc)?)
-}
-
 // The text of an argument of a command, where the matches are those of that command.
 fn text_of<'a>(matches: &ArgMatches<'a>, command: &str, argument: &str) -> Option<&'a str>
     ensures { option_map (λ text. text.now) result ≡ entered_text (subcommand_rows_of matches.now) command.now argument.now }
@@ -232,6 +86,22 @@ fn run_image_in<'a>(matches: &ArgMatches<'a>) -> Option<Command<'a>>
         image,
         schedule,
         out,
+    })
+}
+
+// `audit`, where the matches are those.
+fn audit_image_in<'a>(matches: &ArgMatches<'a>) -> Option<Command<'a>>
+    ensures found { IfSome result (IsCommandIn (subcommand_rows_of matches.now)) }
+    ensures none { result ≡ None → (image schedule : List ℕ)
+        → entered_text (subcommand_rows_of matches.now) (codes "audit") (codes "IMAGE") ≡ Some image
+        → entered_text (subcommand_rows_of matches.now) (codes "audit") (codes "SCHEDULE") ≡ Some schedule → ⊥ }
+{
+    let image = text_of(matches, "audit", "IMAGE")?;
+    let schedule = text_of(matches, "audit", "SCHEDULE")?;
+    Some(Command::AuditImage {
+        image,
+        schedule,
+        path: text_of(matches, "audit", "PATH"),
     })
 }
 
@@ -308,7 +178,10 @@ fn command_in<'a>(matches: &ArgMatches<'a>) -> Option<Command<'a>>
     if let Some(command) = make_image_in(matches) {
         return Some(command);
     }
-    run_image_in(matches)
+    if let Some(command) = run_image_in(matches) {
+        return Some(command);
+    }
+    audit_image_in(matches)
 }
 
 // What the words ask of the parser.

@@ -3,7 +3,8 @@ use Rattle.clap.specs.Words.{App, HasKind, HasMatchesOf, Row, Text, app_of, faul
 use Rattle.clap.specs.declared.builder.command.Command.{Command as Parser}
 use Rattle.clap.specs.declared.parser.matches.ArgMatches.{ArgMatches}
 use Rattle.clap.specs.declared.error.kind.ErrorKind.TheVariants.{OutOfMemory}
-use Rattle.pv_program.specs.Line.{IsCommandIn, RefusesWords, of_parser, pvsim_app}
+use Rattle.pv_program.specs.Line.{IsCommandIn, RefusesWords, of_parser}
+use Rattle.pv_program.specs.Parser.{pvsim_app}
 use Rattle.pv_program.proofs.LineLemmas.{migration-asked, migration-refused, none_by, nothing-asked, refused_by_parser, refused_result, pvsim_has_matches, pvsim_is_simple}
 use Rattle.pv_program.proofs.command.parsed.Goals as goal
 

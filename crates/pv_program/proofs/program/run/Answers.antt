@@ -1,22 +1,20 @@
-use Rattle.std.proofs.Common.{map, Err}
-use Rattle.pv_program.specs.Program.{IsOfCommand}
-use Rattle.pv_program.proofs.Outcomes.{command_status-not_zero, fault_is_outcome}
+use Rattle.std.proofs.Common.{Ok, Err, inl, refl}
+use Rattle.pv_program.specs.declared.fault.Fault.TheVariants.{Command as OfCommand}
+use Rattle.pv_program.proofs.Told.{Performs-told}
 use Rattle.pv_program.proofs.program.run.Goals as goal
 
-pub returns-in-Err-perform : goal.returns-in-Err-perform
-returns-in-Err-perform g c =
+pub returns-in-Ok-perform-clause-comes : goal.returns-in-Ok-perform-clause-comes
+returns-in-Ok-perform-clause-comes g c =
+    let done = c.in-Ok-perform.ensures in
+    (Ok c.in-Ok-perform.field-0, inl refl, (c.in-Ok.command, c.in-Ok.ensures.asked, done.does, done.unread, done.silent))
+
+pub returns-in-Err-perform-clause-comes : goal.returns-in-Err-perform-clause-comes
+returns-in-Err-perform-clause-comes g c =
     let fault = c.in-Err-perform.fault in
-    let kind : IsOfCommand fault = c.in-Err-perform.ensures.kind in
-    let after = c.tell-in-Err-perform.ensures.errors (command_status-not_zero fault kind) in (
-      Err fault,
+    let ended = c.in-Err-perform.ensures in
+    let does = Performs-told _ _ _ _ _ c.tell-in-Err-perform.new.system.errors _ c.in-Ok.command ended.does in
+    let after = c.tell-in-Err-perform.ensures.errors ended.failed in (
+      Err (OfCommand fault),
       c.tell-in-Err-perform.ensures.status,
-      fault_is_outcome (map g.S.AsStr.text c.args.words.now) fault _ _ c.in-Ok.command kind c.in-Ok.ensures.asked (
-        rw after c.in-Err-perform.ensures.input,
-        rw after c.in-Err-perform.ensures.file,
-        c.in-Err-perform.ensures.makes,
-        rw after c.in-Err-perform.ensures.silent,
-        rw after c.in-Err-perform.ensures.lists,
-        rw after c.in-Err-perform.ensures.runs,
-        c.in-Err-perform.ensures.migrates,
-      ),
+      (c.in-Ok.command, c.in-Ok.ensures.asked, rw after does, rw after ended.unread, rw after ended.silent),
     )

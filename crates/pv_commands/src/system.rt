@@ -1,6 +1,6 @@
-//! What the program reads and writes: files by their names, and three streams.
+//! What a command reads and writes: files by their names, and three streams.
 ghost use Rattle.std.specs.Prelude.{◌≡◌, ℕ, List, Option, IfOk, IsOk, IsSome};
-ghost use Rattle.pv_program.specs.Program.{IsCreated};
+ghost use Rattle.pv_commands.specs.Created.{IsCreated};
 
 use pv_model::{Failed, Sink, Source};
 use std::alloc::{AllocError, Global};
@@ -41,7 +41,7 @@ pub trait Files {
         ensures { IfOk result (IsCreated file_of Self.Writer.told name.now) };
 }
 
-/// What a run of the program reads from and writes to.
+/// What a command reads from and writes to.
 #[derive(Drop)]
 pub struct System<F: Drop, I: Drop, O: Drop, E: Drop> {
     /// The files.

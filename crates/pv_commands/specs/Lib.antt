@@ -1,0 +1,11 @@
+pub mod Auditing
+pub mod Commands
+pub mod Created
+pub mod Faults
+pub mod Images
+pub mod Listing
+pub mod Making
+pub mod Migrating
+pub mod Running
+pub mod Status
+pub mod Streams

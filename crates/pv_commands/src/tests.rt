@@ -1,0 +1,633 @@
+//! Commands over files and streams in memory.
+ghost use Rattle.std.specs.Prelude.{None, Some, if◌then◌else◌};
+ghost use Rattle.std.specs.Str.{bytes_eq};
+ghost use Rattle.std.specs.String.{string_bytes};
+
+use crate::{Command, Fault, Files, System, perform};
+use pv_images::{AuditStop, MigrateStop};
+use pv_model::{
+    AuditFault, Errno, Failed, ImageFault, ListFault, ManifestFault, MigrateFault, RunFault, Sink,
+    Source,
+};
+use pv_run::stream::{Bytes, Gathered};
+use pv_trace::Buffered;
+use std::alloc::{AllocError, Global};
+use std::cell::RefCell;
+use std::process::Abort;
+use std::test::Fail;
+
+const MOTD: &[u8] =
+    b"image 16 16\ndir \"/etc\"\nbytes \"/etc/motd\" \"hello\"\nexec \"/init\" 5\npledge \"stdio rpath\" null\nopen \"/etc/motd\" r\nread r0 100\nclose 0\nexit 0\n";
+
+// The same as a bundle.
+const BUNDLE: &[u8] =
+    b"image 16 16\ndir \"/etc\"\nbytes \"/etc/motd\" \"hello\"\nexec \"/init\" 5\npledge \"stdio rpath\" null\nopen \"/etc/motd\" r\nread r0 100\nclose 0\nexit 0\nschedule\n1 5\n";
+
+const MOTD_LISTING: &[u8] = b"d 1 2 \"/\"\nd 2 1 \"/etc\"\nf 3 5 \"/etc/motd\"\nx 4 72 \"/init\"\n";
+
+const MOTD_TRACE: &[u8] =
+    b"    1 CALL  pledge(\"stdio rpath\", null)\n    1 RET   pledge 0\n    1 CALL  open(\"/etc/motd\", r)\n    1 NAMI  \"/etc/motd\"\n    1 RET   open 0\n    1 CALL  read(0, 100)\n    1 GIO   read 5 68656c6c6f\n    1 RET   read 5\n    1 CALL  close(0)\n    1 RET   close 0\n    1 CALL  exit(0)\n";
+
+// A bundle of the smallest image, whose process 1 ends at once.
+const SMALL: &[u8] = b"image 2 1\nschedule\n1\n";
+
+const SMALL_TRACE: &[u8] = b"    1 CALL  exit(0)\n";
+
+// A file that a process can't reach once its table is locked.
+const SECRET: &[u8] =
+    b"image 16 16\ndir \"/pub\"\nbytes \"/secret\" \"k1\"\nexec \"/init\" 3\nunveil \"/pub\" \"r\"\nunveil null null\npledge \"stdio rpath\" null\n";
+
+// Files in memory that can be read; what is written to any file stands in a cell, once it was made.
+#[derive(Drop)]
+struct Disk<'a> {
+    first: (&'static str, &'a [u8]),
+    second: (&'static str, &'a [u8]),
+    written: &'a RefCell<Option<Vec<u8>>>,
+}
+
+// A file that is made at its first write.
+#[derive(Drop)]
+struct Written<'a> {
+    alloc: Global,
+    name: String,
+    bytes: &'a RefCell<Option<Vec<u8>>>,
+    failures: u64,
+}
+
+impl Written<'_> {
+    // Puts bytes behind those that the file has.
+    fn add(&self, buffer: &[u8]) -> Result<(), Failed> {
+        let Ok(mut place) = self.bytes.try_borrow_mut() else {
+            return Err(Failed);
+        };
+        let mut bytes = match place.take() {
+            Some(bytes) => bytes,
+            None => Vec::new(self.alloc),
+        };
+        let added = bytes.extend_from_slice(buffer);
+        *place = Some(bytes);
+        added.map_err(|_| Failed)
+    }
+}
+
+impl Sink for Written<'_> {
+    ghost told = { λ _. None };
+
+    ghost waits = { λ _. 0 };
+
+    ghost failures = { λ sink. sink.failures };
+
+    fn write(&mut self, buffer: &[u8]) -> Result<usize, Failed> {
+        if self.add(buffer).is_ok() {
+            return Ok(buffer.len());
+        }
+        self.failures = self.failures.saturating_add(1);
+        Err(Failed)
+    }
+
+    fn flush(&mut self) -> Result<(), Failed> {
+        Ok(())
+    }
+}
+
+impl<'a> Files for Disk<'a> {
+    type Reader = Bytes<'a>;
+
+    type Writer = Written<'a>;
+
+    ghost bytes = { λ disk name. if bytes_eq disk.first.0.now name then Some disk.first.1.now else (if bytes_eq disk.second.0.now name then Some disk.second.1.now else None) };
+
+    ghost file_of = { λ writer. string_bytes writer.name };
+
+    fn open(&self, name: &str) -> Result<Bytes<'a>, Failed> {
+        if self.first.0 == name {
+            Ok(Bytes::new(self.first.1))
+        } else if self.second.0 == name {
+            Ok(Bytes::new(self.second.1))
+        } else {
+            Err(Failed)
+        }
+    }
+
+    fn create(&self, alloc: Global, name: &str) -> Result<Written<'a>, AllocError> {
+        Ok(Written {
+            alloc,
+            name: String::from_str(alloc, name)?,
+            bytes: self.written,
+            failures: 0,
+        })
+    }
+}
+
+// A source and a sink that fail.
+#[derive(Drop)]
+struct Broken {
+    failures: u64,
+}
+
+impl Source for Broken {
+    ghost remaining = { λ _. None };
+
+    ghost failures = { λ source. source.failures };
+
+    fn read(&mut self, _buffer: &mut [u8]) -> Result<usize, Failed> {
+        self.failures = self.failures.saturating_add(1);
+        Err(Failed)
+    }
+}
+
+impl Sink for Broken {
+    ghost told = { λ _. None };
+
+    ghost waits = { λ _. 0 };
+
+    ghost failures = { λ sink. sink.failures };
+
+    fn write(&mut self, _buffer: &[u8]) -> Result<usize, Failed> {
+        self.failures = self.failures.saturating_add(1);
+        Err(Failed)
+    }
+
+    fn flush(&mut self) -> Result<(), Failed> {
+        Ok(())
+    }
+}
+
+// What a command left.
+#[derive(Drop)]
+struct Left {
+    answer: Result<(), Fault>,
+    output: Vec<u8>,
+    written: Option<Vec<u8>>,
+}
+
+// Performs a command where two files have these bytes, and the standard input the small bundle.
+fn left_by(
+    rt: &(impl Abort + AllocGlobal),
+    first: (&'static str, &[u8]),
+    second: (&'static str, &[u8]),
+    command: Command<'_>,
+) -> Left {
+    let cell = RefCell::new(None);
+    let mut system = System {
+        files: Disk {
+            first,
+            second,
+            written: &cell,
+        },
+        input: Bytes::new(SMALL),
+        output: Gathered::new(rt.alloc()),
+        errors: (),
+    };
+    let answer = perform(rt.alloc(), command, &mut system);
+    let System { output, .. } = system;
+    Left {
+        answer,
+        output: output.bytes,
+        written: cell.into_inner(),
+    }
+}
+
+// Where two files have these bytes, a command ends so, writes this to the standard output, and makes no file.
+fn expect_left(
+    rt: &(impl Abort + AllocGlobal),
+    first: (&'static str, &[u8]),
+    second: (&'static str, &[u8]),
+    command: Command<'_>,
+    answer: Result<(), Fault>,
+    output: &[u8],
+) {
+    let left = left_by(rt, first, second, command);
+    assert!(rt; left.answer == answer);
+    assert!(rt; left.output.as_slice() == output);
+    assert!(rt; left.written.is_none());
+}
+
+// The bytes of the file that a command made, of which it writes nothing to the standard output.
+fn made_by(
+    rt: &(impl Abort + AllocGlobal),
+    name: &'static str,
+    bytes: &[u8],
+    command: Command<'_>,
+) -> Vec<u8> {
+    let left = left_by(rt, (name, bytes), ("no", b""), command);
+    assert!(rt; left.answer == Ok(()));
+    assert!(rt; left.output.is_empty());
+    left.written.expect(rt, "a file was made")
+}
+
+// The image of a manifest.
+fn image_of(rt: &(impl Abort + AllocGlobal), manifest: &[u8]) -> Vec<u8> {
+    let (name, image) = ("manifest", "image");
+    let command = Command::MakeImage {
+        manifest: name,
+        image,
+    };
+    made_by(rt, name, manifest, command)
+}
+
+// The image has the listing of the first manifest.
+fn expect_motd(rt: &(impl Abort + AllocGlobal), image: &[u8]) {
+    let command = Command::ListImage("image");
+    expect_left(
+        rt,
+        ("image", image),
+        ("no", b""),
+        command,
+        Ok(()),
+        MOTD_LISTING,
+    );
+}
+
+// A command on the first manifest's text ends so, and writes nothing.
+fn expect_refused(rt: &(impl Abort + AllocGlobal), command: Command<'_>, fault: Fault) {
+    let file = ("motd", MOTD);
+    expect_left(rt, file, ("none", b""), command, Err(fault), b"");
+}
+
+// An audit under a schedule of the image whose secret is locked away ends so.
+fn expect_audit(
+    rt: &(impl Abort + AllocGlobal),
+    schedule: &[u8],
+    path: Option<&str>,
+    answer: Result<(), AuditStop>,
+    output: &[u8],
+) {
+    let image = image_of(rt, SECRET);
+    let command = Command::AuditImage {
+        image: "image",
+        schedule: "turns",
+        path,
+    };
+    expect_left(
+        rt,
+        ("image", &image),
+        ("turns", schedule),
+        command,
+        answer.map_err(Fault::Auditing),
+        output,
+    );
+}
+
+// A fault has this text and this status.
+fn expect_fault(
+    rt: &(impl Abort + AllocGlobal),
+    fault: Fault,
+    text: &str,
+    status: u8,
+) -> Result<(), Fail> {
+    let told = format!(in rt.alloc(); "{fault}")?;
+    assert!(rt; told.as_str() == text);
+    assert!(rt; fault.status() == status);
+    Ok(())
+}
+
+#[test]
+fn a_bundle_is_read_where_its_name_says(rt: HostRuntime) {
+    let (file, dash) = (("motd", BUNDLE), ("-", BUNDLE));
+    let command = Command::RunTree("motd");
+    expect_left(&rt, file, dash, command, Ok(()), MOTD_TRACE);
+    let command = Command::RunTree("-");
+    expect_left(&rt, file, dash, command, Ok(()), SMALL_TRACE);
+    expect_refused(&rt, Command::RunTree("no"), Fault::Run(RunFault::Read));
+}
+
+#[test]
+fn an_image_is_made_and_listed(rt: HostRuntime) {
+    let image = image_of(&rt, MOTD);
+    assert_eq!(rt; image.len(), 8_192);
+    expect_motd(&rt, &image);
+}
+
+#[test]
+fn an_image_is_run_and_left(rt: HostRuntime) {
+    let image = image_of(&rt, MOTD);
+    let command = Command::RunImage {
+        image: "image",
+        schedule: "turns",
+        out: "left",
+    };
+    let left = left_by(&rt, ("image", &image), ("turns", b"1 5\n"), command);
+    assert!(rt; left.answer == Ok(()));
+    assert!(rt; left.output.as_slice() == MOTD_TRACE);
+    expect_motd(&rt, &left.written.expect(&rt, "an image was left"));
+}
+
+#[test]
+fn an_image_is_migrated(rt: HostRuntime) {
+    let (image, out) = ("image", "out");
+    let command = Command::MigrateImage {
+        image,
+        out,
+        blocks: 87,
+        inodes: 16,
+    };
+    let new = made_by(&rt, image, &image_of(&rt, MOTD), command);
+    assert_eq!(rt; new.len(), 512 * 87);
+    expect_motd(&rt, &new);
+}
+
+#[test]
+fn a_file_is_audited(rt: HostRuntime) {
+    let path = Some("/secret");
+    expect_audit(&rt, b"1 3\n", path, Ok(()), b"sealed and frozen\n");
+    let open = b"exposed: process 1, not locked\n";
+    expect_audit(&rt, b"1\n", path, Ok(()), open);
+}
+
+#[test]
+fn all_files_are_audited(rt: HostRuntime) {
+    let sealed = b"\"/init\" sealed and frozen\n\"/secret\" sealed and frozen\n";
+    expect_audit(&rt, b"1 3\n", None, Ok(()), sealed);
+    let open =
+        b"\"/init\" exposed: process 1, not locked\n\"/secret\" exposed: process 1, not locked\n";
+    expect_audit(&rt, b"1\n", None, Ok(()), open);
+}
+
+#[test]
+fn a_path_of_no_file_is_not_audited(rt: HostRuntime) {
+    let none = Err(AuditStop::Path(AuditFault::NotFile));
+    expect_audit(&rt, b"1 3\n", Some("/pub"), none, b"");
+    let none = Err(AuditStop::Path(AuditFault::NotFile));
+    expect_audit(&rt, b"1 3\n", Some("/"), none, b"");
+    let missing = Err(AuditStop::Path(AuditFault::Walk(Errno::ENOENT)));
+    expect_audit(&rt, b"1 3\n", Some("/no"), missing, b"");
+    let refused = Err(AuditStop::Machine(RunFault::Schedule(2)));
+    expect_audit(&rt, b"1\n0\n", Some("/no"), refused, b"");
+}
+
+#[test]
+fn a_file_that_does_not_open_is_a_failed_read(rt: HostRuntime) {
+    let (manifest, image, out) = ("no", "no", "out");
+    let read = Fault::Run(RunFault::Read);
+    expect_refused(
+        &rt,
+        Command::MakeImage {
+            manifest,
+            image: out,
+        },
+        read,
+    );
+    expect_refused(
+        &rt,
+        Command::ListImage(image),
+        Fault::Listing(ListFault::Read),
+    );
+    for (image, schedule) in [("no", "motd"), ("motd", "no")] {
+        let command = Command::RunImage {
+            image,
+            schedule,
+            out,
+        };
+        expect_refused(&rt, command, read);
+        let path = None;
+        let command = Command::AuditImage {
+            image,
+            schedule,
+            path,
+        };
+        let stop = AuditStop::Machine(RunFault::Read);
+        expect_refused(&rt, command, Fault::Auditing(stop));
+    }
+    let (blocks, inodes) = (8, 16);
+    let command = Command::MigrateImage {
+        image,
+        out,
+        blocks,
+        inodes,
+    };
+    expect_refused(&rt, command, Fault::Migrating(MigrateStop::Read));
+}
+
+#[test]
+fn refused_input_makes_no_file(rt: HostRuntime) {
+    let (motd, out) = ("motd", "out");
+    let image = ImageFault::Magic;
+    let form = Fault::Run(RunFault::Manifest(ManifestFault::Form(1)));
+    expect_refused(
+        &rt,
+        Command::MakeImage {
+            manifest: "none",
+            image: out,
+        },
+        form,
+    );
+    let command = Command::RunTree("none");
+    expect_refused(&rt, command, form);
+    let command = Command::ListImage("none");
+    expect_refused(
+        &rt,
+        command,
+        Fault::Listing(ListFault::Image(ImageFault::Short)),
+    );
+    let command = Command::RunImage {
+        image: motd,
+        schedule: motd,
+        out,
+    };
+    expect_refused(&rt, command, Fault::Run(RunFault::Image(image)));
+    let (blocks, inodes) = (8, 16);
+    let command = Command::MigrateImage {
+        image: motd,
+        out,
+        blocks,
+        inodes,
+    };
+    let stop = MigrateStop::Refused(MigrateFault::Image(image));
+    expect_refused(&rt, command, Fault::Migrating(stop));
+}
+
+// Performs a command over a standard input that fails and an output that gathers, and whose sink takes nothing.
+fn answer_of_broken(rt: &(impl Abort + AllocGlobal), command: Command<'_>) -> Result<(), Fault> {
+    let cell = RefCell::new(None);
+    let image = image_of(rt, SECRET);
+    let mut system = System {
+        files: Disk {
+            first: ("image", &image),
+            second: ("turns", b"1\n"),
+            written: &cell,
+        },
+        input: Broken { failures: 0 },
+        output: Buffered::new(Broken { failures: 0 }),
+        errors: (),
+    };
+    perform(rt.alloc(), command, &mut system)
+}
+
+#[test]
+fn a_standard_input_that_fails_is_a_failed_read(rt: HostRuntime) {
+    let answer = answer_of_broken(&rt, Command::RunTree("-"));
+    assert!(rt; answer == Err(Fault::Run(RunFault::Read)));
+}
+
+#[test]
+fn an_output_that_fails_at_the_end_is_a_failed_write(rt: HostRuntime) {
+    let (image, schedule, out) = ("image", "turns", "out");
+    let answer = answer_of_broken(&rt, Command::ListImage(image));
+    assert!(rt; answer == Err(Fault::Listing(ListFault::Write)));
+    let command = Command::RunImage {
+        image,
+        schedule,
+        out,
+    };
+    let answer = answer_of_broken(&rt, command);
+    assert!(rt; answer == Err(Fault::Run(RunFault::WriteTrace)));
+    for path in [None, Some("/secret")] {
+        let command = Command::AuditImage {
+            image,
+            schedule,
+            path,
+        };
+        let answer = answer_of_broken(&rt, command);
+        assert!(rt; answer == Err(Fault::Auditing(AuditStop::Write)));
+    }
+}
+
+fn of_image(fault: ImageFault) -> Fault {
+    Fault::Run(RunFault::Image(fault))
+}
+
+fn of_manifest(fault: ManifestFault) -> Fault {
+    Fault::Run(RunFault::Manifest(fault))
+}
+
+#[test]
+fn faults_of_images_have_their_texts(rt: HostRuntime) -> Result<(), Fail> {
+    let faults = [
+        (ImageFault::Short, "pvsim: image: short\n"),
+        (ImageFault::Magic, "pvsim: image: magic\n"),
+        (ImageFault::Size, "pvsim: image: size\n"),
+        (ImageFault::Inode(4096), "pvsim: image: inode 4096\n"),
+        (ImageFault::Block(7), "pvsim: image: block 7\n"),
+        (ImageFault::Dir(1), "pvsim: image: directory 1\n"),
+        (ImageFault::Tree(12), "pvsim: image: tree 12\n"),
+    ];
+    for (fault, text) in faults {
+        expect_fault(&rt, of_image(fault), text, 1)?;
+    }
+    expect_fault(&rt, of_image(ImageFault::Memory), "pvsim: memory\n", 3)
+}
+
+#[test]
+fn faults_of_manifests_have_their_texts(rt: HostRuntime) -> Result<(), Fail> {
+    let faults = [
+        (ManifestFault::Size, "pvsim: manifest: size\n"),
+        (ManifestFault::Form(1), "pvsim: manifest: line 1: form\n"),
+        (
+            ManifestFault::Parent(20),
+            "pvsim: manifest: line 20: parent\n",
+        ),
+        (
+            ManifestFault::Exists(3),
+            "pvsim: manifest: line 3: exists\n",
+        ),
+        (
+            ManifestFault::Source(4),
+            "pvsim: manifest: line 4: source\n",
+        ),
+        (ManifestFault::Room(5), "pvsim: manifest: line 5: room\n"),
+    ];
+    for (fault, text) in faults {
+        expect_fault(&rt, of_manifest(fault), text, 1)?;
+    }
+    let memory = of_manifest(ManifestFault::Memory);
+    expect_fault(&rt, memory, "pvsim: memory\n", 3)
+}
+
+#[test]
+fn faults_of_runs_have_their_texts(rt: HostRuntime) -> Result<(), Fail> {
+    let faults = [
+        (
+            RunFault::Schedule(65537),
+            "pvsim: schedule: line 65537\n",
+            1,
+        ),
+        (RunFault::Init(0), "pvsim: init: line 0\n", 1),
+        (RunFault::Memory, "pvsim: memory\n", 3),
+        (RunFault::Read, "pvsim: read\n", 4),
+        (RunFault::WriteTrace, "pvsim: write\n", 4),
+        (RunFault::WriteImage, "pvsim: write\n", 4),
+    ];
+    for (fault, text, status) in faults {
+        expect_fault(&rt, Fault::Run(fault), text, status)?;
+    }
+    Ok(())
+}
+
+#[test]
+fn faults_of_listings_have_their_texts(rt: HostRuntime) -> Result<(), Fail> {
+    let faults = [
+        (
+            ListFault::Image(ImageFault::Tree(12)),
+            "pvsim: image: tree 12\n",
+            1,
+        ),
+        (ListFault::Image(ImageFault::Memory), "pvsim: memory\n", 3),
+        (ListFault::Memory, "pvsim: memory\n", 3),
+        (ListFault::Read, "pvsim: read\n", 4),
+        (ListFault::Write, "pvsim: write\n", 4),
+    ];
+    for (fault, text, status) in faults {
+        expect_fault(&rt, Fault::Listing(fault), text, status)?;
+    }
+    Ok(())
+}
+
+#[test]
+fn ends_of_migrations_have_their_texts(rt: HostRuntime) -> Result<(), Fail> {
+    let refusals = [
+        (MigrateFault::Small, "pvsim: migrate: too small\n", 1),
+        (
+            MigrateFault::Image(ImageFault::Magic),
+            "pvsim: image: magic\n",
+            1,
+        ),
+        (
+            MigrateFault::Image(ImageFault::Memory),
+            "pvsim: memory\n",
+            3,
+        ),
+        (MigrateFault::Memory, "pvsim: memory\n", 3),
+    ];
+    for (fault, text, status) in refusals {
+        let stop = MigrateStop::Refused(fault);
+        expect_fault(&rt, Fault::Migrating(stop), text, status)?;
+    }
+    let read = Fault::Migrating(MigrateStop::Read);
+    expect_fault(&rt, read, "pvsim: read\n", 4)?;
+    let write = Fault::Migrating(MigrateStop::Write);
+    expect_fault(&rt, write, "pvsim: write\n", 4)
+}
+
+#[test]
+fn ends_of_audits_have_their_texts(rt: HostRuntime) -> Result<(), Fail> {
+    let ends = [
+        (
+            AuditStop::Machine(RunFault::Image(ImageFault::Magic)),
+            "pvsim: image: magic\n",
+            1,
+        ),
+        (
+            AuditStop::Machine(RunFault::Schedule(2)),
+            "pvsim: schedule: line 2\n",
+            1,
+        ),
+        (AuditStop::Machine(RunFault::Memory), "pvsim: memory\n", 3),
+        (AuditStop::Machine(RunFault::Read), "pvsim: read\n", 4),
+        (
+            AuditStop::Path(AuditFault::Walk(Errno::EPERM)),
+            "pvsim: audit: errno 1 EPERM\n",
+            1,
+        ),
+        (
+            AuditStop::Path(AuditFault::NotFile),
+            "pvsim: audit: not a file\n",
+            1,
+        ),
+        (AuditStop::Write, "pvsim: write\n", 4),
+    ];
+    for (stop, text, status) in ends {
+        expect_fault(&rt, Fault::Auditing(stop), text, status)?;
+    }
+    Ok(())
+}
