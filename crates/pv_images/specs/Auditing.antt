@@ -1,8 +1,9 @@
 -- What the audit of an image leaves.
-use Rattle.std.specs.Prelude.{◌≡◌, ◌⊎◌, ⊤, ℕ, Option, None, Some, Result, Ok, Err, result_map}
+use Rattle.std.specs.Prelude.{◌≡◌, ◌⊎◌, ⊤, ℕ, Option, None, Some, Result, Ok, Err}
 use Rattle.pv_model.specs.declared.run_fault.RunFault.{RunFault}
 use Rattle.pv_model.specs.declared.run_fault.RunFault.TheVariants.{Memory}
 use Rattle.pv_model.specs.declared.verdict.AuditFault.{AuditFault}
+use Rattle.pv_model.specs.declared.verdict.Verdict.{Verdict}
 use Rattle.pv_model.specs.Bytes.{Bytes}
 use Rattle.pv_model.specs.Listing.{report}
 use Rattle.pv_model.specs.Sealed.{audit, verdict_line}
@@ -13,9 +14,14 @@ use Rattle.pv_trace.specs.Streams.{and_all, TellsBeginning}
 use Rattle.pv_images.specs.declared.auditing.AuditStop.{AuditStop}
 use Rattle.pv_images.specs.declared.auditing.AuditStop.TheVariants.{Machine, Path, Write}
 
+-- the line of what is found
+abbrev pub line_of : Result Verdict AuditFault → Result Bytes AuditFault
+line_of (Ok found) = Ok (verdict_line found)
+line_of (Err fault) = Err fault
+
 -- what is told of a state: the line of the file that a path names, or with no path the report of all files
 abbrev pub audit_text : State → Option Bytes → Result Bytes AuditFault
-audit_text s (Some path) = result_map verdict_line (audit s path)
+audit_text s (Some path) = line_of (audit s path)
 audit_text s None = Ok (report s)
 
 -- just that was told

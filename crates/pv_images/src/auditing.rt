@@ -94,9 +94,9 @@ fn audit_machine<W: Sink>(
     path: Option<&[u8]>,
     out: &mut W,
 ) -> Result<(), AuditStop>
-    ensures told { OnOk result (TellsAudit session.now (option_map (λ p. p.now) path) (W.told out.old) (W.told out.new)) }
+    ensures told { OnOk result (TellsAudit session.now (option_map (λ p. p.now) path.entry) (W.told out.old) (W.told out.new)) }
     ensures empty { OnOk result (W.waits out.new ≡ 0) }
-    ensures refused { IfErr result (StandsInState session.now (option_map (λ p. p.now) path) (W.told out.old) (W.told out.new)) }
+    ensures refused { IfErr result (StandsInState session.now (option_map (λ p. p.now) path.entry) (W.told out.old) (W.told out.new)) }
     ensures stopped { IfErr result (λ stop. W.waits out.old ≡ 0 → WaitsOnlyIfUnwritten stop (W.waits out.new)) }
     ensures failed { result ≡ Err AuditStop.Write → Rose (W.failures out.old) (W.failures out.new) }
 {
@@ -134,9 +134,9 @@ pub fn audit_image<I: Source, S: Source, W: Sink>(
     out: &mut W,
 ) -> Result<(), AuditStop>
     ensures audited { OnOk result (IfSome (I.remaining image.old) (λ bytes. IfSome (S.remaining schedule.old) (λ turns.
-        OnLeft (image_started bytes turns) (λ s. TellsAudit s (option_map (λ p. p.now) path) (W.told out.old) (W.told out.new))))) }
+        OnLeft (image_started bytes turns) (λ s. TellsAudit s (option_map (λ p. p.now) path.entry) (W.told out.old) (W.told out.new))))) }
     ensures refused { IfErr result (λ stop. IfSome (I.remaining image.old) (λ bytes. IfSome (S.remaining schedule.old) (λ turns.
-        StandsInAudit (image_started bytes turns) (option_map (λ p. p.now) path) (W.told out.old) (W.told out.new) stop))) }
+        StandsInAudit (image_started bytes turns) (option_map (λ p. p.now) path.entry) (W.told out.old) (W.told out.new) stop))) }
     ensures kind { IfErr result IsAuditStop }
 
     // Nothing is written but the text, it is handed on, and a fault of reading or writing was counted.
