@@ -86,7 +86,7 @@ fn turned(
     Ok(tally)
 }
 
-fn refused(count: u32, sum: u32) -> Refused {
+fn faults(count: u32, sum: u32) -> Refused {
     Refused { count, sum }
 }
 
@@ -97,10 +97,10 @@ fn a_turned_byte_of_the_first_layout_is_judged(rt: HostRuntime) -> Result<(), Fa
         held: 8_130,
         magic: 8,
         size: 3,
-        inode: refused(7, 30),
-        block: refused(12, 32),
-        directory: refused(9, 12),
-        tree: refused(23, 151),
+        inode: faults(7, 30),
+        block: faults(12, 32),
+        directory: faults(9, 12),
+        tree: faults(23, 151),
         ..EMPTY
     };
     assert_eq!(rt; turned(&rt, &image, 1)?, lowest);
@@ -108,10 +108,10 @@ fn a_turned_byte_of_the_first_layout_is_judged(rt: HostRuntime) -> Result<(), Fa
         held: 8_125,
         magic: 8,
         size: 3,
-        inode: refused(25, 173),
-        block: refused(12, 30),
-        directory: refused(10, 14),
-        tree: refused(9, 22),
+        inode: faults(25, 173),
+        block: faults(12, 30),
+        directory: faults(10, 14),
+        tree: faults(9, 22),
         ..EMPTY
     };
     assert_eq!(rt; turned(&rt, &image, 128)?, highest);
@@ -125,10 +125,10 @@ fn a_turned_byte_of_the_second_layout_is_judged(rt: HostRuntime) -> Result<(), F
         held: 8_120,
         magic: 8,
         size: 3,
-        inode: refused(11, 36),
-        block: refused(12, 31),
-        directory: refused(7, 9),
-        tree: refused(31, 171),
+        inode: faults(11, 36),
+        block: faults(12, 31),
+        directory: faults(7, 9),
+        tree: faults(31, 171),
         ..EMPTY
     };
     assert_eq!(rt; turned(&rt, &image, 1)?, lowest);
@@ -136,10 +136,10 @@ fn a_turned_byte_of_the_second_layout_is_judged(rt: HostRuntime) -> Result<(), F
         held: 8_115,
         magic: 8,
         size: 4,
-        inode: refused(28, 162),
-        block: refused(12, 29),
-        directory: refused(9, 12),
-        tree: refused(16, 40),
+        inode: faults(28, 162),
+        block: faults(12, 29),
+        directory: faults(9, 12),
+        tree: faults(16, 40),
         ..EMPTY
     };
     assert_eq!(rt; turned(&rt, &image, 128)?, highest);

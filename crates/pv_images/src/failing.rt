@@ -84,7 +84,7 @@ impl Sink for Narrow {
     }
 }
 
-fn narrow(rt: &impl AllocGlobal, room: usize) -> Narrow {
+fn sink_of(rt: &impl AllocGlobal, room: usize) -> Narrow {
     Narrow {
         taken: Gathered::new(rt.alloc()),
         room,
@@ -98,7 +98,7 @@ fn expect_front(rt: &impl Abort, sink: &Narrow, text: &[u8], room: usize) {
     assert!(rt; sink.taken.bytes.as_slice() == text.split_at(room).0);
 }
 
-fn cut(bytes: &[u8], at: usize) -> Cut<'_> {
+fn front_of(bytes: &[u8], at: usize) -> Cut<'_> {
     Cut {
         rest: bytes.split_at(at).0,
         failures: 0,
@@ -109,7 +109,7 @@ fn cut(bytes: &[u8], at: usize) -> Cut<'_> {
 fn manifests_that_break_off_make_nothing(rt: HostRuntime) {
     for at in 0..MOTD.len() + 1 {
         let mut out = Gathered::new(rt.alloc());
-        let mut manifest = cut(MOTD, at);
+        let mut manifest = front_of(MOTD, at);
         let answer = make_image(rt.alloc(), &mut manifest, &mut out);
         assert_eq!(rt; answer.err(), Some(RunFault::Read));
         assert_eq!(rt; manifest.failures, 1);
@@ -124,14 +124,20 @@ fn images_that_break_off_give_nothing(rt: HostRuntime) {
         let at = 512 * block;
         let mut out = Gathered::new(rt.alloc());
         let mut left = Gathered::new(rt.alloc());
-        let listed = list(rt.alloc(), &mut cut(&whole.bytes, at), &mut out);
+        let listed = list(rt.alloc(), &mut front_of(&whole.bytes, at), &mut out);
         assert_eq!(rt; listed.err(), Some(ListFault::Read));
-        let new = migrate_image(rt.alloc(), &mut cut(&whole.bytes, at), 16, 16, &mut out);
+        let new = migrate_image(
+            rt.alloc(),
+            &mut front_of(&whole.bytes, at),
+            16,
+            16,
+            &mut out,
+        );
         assert_eq!(rt; new.err(), Some(MigrateStop::Read));
-        let mut turns = cut(SCHEDULE, SCHEDULE.len());
+        let mut turns = front_of(SCHEDULE, SCHEDULE.len());
         let ran = run(
             rt.alloc(),
-            &mut cut(&whole.bytes, at),
+            &mut front_of(&whole.bytes, at),
             &mut turns,
             &mut out,
             &mut left,
@@ -147,20 +153,20 @@ fn schedules_that_break_off_give_nothing(rt: HostRuntime) {
     for at in 0..SCHEDULE.len() + 1 {
         let mut out = Gathered::new(rt.alloc());
         let mut left = Gathered::new(rt.alloc());
-        let mut image = cut(&whole.bytes, whole.bytes.len());
+        let mut image = front_of(&whole.bytes, whole.bytes.len());
         let ran = run(
             rt.alloc(),
             &mut image,
-            &mut cut(SCHEDULE, at),
+            &mut front_of(SCHEDULE, at),
             &mut out,
             &mut left,
         );
         assert_eq!(rt; ran.err(), Some(RunFault::Read));
-        let mut image = cut(&whole.bytes, whole.bytes.len());
+        let mut image = front_of(&whole.bytes, whole.bytes.len());
         let told = audit_image(
             rt.alloc(),
             &mut image,
-            &mut cut(SCHEDULE, at),
+            &mut front_of(SCHEDULE, at),
             None,
             &mut out,
         );
@@ -183,14 +189,14 @@ fn sources_without_end_are_refused(rt: HostRuntime) {
 fn sinks_have_a_beginning_of_what_is_told(rt: HostRuntime) {
     let whole = made(&rt, MOTD);
     for room in 0..MOTD_LISTING.len() {
-        let mut out = narrow(&rt, room);
+        let mut out = sink_of(&rt, room);
         let listed = list(rt.alloc(), &mut Bytes::new(&whole.bytes), &mut out);
         assert_eq!(rt; listed.err(), Some(ListFault::Write));
         expect_front(&rt, &out, MOTD_LISTING, room);
     }
     let line = b"exposed: process 1, no table\n";
     for room in 0..line.len() {
-        let mut out = narrow(&rt, room);
+        let mut out = sink_of(&rt, room);
         let told = audit_image(
             rt.alloc(),
             &mut Bytes::new(&whole.bytes),
@@ -207,7 +213,7 @@ fn sinks_have_a_beginning_of_what_is_told(rt: HostRuntime) {
 fn images_are_written_after_whole_traces(rt: HostRuntime) {
     let whole = made(&rt, MOTD);
     for room in 0..MOTD_TRACE.len() {
-        let mut trace = narrow(&rt, room);
+        let mut trace = sink_of(&rt, room);
         let mut left = Gathered::new(rt.alloc());
         let mut turns = Bytes::new(SCHEDULE);
         let ran = run(
@@ -223,7 +229,7 @@ fn images_are_written_after_whole_traces(rt: HostRuntime) {
     }
     for block in 0..16 {
         let mut trace = Gathered::new(rt.alloc());
-        let mut left = narrow(&rt, 512 * block);
+        let mut left = sink_of(&rt, 512 * block);
         let mut turns = Bytes::new(SCHEDULE);
         let ran = run(
             rt.alloc(),
@@ -243,11 +249,11 @@ fn images_are_written_after_whole_traces(rt: HostRuntime) {
 fn new_images_are_written_up_to_the_failure(rt: HostRuntime) {
     let whole = made(&rt, MOTD);
     for block in 0..16 {
-        let mut out = narrow(&rt, 512 * block);
+        let mut out = sink_of(&rt, 512 * block);
         let answer = make_image(rt.alloc(), &mut Bytes::new(MOTD), &mut out);
         assert_eq!(rt; answer.err(), Some(RunFault::WriteImage));
         expect_front(&rt, &out, &whole.bytes, 512 * block);
-        let mut out = narrow(&rt, 512 * block);
+        let mut out = sink_of(&rt, 512 * block);
         let new = migrate_image(rt.alloc(), &mut Bytes::new(&whole.bytes), 16, 16, &mut out);
         assert_eq!(rt; new.err(), Some(MigrateStop::Write));
         assert_eq!(rt; out.taken.bytes.len(), 512 * block);

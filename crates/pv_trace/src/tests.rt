@@ -352,7 +352,7 @@ fn pieces_are_handed_on_when_they_are_full(rt: HostRuntime) {
     assert!(rt; out.sink().writes == 0);
     assert!(rt; write_whole(&mut out, &[7; PIECE]).is_ok());
     assert!(rt; out.sink().writes == 1);
-    assert!(rt; out.sink().bytes.as_slice() == b"abcde");
+    assert!(rt; out.sink().bytes.as_slice() == b"abcde".as_slice());
     assert!(rt; out.flush().is_ok());
     assert!(rt; out.sink().writes == 2);
     assert!(rt; out.sink().bytes.len() == PIECE + 5);
