@@ -5,7 +5,8 @@
 #   make try FILE=examples/held.bundle       any bundle, before any proof
 #   make try SOURCE=examples/sources/held    any text that tools/bundle makes a bundle of
 #   make examples every bundle of examples/ and cases/, its trace compared, before any proof
-#   make test     the gate: every proof from nothing, the wrong bodies, the tests, the program
+#   make refusals the proved program with each allocation, opening, read and write refused in turn
+#   make test     the gate: every proof from nothing, the wrong bodies, the tests, the program, the examples, the refusals
 #   make check    every crate, over what earlier checks kept
 #   make bench    proves and runs the benchmark, and prints times
 #   make man      the manual pages, tried by mandoc(1)
@@ -14,7 +15,7 @@
 PREFIX ?= /usr/local
 MANDIR ?= $(PREFIX)/share/man
 
-.PHONY: all demo try examples test check bench man install clean
+.PHONY: all demo try examples refusals test check bench man install clean
 
 all: bin/pvsim
 
@@ -30,7 +31,7 @@ demo:
 	@echo '--- its trace:'
 	@cd crates/pv_try && rt try < ../../examples/motd.bundle
 
-# The proved program runs it where bin/pvsim is there and as new as the code; else the unproved one is made, which takes about a minute.
+# The proved program runs it where bin/pvsim is there and as new as the code; else an unproved one is made, without the parser of the command line.
 try:
 	@test -n "$(FILE)$(SOURCE)" || { echo 'usage: make try FILE=bundle, or make try SOURCE=source'; exit 2; }
 	@test -r "$(FILE)$(SOURCE)" || { echo 'no file $(FILE)$(SOURCE)'; exit 2; }
@@ -40,6 +41,9 @@ try:
 
 examples:
 	@tools/examples
+
+refusals: bin/pvsim
+	@tools/refusals bin/pvsim
 
 test:
 	tools/gate
