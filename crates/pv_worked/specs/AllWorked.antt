@@ -38,6 +38,7 @@ pub record AllAudits : Type 0 where
   pub exposed_by_letter_c : Stated Audits.exposed_by_letter_c
   pub exposed_two_above : Stated Audits.exposed_two_above
   pub sealed_without_lock : Stated Audits.sealed_without_lock
+  pub all_reported : Stated Audits.all_reported
 
 pub record AllErrors : Type 0 where
   pub of_pledge : Stated Errors.of_pledge

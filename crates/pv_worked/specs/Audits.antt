@@ -1,6 +1,8 @@
--- What is found of a file after a run.
+-- What is found of a file after a run, and of all files.
 use Rattle.std.specs.Prelude.{◌≡◌, [], ◌∷◌, codes, Some, refl}
-use Rattle.pv_worked.specs.Bundles.{audited_of, bundles_on_literals}
+use Rattle.pv_model.specs.Listing.{report}
+use Rattle.pv_model.specs.Sealed.{verdict_line}
+use Rattle.pv_worked.specs.Bundles.{audited_of, reported_of, lines_text, bundles_on_literals}
 
 -- a path with nothing there is not audited
 pub audit_absent : audited_of (
@@ -228,3 +230,26 @@ pub sealed_without_lock : audited_of (
     codes "1 2" ∷ []) (codes "/secret") ≡ Some (codes "sealed")
 unfolding bundles_on_literals
 sealed_without_lock = refl
+
+-- every name of a file, in the order of a listing, and nothing of directories and links
+pub all_reported : reported_of (
+    codes "image 64 64" ∷
+    codes "dir \"/pub\"" ∷
+    codes "bytes \"/pub/motd\" \"hi\"" ∷
+    codes "link \"/pub/at\" \"../secret\"" ∷
+    codes "bytes \"/secret\" \"k1\"" ∷
+    codes "bytes \"/two\" \"\"" ∷
+    codes "name \"/pub/two\" \"/two\"" ∷
+    codes "exec \"/init\" 3" ∷
+    codes "unveil \"/pub\" \"r\"" ∷
+    codes "unveil null null" ∷
+    codes "pledge \"stdio rpath\" null" ∷
+    codes "schedule" ∷
+    codes "1 3" ∷ []) ≡ Some (lines_text (
+    codes "\"/init\" sealed and frozen" ∷
+    codes "\"/pub/motd\" exposed: process 1, entry 0 gives" ∷
+    codes "\"/pub/two\" exposed: process 1, entry 0 gives" ∷
+    codes "\"/secret\" sealed and frozen" ∷
+    codes "\"/two\" exposed: process 1, entry 0 gives" ∷ []))
+unfolding bundles_on_literals report verdict_line
+all_reported = refl

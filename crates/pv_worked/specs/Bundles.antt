@@ -12,6 +12,7 @@ use Rattle.pv_model.specs.Grammar.Instructions.{instruction_by}
 use Rattle.pv_model.specs.Grammar.Manifests.{Manifest, entry_by, read_manifest, read_bundle, add_entry, tree_of, with_line_end}
 use Rattle.pv_model.specs.Grammar.Programs.{read_program, program_of}
 use Rattle.pv_model.specs.Grammar.Schedules.{schedule_of_lines}
+use Rattle.pv_model.specs.Listing.{report}
 use Rattle.pv_model.specs.OnLiterals.{machine_on_literals}
 use Rattle.pv_model.specs.Sealed.{audit, verdict_text}
 use Rattle.pv_model.specs.Step.{Run, Schedule, steps_of, boot, run}
@@ -69,3 +70,7 @@ audited_text (Err NotFile) = codes "not a file"
 -- what is found of a path after it
 abbrev pub audited_of : List Bytes → Bytes → Option Bytes
 audited_of lines path = option_map (λ r. audited_text (audit r.final path)) (run_of lines)
+
+-- what is reported of all files after it
+abbrev pub reported_of : List Bytes → Option Bytes
+reported_of lines = option_map (λ r. report r.final) (run_of lines)

@@ -37,6 +37,7 @@ returns c = record {
     exposed_by_letter_c = Audits.exposed_by_letter_c;
     exposed_two_above = Audits.exposed_two_above;
     sealed_without_lock = Audits.sealed_without_lock;
+    all_reported = Audits.all_reported;
   };
   errors = record {
     of_pledge = Errors.of_pledge;
