@@ -95,12 +95,12 @@ fn sink_of(rt: &impl AllocGlobal, room: usize) -> Narrow {
 // The sink failed once, and has just the front of the text.
 fn expect_front(rt: &impl Abort, sink: &Narrow, text: &[u8], room: usize) {
     assert_eq!(rt; sink.failures, 1);
-    assert!(rt; sink.taken.bytes.as_slice() == text.split_at(room).0);
+    assert!(rt; sink.taken.bytes.as_slice() == text.get(..room).unwrap_or(text));
 }
 
 fn front_of(bytes: &[u8], at: usize) -> Cut<'_> {
     Cut {
-        rest: bytes.split_at(at).0,
+        rest: bytes.get(..at).unwrap_or(bytes),
         failures: 0,
     }
 }
