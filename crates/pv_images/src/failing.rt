@@ -194,7 +194,7 @@ fn sinks_have_a_beginning_of_what_is_told(rt: HostRuntime) {
         assert_eq!(rt; listed.err(), Some(ListFault::Write));
         expect_front(&rt, &out, MOTD_LISTING, room);
     }
-    let line = b"exposed: process 1, no table\n";
+    let line = b"exposed: process 1, reads descriptor 0\n";
     for room in 0..line.len() {
         let mut out = sink_of(&rt, room);
         let told = audit_image(
