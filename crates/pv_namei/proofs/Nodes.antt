@@ -41,7 +41,7 @@ text-read (Some (link_node text)) is short old new n long count bytes =
     let front = take_front text old n (length old) count (omega arith) in
     (ap (λ (bs : Bytes). Some bs) (sym front.0 ∙ ap (take n) (sym bytes)), omega (arith, front.1))
 
--- ---- where a walk goes on from a node of each sort
+-- ---- where a walk goes on from a directory
 
 module _ (t : Tree) (last : Bool) (behind : Behind) (onward : Onward) (at : ℕ) (piece : Bytes) (rest : List Bytes) (mark : Bool) (n : ℕ) where
   abbrev there : Option Node → Walked

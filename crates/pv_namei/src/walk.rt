@@ -1,5 +1,5 @@
 //! The walk along a path, step by step.
-ghost use Rattle.std.specs.Prelude.{◌≡◌, ◌≤◌, ◌<◌, List, length, take, IsTrue, Some, IsSome, IfSome, OnOk, IfOk, IfErr};
+ghost use Rattle.std.specs.Prelude.{◌≡◌, ◌≤◌, ◌<◌, length, take, IsTrue, Some, IsSome, IfSome, OnOk, IfOk, IfErr};
 ghost use Rattle.pv_model.specs.Calls.Paths.{link_text};
 ghost use Rattle.pv_model.specs.Tree.{node_at, is_directory_at, find_entry, IsWellFormed};
 ghost use Rattle.pv_model.specs.Walk.{follows_last, end_mark, resolve};
@@ -61,42 +61,26 @@ impl Walk {
         ensures directory { IsTrue (is_directory_at tree.now.tree self.new.at) }
         ensures links { self.new.links ≡ self.old.links }
     {
-        let end = Stop::End(End::Named {
+        let end = Ok(Some(Stop::End(End::Named {
             dir: self.at,
             piece,
             node,
-        });
+        })));
         let is_last = rest.is_empty();
         let may_end = is_last && !self.mark;
         let Some(number) = node else {
-            return if may_end {
-                Ok(Some(end))
-            } else {
-                Err(Errno::ENOENT)
-            };
+            return if may_end { end } else { Err(Errno::ENOENT) };
         };
         match tree.kind(number) {
-            Sort::Symlink => {
-                if may_end && !self.last {
-                    Ok(Some(end))
-                } else {
-                    Ok(Some(Stop::Link(number)))
-                }
-            }
+            Sort::Symlink if may_end && !self.last => end,
+            Sort::Symlink => Ok(Some(Stop::Link(number))),
+            Sort::Directory if is_last => end,
             Sort::Directory => {
-                if is_last {
-                    return Ok(Some(end));
-                }
                 self.at = number;
                 Ok(None)
             }
-            Sort::File | Sort::Executable => {
-                if may_end {
-                    Ok(Some(end))
-                } else {
-                    Err(Errno::ENOTDIR)
-                }
-            }
+            Sort::File | Sort::Executable if may_end => end,
+            Sort::File | Sort::Executable => Err(Errno::ENOTDIR),
         }
     }
 

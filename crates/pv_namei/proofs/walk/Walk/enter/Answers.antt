@@ -6,12 +6,12 @@ use Rattle.pv_namei.proofs.Nodes.{directory-entered}
 use Rattle.pv_namei.proofs.Steps.{walk-along}
 use Rattle.pv_namei.proofs.walk.Walk.enter.Goals as goal
 
-pub returns-else-is_last-2-clause-onward : goal.returns-else-is_last-2-clause-onward
-returns-else-is_last-2-clause-onward c =
+pub returns-in-Directory-2-clause-onward : goal.returns-in-Directory-2-clause-onward
+returns-in-Directory-2-clause-onward c =
     let t = c.args.tree.now.tree in
     let w = c.args.self.now in
     let rest = c.args.rest.now in
     ap (entered t w rest c.args.piece.now) c.in-Some.is
     ∙ directory-entered t w.last (behind t w.last w.links) (along t w.last (behind t w.last w.links) rest w.mark) w.at c.args.piece.now rest w.mark c.in-Some.number (node_at t c.in-Some.number)
-    c.in-Directory.ensures (sym c.is_empty-is_last.ensures ∙ c.if-is_last-2.false)
+    c.in-Directory-2.ensures (sym c.is_empty-is_last.ensures ∙ c.if-is_last-2.false)
     ∙ sym (walk-along t w.last w.links rest w.mark c.in-Some.number)
