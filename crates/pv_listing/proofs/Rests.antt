@@ -1,11 +1,11 @@
 -- What a sink was told of a text, and the rest that is left of it.
-use Rattle.std.proofs.Common.{◌≡◌, ℕ, ◌++◌, ◌∙◌, ap, ap₂, sym, subst, [], take, drop, flat_map, append_assoc, refl, Option, None, Some}
+use Rattle.std.proofs.Common.{◌≡◌, ℕ, ◌++◌, ◌∙◌, ap, ap₂, sym, subst, [], take, drop, flat_map, append_assoc, refl, Option}
 use Rattle.std.proofs.lemmas.List.{append-nil, take-append-drop}
 use Rattle.std.proofs.lemmas.Grind.{flat_map-append}
 use Rattle.pv_model.specs.Bytes.{Bytes}
 use Rattle.pv_trace.specs.Streams.{and_all, TellsBeginning}
 use Rattle.pv_trace.proofs.Streaming.{begins_whole}
-use Rattle.pv_trace.proofs.Telling.{begins_first, begins_then, told_both}
+use Rattle.pv_trace.proofs.Telling.{begins_first, begins_then, told_both, told_no_lines}
 
 -- a sink was told a text but for a rest
 pub record LeavesRest (rest text : Bytes) (before after : Option Bytes) : Type 0 where
@@ -15,11 +15,7 @@ pub record LeavesRest (rest text : Bytes) (before after : Option Bytes) : Type 0
 
 -- before the first piece all is left
 pub rest_all : (text : Bytes) (before : Option Bytes) → LeavesRest text text before before
-rest_all text before = record { done = []; told = nothing before; whole = refl }
-  where
-    nothing : (before : Option Bytes) → before ≡ and_all before []
-    nothing None = refl
-    nothing (Some had) = ap Some (sym (append-nil had))
+rest_all text before = record { done = []; told = told_no_lines before; whole = refl }
 
 module _ (left piece rest text : Bytes) (before mid after : Option Bytes) (so_far : LeavesRest left text before mid) (is : left ≡ piece ++ rest) where
   split : so_far.done ++ (piece ++ rest) ≡ text
