@@ -59,19 +59,19 @@ fn remove(rt: &impl Abort, tree: &mut Tree, directory: u16, name: &[u8]) {
     tree.unlink(directory, name);
 }
 
-// A tree of the root alone, in an image of so many blocks and 16 inodes.
-fn empty_tree(alloc: Global, blocks: u16) -> Result<Tree, AllocError>
+// A tree of the root alone, in an image of this version, so many blocks and 16 inodes.
+fn empty_tree(alloc: Global, blocks: u16, version: Version) -> Result<Tree, AllocError>
     requires some { 8 ≤ blocks }
     requires few { blocks ≤ 100 }
 {
     let zeros = vec![in alloc; 0; 512 * blocks as usize]?;
-    Ok(Store::empty(zeros, blocks, 16, Version::V1).into_tree())
+    Ok(Store::empty(zeros, blocks, 16, version).into_tree())
 }
 
 // The directories /a (2) and /a/b (3), the files /f (4), /a/x (5) and /a/b/x (6), and a directory (7) that
 // was /a/b/r and is removed.
 fn small_tree(rt: &impl Abort, alloc: Global) -> Result<Tree, AllocError> {
-    let mut tree = empty_tree(alloc, 10)?;
+    let mut tree = empty_tree(alloc, 10, Version::V1)?;
     assert_eq!(rt; make(rt, &mut tree, 1, b"a", Kind::Directory), Ok(2));
     assert_eq!(rt; make(rt, &mut tree, 2, b"b", Kind::Directory), Ok(3));
     assert_eq!(rt; make(rt, &mut tree, 1, b"f", Kind::File), Ok(4));
@@ -234,6 +234,41 @@ fn judges_by_a_name(rt: HostRuntime) -> Result<(), Fail> {
     assert_eq!(rt; make(&rt, &mut tree, 2, b"new", Kind::Directory), Ok(8));
     assert_eq!(rt;
         judge_name(&rt, &table, &tree, 2, b"new", R),
+        Judgement::Hidden
+    );
+    Ok(())
+}
+
+// A name of 255 bytes, of which the last is another one.
+fn greatest(last: u8) -> [u8; 255] {
+    let mut bytes = [b'k'; 255];
+    bytes[254] = last;
+    bytes
+}
+
+#[test]
+fn judges_by_a_name_of_version_2(rt: HostRuntime) -> Result<(), Fail> {
+    let mut tree = empty_tree(rt.alloc(), 20, Version::V2)?;
+    let key = greatest(b'k');
+    let other = greatest(b'l');
+    assert_eq!(rt; make(&rt, &mut tree, 1, &key, Kind::File), Ok(2));
+    assert_eq!(rt; make(&rt, &mut tree, 1, &other, Kind::File), Ok(3));
+    let mut table = Table::new();
+    let target = Target::Name {
+        dir: 1,
+        name: name(&rt, &key),
+    };
+    assert_eq!(rt; table.add(target, R), Ok(0));
+    assert_eq!(rt;
+        judge_name(&rt, &table, &tree, 1, &key, R),
+        Judgement::Allowed
+    );
+    assert_eq!(rt;
+        judge_name(&rt, &table, &tree, 1, &key, RW),
+        Judgement::Denied(0)
+    );
+    assert_eq!(rt;
+        judge_name(&rt, &table, &tree, 1, &other, R),
         Judgement::Hidden
     );
     Ok(())

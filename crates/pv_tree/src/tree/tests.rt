@@ -11,6 +11,20 @@ use std::alloc::{AllocError, Global};
 use std::process::Abort;
 use std::test::Fail;
 
+// The greatest name of version 2 that has only this byte.
+fn greatest(byte: u8) -> [u8; 255] {
+    [byte; 255]
+}
+
+// A tree of the root alone, in an image of version 2, of 16 inodes and so many blocks.
+fn of_version_2(alloc: Global, blocks: u16) -> Result<Tree, AllocError>
+    requires some { 8 ≤ blocks }
+    requires few { blocks ≤ 8000 }
+{
+    let zeros = vec![in alloc; 0; 512 * blocks as usize]?;
+    Ok(Store::empty(zeros, blocks, 16, Version::V2).into_tree())
+}
+
 // A tree of the root alone, in an image of 16 inodes and so many data blocks.
 fn with_data_blocks(alloc: Global, count: u16) -> Result<Tree, AllocError>
     requires { count ≤ 8000 }
@@ -310,5 +324,24 @@ fn a_node_with_a_name_outlives_its_holders(rt: HostRuntime) -> Result<(), Fail> 
     assert!(rt; tree.is_used(2));
     assert_eq!(rt; tree.names(2), 1);
     assert!(rt; tree.holds(2) == 0);
+    Ok(())
+}
+
+// The slot of the second name stands across two blocks.
+#[test]
+fn names_of_version_2_have_255_bytes(rt: HostRuntime) -> Result<(), Fail> {
+    let mut tree = of_version_2(rt.alloc(), 20)?;
+    let a = greatest(b'a');
+    let b = greatest(b'b');
+    let c = greatest(b'c');
+    assert_eq!(rt; make(&rt, &mut tree, 1, &c, Kind::Directory), Ok(2));
+    assert_eq!(rt; make(&rt, &mut tree, 1, &a, Kind::File), Ok(3));
+    assert_eq!(rt; link(&rt, &mut tree, 1, &b, 3), Ok(()));
+    assert_lists(&rt, &tree, 1, &[&a, &b, &c]);
+    assert_eq!(rt; rename(&rt, &mut tree, 1, &a, 2, &a), Ok(()));
+    assert_lists(&rt, &tree, 1, &[&b, &c]);
+    assert_lists(&rt, &tree, 2, &[&a]);
+    assert!(rt; tree.is_directory(1));
+    assert_eq!(rt; tree.find(1, &b), Some(3));
     Ok(())
 }
