@@ -6,6 +6,7 @@ ghost use Rattle.pv_cache.specs.Cached.{kept_of, IsPut, FitsMap};
 
 use arrayvec::ArrayVec;
 use lru::LruCache;
+use pv_model::limits::NAME_V2;
 use pv_namei::Lookup;
 use pv_tree::Tree;
 use std::alloc::{AllocError, Global};
@@ -18,13 +19,13 @@ const MOST: usize = 512;
 #[derive(Drop, PartialEq, Eq, Hash)]
 pub(crate) struct Pair {
     directory: u16,
-    name: ArrayVec<u8, 255>,
+    name: ArrayVec<u8, NAME_V2>,
 }
 
 impl Pair {
     // The pair of a directory and a name, where the name has at most 255 bytes.
     fn new(directory: u16, name: &[u8]) -> Option<Pair>
-        ensures fits { IsSome result ↔ (length name.now ≤ 255) }
+        ensures fits { IsSome result ↔ (length name.now ≤ NAME_V2) }
         ensures directory { IfSome result (λ pair. pair.directory ≡ directory) }
         ensures name { IfSome result (λ pair. pair.name.items ≡ name.now) }
     {

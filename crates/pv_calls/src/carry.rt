@@ -2,6 +2,7 @@
 ghost use Rattle.std.specs.Prelude.{◌≡◌, ◌≢◌, ◌≤◌, IfOk, OnErr, IsTrue, IsSome, Some, true, false};
 ghost use Rattle.pv_calls.specs.Calls.{goes_on, is_process_row, is_on_processes, is_descriptor_row, is_on_descriptors, is_path_row, is_on_paths, IsBlocked, is_execve, IsCarriedOut};
 ghost use Rattle.pv_laws.specs.States.{IsWhole, is_call};
+ghost use Rattle.pv_model.specs.declared.limits.TheConstants.{NUMBER};
 ghost use Rattle.pv_model.specs.Answer.{answer, effect};
 ghost use Rattle.pv_model.specs.Grammar.Programs.{program_of};
 ghost use Rattle.pv_model.specs.State.{Process, process_at};
@@ -34,7 +35,7 @@ fn process_row(parts: &mut Parts, pid: u32, call: &Call) -> Result<Done, Refused
     requires group { is_process_row call.now ≡ true }
     ensures row { (me : Process) → process_at parts.old pid ≡ Some me → trimmed (effect program_of parts.old pid me call.now) ≡ attempt_of parts.new result }
     ensures unchanged { OnErr result (parts.new ≡ parts.old) }
-    ensures small { IfOk result (λ d. d.value ≤ 2147483647) }
+    ensures small { IfOk result (λ d. d.value ≤ NUMBER) }
 {
     match call {
         Call::GetPid => getpid(parts, pid),
@@ -78,7 +79,7 @@ fn descriptor_row(parts: &mut Parts, pid: u32, call: &Call) -> Result<Done, Refu
     requires group { is_descriptor_row call.now ≡ true }
     ensures row { (me : Process) → process_at parts.old pid ≡ Some me → trimmed (effect program_of parts.old pid me call.now) ≡ attempt_of parts.new result }
     ensures unchanged { OnErr result (parts.new ≡ parts.old) }
-    ensures small { IfOk result (λ d. d.value ≤ 2147483647) }
+    ensures small { IfOk result (λ d. d.value ≤ NUMBER) }
 {
     match call {
         Call::Close(d) => close(parts, pid, *d),
@@ -125,7 +126,7 @@ fn path_row<L: Lookup>(
     requires agrees { L.agrees lookup.old (find_entry parts.old.tree) }
     ensures row { (me : Process) → process_at parts.old pid ≡ Some me → trimmed (effect program_of parts.old pid me call.now) ≡ attempt_of parts.new result }
     ensures unchanged { OnErr result (parts.new ≡ parts.old) }
-    ensures small { IfOk result (λ d. d.value ≤ 2147483647) }
+    ensures small { IfOk result (λ d. d.value ≤ NUMBER) }
     ensures agrees { L.agrees lookup.new (find_entry parts.new.tree) }
 {
     match call {

@@ -2,6 +2,7 @@
 ghost use Rattle.std.specs.Prelude.{◌≡◌, ◌⊎◌, ◌≤◌, ℕ, IfOk, IfErr, OnErr, IsOk, IsSome, IsTrue, Ok, Err, Some, length, List, Option};
 ghost use Rattle.pv_calls.specs.Kernel.{Fetches, IsAhead, IsCallable};
 ghost use Rattle.pv_laws.specs.States.{IsFirstTree, IsWhole, is_call};
+ghost use Rattle.pv_model.specs.declared.limits.TheConstants.{BUFFER};
 ghost use Rattle.pv_model.specs.Answer.{answer};
 ghost use Rattle.pv_model.specs.Grammar.Programs.{program_of};
 ghost use Rattle.pv_model.specs.Start.{booted};
@@ -174,7 +175,7 @@ impl<L: Lookup + Drop> Kernel<L> {
     /// The 4,096 bytes of a process's buffer: none where it is not live.
     pub fn buffer(&self, pid: u32) -> &[u8]
         ensures value { result.now ≡ buffer_of (process_at self.now.state pid) }
-        ensures size { length result.now ≤ 4096 }
+        ensures size { length result.now ≤ BUFFER }
     {
         if !self.parts.processes().live(pid) {
             return &[];

@@ -1,5 +1,5 @@
 //! Where an inode stands and has what, and the row in which the blocks that it owns stand.
-ghost use Rattle.std.specs.Prelude.{◌≡◌, ◌+◌, ◌*◌, ◌≤◌};
+ghost use Rattle.std.specs.Prelude.{◌≡◌, ◌+◌, ◌*◌, ◌/◌, ◌≤◌};
 ghost use Rattle.pv_model.specs.declared.version.Version.TheVariants.{V2};
 ghost use Rattle.pv_model.specs.Room.{greatest_length};
 ghost use Rattle.pv_inodes.specs.Layout.{home, offset, pointer_count, behind_index, pointer_of, place_of, wanted};
@@ -63,7 +63,7 @@ pub(crate) fn room(size: u32) -> u16
 /// Which of the blocks that an inode owns is a block of its content.
 #[tactic(auto, unfolding(crate::specs::Layout::place_of))]
 pub(crate) fn place(block: u16) -> u16
-    requires { block ≤ 1290 }
+    requires { block ≤ greatest_length V2 / BLOCK }
     ensures { result ≡ place_of block }
 {
     block + (block + POINTED - DIRECT) / POINTED

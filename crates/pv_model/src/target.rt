@@ -14,6 +14,11 @@ pub enum Target {
 
 /// A blank for the unused places of a table: number 0 is no node's.
 impl Default for Target {
+    ghost use Rattle.std.specs.Prelude.{◌≡◌};
+    ghost use Rattle.pv_model.specs.declared.target.Target.TheVariants.{Directory};
+
+    ghost is_default = { λ target. target ≡ Directory 0 };
+
     fn default() -> Target {
         Target::Directory(0)
     }

@@ -1,6 +1,7 @@
 //! Calls that make, take away or change names: mkdir(2), symlink(2), link(2), unlink(2), rmdir(2).
 ghost use Rattle.std.specs.Prelude.{◌≡◌, ◌≤◌, IfOk, IsSome, IsTrue, OnErr, Some};
 ghost use Rattle.pv_laws.specs.States.{IsWhole, is_text};
+ghost use Rattle.pv_model.specs.declared.limits.TheConstants.{NUMBER};
 ghost use Rattle.pv_model.specs.Calls.Paths.{make, mkdir, symlink, link, unlink, rmdir};
 ghost use Rattle.pv_model.specs.Perms.{letter_c};
 ghost use Rattle.pv_model.specs.State.{Process, process_at};
@@ -34,7 +35,7 @@ fn make<L: Lookup>(
     requires agrees { L.agrees lookup.old (find_entry parts.old.tree) }
     ensures row { (me : Process) → process_at parts.old pid ≡ Some me → trimmed (make parts.old pid me (from_here follow path.now letter_c) (new_node kind.entry)) ≡ attempt_of parts.new result }
     ensures unchanged { OnErr result (parts.new ≡ parts.old) }
-    ensures small { IfOk result (λ d. d.value ≤ 2147483647) }
+    ensures small { IfOk result (λ d. d.value ≤ NUMBER) }
     ensures agrees { L.agrees lookup.new (find_entry parts.new.tree) }
 {
     let place = reach(parts, lookup, pid, follow, path, Perms::C)?;
@@ -71,7 +72,7 @@ pub fn mkdir<L: Lookup>(
     requires agrees { L.agrees lookup.old (find_entry parts.old.tree) }
     ensures row { (me : Process) → process_at parts.old pid ≡ Some me → trimmed (mkdir parts.old pid me path.now) ≡ attempt_of parts.new result }
     ensures unchanged { OnErr result (parts.new ≡ parts.old) }
-    ensures small { IfOk result (λ d. d.value ≤ 2147483647) }
+    ensures small { IfOk result (λ d. d.value ≤ NUMBER) }
     ensures agrees { L.agrees lookup.new (find_entry parts.new.tree) }
 {
     make(
@@ -103,7 +104,7 @@ pub fn symlink<L: Lookup>(
     requires agrees { L.agrees lookup.old (find_entry parts.old.tree) }
     ensures row { (me : Process) → process_at parts.old pid ≡ Some me → trimmed (symlink parts.old pid me text.now path.now) ≡ attempt_of parts.new result }
     ensures unchanged { OnErr result (parts.new ≡ parts.old) }
-    ensures small { IfOk result (λ d. d.value ≤ 2147483647) }
+    ensures small { IfOk result (λ d. d.value ≤ NUMBER) }
     ensures agrees { L.agrees lookup.new (find_entry parts.new.tree) }
 {
     if text.is_empty() {
@@ -136,7 +137,7 @@ pub fn link<L: Lookup>(
     requires agrees { L.agrees lookup.old (find_entry parts.old.tree) }
     ensures row { (me : Process) → process_at parts.old pid ≡ Some me → trimmed (link parts.old pid me path.now new.now) ≡ attempt_of parts.new result }
     ensures unchanged { OnErr result (parts.new ≡ parts.old) }
-    ensures small { IfOk result (λ d. d.value ≤ 2147483647) }
+    ensures small { IfOk result (λ d. d.value ≤ NUMBER) }
     ensures agrees { L.agrees lookup.new (find_entry parts.new.tree) }
 {
     let old_place = reach(parts, lookup, pid, Follow::Last, path, Perms::R)?;
@@ -179,7 +180,7 @@ pub fn unlink<L: Lookup>(
     requires agrees { L.agrees lookup.old (find_entry parts.old.tree) }
     ensures row { (me : Process) → process_at parts.old pid ≡ Some me → trimmed (unlink parts.old pid me path.now) ≡ attempt_of parts.new result }
     ensures unchanged { OnErr result (parts.new ≡ parts.old) }
-    ensures small { IfOk result (λ d. d.value ≤ 2147483647) }
+    ensures small { IfOk result (λ d. d.value ≤ NUMBER) }
     ensures agrees { L.agrees lookup.new (find_entry parts.new.tree) }
 {
     let place = reach(parts, lookup, pid, Follow::Keep, path, Perms::C)?;
@@ -216,7 +217,7 @@ pub fn rmdir<L: Lookup>(
     requires agrees { L.agrees lookup.old (find_entry parts.old.tree) }
     ensures row { (me : Process) → process_at parts.old pid ≡ Some me → trimmed (rmdir parts.old pid me path.now) ≡ attempt_of parts.new result }
     ensures unchanged { OnErr result (parts.new ≡ parts.old) }
-    ensures small { IfOk result (λ d. d.value ≤ 2147483647) }
+    ensures small { IfOk result (λ d. d.value ≤ NUMBER) }
     ensures agrees { L.agrees lookup.new (find_entry parts.new.tree) }
 {
     if ends_in_dot(path) {

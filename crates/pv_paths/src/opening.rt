@@ -1,6 +1,7 @@
 //! open(2) and openat(2).
 ghost use Rattle.std.specs.Prelude.{◌≡◌, ◌≤◌, ◌<◌, IfOk, IfErr, IsSome, IsTrue, OnErr, None, Some, false};
 ghost use Rattle.pv_laws.specs.States.{IsFinePlace, IsWhole, is_text};
+ghost use Rattle.pv_model.specs.declared.limits.TheConstants.{NUMBER};
 ghost use Rattle.pv_model.specs.declared.outcome.Cause.TheVariants.{Plain};
 ghost use Rattle.pv_model.specs.declared.place.Place.{Place};
 ghost use Rattle.pv_model.specs.Attempt.{after_walks, give, refused};
@@ -99,7 +100,7 @@ fn open_there(parts: &mut Parts, pid: u32, node: u16, flags: OpenFlags) -> Resul
     ensures row { (me : Process) (place : Place) → process_at parts.old pid ≡ Some me → node_of place ≡ Some node
         → trimmed (after_walks 1 (open_place parts.old pid me flags place)) ≡ attempt_of parts.new result }
     ensures unchanged { OnErr result (parts.new ≡ parts.old) }
-    ensures small { IfOk result (λ d. d.value ≤ 2147483647) }
+    ensures small { IfOk result (λ d. d.value ≤ NUMBER) }
     ensures found { Alike (find_entry parts.old.tree) (find_entry parts.new.tree) }
 {
     if flags.create && flags.exclusive {
@@ -140,7 +141,7 @@ fn create_there<L: Lookup>(
     requires agrees { L.agrees lookup.old (find_entry parts.old.tree) }
     ensures row { (me : Process) → process_at parts.old pid ≡ Some me → trimmed (after_walks 1 (open_place parts.old pid me flags place.now)) ≡ attempt_of parts.new result }
     ensures unchanged { OnErr result (parts.new ≡ parts.old) }
-    ensures small { IfOk result (λ d. d.value ≤ 2147483647) }
+    ensures small { IfOk result (λ d. d.value ≤ NUMBER) }
     ensures agrees { L.agrees lookup.new (find_entry parts.new.tree) }
 {
     if !flags.create {
@@ -183,7 +184,7 @@ pub fn open_at<L: Lookup>(
     requires agrees { L.agrees lookup.old (find_entry parts.old.tree) }
     ensures row { (me : Process) → process_at parts.old pid ≡ Some me → trimmed (open_at parts.old pid me start path.now flags) ≡ attempt_of parts.new result }
     ensures unchanged { OnErr result (parts.new ≡ parts.old) }
-    ensures small { IfOk result (λ d. d.value ≤ 2147483647) }
+    ensures small { IfOk result (λ d. d.value ≤ NUMBER) }
     ensures agrees { L.agrees lookup.new (find_entry parts.new.tree) }
 {
     if contradicts(flags) {

@@ -1,6 +1,7 @@
 //! The call that walks to the working directory: chdir(2).
 ghost use Rattle.std.specs.Prelude.{◌≡◌, ◌≤◌, IfOk, IsSome, IsTrue, OnErr, Some};
 ghost use Rattle.pv_laws.specs.States.{IsWhole, is_text};
+ghost use Rattle.pv_model.specs.declared.limits.TheConstants.{NUMBER};
 ghost use Rattle.pv_model.specs.Calls.Paths.{chdir};
 ghost use Rattle.pv_model.specs.State.{Process, process_at};
 ghost use Rattle.pv_model.specs.Tree.{find_entry};
@@ -31,7 +32,7 @@ pub fn chdir<L: Lookup>(
     requires agrees { L.agrees lookup.old (find_entry parts.old.tree) }
     ensures row { (me : Process) → process_at parts.old pid ≡ Some me → trimmed (chdir parts.old pid me path.now) ≡ attempt_of parts.new result }
     ensures unchanged { OnErr result (parts.new ≡ parts.old) }
-    ensures small { IfOk result (λ d. d.value ≤ 2147483647) }
+    ensures small { IfOk result (λ d. d.value ≤ NUMBER) }
     ensures agrees { L.agrees lookup.new (find_entry parts.new.tree) }
 {
     let place = reach(parts, lookup, pid, Follow::Last, path, Perms::R)?;

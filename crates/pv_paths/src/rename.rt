@@ -1,6 +1,7 @@
 //! The call that gives a node another name: rename(2).
 ghost use Rattle.std.specs.Prelude.{◌≡◌, ◌≤◌, IfOk, IfSome, IsSome, IsTrue, MatchResult, OnErr, Some};
 ghost use Rattle.pv_laws.specs.States.{IsWhole, is_text};
+ghost use Rattle.pv_model.specs.declared.limits.TheConstants.{NUMBER};
 ghost use Rattle.pv_model.specs.declared.outcome.Cause.TheVariants.{Plain};
 ghost use Rattle.pv_model.specs.Attempt.{give, refused};
 ghost use Rattle.pv_model.specs.Calls.Paths.{entries_there, is_directory_there, rename, same_node};
@@ -96,7 +97,7 @@ pub fn rename<L: Lookup>(
     requires agrees { L.agrees lookup.old (find_entry parts.old.tree) }
     ensures row { (me : Process) → process_at parts.old pid ≡ Some me → trimmed (rename parts.old pid me path.now new.now) ≡ attempt_of parts.new result }
     ensures unchanged { OnErr result (parts.new ≡ parts.old) }
-    ensures small { IfOk result (λ d. d.value ≤ 2147483647) }
+    ensures small { IfOk result (λ d. d.value ≤ NUMBER) }
     ensures agrees { L.agrees lookup.new (find_entry parts.new.tree) }
 {
     if ends_in_dot(path) || ends_in_dot(new) {

@@ -1,6 +1,7 @@
 //! unveil(2).
 ghost use Rattle.std.specs.Prelude.{◌≡◌, ◌≤◌, IfOk, IsSome, IsTrue, OnErr, Some};
 ghost use Rattle.pv_laws.specs.States.{IsWhole, is_text, is_text_or_none};
+ghost use Rattle.pv_model.specs.declared.limits.TheConstants.{NUMBER};
 ghost use Rattle.pv_model.specs.Attempt.{refused};
 ghost use Rattle.pv_model.specs.Calls.Restraints.{unveil};
 ghost use Rattle.pv_model.specs.State.{Process, process_at};
@@ -65,7 +66,7 @@ fn unveil_path<L: Lookup>(
     requires agrees { L.agrees lookup.old (find_entry parts.old.tree) }
     ensures row { (me : Process) → process_at parts.old pid ≡ Some me → trimmed (unveil parts.old pid me (Some path.now) (Some letters.now)) ≡ attempt_of parts.new result }
     ensures unchanged { OnErr result (parts.new ≡ parts.old) }
-    ensures small { IfOk result (λ d. d.value ≤ 2147483647) }
+    ensures small { IfOk result (λ d. d.value ≤ NUMBER) }
     ensures agrees { L.agrees lookup.new (find_entry parts.new.tree) }
 {
     let Some(letters) = Perms::read(letters) else {
@@ -112,7 +113,7 @@ pub fn unveil<L: Lookup>(
     requires agrees { L.agrees lookup.old (find_entry parts.old.tree) }
     ensures row { (me : Process) → process_at parts.old pid ≡ Some me → trimmed (unveil parts.old pid me path.now letters.now) ≡ attempt_of parts.new result }
     ensures unchanged { OnErr result (parts.new ≡ parts.old) }
-    ensures small { IfOk result (λ d. d.value ≤ 2147483647) }
+    ensures small { IfOk result (λ d. d.value ≤ NUMBER) }
     ensures agrees { L.agrees lookup.new (find_entry parts.new.tree) }
 {
     match (path, letters) {

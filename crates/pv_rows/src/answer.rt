@@ -1,5 +1,6 @@
 //! What a call comes to, and how its process is told.
 ghost use Rattle.std.specs.Prelude.{◌≡◌, ◌+◌, ◌≤◌, length, IsSome, IfOk, OnErr, Some, Ok};
+ghost use Rattle.pv_model.specs.declared.limits.TheConstants.{NUMBER};
 ghost use Rattle.pv_model.specs.declared.outcome.Cause.TheVariants.{Plain};
 ghost use Rattle.pv_model.specs.Answer.{answer_by_attempt};
 ghost use Rattle.pv_model.specs.Attempt.{Attempt, done as done_attempt};
@@ -75,7 +76,7 @@ pub fn space_errno(why: Space) -> Errno
 /// Tells a live process what its call came to, and gives the answer.
 pub fn tell(parts: &mut Parts, pid: u32, row: Result<Done, Refused>) -> Answer
     requires live { IsSome (process_at parts.old pid) }
-    requires small { IfOk row (λ d. d.value ≤ 2147483647) }
+    requires small { IfOk row (λ d. d.value ≤ NUMBER) }
     ensures told { (before s : State) (me : Process) (a : Attempt Effect) → trimmed a ≡ attempt_of parts.old row → OnErr row (parts.old ≡ s)
         → answer_by_attempt before s pid me a ≡ answered parts.new result }
     ensures tree { parts.new.tree ≡ parts.old.tree }
@@ -108,7 +109,7 @@ pub fn tell(parts: &mut Parts, pid: u32, row: Result<Done, Refused>) -> Answer
 /// Tells a live process a value, with bytes at the front of its buffer, and gives the answer.
 pub fn tell_bytes(parts: &mut Parts, pid: u32, told: Done, bytes: &[u8]) -> Answer
     requires live { IsSome (process_at parts.old pid) }
-    requires small { told.value ≤ 2147483647 }
+    requires small { told.value ≤ NUMBER }
     requires size { length bytes.now ≤ BUFFER }
     ensures { (before s after : State) (me : Process) → trim after ≡ parts.old
         → answer_by_attempt before s pid me (done_attempt told.walks (after, returns_bytes told.value bytes.now)) ≡ answered parts.new result }

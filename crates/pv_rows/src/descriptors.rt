@@ -1,6 +1,7 @@
 //! Descriptors: close(2), dup(2), fchdir(2).
 ghost use Rattle.std.specs.Prelude.{◌≡◌, ◌≤◌, IfOk, IfSome, IsSome, MatchOption, OnErr, None, Some};
 ghost use Rattle.pv_laws.specs.States.{IsWhole};
+ghost use Rattle.pv_model.specs.declared.limits.TheConstants.{NUMBER};
 ghost use Rattle.pv_model.specs.Calls.Descriptors.{close, dup, dup2, fchdir};
 ghost use Rattle.pv_model.specs.Effect.{open_file};
 ghost use Rattle.pv_model.specs.Numbered.{at_number};
@@ -33,7 +34,7 @@ pub fn close(parts: &mut Parts, pid: u32, d: i32) -> Result<Done, Refused>
     requires live { IsSome (process_at parts.old pid) }
     ensures row { (me : Process) → process_at parts.old pid ≡ Some me → trimmed (close parts.old pid me d) ≡ attempt_of parts.new result }
     ensures unchanged { OnErr result (parts.new ≡ parts.old) }
-    ensures small { IfOk result (λ d. d.value ≤ 2147483647) }
+    ensures small { IfOk result (λ d. d.value ≤ NUMBER) }
 {
     plain(parts.close(pid, d))
 }
@@ -48,7 +49,7 @@ pub fn dup(parts: &mut Parts, pid: u32, d: i32) -> Result<Done, Refused>
     requires live { IsSome (process_at parts.old pid) }
     ensures row { (me : Process) → process_at parts.old pid ≡ Some me → trimmed (dup parts.old pid me d) ≡ attempt_of parts.new result }
     ensures unchanged { OnErr result (parts.new ≡ parts.old) }
-    ensures small { IfOk result (λ d. d.value ≤ 2147483647) }
+    ensures small { IfOk result (λ d. d.value ≤ NUMBER) }
 {
     plain(parts.dup(pid, d))
 }
@@ -63,7 +64,7 @@ pub fn dup2(parts: &mut Parts, pid: u32, d: i32, e: i32) -> Result<Done, Refused
     requires live { IsSome (process_at parts.old pid) }
     ensures row { (me : Process) → process_at parts.old pid ≡ Some me → trimmed (dup2 parts.old pid me d e) ≡ attempt_of parts.new result }
     ensures unchanged { OnErr result (parts.new ≡ parts.old) }
-    ensures small { IfOk result (λ d. d.value ≤ 2147483647) }
+    ensures small { IfOk result (λ d. d.value ≤ NUMBER) }
 {
     plain(parts.dup2(pid, d, e))
 }
@@ -78,7 +79,7 @@ pub fn fchdir(parts: &mut Parts, pid: u32, d: i32) -> Result<Done, Refused>
     requires live { IsSome (process_at parts.old pid) }
     ensures row { (me : Process) → process_at parts.old pid ≡ Some me → trimmed (fchdir parts.old pid me d) ≡ attempt_of parts.new result }
     ensures unchanged { OnErr result (parts.new ≡ parts.old) }
-    ensures small { IfOk result (λ d. d.value ≤ 2147483647) }
+    ensures small { IfOk result (λ d. d.value ≤ NUMBER) }
 {
     let Some(file) = open_file(parts, pid, d) else {
         return Err(refusal(0, Errno::EBADF));

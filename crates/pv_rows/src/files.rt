@@ -1,6 +1,7 @@
 //! What is done with open files: read(2), write(2), lseek(2), fstat(2), ftruncate(2), getdents(2).
 ghost use Rattle.std.specs.Prelude.{ℕ, pos, ◌≡◌, ◌≤◌, ◌<◌, ◌+ℤ◌, false, length, take, IfOk, IsSome, IsTrue, MatchResult, OnErr, Some};
 ghost use Rattle.pv_laws.specs.States.{IsWhole};
+ghost use Rattle.pv_model.specs.declared.limits.TheConstants.{NUMBER};
 ghost use Rattle.pv_model.specs.declared.outcome.Cause.TheVariants.{Plain};
 ghost use Rattle.pv_model.specs.Attempt.{done, refused};
 ghost use Rattle.pv_model.specs.Calls.Descriptors.{fstat, ftruncate, getdents, is_past_greatest, lseek, next_name, read, seek_base, within, write, write_place};
@@ -129,7 +130,7 @@ fn write_place(parts: &Parts, file: usize) -> u32
     requires opened { IsSome (at_number parts.now.files file) }
     requires plain { (f : OpenFile) → at_number parts.now.files file ≡ Some f → is_directory_at parts.now.tree f.node ≡ false }
     ensures place { (pid : ℕ) (me : Process) (f : OpenFile) → at_number parts.now.files file ≡ Some f → result ≡ write_place parts.now pid me f }
-    ensures low { result ≤ 2147483647 }
+    ensures low { result ≤ OFFSET }
 {
     if parts.files().appends(file) {
         parts.tree().size(parts.files().node(file))
@@ -150,7 +151,7 @@ pub fn write(parts: &mut Parts, pid: u32, d: i32, n: i32) -> Result<Done, Refuse
     requires live { IsSome (process_at parts.old pid) }
     ensures row { (me : Process) → process_at parts.old pid ≡ Some me → trimmed (write parts.old pid me d n) ≡ attempt_of parts.new result }
     ensures unchanged { OnErr result (parts.new ≡ parts.old) }
-    ensures small { IfOk result (λ d. d.value ≤ 2147483647) }
+    ensures small { IfOk result (λ d. d.value ≤ NUMBER) }
 {
     let Some(file) = open_file(parts, pid, d) else {
         return Err(refusal(0, Errno::EBADF));
@@ -172,13 +173,13 @@ fn write_bytes(parts: &mut Parts, pid: u32, file: usize, count: usize) -> Result
     requires whole { IsWhole parts.old }
     requires live { IsSome (process_at parts.old pid) }
     requires some { 0 < count }
-    requires few { count ≤ 4096 }
+    requires few { count ≤ BUFFER }
     requires there { IsSome (at_number parts.old.files file) }
     requires plain { (f : OpenFile) → at_number parts.old.files file ≡ Some f → IsTrue (is_file (node_at parts.old.tree f.node)) }
     ensures row { (me : Process) (f : OpenFile) → process_at parts.old pid ≡ Some me → at_number parts.old.files file ≡ Some f
         → trimmed (write_some parts.old pid me file f count) ≡ attempt_of parts.new result }
     ensures unchanged { OnErr result (parts.new ≡ parts.old) }
-    ensures small { IfOk result (λ d. d.value ≤ 4096) }
+    ensures small { IfOk result (λ d. d.value ≤ BUFFER) }
 {
     let at = write_place(parts, file);
     if is_past_greatest(parts.tree(), at + count as u32) {
@@ -221,7 +222,7 @@ pub fn lseek(parts: &mut Parts, pid: u32, d: i32, by: i32, whence: Whence) -> Re
     requires live { IsSome (process_at parts.old pid) }
     ensures row { (me : Process) → process_at parts.old pid ≡ Some me → trimmed (lseek parts.old pid me d by whence) ≡ attempt_of parts.new result }
     ensures unchanged { OnErr result (parts.new ≡ parts.old) }
-    ensures small { IfOk result (λ d. d.value ≤ 2147483647) }
+    ensures small { IfOk result (λ d. d.value ≤ NUMBER) }
 {
     let Some(file) = open_file(parts, pid, d) else {
         return Err(refusal(0, Errno::EBADF));
@@ -269,7 +270,7 @@ pub fn ftruncate(parts: &mut Parts, pid: u32, d: i32, n: i32) -> Result<Done, Re
     requires live { IsSome (process_at parts.old pid) }
     ensures row { (me : Process) → process_at parts.old pid ≡ Some me → trimmed (ftruncate parts.old pid me d n) ≡ attempt_of parts.new result }
     ensures unchanged { OnErr result (parts.new ≡ parts.old) }
-    ensures small { IfOk result (λ d. d.value ≤ 2147483647) }
+    ensures small { IfOk result (λ d. d.value ≤ NUMBER) }
 {
     let Some(file) = open_file(parts, pid, d) else {
         return Err(refusal(0, Errno::EBADF));

@@ -1,6 +1,7 @@
 //! Numbers of processes, children, and ends: getpid(2), getppid(2), fork(2), wait(2), exit(3).
 ghost use Rattle.std.specs.Prelude.{◌≡◌, ◌≢◌, ◌≤◌, ◌↔◌, IfOk, IsSome, IsTrue, MatchResult, OnErr, Ok, Err, Some};
 ghost use Rattle.pv_laws.specs.States.{IsWhole};
+ghost use Rattle.pv_model.specs.declared.limits.TheConstants.{NUMBER};
 ghost use Rattle.pv_model.specs.declared.outcome.Cause.TheVariants.{Plain};
 ghost use Rattle.pv_model.specs.Attempt.{give};
 ghost use Rattle.pv_model.specs.Calls.Processes.{exit_status, getpid, getppid, fork, wait};
@@ -38,7 +39,7 @@ pub fn getpid(parts: &Parts, pid: u32) -> Result<Done, Refused>
     requires whole { IsWhole parts.now }
     requires live { IsSome (process_at parts.now pid) }
     ensures row { (me : Process) → process_at parts.now pid ≡ Some me → trimmed (getpid parts.now pid me) ≡ attempt_of parts.now result }
-    ensures small { IfOk result (λ d. d.value ≤ 2147483647) }
+    ensures small { IfOk result (λ d. d.value ≤ NUMBER) }
 {
     parts.facts();
     answer_of(0, pid)
@@ -49,7 +50,7 @@ pub fn getppid(parts: &Parts, pid: u32) -> Result<Done, Refused>
     requires whole { IsWhole parts.now }
     requires live { IsSome (process_at parts.now pid) }
     ensures row { (me : Process) → process_at parts.now pid ≡ Some me → trimmed (getppid parts.now pid me) ≡ attempt_of parts.now result }
-    ensures small { IfOk result (λ d. d.value ≤ 2147483647) }
+    ensures small { IfOk result (λ d. d.value ≤ NUMBER) }
 {
     parts.facts();
     answer_of(0, parts.processes().parent_of(pid).unwrap_or(0))
@@ -66,7 +67,7 @@ pub fn fork(parts: &mut Parts, pid: u32) -> Result<Done, Refused>
     requires live { IsSome (process_at parts.old pid) }
     ensures row { (me : Process) → process_at parts.old pid ≡ Some me → trimmed (fork parts.old pid me) ≡ attempt_of parts.new result }
     ensures unchanged { OnErr result (parts.new ≡ parts.old) }
-    ensures small { IfOk result (λ d. d.value ≤ 2147483647) }
+    ensures small { IfOk result (λ d. d.value ≤ NUMBER) }
 {
     plain(parts.fork(pid))
 }

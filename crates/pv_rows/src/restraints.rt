@@ -1,6 +1,7 @@
 //! What a process gives up: pledge(2).
 ghost use Rattle.std.specs.Prelude.{◌≡◌, ◌≤◌, IfOk, IsSome, MatchResult, OnErr, Some};
 ghost use Rattle.pv_laws.specs.States.{IsWhole};
+ghost use Rattle.pv_model.specs.declared.limits.TheConstants.{NUMBER};
 ghost use Rattle.pv_model.specs.declared.outcome.Cause.TheVariants.{Plain};
 ghost use Rattle.pv_model.specs.Attempt.{give, refused};
 ghost use Rattle.pv_model.specs.Calls.Restraints.{asked_promises, pledge};
@@ -40,7 +41,7 @@ pub fn pledge(
     requires live { IsSome (process_at parts.old pid) }
     ensures row { (me : Process) → process_at parts.old pid ≡ Some me → trimmed (pledge parts.old pid me promises.now execpromises.now) ≡ attempt_of parts.new result }
     ensures unchanged { OnErr result (parts.new ≡ parts.old) }
-    ensures small { IfOk result (λ d. d.value ≤ 2147483647) }
+    ensures small { IfOk result (λ d. d.value ≤ NUMBER) }
 {
     let asked_now = match asked(promises) {
         Ok(set) => set,

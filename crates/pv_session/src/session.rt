@@ -2,6 +2,7 @@
 ghost use Rattle.std.specs.Prelude.{◌≡◌, ◌⊎◌, ◌≤◌, IfOk, IfErr, OnOk, OnErr, Ok, Err, length};
 ghost use Rattle.pv_calls.specs.Kernel.{IsAhead};
 ghost use Rattle.pv_laws.specs.States.{IsFirstTree};
+ghost use Rattle.pv_model.specs.declared.limits.TheConstants.{BUFFER};
 ghost use Rattle.pv_model.specs.Sealed.{audit as audit_by_definition, audit_node as audit_of};
 ghost use Rattle.pv_model.specs.Start.{booted};
 ghost use Rattle.pv_model.specs.Trace.{buffer_of};
@@ -140,7 +141,7 @@ impl Session {
     /// front.
     pub fn buffer(&self, pid: u32) -> &[u8]
         ensures value { result.now ≡ buffer_of (process_at self.now pid) }
-        ensures size { length result.now ≤ 4096 }
+        ensures size { length result.now ≤ BUFFER }
     {
         self.kernel.buffer(pid)
     }

@@ -1,5 +1,6 @@
 //! The inode of a node, and the blocks of its content.
 ghost use Rattle.std.specs.Prelude.{◌≡◌, ◌+◌, ◌*◌, ◌^◌, ◌<◌, ◌≤◌, ◌++◌, vec_len, length, OnOk};
+ghost use Rattle.pv_model.specs.declared.version.Version.TheVariants.{V2};
 ghost use Rattle.pv_model.specs.Room.{greatest_length};
 ghost use Rattle.pv_writer.specs.Spelling.{before_size, behind_pointers, blocks_for, content_blocks, direct_for, index_for, inode_bytes, taken};
 
@@ -27,7 +28,7 @@ pub(crate) struct Extent {
 
 /// The blocks that a content of so many bytes takes.
 pub(crate) fn extent_of(size: usize) -> Extent
-    requires { size ≤ 660480 }
+    requires { size ≤ greatest_length V2 }
     ensures filled { result.filled ≡ blocks_for size }
     ensures direct { result.direct ≡ direct_for size }
     ensures index { result.index ≡ index_for size }
@@ -95,7 +96,7 @@ pub(crate) fn put_inode(
 /// the tenth.
 #[tactic(auto, unfolding(crate::specs::Spelling::content_blocks, crate::specs::Spelling::padded))]
 pub(crate) fn put_content(bytes: &mut Vec<u8>, content: &[u8], first: u16) -> Result<(), AllocError>
-    requires size { length content.now ≤ 660480 }
+    requires size { length content.now ≤ greatest_length V2 }
     requires blocks { first + taken (length content.now) < 2 ^ 16 }
     ensures { OnOk result (bytes.new.items ≡ bytes.old.items ++ content_blocks first content.now) }
 {

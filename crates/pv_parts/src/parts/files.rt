@@ -1,6 +1,7 @@
 //! What a call does with an open file and its bytes.
 ghost use Rattle.std.specs.Prelude.{ℕ, ◌≡◌, ◌≤◌, ◌<◌, length, IsSome, IsTrue, IfErr, OnOk, OnErr, Some, option_map};
 ghost use Rattle.pv_laws.specs.States.{IsWhole};
+ghost use Rattle.pv_model.specs.declared.limits.TheConstants.{BUFFER};
 ghost use Rattle.pv_model.specs.Calls.Descriptors.{with_bytes_written};
 ghost use Rattle.pv_model.specs.Effect.{with_file};
 ghost use Rattle.pv_model.specs.Held.{trim};
@@ -42,7 +43,7 @@ impl Parts {
     pub fn write(&mut self, file: usize, at: u32, bytes: &[u8]) -> Result<(), Space>
         requires whole { IsWhole self.old }
         requires some { 0 < length bytes.now }
-        requires few { length bytes.now ≤ 4096 }
+        requires few { length bytes.now ≤ BUFFER }
         requires opened { (f : OpenFile) → at_number self.old.files file ≡ Some f → IsTrue (is_file (node_at self.old.tree f.node)) }
         requires there { IsSome (at_number self.old.files file) }
         ensures written { OnOk result ((pid : ℕ) (me : Process) (f : OpenFile) → at_number self.old.files file ≡ Some f
