@@ -1,66 +1,16 @@
 -- The entries of a table, one after the other, and those of the directories from one on up.
-use Rattle.std.proofs.Common.{◌≡◌, ℕ, zero, suc, ◌+◌, ◌≤◌, Bool, true, false, cond, ◌==◌, List, [], ◌∷◌, map, flat_map, drop, length, Option, None, Some, option_map, refl, ap, sym, ◌∙◌, arith, add-one}
-use Rattle.std.specs.List.{slice_get, position_from}
+use Rattle.std.proofs.Common.{◌≡◌, ℕ, suc, Bool, true, false, cond, ◌==◌, List, [], map, flat_map, length, Option, None, Some, refl, ap, sym, ◌∙◌}
 use Rattle.std.specs.Prelude.{option_to_list}
-use Rattle.std.proofs.lemmas.Iterator.Adapters.{position_from-zero}
 use Rattle.std.proofs.lemmas.List.{append-nil}
-use Rattle.pv_model.specs.declared.perms.Perms.{Perms}
-use Rattle.pv_model.specs.declared.target.Target.{Target}
 use Rattle.pv_model.specs.declared.target.Target.TheVariants.{Directory}
 use Rattle.pv_model.specs.Tree.{Tree, root, parent, above_or_none, ancestors_within, ancestors, IsAtOrAbove, itself, above, IsWellFormed}
-use Rattle.pv_model.specs.Unveil.{Table, same_target, entry_for, directory_rights, Governs, own, from_above}
+use Rattle.pv_model.specs.Unveil.{Table, entry_for, directory_rights, Governs, own, from_above}
 use Rattle.pv_model.proofs.Rights.{Governs-directory_rights, directory_rights-Governs}
 use Rattle.pv_tree_laws.proofs.Above.{ancestors-above}
 use Rattle.pv_rights.proofs.Members.{any-in, in-any}
 use Rattle.pv_unveil.specs.Up.{up}
 use Rattle.pv_audit.specs.Findings.{lesser, least, passing, entries_passing, least_above}
 use Rattle.pv_audit.proofs.LeastOnes.{lesser-none, lesser-assoc, least-same, least-cons, in-passing, passing-in}
-
--- ---- the entry for a target
-
-abbrev is_for : Target → Target × Perms → Bool
-is_for target e = same_target e.0 target
-
--- the first entry for a target, from one on
-abbrev pub entry_from : Table → Target → ℕ → Option ℕ
-entry_from table target k = position_from (is_for target) k (drop k table)
-
-pub entry_from-zero : (table : Table) (target : Target) → entry_for table target ≡ entry_from table target 0
-entry_from-zero table target = position_from-zero (is_for target) table
-
-from_here : (target : Target) (x : Target) (j k : ℕ) (table : Table) → option_map (λ (e : Target × Perms). e.0) (slice_get table k) ≡ Some x → same_target x target ≡ true
-    → position_from (is_for target) j (drop k table) ≡ Some j
-from_here target x j k [] is same = cc is
-from_here target x j zero (e ∷ es) is same =
-    let here : e.0 ≡ x = cc is in
-    ap (λ b. cond b (Some j) (position_from (is_for target) (j + 1) es)) (ap (λ y. same_target y target) here ∙ same)
-from_here target x j (suc k) (e ∷ es) is same = from_here target x j k es is same
-
-pub entry-here : (table : Table) (target x : Target) (k : ℕ) → option_map (λ (e : Target × Perms). e.0) (slice_get table k) ≡ Some x → same_target x target ≡ true
-    → entry_from table target k ≡ Some k
-entry-here table target x k is same = from_here target x k k table is same
-
-past_here : (target : Target) (x : Target) (j k : ℕ) (table : Table) → option_map (λ (e : Target × Perms). e.0) (slice_get table k) ≡ Some x → same_target x target ≡ false
-    → position_from (is_for target) j (drop k table) ≡ position_from (is_for target) (j + 1) (drop (suc k) table)
-past_here target x j k [] is other = cc is
-past_here target x j zero (e ∷ es) is other =
-    let here : e.0 ≡ x = cc is in
-    ap (λ b. cond b (Some j) (position_from (is_for target) (j + 1) es)) (ap (λ y. same_target y target) here ∙ other)
-past_here target x j (suc k) (e ∷ es) is other = past_here target x j k es is other
-
-pub entry-past : (table : Table) (target x : Target) (k : ℕ) → option_map (λ (e : Target × Perms). e.0) (slice_get table k) ≡ Some x → same_target x target ≡ false
-    → entry_from table target k ≡ entry_from table target (k + 1)
-entry-past table target x k is other =
-    past_here target x k k table is other ∙ ap (λ i. position_from (is_for target) (k + 1) (drop i table)) (sym (add-one k))
-
-none_from : (target : Target) (j k : ℕ) (table : Table) → length table ≤ k → position_from (is_for target) j (drop k table) ≡ None
-none_from target j zero [] all = refl
-none_from target j (suc k) [] all = refl
-none_from target j zero (e ∷ es) all = absurd (omega arith)
-none_from target j (suc k) (e ∷ es) all = none_from target j k es (omega arith)
-
-pub entry-none : (table : Table) (target : Target) (k : ℕ) → length table ≤ k → entry_from table target k ≡ None
-entry-none table target k all = none_from target k k table all
 
 -- ---- the entries of a directory and of those above it
 

@@ -4,7 +4,7 @@ ghost use Rattle.pv_audit.specs.Findings.{nothing, noted};
 ghost use Rattle.pv_model.specs.Calls.Restraints.{entries_of_table};
 ghost use Rattle.pv_model.specs.Tree.{is_directory_at};
 
-use crate::entries::{governing_entry, least_above, lesser};
+use crate::entries::{least_above, lesser};
 use pv_model::Name;
 use pv_tree::Tree;
 use pv_unveil::Table;
@@ -37,7 +37,7 @@ impl Found {
         requires { IsTrue (is_directory_at tree.now.tree directory) }
         ensures { self.new ≡ noted tree.now.tree (entries_of_table table.now.table) self.old (directory, name.now) }
     {
-        if let Some(k) = governing_entry(table, tree, directory, name) {
+        if let Some(k) = table.name_entry(tree, directory, name.as_slice()) {
             let letters = table.letters(k);
             if letters.r || letters.x || letters.c {
                 self.gives = lesser(self.gives, Some(k));

@@ -14,4 +14,5 @@ pub mod table;
 #[cfg(test)]
 mod tests;
 
+pub use rights::above;
 pub use table::{AddFault, Table};

@@ -1,8 +1,9 @@
 //! The entry that governs a place, and what it says.
-ghost use Rattle.std.specs.Prelude.{◌≡◌, ◌≤◌, length, IsTrue};
+ghost use Rattle.std.specs.Prelude.{◌≡◌, ◌<◌, ◌≤◌, length, IfSome, IsTrue};
+ghost use Rattle.std.specs.Option.{option_or};
 ghost use Rattle.pv_model.specs.declared.limits.TheConstants.{UNVEILS};
 ghost use Rattle.pv_model.specs.Tree.{is_directory_at};
-ghost use Rattle.pv_model.specs.Unveil.{directory_rights, governing_entry, judge_entry, judgement};
+ghost use Rattle.pv_model.specs.Unveil.{directory_rights, entry_for, governing_entry, judge_entry, judgement};
 ghost use Rattle.pv_unveil.specs.Up.{up, directory_of};
 ghost use Rattle.pv_unveil.specs.Unveiled.{in_force};
 
@@ -11,9 +12,9 @@ use pv_model::limits::ROOT;
 use pv_model::{Judgement, Perms, Place, Target};
 use pv_tree::Tree;
 
-// The directory from which a directory has its rights where it has no entry: none for the root, and none
-// for a removed one.
-fn above(tree: &Tree, directory: u16) -> Option<u16>
+/// The directory from which a directory has its rights where it has no entry, unveil(2): none for the root, and none
+/// for a removed one.
+pub fn above(tree: &Tree, directory: u16) -> Option<u16>
     requires { IsTrue (is_directory_at tree.now.tree directory) }
     ensures { result ≡ up tree.now.tree directory }
 {
@@ -28,7 +29,8 @@ fn above(tree: &Tree, directory: u16) -> Option<u16>
 fn directory_rights(entries: &[(Target, Perms)], tree: &Tree, directory: u16) -> Option<u8>
     requires few { length entries.now ≤ UNVEILS }
     requires directory { IsTrue (is_directory_at tree.now.tree directory) }
-    ensures { result ≡ directory_rights tree.now.tree entries.now directory }
+    ensures value { result ≡ directory_rights tree.now.tree entries.now directory }
+    ensures in_table { IfSome result (λ k. k < length entries.now) }
 {
     let mut at = directory;
     for _climbed in 0..tree.sizes().inodes + 2 {
@@ -38,6 +40,25 @@ fn directory_rights(entries: &[(Target, Perms)], tree: &Tree, directory: u16) ->
         at = above(tree, at)?;
     }
     None
+}
+
+/// The entry that governs a name in a directory, under which no directory stands: its own, or else the one that
+/// governs the directory.
+pub(crate) fn name_rights(
+    entries: &[(Target, Perms)],
+    tree: &Tree,
+    directory: u16,
+    name: &[u8],
+) -> Option<u8>
+    requires few { length entries.now ≤ UNVEILS }
+    requires directory { IsTrue (is_directory_at tree.now.tree directory) }
+    ensures value { result ≡ option_or (entry_for entries.now (Target.Name directory name.now)) (directory_rights tree.now.tree entries.now directory) }
+    ensures in_table { IfSome result (λ k. k < length entries.now) }
+{
+    match entry_for_name(entries, directory, name) {
+        Some(k) => Some(k),
+        None => directory_rights(entries, tree, directory),
+    }
 }
 
 // The entry that governs a place: of a directory the one that governs it, and of a name its own, or else
@@ -56,10 +77,7 @@ fn governing_entry(entries: &[(Target, Perms)], tree: &Tree, place: &Place) -> O
                     return directory_rights(entries, tree, *node);
                 }
             }
-            match entry_for_name(entries, *dir, name.as_slice()) {
-                Some(k) => Some(k),
-                None => directory_rights(entries, tree, *dir),
-            }
+            name_rights(entries, tree, *dir, name.as_slice())
         }
     }
 }

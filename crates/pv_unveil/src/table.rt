@@ -1,11 +1,11 @@
 //! What a process has unveiled.
-ghost use Rattle.std.specs.Prelude.{◌≡◌, ◌<◌, ◌≤◌, length, OnOk, OnErr, IfOk, IfErr, None, Some, true, false, ◌↔◌, IsTrue, if◌then◌else◌, ◌&&◌, option_map, slice_get, slice_set};
+ghost use Rattle.std.specs.Prelude.{◌≡◌, ◌<◌, ◌≤◌, length, OnOk, OnErr, IfOk, IfErr, None, Some, true, false, ◌↔◌, IsTrue, if◌then◌else◌, ◌&&◌, option_map, slice_get, slice_set, IfSome};
 ghost use Rattle.pv_model.specs.Attempt.{give};
-ghost use Rattle.pv_model.specs.Unveil.{entry_for, letters_at};
+ghost use Rattle.pv_model.specs.Unveil.{directory_rights, entry_for, letters_at};
 ghost use Rattle.pv_unveil.specs.Added.{refusal, put_in};
 
-use crate::entries::{entry_for, letters_at};
-use crate::rights;
+use crate::entries::{entry_for, entry_for_directory, letters_at};
+use crate::rights::{judge_in, name_rights};
 use arrayvec::ArrayVec;
 use pv_model::limits::UNVEILS;
 use pv_model::{Judgement, Perms, Place, Target};
@@ -80,7 +80,7 @@ fn put(
 }
 
 impl Table {
-    ghost use Rattle.std.specs.Option.{IsSomeAnd};
+    ghost use Rattle.std.specs.Option.{IsSomeAnd, option_or};
     ghost use Rattle.pv_model.specs.Calls.Restraints.{entries_of_table};
     ghost use Rattle.pv_model.specs.Tree.{is_directory_at};
     ghost use Rattle.pv_model.specs.Unveil.{judgement};
@@ -143,6 +143,24 @@ impl Table {
         ensures { result ≡ letters_at (entries_of_table self.now.table) k }
     {
         letters_at(self.entries.as_slice(), k)
+    }
+
+    /// The entry for a directory itself, if there is one.
+    pub fn directory_entry(&self, directory: u16) -> Option<u8>
+        ensures value { result ≡ entry_for (entries_of_table self.now.table) (Target.Directory directory) }
+        ensures in_table { IfSome result (λ k. k < length (entries_of_table self.now.table)) }
+    {
+        entry_for_directory(self.entries.as_slice(), directory)
+    }
+
+    /// The entry that governs a name in a directory of a tree, under which no directory stands: its own, or else the one
+    /// that governs the directory.
+    pub fn name_entry(&self, tree: &Tree, directory: u16, name: &[u8]) -> Option<u8>
+        requires { IsTrue (is_directory_at tree.now.tree directory) }
+        ensures value { result ≡ option_or (entry_for (entries_of_table self.now.table) (Target.Name directory name.now)) (directory_rights tree.now.tree (entries_of_table self.now.table) directory) }
+        ensures in_table { IfSome result (λ k. k < length (entries_of_table self.now.table)) }
+    {
+        name_rights(self.entries.as_slice(), tree, directory, name)
     }
 
     /// Adds an entry for a target, or leaves the one for it with these letters, which must be among its own.
@@ -210,6 +228,6 @@ impl Table {
         ensures value { result ≡ judgement tree.now.tree self.now.table place.now needed }
         ensures by_entry { IsJudged tree.now.tree self.now.table place.now needed result }
     {
-        rights::judge_in(self.entries.as_slice(), tree, place, needed)
+        judge_in(self.entries.as_slice(), tree, place, needed)
     }
 }

@@ -2,8 +2,8 @@ use Rattle.std.proofs.Common.{◌+◌, ◌-◌, ℕ, suc, sym, ◌∙◌, arith}
 use Rattle.pv_unveil.proofs.Climbing.{climb-own, climb-above, climb-top, directory_rights-inodes, up-directory}
 use Rattle.pv_unveil.proofs.rights.directory_rights.Goals as goal
 
-pub returns-in-Some : goal.returns-in-Some
-returns-in-Some c =
+pub returns-in-Some-clause-value : goal.returns-in-Some-clause-value
+returns-in-Some-clause-value c =
     let t = c.args.tree.now.tree in
     let table = c.args.entries.now in
     let inodes = c.sizes-climbed-end.result.inodes in
@@ -13,8 +13,8 @@ returns-in-Some c =
     let all = directory_rights-inodes t table inodes c.args.directory c.sizes-climbed-end.ensures.standing.well_formed.numbers c.sizes-climbed-end.ensures.inodes in
     sym own ∙ so_far ∙ sym all
 
-pub returns-in_err-at : goal.returns-in_err-at
-returns-in_err-at c =
+pub returns-in_err-at-clause-value : goal.returns-in_err-at-clause-value
+returns-in_err-at-clause-value c =
     let t = c.args.tree.now.tree in
     let table = c.args.entries.now in
     let inodes = c.sizes-climbed-end.result.inodes in
@@ -34,8 +34,8 @@ loop-climbed-preserved c =
           sym above ∙ c.loop-climbed.invariant.1 (suc left) (omega (arith, total)),
     )
 
-pub returns : goal.returns
-returns c =
+pub returns-clause-value : goal.returns-clause-value
+returns-clause-value c =
     let inodes = c.sizes-climbed-end.result.inodes in
     let all = directory_rights-inodes c.args.tree.now.tree c.args.entries.now inodes c.args.directory c.sizes-climbed-end.ensures.standing.well_formed.numbers c.sizes-climbed-end.ensures.inodes in
     c.loop-climbed.invariant.1 0 (omega (arith, c.loop-climbed.auto._climbed-end, c.loop-climbed-test.false)) ∙ sym all
