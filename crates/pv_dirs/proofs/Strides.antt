@@ -3,7 +3,7 @@ use Rattle.std.proofs.Common.{◌≡◌, ℕ, suc, ◌+◌, ◌*◌, ◌/◌, �
 use Rattle.std.specs.List.{list_all}
 use Rattle.std.specs.Prelude.{codes}
 use Rattle.std.proofs.lemmas.Bool.{and_parts, leb-true}
-use Rattle.std.proofs.Math.Nat.{add-div_right, add-mod_right, div-add-mod, mul-div_cancel_left, mul-div-le, mul-mod_right}
+use Rattle.std.proofs.Math.Nat.{add-div_right, add-mod_right, div-add-mod, mod-lt, mul-div_cancel_left, mul-div-le, mul-mod_right}
 use Rattle.pv_model.specs.declared.version.Version.{Version}
 use Rattle.pv_model.specs.declared.version.Version.TheVariants.{V1, V2}
 use Rattle.pv_model.specs.Bytes.{Bytes, is_empty}
@@ -20,6 +20,11 @@ slot_some V2 = omega arith
 pub slot_least : (v : Version) → 4 ≤ entry_length v
 slot_least V1 = omega arith
 slot_least V2 = omega arith
+
+-- the front of a slot stands in one block
+pub slot_front : (v : Version) (k : ℕ) → entry_length v * k % 512 + 4 ≤ 512
+slot_front V1 k = omega (arith, mod-lt (64 * k) {m = 512} (omega arith), div-add-mod (64 * k) 512)
+slot_front V2 k = omega (arith, mod-lt (260 * k) {m = 512} (omega arith), div-add-mod (260 * k) 512)
 
 pub slot_greatest : (v : Version) → entry_length v ≤ 260
 slot_greatest V1 = omega arith

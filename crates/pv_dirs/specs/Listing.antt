@@ -8,6 +8,11 @@ use Rattle.pv_model.specs.Bytes.{Bytes}
 use Rattle.pv_model.specs.Calls.Descriptors.{is_behind}
 use Rattle.pv_model.specs.Tree.{Entries}
 
+-- the first name, or else the second
+abbrev pub first_of : Option Bytes → Option Bytes → Option Bytes
+first_of (Some name) second = Some name
+first_of None second = second
+
 -- whether a name comes before another, if there is another
 abbrev pub is_before : Bytes → Option Bytes → Bool
 is_before name None = true

@@ -14,7 +14,7 @@ mod counting;
 mod image;
 
 use crate::index::Index;
-use crate::scan::{count, find, least_behind, slot, start};
+use crate::scan::{count, find, least_behind, number, slot, start};
 use crate::slot::Slot;
 use pv_inodes::{Inodes, Space};
 use pv_model::{Name, Sort, Version};
@@ -137,7 +137,7 @@ impl Directories {
         ensures { result ≡ find_entry self.now directory name.now }
     {
         let k = find(&self.inodes, &self.index, directory, name)?;
-        Some(slot(&self.inodes, directory, k).inode())
+        Some(number(&self.inodes, directory, k))
     }
 
     /// The least name of a directory, in byte order, that comes behind the last one; without a last one

@@ -90,14 +90,6 @@ impl Slot {
         &self.bytes[..self.length]
     }
 
-    /// The number of the entry's inode.
-    #[tactic(auto, unfolding(crate::specs::Slots::slot_number))]
-    pub(crate) fn inode(&self) -> u16
-        ensures { result ≡ slot_number self.now }
-    {
-        LittleEndian::read_u16(self.as_bytes())
-    }
-
     /// The entry's name.
     #[tactic(auto, unfolding(crate::specs::Slots::slot_name))]
     pub(crate) fn name(&self) -> &[u8]

@@ -4,7 +4,7 @@
 ghost use Rattle.std.specs.Prelude.{◌≡◌, ◌++◌, ◌+◌, ◌*◌, ◌<◌, ◌≤◌, replicate, ◌∷◌, length, codes, decimal, flat_map};
 ghost use Rattle.std.specs.Fmt.{signed_decimal};
 ghost use Rattle.pv_model.specs.declared.limits.TheConstants.{TEXT};
-ghost use Rattle.pv_model.specs.Trace.{quote, quote_byte, quote_or_null, hex, hex_byte, hex_digit, pad_left};
+ghost use Rattle.pv_model.specs.Trace.{quote, quote_byte, quote_or_null, hex, hex_byte, hex_digit, is_plain, pad_left};
 ghost use Rattle.pv_trace.specs.Words.{letters_bytes};
 
 use arrayvec::ArrayVec;
@@ -16,6 +16,9 @@ pub const LINE_BYTES: usize = 9_216;
 
 /// Bytes of a sheet: room for the seven lines that a step has at most.
 pub const SHEET: usize = 64_512;
+
+// Bytes whose digits go on the sheet in one piece.
+const PART: usize = 64;
 
 /// What the lines of a step are made on: one sheet serves for any number of steps.
 pub type Sheet = ArrayVec<u8, SHEET>;
@@ -80,13 +83,19 @@ fn digit(value: u8) -> u8
     }
 }
 
-// A byte in two digits.
-fn put_hex_byte(out: &mut Sheet, byte: u8)
-    requires { length out.old.items + 2 ≤ SHEET }
-    ensures text { out.new.items ≡ out.old.items ++ hex_byte byte }
-    ensures growth { length out.new.items ≤ length out.old.items + 2 }
+// The digits of a few bytes, two for each.
+fn put_hex_part(out: &mut Sheet, bytes: &[u8])
+    requires few { length bytes.now ≤ PART }
+    requires room { length out.old.items + 2 * length bytes.now ≤ SHEET }
+    ensures text { out.new.items ≡ out.old.items ++ hex bytes.now }
+    ensures growth { length out.new.items ≤ length out.old.items + 2 * length bytes.now }
 {
-    put(out, &[digit(byte / 16), digit(byte % 16)]);
+    let mut digits = [0; 2 * PART];
+    for k in 0..bytes.len() {
+        digits[2 * k] = digit(bytes[k] / 16);
+        digits[2 * k + 1] = digit(bytes[k] % 16);
+    }
+    put(out, &digits[..2 * bytes.len()]);
 }
 
 pub(crate) fn put_hex(out: &mut Sheet, bytes: &[u8])
@@ -94,33 +103,46 @@ pub(crate) fn put_hex(out: &mut Sheet, bytes: &[u8])
     ensures text { out.new.items ≡ out.old.items ++ hex bytes.now }
     ensures growth { length out.new.items ≤ length out.old.items + 2 * length bytes.now }
 {
-    for byte in bytes {
-        put_hex_byte(out, *byte);
+    let mut left = bytes;
+    while !left.is_empty() {
+        let (part, behind) = left.split_at(left.len().min(PART));
+        put_hex_part(out, part);
+        left = behind;
     }
 }
 
-// A byte of a text, as a program writes it in its shortest form.
-fn put_quoted_byte(out: &mut Sheet, byte: u8)
+// Whether a program writes a byte of a text as it is.
+fn is_plain(byte: u8) -> bool
+    ensures { result ≡ is_plain byte }
+{
+    (32..=126).contains(&byte) && byte != b'"' && byte != b'\\'
+}
+
+// A byte of a text that is not written as it is.
+fn put_escaped(out: &mut Sheet, byte: u8)
     requires { length out.old.items + 4 ≤ SHEET }
-    ensures text { out.new.items ≡ out.old.items ++ quote_byte byte }
+    ensures text { out.new.items ≡ out.old.items ++ (codes "\\x" ++ hex_byte byte) }
     ensures growth { length out.new.items ≤ length out.old.items + 4 }
 {
-    if (32..=126).contains(&byte) && byte != b'"' && byte != b'\\' {
-        put(out, &[byte]);
-    } else {
-        put(out, b"\\x");
-        put_hex_byte(out, byte);
-    }
+    put(out, &[b'\\', b'x', digit(byte / 16), digit(byte % 16)]);
 }
 
+// The bytes of a text, as a program writes them in their shortest form. What is written as it is goes on
+// the sheet in one piece, up to the next byte that is not.
 fn put_quoted_bytes(out: &mut Sheet, bytes: &[u8])
     requires { length out.old.items + 4 * length bytes.now ≤ SHEET }
     ensures text { out.new.items ≡ out.old.items ++ flat_map quote_byte bytes.now }
     ensures growth { length out.new.items ≤ length out.old.items + 4 * length bytes.now }
 {
-    for byte in bytes {
-        put_quoted_byte(out, *byte);
+    let mut done = 0;
+    for k in 0..bytes.len() {
+        if !is_plain(bytes[k]) {
+            put(out, &bytes[done..k]);
+            put_escaped(out, bytes[k]);
+            done = k + 1;
+        }
     }
+    put(out, &bytes[done..]);
 }
 
 // Bytes as a program writes them, in their shortest form.

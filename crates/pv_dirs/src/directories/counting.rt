@@ -5,7 +5,7 @@ ghost use Rattle.pv_model.specs.Tree.{entries_at, is_directory_at, find_entry};
 ghost use Rattle.pv_dirs.specs.Counts.{count_in};
 
 use super::Directories;
-use crate::scan::{count, slot};
+use crate::scan::{count, number};
 
 impl Directories {
     /// Counts the entries of a directory by the nodes that they are for, in one pass. Where so many are for
@@ -19,7 +19,7 @@ impl Directories {
         ensures parents { (n : ℕ) → slice_index parents.new n ≡ (if nat_lt 0 (count_in n (entries_at self.now directory)) then directory else slice_index parents.old n) }
     {
         for k in 0..count(&self.inodes, directory) {
-            let node = slot(&self.inodes, directory, k).inode() as usize;
+            let node = number(&self.inodes, directory, k) as usize;
             counts[node] += 1;
             parents[node] = directory;
         }

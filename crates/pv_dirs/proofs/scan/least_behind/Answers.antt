@@ -16,7 +16,7 @@ use Rattle.pv_dirs.proofs.scan.least_behind.Goals.{then-run-length, else-run-len
 
 pub loop-k-init : goal.loop-k-init
 unfolding in_order
-loop-k-init c = record { best = refl; run = refl }
+loop-k-init c = record { best = c.none-best.ensures; run = refl }
 
 pub loop-k-preserved : goal.loop-k-preserved
 loop-k-preserved c =
@@ -40,4 +40,4 @@ loop-k-preserved c =
 pub returns : goal.returns
 returns c =
     let bytes = bytes_at c.args.inodes.now c.args.directory in
-    c.loop-k.invariant.best ∙ ap (λ (es : Entries). next_name (option_copied c.args.last) (in_order es)) (take_all c.loop-k.k (slot_entries c.args.inodes.now.version bytes) (omega (arith, length-slot_entries c.args.inodes.now.version bytes, c.count-k-end.ensures.value, c.loop-k-test.false)))
+    c.into_name.ensures ∙ c.loop-k.invariant.best ∙ ap (λ (es : Entries). next_name (option_copied c.args.last) (in_order es)) (take_all c.loop-k.k (slot_entries c.args.inodes.now.version bytes) (omega (arith, length-slot_entries c.args.inodes.now.version bytes, c.count-k-end.ensures.value, c.loop-k-test.false)))

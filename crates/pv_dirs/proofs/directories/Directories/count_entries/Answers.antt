@@ -36,13 +36,13 @@ count-k-end-requires c = directory_used c.self.inside.inodes c.args.directory (i
 pub loop-k-init : goal.loop-k-init
 loop-k-init c = counted_none _ _ _ _
 
-pub slot-requires-clause-used : goal.slot-requires-clause-used
-slot-requires-clause-used c = directory_used c.self.inside.inodes c.args.directory (is_directory (goal.at.slot-requires-clause-used c).After-self)
+pub number-node-requires-clause-used : goal.number-node-requires-clause-used
+number-node-requires-clause-used c = directory_used c.self.inside.inodes c.args.directory (is_directory (goal.at.number-node-requires-clause-used c).After-self)
 
 pub bounds-counts-node : goal.bounds-counts-node
 bounds-counts-node c =
     let place = placed (goal.at.bounds-counts-node c).After-self c.loop-k.k (omega (arith, c.count-k-end.ensures.value, c.loop-k-test.true)) in
-    omega (arith, place, c.inode-node.ensures ∙ ap slot_number c.slot.ensures, c.loop-k.auto.counts)
+    omega (arith, place, c.number-node.ensures, c.loop-k.auto.counts)
 
 pub overflow_add-counts : goal.overflow_add-counts
 overflow_add-counts c =
@@ -50,25 +50,25 @@ overflow_add-counts c =
     let all = length-slot_entries c.self.inside.inodes.version (bytes_at c.self.inside.inodes c.args.directory) in
     omega (
       arith,
-      count_fits es c.args.directory c.loop-k.k c.loop-k.counts c.loop-k.parents c.args.counts.now c.args.parents.now c.loop-k.invariant c.inode-node.result 4294967295
-          (omega (arith, c.count-k-end.ensures.value, c.loop-k-test.true, all)) (omega (arith, c.count-k-end.ensures.value, c.count-k-end.ensures.few, all)) (c.requires.room c.inode-node.result),
+      count_fits es c.args.directory c.loop-k.k c.loop-k.counts c.loop-k.parents c.args.counts.now c.args.parents.now c.loop-k.invariant c.number-node.result 4294967295
+          (omega (arith, c.count-k-end.ensures.value, c.loop-k-test.true, all)) (omega (arith, c.count-k-end.ensures.value, c.count-k-end.ensures.few, all)) (c.requires.room c.number-node.result),
     )
 
 pub bounds-counts-node-in-loop-k : goal.bounds-counts-node-in-loop-k
 bounds-counts-node-in-loop-k c =
     let place = placed (goal.at.bounds-counts-node-in-loop-k c).After-self c.loop-k.k (omega (arith, c.count-k-end.ensures.value, c.loop-k-test.true)) in
-    omega (arith, place, c.inode-node.ensures ∙ ap slot_number c.slot.ensures, c.loop-k.auto.counts)
+    omega (arith, place, c.number-node.ensures, c.loop-k.auto.counts)
 
 pub bounds-parents-node : goal.bounds-parents-node
 bounds-parents-node c =
     let place = placed (goal.at.bounds-parents-node c).After-self c.loop-k.k (omega (arith, c.count-k-end.ensures.value, c.loop-k-test.true)) in
-    omega (arith, place, c.inode-node.ensures ∙ ap slot_number c.slot.ensures, c.loop-k.auto.parents, c.requires.places)
+    omega (arith, place, c.number-node.ensures, c.loop-k.auto.parents, c.requires.places)
 
 pub loop-k-preserved : goal.loop-k-preserved
 loop-k-preserved c =
     let v = c.self.inside.inodes.version in
     let bytes = bytes_at c.self.inside.inodes c.args.directory in
-    let node = c.inode-node.ensures ∙ ap slot_number c.slot.ensures in
+    let node = c.number-node.ensures in
     let less : c.loop-k.k < slot_count v bytes = omega (arith, c.count-k-end.ensures.value, c.loop-k-test.true) in
     let place = placed (goal.at.loop-k-preserved c).After-self c.loop-k.k less in
     rw node (counted_more (slot_entries v bytes) c.args.directory c.loop-k.k c.loop-k.counts c.loop-k.parents c.args.counts.now c.args.parents.now c.loop-k.invariant (slot_entry v bytes c.loop-k.k)

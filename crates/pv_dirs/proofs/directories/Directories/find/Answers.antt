@@ -2,7 +2,7 @@ use Rattle.std.proofs.Common.{◌≡◌, true, Some, None, subst, sym, ap, ◌�
 use Rattle.std.specs.FinMap.Entries.{find}
 use Rattle.pv_model.specs.Tree.{Tree, is_directory_at, find_entry}
 use Rattle.pv_inodes.specs.Files.{bytes_at}
-use Rattle.pv_dirs.specs.Slots.{slot_number, slot_entries}
+use Rattle.pv_dirs.specs.Slots.{slot_entries}
 use Rattle.pv_dirs.specs.Trees.{tree_of}
 use Rattle.pv_dirs.proofs.Entries.{by_name}
 use Rattle.pv_dirs.proofs.Indexed.{directory_led}
@@ -31,6 +31,6 @@ returns-in_err-k c =
 pub returns : goal.returns
 returns c =
     let start = (goal.at.returns c).After-self in
-    ap Some (c.inode.ensures ∙ ap slot_number c.slot.ensures)
+    ap Some c.number.ensures
     ∙ sym (found start ∙ find-slot_entries c.self.inside.inodes.version (bytes_at c.self.inside.inodes c.args.directory) c.in_ok-k.k c.args.name.now
     (directory_slotted c.self.inside.inodes c.self.inside.block_count c.args.directory c.self.invariant.holding (is_directory start)).distinct c.in_ok-k.ensures.within c.in_ok-k.ensures.named)
