@@ -88,6 +88,11 @@ pub struct Line<'a> {
 
 /// A blank for the unused places of a row of lines.
 impl<'a> Default for Line<'a> {
+    ghost use Rattle.std.specs.Prelude.{◌≡◌};
+    ghost use Rattle.pv_model.specs.Trace.{gone_word};
+
+    ghost is_default = { λ line. line ≡ record { pid = 0; word = gone_word } };
+
     fn default() -> Line<'a> {
         Line {
             pid: 0,

@@ -1,6 +1,8 @@
 //! How often the entries of a directory are for a node.
 ghost use Rattle.std.specs.Prelude.{◌≡◌, ℕ, ◌+◌, ◌<◌, ◌≤◌, if◌then◌else◌, nat_lt, length, slice_index, IsTrue, Some};
 ghost use Rattle.pv_model.specs.Bytes.{Bytes};
+ghost use Rattle.pv_model.specs.declared.version.Version.TheVariants.{V2};
+ghost use Rattle.pv_model.specs.Room.{greatest_entries};
 ghost use Rattle.pv_model.specs.Tree.{entries_at, is_directory_at, find_entry};
 ghost use Rattle.pv_dirs.specs.Counts.{count_in};
 
@@ -14,7 +16,7 @@ impl Directories {
         requires directory { IsTrue (is_directory_at self.now directory) }
         requires nodes { (name : Bytes) (n : ℕ) → find_entry self.now directory name ≡ Some n → n < length counts.old }
         requires places { length parents.old ≡ length counts.old }
-        requires room { (n : ℕ) → slice_index counts.old n + 2540 ≤ u32.MAX }
+        requires room { (n : ℕ) → slice_index counts.old n + greatest_entries V2 ≤ u32.MAX }
         ensures counts { (n : ℕ) → slice_index counts.new n ≡ slice_index counts.old n + count_in n (entries_at self.now directory) }
         ensures parents { (n : ℕ) → slice_index parents.new n ≡ (if nat_lt 0 (count_in n (entries_at self.now directory)) then directory else slice_index parents.old n) }
     {
