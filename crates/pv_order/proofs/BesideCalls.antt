@@ -1,6 +1,6 @@
 -- Each call run beside itself, in two states that differ inside another process.
-use Rattle.std.proofs.Common.{◌≢◌, ℕ, zero, suc, ℤ, not, ◌||◌, ◌==◌, nat_le, nat_lt, List, [], ◌∷◌, length, Option, None, Some, refl, ap, sym, subst}
-use Rattle.std.specs.FinMap.Entries.{put}
+use Rattle.std.proofs.Common.{◌≢◌, ℕ, zero, suc, ℤ, not, Bool, ◌||◌, ◌==◌, nat_le, nat_lt, List, [], ◌∷◌, length, Option, None, Some, refl, ap, sym, subst}
+use Rattle.std.specs.FinMap.Entries.{put, where_key}
 use Rattle.std.specs.Ordering.{nat_cmp}
 use Rattle.pv_model.specs.declared.call.Call.{Call}
 use Rattle.pv_model.specs.declared.call.Call.TheVariants as TheCall
@@ -11,7 +11,7 @@ use Rattle.pv_model.specs.declared.open_flags.OpenFlags.{OpenFlags}
 use Rattle.pv_model.specs.Answer.{effect}
 use Rattle.pv_model.specs.Attempt.{Attempt, ◌>>=◌, ◌>>◌, refuse_if}
 use Rattle.pv_model.specs.Bytes.{Bytes, is_empty}
-use Rattle.pv_model.specs.Calls.Descriptors.{open_node, open_at, write, after_write, list_name}
+use Rattle.pv_model.specs.Calls.Descriptors.{with_descriptor, open_node, open_at, write, after_write, list_name}
 use Rattle.pv_model.specs.Calls.Processes.{child, fork, children, statuses, reap, wait}
 use Rattle.pv_model.specs.Calls.Restraints.{unveil}
 use Rattle.pv_model.specs.Effect.{Effect, returns, answers, with_room}
@@ -21,7 +21,7 @@ use Rattle.pv_model.specs.Tree.{Tree}
 use Rattle.pv_laws.proofs.Rests
 use Rattle.pv_order.specs.Beside.{with_change}
 use Rattle.pv_order.proofs.Alongside.{IsBeside, Beside, after-beside, bind-beside, then-beside, cond-beside, done-beside, refused-beside, cond-state, room-beside}
-use Rattle.pv_order.proofs.Exchange.{KeepsParent, changed, Fits, put-other, length-changed, where-changed, children-changed, trim-changed, fits-put, fits-filter}
+use Rattle.pv_order.proofs.Exchange.{KeepsParent, changed, Fits, put-other, length-changed, where-changed, children-changed, trim-changed}
 
 -- the change of a process, and the states that are fit for it
 abbrev pub changes : ℕ → (Process → Process) → State → State
@@ -34,24 +34,41 @@ pub room-changed : (k : ℕ) (f : Process → Process) (x y : State) (n : ℕ) �
     → Beside (changes k f) (AreFit k f) (with_room x >>= (λ roomy. answers roomy n)) (with_room y >>= (λ roomy. answers roomy n))
 room-changed k f x y n is = room-beside (changes k f) (AreFit k f) (λ z fit. trim-changed k f z fit) (λ z. refl) x y n is
 
-module _ (k : ℕ) (f : Process → Process) (keeps : KeepsParent f) (s : State) (pid : ℕ) (me : Process) (other : pid ≢ k) (fit : Fits k f s.processes) (next_other : suc s.last_process ≢ k) where
+-- what calls of process `pid` leave is fit, and the states for which they ask for room have it alike
+pub record CallsFit (k : ℕ) (f : Process → Process) (s : State) (pid : ℕ) (me : Process) (Fit : State → Type 0) : Type 0 where
+  pub left : (t : Tree) (fs : Numbered OpenFile) → Fit (record s { tree = t; files = fs })
+  pub own : (t : Tree) (fs : Numbered OpenFile) (q : Process) → Fit (record s { tree = t; files = fs; processes = put nat_cmp pid (live q) s.processes })
+  pub forked : Fit (record s { processes = put nat_cmp (suc s.last_process) (live (child s pid me)) s.processes; last_process = suc s.last_process })
+  pub reaped : (test : ℕ → Bool) → Fit (record s { processes = where_key nat_cmp test s.processes })
+  pub room : (t : Tree) (fs : Numbered OpenFile) (n : ℕ)
+      → Beside (changes k f) Fit (with_room (record s { tree = t; files = fs }) >>= (λ roomy. answers roomy n)) (with_room (record (with_change s k f) { tree = t; files = fs }) >>= (λ roomy. answers roomy n))
+  pub room_opened : (t : Tree) (fs : Numbered OpenFile) (file : ℕ) (close_on_exec : Bool) (n : ℕ)
+      → Beside (changes k f) Fit (with_room (with_descriptor s pid me (record s { tree = t; files = fs }) file close_on_exec) >>= (λ roomy. answers roomy n))
+      (with_room (with_descriptor (with_change s k f) pid me (record (with_change s k f) { tree = t; files = fs }) file close_on_exec) >>= (λ roomy. answers roomy n))
+
+module _ (k : ℕ) (f : Process → Process) (keeps : KeepsParent f) (s : State) (pid : ℕ) (me : Process) (other : pid ≢ k) (next_other : suc s.last_process ≢ k) (Fit : State → Type 0) (fits : CallsFit k f s pid me Fit) where
   abbrev u : State
   u = with_change s k f
 
   abbrev B : Attempt Effect → Attempt Effect → Type 0
-  B = Beside (changes k f) (AreFit k f)
+  B = Beside (changes k f) Fit
 
-  tree-beside : (t : Tree) (fs : Numbered OpenFile) → IsBeside (changes k f) (AreFit k f) (record s { tree = t; files = fs }) (record u { tree = t; files = fs })
-  tree-beside t fs = record { same = refl; fit = fit }
+  tree-beside : (t : Tree) (fs : Numbered OpenFile) → IsBeside (changes k f) Fit (record s { tree = t; files = fs }) (record u { tree = t; files = fs })
+  tree-beside t fs = record { same = refl; fit = fits.left t fs }
 
   own-beside : (t : Tree) (fs : Numbered OpenFile) (q : Process)
-      → IsBeside (changes k f) (AreFit k f) (record s { tree = t; files = fs; processes = put nat_cmp pid (live q) s.processes }) (record u { tree = t; files = fs; processes = put nat_cmp pid (live q) (changed k f s.processes) })
-  own-beside t fs q = record {
-    same = ap (λ ps. record s { tree = t; files = fs; processes = ps }) (put-other k f pid (live q) s.processes other);
-    fit = fits-put k f pid (live q) s.processes (λ p is here. absurd (other here)) fit;
-  }
+      → IsBeside (changes k f) Fit (record s { tree = t; files = fs; processes = put nat_cmp pid (live q) s.processes }) (record u { tree = t; files = fs; processes = put nat_cmp pid (live q) (changed k f s.processes) })
+  own-beside t fs q = record { same = ap (λ ps. record s { tree = t; files = fs; processes = ps }) (put-other k f pid (live q) s.processes other); fit = fits.own t fs q }
 
-  ruleset parts = (bind-beside, then-beside, cond-beside, done-beside, refused-beside, room-changed, tree-beside, own-beside, cond-state)
+  room-left : (t : Tree) (fs : Numbered OpenFile) (n : ℕ) → B (with_room (record s { tree = t; files = fs }) >>= (λ roomy. answers roomy n)) (with_room (record u { tree = t; files = fs }) >>= (λ roomy. answers roomy n))
+  room-left t fs n = fits.room t fs n
+
+  room-opened : (t : Tree) (fs : Numbered OpenFile) (file : ℕ) (close_on_exec : Bool) (n : ℕ)
+      → B (with_room (with_descriptor s pid me (record s { tree = t; files = fs }) file close_on_exec) >>= (λ roomy. answers roomy n))
+      (with_room (with_descriptor u pid me (record u { tree = t; files = fs }) file close_on_exec) >>= (λ roomy. answers roomy n))
+  room-opened t fs file close_on_exec n = fits.room_opened t fs file close_on_exec n
+
+  ruleset parts = (bind-beside, then-beside, cond-beside, done-beside, refused-beside, room-left, room-opened, tree-beside, own-beside, cond-state)
 
   abbrev number : ℕ
   number = suc s.last_process
@@ -62,25 +79,25 @@ module _ (k : ℕ) (f : Process → Process) (keeps : KeepsParent f) (s : State)
   fork-beside : B (fork s pid me) (fork u pid me)
   fork-beside =
       subst (λ n. B (fork s pid me) (refuse_if EAGAIN (nat_le 32 n || nat_lt 99999 number) >> answers (forked u) number)) (sym (length-changed k f s.processes))
-      (then-beside (changes k f) (AreFit k f) (refuse_if EAGAIN (nat_le 32 (length s.processes) || nat_lt 99999 number)) (answers (forked s) number) (answers (forked u) number)
-      (done-beside (changes k f) (AreFit k f) 0 (returns number) (forked s) (forked u) (record {
+      (then-beside (changes k f) Fit (refuse_if EAGAIN (nat_le 32 (length s.processes) || nat_lt 99999 number)) (answers (forked s) number) (answers (forked u) number)
+      (done-beside (changes k f) Fit 0 (returns number) (forked s) (forked u) (record {
         same = ap (λ ps. record s { processes = ps; last_process = number }) (put-other k f number (live (child s pid me)) s.processes next_other);
-        fit = fits-put k f number (live (child s pid me)) s.processes (λ p is here. absurd (next_other here)) fit;
+        fit = fits.forked;
       })))
 
   reap-beside : (ss : List (ℕ × ℕ)) → B (reap s pid me ss) (reap u pid me ss)
   reap-beside [] = search parts depth 20
   reap-beside ((n, status) ∷ rs) =
-      done-beside (changes k f) (AreFit k f) 0 _ _ _ (record {
+      done-beside (changes k f) Fit 0 _ _ _ (record {
         same = ap (λ ps. record s { processes = ps }) (where-changed k f (λ j. not (j == n)) s.processes);
-        fit = fits-filter k f (λ r. not (r.0 == n)) s.processes fit;
+        fit = fits.reaped (λ j. not (j == n));
       })
 
   wait-beside : B (wait s pid me) (wait u pid me)
   wait-beside =
       let both = children-changed k f keeps pid s.processes in
       subst (λ b. B (wait s pid me) (refuse_if ECHILD b >> reap u pid me (statuses (children u pid me)))) (sym both.1)
-      (then-beside (changes k f) (AreFit k f) (refuse_if ECHILD (is_empty (children s pid me))) (reap s pid me (statuses (children s pid me))) (reap u pid me (statuses (children u pid me)))
+      (then-beside (changes k f) Fit (refuse_if ECHILD (is_empty (children s pid me))) (reap s pid me (statuses (children s pid me))) (reap u pid me (statuses (children u pid me)))
       (subst (λ ss. B (reap s pid me (statuses (children s pid me))) (reap u pid me ss)) (sym both.0) (reap-beside (statuses (children s pid me)))))
 
   unveil-beside : (path letters : Option Bytes) → B (unveil s pid me path letters) (unveil u pid me path letters)
@@ -98,12 +115,12 @@ module _ (k : ℕ) (f : Process → Process) (keeps : KeepsParent f) (s : State)
   open-beside : (start : Start) (path : Bytes) (flags : OpenFlags) → B (open_at s pid me start path flags) (open_at u pid me start path flags)
   open-beside start path flags = search (bind-beside, then-beside, node-beside) depth 40
 
-  written : (j : ℕ) (file : OpenFile) (count : ℕ) → IsBeside (changes k f) (AreFit k f) (after_write s pid me j file count) (after_write u pid me j file count)
-  written j file zero = search parts depth 20
-  written j file (suc n) = search parts depth 20
+  written : (j : ℕ) (file : OpenFile) (count n : ℕ) → B (with_room (after_write s pid me j file count) >>= (λ roomy. answers roomy n)) (with_room (after_write u pid me j file count) >>= (λ roomy. answers roomy n))
+  written j file zero n = search parts depth 20
+  written j file (suc count) n = search parts depth 20
 
   write-beside : (d n : ℤ) → B (write s pid me d n) (write u pid me d n)
-  write-beside d n = search (bind-beside, then-beside, room-changed, written) depth 20
+  write-beside d n = search (bind-beside, then-beside, written) depth 20
 
   listed : (j : ℕ) (file : OpenFile) (o : Option Bytes) → B (list_name s pid me j file o) (list_name u pid me j file o)
   listed j file None = search parts depth 20
