@@ -5,6 +5,7 @@ pub mod BesideSteps
 pub mod Shifts
 pub mod ShiftCalls
 pub mod Commuted
+pub mod HeldApart
 pub mod Inward
 pub mod Orphans
 pub mod Told

@@ -1,0 +1,219 @@
+-- States in which one process has other descriptors, but the same open files are used: what is trimmed of them, and the steps of other processes.
+use Rattle.std.proofs.Common.{◌≡◌, ◌≢◌, ℕ, suc, Bool, true, false, ◌==◌, if◌then◌else◌, List, [], ◌∷◌, ◌++◌, map, Option, None, Some, is_some, refl, ap, ap₂, sym, subst, ◌∙◌, ⊎_elim}
+use Rattle.std.specs.FinMap.Entries.{put, is_sorted}
+use Rattle.std.specs.Ordering.{nat_cmp}
+use Rattle.std.proofs.lemmas.Bool.{cases_eq}
+use Rattle.pv_model.specs.Answer.{at_next_line}
+use Rattle.pv_model.specs.Attempt.{Attempt, done, refused, ◌>>=◌}
+use Rattle.pv_model.specs.Bytes.{Bytes}
+use Rattle.pv_model.specs.Effect.{Effect, answers, with_room}
+use Rattle.pv_model.specs.Held.{among, held_by_process, trim}
+use Rattle.pv_model.specs.Numbered.{Numbered, at_number, with_number, least_free, present, keep}
+use Rattle.pv_model.specs.Program.{calls_for, next}
+use Rattle.pv_model.specs.State.{OpenFile, Descriptor, Program, Process, Record, live, ended_record, State, process_at, with_process}
+use Rattle.pv_model.specs.Step.{step}
+use Rattle.pv_tree_laws.specs.Kept.{kept}
+use Rattle.pv_tree_laws.proofs.Numbered.{at_number-keep, keep_if-some, keep-agree, with_number-other_within, least_free-within, least_free-free}
+use Rattle.pv_laws.specs.Held.{used}
+use Rattle.pv_laws.specs.States.{SpellsPrograms, IsWhole}
+use Rattle.pv_laws.proofs.Members.{all_of, live-found, among-used, used-among}
+use Rattle.pv_laws.proofs.Outcomes.{at_call}
+use Rattle.pv_laws.proofs.Processes.{process_at-same, process_at-other}
+use Rattle.pv_laws.proofs.Running.{used-same}
+use Rattle.pv_laws.proofs.Trim.{files-trim, processes-trim}
+use Rattle.pv_laws.proofs.Whole.{sorted-put_number}
+use Rattle.pv_rights.proofs.Ends.{whole-in_order, not_next}
+use Rattle.pv_order.specs.Beside.{with_change, change_live}
+use Rattle.pv_order.proofs.Alongside.{Beside, moved, FitsIn, SteppedBeside, IsApartTo, room-beside, step-beside_to}
+use Rattle.pv_order.proofs.BesideCalls.{changes, CallsFit, calls-beside}
+use Rattle.pv_order.proofs.Commuted.{put-changes}
+use Rattle.pv_order.proofs.Exchange.{KeepsParent, changed, put-other, process-changed, with-changed, end-changed}
+
+same-truth : (a b : Bool) → (a ≡ true → b ≡ true) → (b ≡ true → a ≡ true) → a ≡ b
+same-truth true b there back = sym (there refl)
+same-truth false true there back = back refl
+same-truth false false there back = refl
+
+-- what is used of a state's open files is used of another's, also where one process comes to use more
+used-onward : (s u : State) → is_sorted nat_cmp s.processes ≡ true → is_sorted nat_cmp u.processes ≡ true → (pid : ℕ) (me more : Process) → process_at u pid ≡ Some me
+    → ((d : ℕ) (x : Descriptor) → at_number me.descriptors d ≡ Some x → (e : ℕ) × (y : Descriptor) × (at_number more.descriptors e ≡ Some y) × (y.file ≡ x.file))
+    → ((m : ℕ) → among (used s) m ≡ true → among (used u) m ≡ true) → (m : ℕ) → among (used (with_process s pid more)) m ≡ true → among (used (with_process u pid more)) m ≡ true
+used-onward s u sorted_s sorted_u pid me more at_u keeps onward m is =
+    let v : State = with_process s pid more in
+    let w : State = with_process u pid more in
+    let found = used-among v (sorted-put_number pid (live more) s.processes sorted_s) m is in
+    let own : (d : ℕ) (x : Descriptor) → at_number more.descriptors d ≡ Some x → x.file ≡ m → among (used w) m ≡ true =
+    λ d x has file. subst (λ n. among (used w) n ≡ true) file (among-used w pid more d x (process_at-same u pid more) has) in
+    ⊎_elim
+    (λ here.
+    let both : Some found.1 ≡ Some more = sym found.4 ∙ ap (process_at v) here ∙ process_at-same s pid more in
+    let same : found.1 ≡ more = cc both in
+    own found.2 found.3 (ap (λ (p : Process). at_number p.descriptors found.2) (sym same) ∙ found.5) found.6)
+    (λ apart.
+    let before : among (used s) m ≡ true = subst (λ n. among (used s) n ≡ true) found.6 (among-used s found.0 found.1 found.2 found.3 (sym (process_at-other s pid more found.0 apart) ∙ found.4) found.5) in
+    let there = used-among u sorted_u m (onward m before) in
+    ⊎_elim
+    (λ here.
+    let both : Some there.1 ≡ Some me = sym there.4 ∙ ap (process_at u) here ∙ at_u in
+    let same : there.1 ≡ me = cc both in
+    let kept = keeps there.2 there.3 (ap (λ (p : Process). at_number p.descriptors there.2) (sym same) ∙ there.5) in
+    own kept.0 kept.1 kept.2 (kept.3 ∙ there.6))
+    (λ other. subst (λ n. among (used w) n ≡ true) there.6 (among-used w there.0 there.1 there.2 there.3 (process_at-other u pid more there.0 other ∙ there.4) there.5))
+    (cases_eq there.0 pid))
+    (cases_eq found.0 pid)
+
+-- a new descriptor leaves the others
+more-with_number : (ds : Numbered Descriptor) (new : Descriptor) (d : ℕ) (x : Descriptor) → at_number ds d ≡ Some x
+    → (e : ℕ) × (y : Descriptor) × (at_number (with_number ds (least_free ds) new) e ≡ Some y) × (y.file ≡ x.file)
+more-with_number ds new d x has =
+    let other : d ≢ least_free ds = λ same. let none : None ≡ Some x = sym (least_free-free ds) ∙ ap (at_number ds) (sym same) ∙ has in cc none in
+    (d, x, with_number-other_within ds (least_free ds) new d (least_free-within ds) other ∙ has, refl)
+
+-- ---- a change that leaves what processes hold but their descriptors
+
+pub record KeepsNodes (f : Process → Process) : Type 0 where
+  pub held : (p : Process) → held_by_process (f p) ≡ held_by_process p
+
+module _ (j : ℕ) (f : Process → Process) where
+  -- the same open files are used
+  pub record SameUse (x : State) : Type 0 where
+    pub same : (m : ℕ) → among (used (with_change x j f)) m ≡ among (used x) m
+
+  held-changed : KeepsNodes f → (es : List (ℕ × Record)) → all_of held_by_process (changed j f es) ≡ all_of held_by_process es
+  held-changed keeps [] = refl
+  held-changed keeps ((n, live p) ∷ es) = by (n == j) (held-changed keeps es)
+    where
+      by : (b : Bool) → all_of held_by_process (changed j f es) ≡ all_of held_by_process es
+          → all_of held_by_process ((n, if b then live (f p) else live p) ∷ changed j f es) ≡ held_by_process p ++ all_of held_by_process es
+      by true rest = ap₂ (λ (a b : List ℕ). a ++ b) (keeps.held p) rest
+      by false rest = ap (λ (b : List ℕ). held_by_process p ++ b) rest
+  held-changed keeps ((n, ended_record parent status) ∷ es) = by (n == j) (held-changed keeps es)
+    where
+      by : (b : Bool) → all_of held_by_process (changed j f es) ≡ all_of held_by_process es
+          → all_of held_by_process ((n, if b then ended_record parent status else ended_record parent status) ∷ changed j f es) ≡ all_of held_by_process es
+      by true rest = rest
+      by false rest = rest
+
+  pub trim-use : KeepsNodes f → (x : State) → SameUse x → trim (with_change x j f) ≡ with_change (trim x) j f
+  unfolding trim
+  trim-use keeps x uses =
+      ap₂ (λ hs fs. record (with_change x j f) { tree = kept x.tree (hs ++ map (λ o. o.node) (present fs)); files = fs })
+      (held-changed keeps x.processes) (keep-agree (among (used (with_change x j f))) (among (used x)) x.files uses.same)
+
+  -- ---- where the process is there
+
+  module _ (x : State) (sorted : is_sorted nat_cmp x.processes ≡ true) (p : Process) (at : process_at x j ≡ Some p) where
+    pub change-is : with_process x j (f p) ≡ with_change x j f
+    change-is = ap (λ ps. record x { processes = ps }) (put-changes j f x.processes p sorted (live-found x j p at))
+
+    sorted-changed : is_sorted nat_cmp (with_change x j f).processes ≡ true
+    sorted-changed = subst (λ (z : State). is_sorted nat_cmp z.processes ≡ true) change-is (sorted-put_number j (live (f p)) x.processes sorted)
+
+    -- where its descriptors use nothing that they did not use, and no open file ends by that, the same are used
+    pub use-left : ((i : ℕ) (q : Process) (d : ℕ) (v : Descriptor) → process_at x i ≡ Some q → at_number q.descriptors d ≡ Some v → is_some (at_number x.files v.file) ≡ true)
+        → ((d : ℕ) (v : Descriptor) → at_number (f p).descriptors d ≡ Some v → (e : ℕ) × (y : Descriptor) × (at_number p.descriptors e ≡ Some y) × (y.file ≡ v.file))
+        → (trim (with_change x j f)).files ≡ x.files → SameUse x
+    use-left opens fewer left = record { same = λ m. same-truth (among (used (with_change x j f)) m) (among (used x) m) (before m) (behind m) }
+      where
+        u : State
+        u = with_process x j (f p)
+
+        before : (m : ℕ) → among (used (with_change x j f)) m ≡ true → among (used x) m ≡ true
+        before m is =
+            let found = used-among u (sorted-put_number j (live (f p)) x.processes sorted) m (ap (λ (z : State). among (used z) m) change-is ∙ is) in
+            ⊎_elim
+            (λ here.
+            let both : Some found.1 ≡ Some (f p) = sym found.4 ∙ ap (process_at u) here ∙ process_at-same x j (f p) in
+            let same : found.1 ≡ f p = cc both in
+            let had = fewer found.2 found.3 (ap (λ (q : Process). at_number q.descriptors found.2) (sym same) ∙ found.5) in
+            subst (λ n. among (used x) n ≡ true) (had.3 ∙ found.6) (among-used x j p had.0 had.1 at had.2))
+            (λ apart. subst (λ n. among (used x) n ≡ true) found.6 (among-used x found.0 found.1 found.2 found.3 (sym (process_at-other x j (f p) found.0 apart) ∙ found.4) found.5))
+            (cases_eq found.0 j)
+
+        stays : (m : ℕ) (o : Option OpenFile) → at_number x.files m ≡ o → is_some o ≡ true → among (used (with_change x j f)) m ≡ true
+        stays m None at some = cc some
+        stays m (Some file) at some =
+            (keep_if-some (among (used (with_change x j f)) m) (at_number x.files m) file
+            (sym (at_number-keep (among (used (with_change x j f))) x.files m) ∙ ap (λ fs. at_number fs m) (sym (files-trim (with_change x j f)) ∙ left) ∙ at)).0
+
+        behind : (m : ℕ) → among (used x) m ≡ true → among (used (with_change x j f)) m ≡ true
+        behind m is =
+            let found = used-among x sorted m is in
+            subst (λ n. among (used (with_change x j f)) n ≡ true) found.6
+            (stays found.3.file (at_number x.files found.3.file) refl (opens found.0 found.1 found.2 found.3 found.4 found.5))
+
+    -- where another process comes to use more, it does so in both
+    module _ (k : ℕ) (apart : k ≢ j) (me : Process) (at_k : process_at x k ≡ Some me) where
+      pub use-more : (more : Process) → ((d : ℕ) (v : Descriptor) → at_number me.descriptors d ≡ Some v → (e : ℕ) × (y : Descriptor) × (at_number more.descriptors e ≡ Some y) × (y.file ≡ v.file))
+          → SameUse x → SameUse (with_process x k more)
+      use-more more keeps uses =
+          record {
+            same = λ m.
+            ap (λ (z : State). among (used z) m) (sym (with-changed j f x k more apart))
+            ∙ same-truth (among (used (with_process (with_change x j f) k more)) m) (among (used (with_process x k more)) m)
+            (used-onward (with_change x j f) x sorted-changed sorted k me more at_k keeps (λ n is. sym (uses.same n) ∙ is) m)
+            (used-onward x (with_change x j f) sorted sorted-changed k me more (process-changed j f x k apart ∙ at_k) keeps (λ n is. uses.same n ∙ is) m);
+          }
+
+-- ---- the step of another process
+
+forget : (change : State → State) (Fit : State → Type 0) (a b : Attempt Effect) → Beside change Fit a b → Beside change (λ x. Unit {0}) a b
+forget change Fit a b is = record { same = is.same ∙ by a; fit = of a }
+  where
+    by : (a : Attempt Effect) → moved change Fit a ≡ moved change (λ x. Unit {0}) a
+    by (done walks (x, r)) = refl
+    by (refused walks errno cause) = refl
+
+    of : (a : Attempt Effect) → FitsIn change (λ x. Unit {0}) a
+    of (done walks (x, r)) = tt
+    of (refused walks errno cause) = tt
+
+module _ (j : ℕ) (f : Process → Process) (keeps : KeepsParent f) (nodes : KeepsNodes f) where
+  abbrev Any : State → Type 0
+  Any x = Unit {0}
+
+  -- calls for room, where the same is used
+  roomy : (x y : State) (n : ℕ) → y ≡ with_change x j f → SameUse j f x
+      → Beside (changes j f) Any (with_room x >>= (λ room. answers room n)) (with_room y >>= (λ room. answers room n))
+  roomy x y n is uses =
+      forget (changes j f) (SameUse j f) _ _ (room-beside (changes j f) (SameUse j f) (λ z fit. trim-use j f nodes z fit) (λ z. refl) x y n (record { same = is; fit = uses }))
+
+  use-calls : (x : State) → is_sorted nat_cmp x.processes ≡ true → (p : Process) → process_at x j ≡ Some p → (k : ℕ) → k ≢ j → (me : Process) → process_at x k ≡ Some me → SameUse j f x → CallsFit j f x k me Any
+  use-calls x sorted p at k apart me at_k uses = record {
+    left = λ t fs. tt;
+    own = λ t fs q. tt;
+    forked = tt;
+    reaped = λ test. tt;
+    room = λ t fs n. roomy _ _ n refl (record { same = uses.same });
+    room_opened = λ t fs file close_on_exec n.
+    let q : Process = record me { descriptors = with_number me.descriptors (least_free me.descriptors) (record { file = file; close_on_exec = close_on_exec }) } in
+    let more = use-more j f x sorted p at k apart me at_k q (λ d v has. more-with_number me.descriptors (record { file = file; close_on_exec = close_on_exec }) d v has) uses in
+    roomy _ _ n (ap (λ ps. record x { tree = t; files = fs; processes = ps }) (put-other j f k (live q) x.processes apart)) (record { same = more.same });
+  }
+
+  -- what is used goes by the processes alone
+  same-processes : (x y : State) → x.processes ≡ y.processes → SameUse j f y → SameUse j f x
+  same-processes x y same uses = record {
+    same = λ m. ap (λ ps. among (used (with_change (record x { processes = ps }) j f)) m) same ∙ uses.same m ∙ ap (λ ps. among (used (record x { processes = ps })) m) (sym same);
+  }
+
+  -- where the same is used also behind the step, it does the same
+  pub step-held : (program_of : Bytes → Option Program) → SpellsPrograms program_of → (s : State) (k : ℕ) (p : Process) → IsWhole s → k ≢ j → process_at s j ≡ Some p
+      → SameUse j f s → SameUse j f (step program_of s k).after → SteppedBeside (changes j f) (step program_of s k) (step program_of (with_change s j f) k)
+  step-held program_of spells s k p whole apart at uses behind =
+      let last : State = (step program_of s k).after in
+      step-beside_to (changes j f) Any k last (record {
+        there = λ x. process-changed j f x k apart;
+        put = λ x q. with-changed j f x k q apart;
+        fit_put = λ x q fit. tt;
+        ended = λ x me status. end-changed j f keeps x k me status apart;
+        fit_ended = λ x me status fit. tt;
+        trims = λ x fit is. trim-use j f nodes x (same-processes x last (sym (processes-trim x) ∙ ap (λ (z : State). z.processes) is) behind);
+      }) program_of s tt
+      (λ me call at_k comes.
+      let now : Process = at_next_line me in
+      let x : State = at_call s k me in
+      let use_x : SameUse j f x = use-more j f s whole.processes.ascending p at k apart me at_k now (λ d v has. (d, v, has, refl)) uses in
+      calls-beside j f keeps x k now apart (λ same. not_next s (whole-in_order s whole) j p at (sym same)) Any
+      (use-calls x (sorted-put_number k (live now) s.processes whole.processes.ascending) p (process_at-other s k now j (λ same. apart (sym same)) ∙ at) k apart now (process_at-same s k now) use_x) program_of call)
+      refl
