@@ -12,6 +12,7 @@ pub mod Told
 pub mod Twice
 pub mod Lone
 pub mod AskSteps
+pub mod DescriptorSteps
 pub mod OffsetSteps
 pub mod OtherBytes
 pub mod WriteSteps

@@ -1,0 +1,303 @@
+-- Steps that change which descriptors their process has, before and behind a step of another process.
+use Rattle.std.proofs.Common.{◌≡◌, ◌≢◌, ℕ, ◌≤◌, ℤ, pos, negsuc, Bool, true, false, ◌==◌, if◌then◌else◌, nat_le, length, Option, None, Some, is_some, refl, ap, sym, subst, ◌∙◌, ◌⊎◌, inl, inr, ⊎_elim, arith}
+use Rattle.std.proofs.lemmas.Bool.{cases_eq, leb-true}
+use Rattle.pv_model.specs.declared.call.Call.{Call}
+use Rattle.pv_model.specs.declared.call.Call.TheVariants as TheCall
+use Rattle.pv_model.specs.declared.errno.Errno.{Errno}
+use Rattle.pv_model.specs.declared.errno.Errno.TheVariants.{EBADF, EMFILE}
+use Rattle.pv_model.specs.declared.outcome.Cause.{Cause}
+use Rattle.pv_model.specs.declared.outcome.Cause.TheVariants.{Plain}
+use Rattle.pv_model.specs.declared.outcome.Outcome.TheVariants.{Value, Killed}
+use Rattle.pv_model.specs.declared.promise.Promise.{Promise}
+use Rattle.pv_model.specs.Answer.{Answered, answer, answer_by_attempt, at_next_line, effect}
+use Rattle.pv_model.specs.Attempt.{Attempt, done, refused, ◌>>=◌, ◌>>◌, refuse_if, demand}
+use Rattle.pv_model.specs.Bytes.{Bytes}
+use Rattle.pv_model.specs.Calls.Descriptors.{within, with_duplicate}
+use Rattle.pv_model.specs.Calls.Processes.{with_result}
+use Rattle.pv_model.specs.Effect.{Effect, returns, answers, descriptor_at}
+use Rattle.pv_model.specs.Held.{trim}
+use Rattle.pv_model.specs.Needs.{needs}
+use Rattle.pv_model.specs.Numbered.{Numbered, at_number, with_number, without_number, least_free}
+use Rattle.pv_model.specs.Program.{calls_for, next}
+use Rattle.pv_model.specs.Promises.{missing_promise}
+use Rattle.pv_model.specs.State.{Descriptor, Program, Process, State, process_at, with_process}
+use Rattle.pv_model.specs.Step.{Stepped, step, step_by}
+use Rattle.pv_model.specs.Trace.{buffer_of}
+use Rattle.pv_tree_laws.proofs.Numbered.{with_number-same_within, with_number-other_within, without_number-same, without_number-other, least_free-within}
+use Rattle.pv_laws.specs.States.{SpellsPrograms, IsWhole}
+use Rattle.pv_laws.proofs.Outcomes.{at_call}
+use Rattle.pv_laws.proofs.Processes.{process_at-same, with_process-twice, update-with}
+use Rattle.pv_rights.proofs.Ends.{step-is}
+use Rattle.pv_order.specs.Beside.{with_change}
+use Rattle.pv_order.specs.Commuting.{Commute}
+use Rattle.pv_order.specs.Holding.{changes_descriptors, LeavesOpenFiles}
+use Rattle.pv_order.proofs.Exchange.{KeepsParent}
+use Rattle.pv_order.proofs.HeldApart.{KeepsNodes, SameUse, trim-use, change-is, use-left, step-held}
+use Rattle.pv_order.proofs.Lone.{no_act, alone-passes, commute-where}
+use Rattle.pv_order.proofs.Orphans.{orphan, orphaned, next-orphan}
+use Rattle.pv_order.proofs.Told.{lines-told}
+use Rattle.pv_order.proofs.Twice.{answer-held, Two, two-refused, behind_k, whole-behind, at-behind, heir, commute-steps, call-twice}
+
+-- ---- descriptors
+
+-- each of some descriptors is of an open file of which there was one before
+abbrev pub UsesNoMore : Numbered Descriptor → Numbered Descriptor → Type 0
+UsesNoMore old new = (d : ℕ) (v : Descriptor) → at_number new d ≡ Some v → (e : ℕ) × (y : Descriptor) × (at_number old e ≡ Some y) × (y.file ≡ v.file)
+
+fewer-itself : (ds : Numbered Descriptor) → UsesNoMore ds ds
+fewer-itself ds d v has = (d, v, has, refl)
+
+fewer-without : (ds : Numbered Descriptor) (n : ℕ) → UsesNoMore ds (without_number ds n)
+fewer-without ds n d v has =
+    ⊎_elim
+    (λ here. let none : None ≡ Some v = sym (without_number-same ds n) ∙ ap (at_number (without_number ds n)) (sym here) ∙ has in cc none)
+    (λ other. (d, v, sym (without_number-other ds n d other) ∙ has, refl))
+    (cases_eq d n)
+
+fewer-with : (ds : Numbered Descriptor) (n : ℕ) (new : Descriptor) → n ≤ length ds → (e : ℕ) (y : Descriptor) → at_number ds e ≡ Some y → y.file ≡ new.file → UsesNoMore ds (with_number ds n new)
+fewer-with ds n new within' e y has file d v is =
+    ⊎_elim
+    (λ here.
+    let both : Some v ≡ Some new = sym is ∙ ap (at_number (with_number ds n new)) here ∙ with_number-same_within ds n new within' in
+    let same : v ≡ new = cc both in
+    (e, y, has, file ∙ ap (λ (x : Descriptor). x.file) (sym same)))
+    (λ other. (d, v, sym (with_number-other_within ds n new d within' other) ∙ is, refl))
+    (cases_eq d n)
+
+-- ---- what such a call does
+
+module _ (s t : State) (j n : ℕ) (now : Process) where
+  abbrev x : State
+  x = with_process s j now
+
+  abbrev y : State
+  y = with_process t j (orphan n now)
+
+  -- both are refused
+  pub record Refuses (a b : Attempt Effect) : Type 0 where
+    pub errno : Errno
+    pub cause : Cause
+    pub one : a ≡ refused 0 errno cause
+    pub other : b ≡ refused 0 errno cause
+
+  -- both give the process the same other descriptors
+  pub record Holds (a b : Attempt Effect) : Type 0 where
+    pub descriptors : Numbered Descriptor
+    pub value : ℕ
+    pub fewer : UsesNoMore now.descriptors descriptors
+    pub one : a ≡ done 0 (with_process s j (record now { descriptors = descriptors }), returns value)
+    pub other : b ≡ done 0 (with_process t j (record (orphan n now) { descriptors = descriptors }), returns value)
+
+  abbrev pub Does : Attempt Effect → Attempt Effect → Type 0
+  Does a b = Refuses a b ⊎ Holds a b
+
+  refuses : (e : Errno) → Does (refused 0 e Plain) (refused 0 e Plain)
+  refuses e = inl (record { errno = e; cause = Plain; one = refl; other = refl })
+
+  holds : (ds : Numbered Descriptor) (v : ℕ) → UsesNoMore now.descriptors ds → Does (done 0 (with_process x j (record now { descriptors = ds }), returns v)) (done 0 (with_process y j (record (orphan n now) { descriptors = ds }), returns v))
+  holds ds v fewer =
+      inr
+      (record {
+        descriptors = ds;
+        value = v;
+        fewer = fewer;
+        one = ap (λ z. done 0 (z, returns v)) (with_process-twice s j now (record now { descriptors = ds }));
+        other = ap (λ z. done 0 (z, returns v)) (with_process-twice t j (orphan n now) (record (orphan n now) { descriptors = ds }));
+      })
+
+  holds-same : (v : ℕ) → Does (done 0 (x, returns v)) (done 0 (y, returns v))
+  holds-same v = inr (record { descriptors = now.descriptors; value = v; fewer = fewer-itself now.descriptors; one = refl; other = refl })
+
+  abbrev Call_does : (Bytes → Option Program) → Call → Type 0
+  Call_does program_of call = Does (effect program_of x j now call) (effect program_of y j (orphan n now) call)
+
+  close-does : (program_of : Bytes → Option Program) (d : ℤ) → Call_does program_of (TheCall.Close d)
+  unfolding effect
+  close-does program_of (negsuc d) = refuses EBADF
+  close-does program_of (pos d) = by (at_number now.descriptors d)
+    where
+      by : (o : Option Descriptor) → Does (demand EBADF o >> answers (with_process x j (record now { descriptors = without_number now.descriptors d })) 0) (demand EBADF o >> answers (with_process y j (record (orphan n now) { descriptors = without_number now.descriptors d })) 0)
+      by None = refuses EBADF
+      by (Some v) = holds (without_number now.descriptors d) 0 (fewer-without now.descriptors d)
+
+  -- a process with a descriptor of the open file of another
+  abbrev with_new : ℕ → Process → Descriptor → Process
+  with_new e me v = record me { descriptors = with_number now.descriptors e (record { file = v.file; close_on_exec = false }) }
+
+  dup-does : (program_of : Bytes → Option Program) (d : ℤ) → Call_does program_of (TheCall.Dup d)
+  unfolding effect
+  dup-does program_of (negsuc d) = refuses EBADF
+  dup-does program_of (pos d) = by (at_number now.descriptors d) refl (nat_le 16 (least_free now.descriptors))
+    where
+      by : (o : Option Descriptor) → at_number now.descriptors d ≡ o → (b : Bool)
+          → Does (demand EBADF o >>= (λ v. refuse_if EMFILE b >> answers (with_process x j (with_new (least_free now.descriptors) now v)) (least_free now.descriptors)))
+          (demand EBADF o >>= (λ v. refuse_if EMFILE b >> answers (with_process y j (with_new (least_free now.descriptors) (orphan n now) v)) (least_free now.descriptors)))
+      by None has b = refuses EBADF
+      by (Some v) has true = refuses EMFILE
+      by (Some v) has false =
+          holds (with_number now.descriptors (least_free now.descriptors) (record { file = v.file; close_on_exec = false })) (least_free now.descriptors)
+          (fewer-with now.descriptors (least_free now.descriptors) (record { file = v.file; close_on_exec = false }) (least_free-within now.descriptors) d v has refl)
+
+  dup2-does : length now.descriptors ≡ 16 → (program_of : Bytes → Option Program) (d e : ℤ) → Call_does program_of (TheCall.Dup2 d e)
+  unfolding effect
+  dup2-does count program_of (negsuc d) e = refuses EBADF
+  dup2-does count program_of (pos d) (negsuc e) = by (at_number now.descriptors d)
+    where
+      by : (o : Option Descriptor)
+          → Does (demand EBADF o >>= (λ v. refused 0 EBADF Plain)) (demand EBADF o >>= (λ v. refused 0 EBADF Plain))
+      by None = refuses EBADF
+      by (Some v) = refuses EBADF
+  dup2-does count program_of (pos d) (pos e) = by (at_number now.descriptors d) refl (nat_le e 15) refl
+    where
+      of : (v : Descriptor) → at_number now.descriptors d ≡ Some v → e ≤ 15 → (b : Bool)
+          → Does (done 0 ((if b then x else with_process x j (with_new e now v)), returns e)) (done 0 ((if b then y else with_process y j (with_new e (orphan n now) v)), returns e))
+      of v has low true = holds-same e
+      of v has low false = holds (with_number now.descriptors e (record v { close_on_exec = false })) e (fewer-with now.descriptors e (record v { close_on_exec = false }) (omega (arith, low, count)) d v has refl)
+
+      by : (o : Option Descriptor) → at_number now.descriptors d ≡ o → (b : Bool) → nat_le e 15 ≡ b
+          → Does (demand EBADF o >>= (λ v. demand EBADF (if b then Some e else None) >>= (λ m. answers (with_duplicate x j now (pos d) m v) m)))
+          (demand EBADF o >>= (λ v. demand EBADF (if b then Some e else None) >>= (λ m. answers (with_duplicate y j (orphan n now) (pos d) m v) m)))
+      by None has b low = refuses EBADF
+      by (Some v) has false low = refuses EBADF
+      by (Some v) has true low = of v has (leb-true e 15 low) (d == e)
+
+  pub call-does : length now.descriptors ≡ 16 → (program_of : Bytes → Option Program) (call : Call) → changes_descriptors call ≡ true → Call_does program_of call
+  call-does count program_of (TheCall.Close d) is = close-does program_of d
+  call-does count program_of (TheCall.Dup d) is = dup-does program_of d
+  call-does count program_of (TheCall.Dup2 d e) is = dup2-does count program_of d e
+  call-does count program_of call is = cc is
+
+-- ---- the step
+
+-- the process behind such a call, whatever its parent is, in a state that has its directory and its table
+abbrev pub given : Process → Numbered Descriptor → ℕ → Process → Process
+given now ds v r = record (with_result (record now { descriptors = ds }) (pos v) 0) { parent = r.parent; directory = r.directory; table = r.table }
+
+given-keeps : (now : Process) (ds : Numbered Descriptor) (v : ℕ) → KeepsParent (given now ds v)
+given-keeps now ds v = record { same = λ r. refl; whoever = λ r n. refl }
+
+given-nodes : (now : Process) (ds : Numbered Descriptor) (v : ℕ) → KeepsNodes (given now ds v)
+given-nodes now ds v = record { held = λ r. refl }
+
+-- what is left of a state by a step that gives its process other descriptors
+module _ (program_of : Bytes → Option Program) (s : State) (whole : IsWhole s) (j : ℕ) (p : Process) (at : process_at s j ≡ Some p) (call : Call) (comes : next p ≡ calls_for call) (held : missing_promise p.promises (needs call) ≡ None)
+    (ds : Numbered Descriptor) (v : ℕ) (f : Process → Process) (nodes : KeepsNodes f) (becomes : f p ≡ with_result (record (at_next_line p) { descriptors = ds }) (pos v) 0)
+    (fewer : UsesNoMore p.descriptors ds)
+    (does : effect program_of (at_call s j p) j (at_next_line p) call ≡ done 0 (with_process s j (record (at_next_line p) { descriptors = ds }), returns v))
+    (left : LeavesOpenFiles program_of s j) where
+  abbrev told : Process → Process
+  told r = with_result r (pos v) 0
+
+  pub calls : step program_of s j ≡ step_by program_of s j p (calls_for call)
+  calls = step-is program_of s j p at ∙ ap (step_by program_of s j p) comes
+
+  answered : answer program_of s j call ≡ record { after = trim (with_change s j f); outcome = Value v; walks = 0 }
+  answered =
+      answer-held program_of s j p call at held
+      ∙ ap (answer_by_attempt s (at_call s j p) j (at_next_line p)) does
+      ∙ ap (λ z. record { after = trim z; outcome = Value v; walks = 0 })
+      (update-with s j told (record (at_next_line p) { descriptors = ds }) ∙ ap (with_process s j) (sym becomes) ∙ change-is j f s whole.processes.ascending p at)
+
+  pub uses-same : SameUse j f s
+  uses-same =
+      use-left j f s whole.processes.ascending p at (λ i q d x at_i has. (whole.processes.placed i q at_i).opens d x has)
+      (λ d x has. fewer d x (sym (ap (λ (r : Process). at_number r.descriptors d) becomes) ∙ has))
+      (ap (λ (z : State). z.files) (sym (ap (λ (w : Stepped). w.after) calls ∙ ap (λ (a : Answered). a.after) answered)) ∙ left)
+
+  pub answered-is : answer program_of s j call ≡ record { after = with_change s j f; outcome = Value v; walks = 0 }
+  answered-is = answered ∙ ap (λ z. record { after = z; outcome = Value v; walks = 0 }) (trim-use j f nodes s uses-same ∙ ap (λ z. with_change z j f) whole.trimmed)
+
+  pub buffer-is : buffer_of (process_at (answer program_of s j call).after j) ≡ p.buffer
+  buffer-is =
+      ap (λ (a : Answered). buffer_of (process_at a.after j)) answered-is
+      ∙ ap (λ z. buffer_of (process_at z j)) (sym (change-is j f s whole.processes.ascending p at))
+      ∙ ap buffer_of (process_at-same s j (f p))
+      ∙ ap (λ (r : Process). r.buffer) becomes
+
+  pub after-is : (step program_of s j).after ≡ with_change s j f
+  after-is = ap (λ (w : Stepped). w.after) calls ∙ ap (λ (a : Answered). a.after) answered-is
+
+module _ (program_of : Bytes → Option Program) (spells : SpellsPrograms program_of) (s : State) (j k : ℕ) (p : Process) (whole : IsWhole s) (apart : j ≢ k) (at : process_at s j ≡ Some p)
+    (call : Call) (comes : next p ≡ calls_for call) (held : missing_promise p.promises (needs call) ≡ None) where
+  abbrev t : State
+  t = behind_k program_of spells s j k p whole apart at
+
+  abbrev whole_t : IsWhole t
+  whole_t = whole-behind program_of spells s j k p whole apart at
+
+  abbrev n : ℕ
+  n = heir program_of spells s j k p whole apart at
+
+  abbrev at_t : process_at t j ≡ Some (orphan n p)
+  at_t = at-behind program_of spells s j k p whole apart at
+
+  abbrev now : Process
+  now = at_next_line p
+
+  comes_t : next (orphan n p) ≡ calls_for call
+  comes_t = next-orphan n p ∙ ap (orphaned n) comes
+
+  abbrev one : Attempt Effect
+  one = effect program_of (at_call s j p) j now call
+
+  abbrev other : Attempt Effect
+  other = effect program_of (at_call t j (orphan n p)) j (orphan n now) call
+
+  -- where both are refused
+  refused-commute : (e : Errno) (c : Cause) → one ≡ refused 0 e c → other ≡ refused 0 e c → Commute program_of s j k
+  refused-commute e c one_is other_is =
+      commute-steps program_of spells s j k p whole apart at ⊥ no_act
+      (call-twice program_of spells s j k p whole apart at ⊥ no_act (λ a z. absurd a) (λ a q h same. absurd a) (λ a q h same. absurd a) call comes held
+      (subst (λ a. Two ⊥ no_act s t j n now a other) (sym one_is)
+      (subst (λ b. Two ⊥ no_act s t j n now (refused 0 e c) b) (sym other_is) (two-refused ⊥ no_act s t j n now e c))))
+      (alone-passes program_of spells s j k p whole apart at)
+
+  module _ (left : LeavesOpenFiles program_of s j) (left_t : LeavesOpenFiles program_of t j) (does : Holds s t j n now one other) where
+    abbrev f : Process → Process
+    f = given now does.descriptors does.value
+
+    first_after : (step program_of s j).after ≡ with_change s j f
+    first_after = after-is program_of s whole j p at call comes held does.descriptors does.value f (given-nodes now does.descriptors does.value) refl does.fewer does.one left
+
+    answered_s : answer program_of s j call ≡ record { after = with_change s j f; outcome = Value does.value; walks = 0 }
+    answered_s = answered-is program_of s whole j p at call comes held does.descriptors does.value f (given-nodes now does.descriptors does.value) refl does.fewer does.one left
+
+    answered_t : answer program_of t j call ≡ record { after = with_change t j f; outcome = Value does.value; walks = 0 }
+    answered_t = answered-is program_of t whole_t j (orphan n p) at_t call comes_t held does.descriptors does.value f (given-nodes now does.descriptors does.value) refl does.fewer does.other left_t
+
+    held-commute : Commute program_of s j k
+    held-commute =
+        let nodes = given-nodes now does.descriptors does.value in
+        let use_s = uses-same program_of s whole j p at call comes held does.descriptors does.value f nodes refl does.fewer does.one left in
+        let use_t = uses-same program_of t whole_t j (orphan n p) at_t call comes_t held does.descriptors does.value f nodes refl does.fewer does.other left_t in
+        let step_s = calls program_of s whole j p at call comes held does.descriptors does.value f nodes refl does.fewer does.one left in
+        let step_t = calls program_of t whole_t j (orphan n p) at_t call comes_t held does.descriptors does.value f nodes refl does.fewer does.other left_t in
+        let buffer_s = buffer-is program_of s whole j p at call comes held does.descriptors does.value f nodes refl does.fewer does.one left in
+        let buffer_t = buffer-is program_of t whole_t j (orphan n p) at_t call comes_t held does.descriptors does.value f nodes refl does.fewer does.other left_t in
+        let beside = step-held j f (given-keeps now does.descriptors does.value) nodes program_of spells s k p whole (λ same. apart (sym same)) at use_s use_t in
+        let outcome : (answer program_of t j call).outcome ≡ (answer program_of s j call).outcome = ap (λ (a : Answered). a.outcome) answered_t ∙ sym (ap (λ (a : Answered). a.outcome) answered_s) in
+        record {
+          first = record {
+            outcome = ap (λ (w : Stepped). w.outcome) step_t ∙ outcome ∙ sym (ap (λ (w : Stepped). w.outcome) step_s);
+            lines =
+                ap (λ (w : Stepped). w.lines) step_t
+                ∙ lines-told j p (orphan n p) call (answer program_of s j call) (answer program_of t j call) refl outcome (ap (λ (a : Answered). a.walks) answered_t ∙ sym (ap (λ (a : Answered). a.walks) answered_s)) (buffer_t ∙ sym buffer_s)
+                ∙ sym (ap (λ (w : Stepped). w.lines) step_s);
+          };
+          second = record { outcome = ap (λ x. (step program_of x k).outcome) first_after ∙ beside.outcome; lines = ap (λ x. (step program_of x k).lines) first_after ∙ beside.lines };
+          after =
+              ap (λ (w : Stepped). w.after) step_t ∙ ap (λ (a : Answered). a.after) answered_t
+              ∙ sym (ap (λ x. (step program_of x k).after) first_after ∙ beside.after);
+        }
+
+  pub descriptors-commute_held : changes_descriptors call ≡ true → LeavesOpenFiles program_of s j → LeavesOpenFiles program_of t j → Commute program_of s j k
+  descriptors-commute_held changes left left_t =
+      ⊎_elim
+      (λ is. refused-commute is.errno is.cause is.one is.other)
+      (λ is. held-commute left left_t is)
+      (call-does s t j n now (whole.processes.placed j p at).descriptors program_of call changes)
+
+pub descriptors-commute : (program_of : Bytes → Option Program) → SpellsPrograms program_of → (s : State) (j k : ℕ) (p : Process) (call : Call) → IsWhole s → j ≢ k → process_at s j ≡ Some p → next p ≡ calls_for call
+    → changes_descriptors call ≡ true → ((a : Promise) → (step program_of s j).outcome ≢ Killed a) → LeavesOpenFiles program_of s j → LeavesOpenFiles program_of (step program_of s k).after j → Commute program_of s j k
+descriptors-commute program_of spells s j k p call whole apart at comes changes alive left left_t =
+    commute-where program_of spells s j k p call whole apart at comes alive (λ held. descriptors-commute_held program_of spells s j k p whole apart at call comes held changes left left_t)
