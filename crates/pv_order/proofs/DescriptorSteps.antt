@@ -1,5 +1,5 @@
 -- Steps that change which descriptors their process has, before and behind a step of another process.
-use Rattle.std.proofs.Common.{◌≡◌, ◌≢◌, ℕ, ◌≤◌, ℤ, pos, negsuc, Bool, true, false, ◌==◌, if◌then◌else◌, nat_le, length, Option, None, Some, is_some, refl, ap, sym, subst, ◌∙◌, ◌⊎◌, inl, inr, ⊎_elim, arith}
+use Rattle.std.proofs.Common.{◌≡◌, ◌≢◌, ℕ, ◌≤◌, ℤ, pos, negsuc, Bool, true, false, ◌==◌, if◌then◌else◌, nat_le, length, Option, None, Some, refl, ap, sym, subst, ◌∙◌, ◌⊎◌, inl, inr, ⊎_elim, arith}
 use Rattle.std.proofs.lemmas.Bool.{cases_eq, leb-true}
 use Rattle.pv_model.specs.declared.call.Call.{Call}
 use Rattle.pv_model.specs.declared.call.Call.TheVariants as TheCall
@@ -12,9 +12,9 @@ use Rattle.pv_model.specs.declared.promise.Promise.{Promise}
 use Rattle.pv_model.specs.Answer.{Answered, answer, answer_by_attempt, at_next_line, effect}
 use Rattle.pv_model.specs.Attempt.{Attempt, done, refused, ◌>>=◌, ◌>>◌, refuse_if, demand}
 use Rattle.pv_model.specs.Bytes.{Bytes}
-use Rattle.pv_model.specs.Calls.Descriptors.{within, with_duplicate}
+use Rattle.pv_model.specs.Calls.Descriptors.{with_duplicate}
 use Rattle.pv_model.specs.Calls.Processes.{with_result}
-use Rattle.pv_model.specs.Effect.{Effect, returns, answers, descriptor_at}
+use Rattle.pv_model.specs.Effect.{Effect, returns, answers}
 use Rattle.pv_model.specs.Held.{trim}
 use Rattle.pv_model.specs.Needs.{needs}
 use Rattle.pv_model.specs.Numbered.{Numbered, at_number, with_number, without_number, least_free}
@@ -179,7 +179,13 @@ given-keeps now ds v = record { same = λ r. refl; whoever = λ r n. refl }
 given-nodes : (now : Process) (ds : Numbered Descriptor) (v : ℕ) → KeepsNodes (given now ds v)
 given-nodes now ds v = record { held = λ r. refl }
 
--- what is left of a state by a step that gives its process other descriptors
+-- a step gives its process other descriptors, and leaves all else
+record Gives (program_of : Bytes → Option Program) (s : State) (j : ℕ) (p : Process) (call : Call) (f : Process → Process) (v : ℕ) : Type 0 where
+  calls : step program_of s j ≡ step_by program_of s j p (calls_for call)
+  uses : SameUse j f s
+  answered : answer program_of s j call ≡ record { after = with_change s j f; outcome = Value v; walks = 0 }
+  buffer : buffer_of (process_at (answer program_of s j call).after j) ≡ p.buffer
+
 module _ (program_of : Bytes → Option Program) (s : State) (whole : IsWhole s) (j : ℕ) (p : Process) (at : process_at s j ≡ Some p) (call : Call) (comes : next p ≡ calls_for call) (held : missing_promise p.promises (needs call) ≡ None)
     (ds : Numbered Descriptor) (v : ℕ) (f : Process → Process) (nodes : KeepsNodes f) (becomes : f p ≡ with_result (record (at_next_line p) { descriptors = ds }) (pos v) 0)
     (fewer : UsesNoMore p.descriptors ds)
@@ -188,7 +194,7 @@ module _ (program_of : Bytes → Option Program) (s : State) (whole : IsWhole s)
   abbrev told : Process → Process
   told r = with_result r (pos v) 0
 
-  pub calls : step program_of s j ≡ step_by program_of s j p (calls_for call)
+  calls : step program_of s j ≡ step_by program_of s j p (calls_for call)
   calls = step-is program_of s j p at ∙ ap (step_by program_of s j p) comes
 
   answered : answer program_of s j call ≡ record { after = trim (with_change s j f); outcome = Value v; walks = 0 }
@@ -198,24 +204,24 @@ module _ (program_of : Bytes → Option Program) (s : State) (whole : IsWhole s)
       ∙ ap (λ z. record { after = trim z; outcome = Value v; walks = 0 })
       (update-with s j told (record (at_next_line p) { descriptors = ds }) ∙ ap (with_process s j) (sym becomes) ∙ change-is j f s whole.processes.ascending p at)
 
-  pub uses-same : SameUse j f s
+  uses-same : SameUse j f s
   uses-same =
       use-left j f s whole.processes.ascending p at (λ i q d x at_i has. (whole.processes.placed i q at_i).opens d x has)
       (λ d x has. fewer d x (sym (ap (λ (r : Process). at_number r.descriptors d) becomes) ∙ has))
       (ap (λ (z : State). z.files) (sym (ap (λ (w : Stepped). w.after) calls ∙ ap (λ (a : Answered). a.after) answered)) ∙ left)
 
-  pub answered-is : answer program_of s j call ≡ record { after = with_change s j f; outcome = Value v; walks = 0 }
+  answered-is : answer program_of s j call ≡ record { after = with_change s j f; outcome = Value v; walks = 0 }
   answered-is = answered ∙ ap (λ z. record { after = z; outcome = Value v; walks = 0 }) (trim-use j f nodes s uses-same ∙ ap (λ z. with_change z j f) whole.trimmed)
 
-  pub buffer-is : buffer_of (process_at (answer program_of s j call).after j) ≡ p.buffer
+  buffer-is : buffer_of (process_at (answer program_of s j call).after j) ≡ p.buffer
   buffer-is =
       ap (λ (a : Answered). buffer_of (process_at a.after j)) answered-is
       ∙ ap (λ z. buffer_of (process_at z j)) (sym (change-is j f s whole.processes.ascending p at))
       ∙ ap buffer_of (process_at-same s j (f p))
       ∙ ap (λ (r : Process). r.buffer) becomes
 
-  pub after-is : (step program_of s j).after ≡ with_change s j f
-  after-is = ap (λ (w : Stepped). w.after) calls ∙ ap (λ (a : Answered). a.after) answered-is
+  gives : Gives program_of s j p call f v
+  gives = record { calls = calls; uses = uses-same; answered = answered-is; buffer = buffer-is }
 
 module _ (program_of : Bytes → Option Program) (spells : SpellsPrograms program_of) (s : State) (j k : ℕ) (p : Process) (whole : IsWhole s) (apart : j ≢ k) (at : process_at s j ≡ Some p)
     (call : Call) (comes : next p ≡ calls_for call) (held : missing_promise p.promises (needs call) ≡ None) where
@@ -256,37 +262,41 @@ module _ (program_of : Bytes → Option Program) (spells : SpellsPrograms progra
     abbrev f : Process → Process
     f = given now does.descriptors does.value
 
+    abbrev nodes : KeepsNodes f
+    nodes = given-nodes now does.descriptors does.value
+
+    gives_s : Gives program_of s j p call f does.value
+    gives_s = gives program_of s whole j p at call comes held does.descriptors does.value f nodes refl does.fewer does.one left
+
+    gives_t : Gives program_of t j (orphan n p) call f does.value
+    gives_t = gives program_of t whole_t j (orphan n p) at_t call comes_t held does.descriptors does.value f nodes refl does.fewer does.other left_t
+
+    answer_after : (answer program_of s j call).after ≡ with_change s j f
+    answer_after = ap (λ (a : Answered). a.after) gives_s.answered
+
     first_after : (step program_of s j).after ≡ with_change s j f
-    first_after = after-is program_of s whole j p at call comes held does.descriptors does.value f (given-nodes now does.descriptors does.value) refl does.fewer does.one left
+    first_after = ap (λ (w : Stepped). w.after) gives_s.calls ∙ answer_after
 
-    answered_s : answer program_of s j call ≡ record { after = with_change s j f; outcome = Value does.value; walks = 0 }
-    answered_s = answered-is program_of s whole j p at call comes held does.descriptors does.value f (given-nodes now does.descriptors does.value) refl does.fewer does.one left
+    outcome-same : (answer program_of t j call).outcome ≡ (answer program_of s j call).outcome
+    outcome-same = ap (λ (a : Answered). a.outcome) gives_t.answered ∙ sym (ap (λ (a : Answered). a.outcome) gives_s.answered)
 
-    answered_t : answer program_of t j call ≡ record { after = with_change t j f; outcome = Value does.value; walks = 0 }
-    answered_t = answered-is program_of t whole_t j (orphan n p) at_t call comes_t held does.descriptors does.value f (given-nodes now does.descriptors does.value) refl does.fewer does.other left_t
+    walks-same : (answer program_of t j call).walks ≡ (answer program_of s j call).walks
+    walks-same = ap (λ (a : Answered). a.walks) gives_t.answered ∙ sym (ap (λ (a : Answered). a.walks) gives_s.answered)
 
     held-commute : Commute program_of s j k
     held-commute =
-        let nodes = given-nodes now does.descriptors does.value in
-        let use_s = uses-same program_of s whole j p at call comes held does.descriptors does.value f nodes refl does.fewer does.one left in
-        let use_t = uses-same program_of t whole_t j (orphan n p) at_t call comes_t held does.descriptors does.value f nodes refl does.fewer does.other left_t in
-        let step_s = calls program_of s whole j p at call comes held does.descriptors does.value f nodes refl does.fewer does.one left in
-        let step_t = calls program_of t whole_t j (orphan n p) at_t call comes_t held does.descriptors does.value f nodes refl does.fewer does.other left_t in
-        let buffer_s = buffer-is program_of s whole j p at call comes held does.descriptors does.value f nodes refl does.fewer does.one left in
-        let buffer_t = buffer-is program_of t whole_t j (orphan n p) at_t call comes_t held does.descriptors does.value f nodes refl does.fewer does.other left_t in
-        let beside = step-held j f (given-keeps now does.descriptors does.value) nodes program_of spells s k p whole (λ same. apart (sym same)) at use_s use_t in
-        let outcome : (answer program_of t j call).outcome ≡ (answer program_of s j call).outcome = ap (λ (a : Answered). a.outcome) answered_t ∙ sym (ap (λ (a : Answered). a.outcome) answered_s) in
+        let beside = step-held j f (given-keeps now does.descriptors does.value) nodes program_of spells s k p whole (λ same. apart (sym same)) at gives_s.uses gives_t.uses in
         record {
           first = record {
-            outcome = ap (λ (w : Stepped). w.outcome) step_t ∙ outcome ∙ sym (ap (λ (w : Stepped). w.outcome) step_s);
+            outcome = ap (λ (w : Stepped). w.outcome) gives_t.calls ∙ outcome-same ∙ sym (ap (λ (w : Stepped). w.outcome) gives_s.calls);
             lines =
-                ap (λ (w : Stepped). w.lines) step_t
-                ∙ lines-told j p (orphan n p) call (answer program_of s j call) (answer program_of t j call) refl outcome (ap (λ (a : Answered). a.walks) answered_t ∙ sym (ap (λ (a : Answered). a.walks) answered_s)) (buffer_t ∙ sym buffer_s)
-                ∙ sym (ap (λ (w : Stepped). w.lines) step_s);
+                ap (λ (w : Stepped). w.lines) gives_t.calls
+                ∙ lines-told j p (orphan n p) call (answer program_of s j call) (answer program_of t j call) refl outcome-same walks-same (gives_t.buffer ∙ sym gives_s.buffer)
+                ∙ sym (ap (λ (w : Stepped). w.lines) gives_s.calls);
           };
           second = record { outcome = ap (λ x. (step program_of x k).outcome) first_after ∙ beside.outcome; lines = ap (λ x. (step program_of x k).lines) first_after ∙ beside.lines };
           after =
-              ap (λ (w : Stepped). w.after) step_t ∙ ap (λ (a : Answered). a.after) answered_t
+              ap (λ (w : Stepped). w.after) gives_t.calls ∙ ap (λ (a : Answered). a.after) gives_t.answered
               ∙ sym (ap (λ x. (step program_of x k).after) first_after ∙ beside.after);
         }
 

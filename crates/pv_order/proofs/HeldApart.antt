@@ -1,6 +1,6 @@
 -- States in which one process has other descriptors, but the same open files are used: what is trimmed of them, and the steps of other processes.
-use Rattle.std.proofs.Common.{◌≡◌, ◌≢◌, ℕ, suc, Bool, true, false, ◌==◌, if◌then◌else◌, List, [], ◌∷◌, ◌++◌, map, Option, None, Some, is_some, refl, ap, ap₂, sym, subst, ◌∙◌, ⊎_elim}
-use Rattle.std.specs.FinMap.Entries.{put, is_sorted}
+use Rattle.std.proofs.Common.{◌≡◌, ◌≢◌, ℕ, Bool, true, false, ◌==◌, if◌then◌else◌, List, [], ◌∷◌, ◌++◌, map, Option, None, Some, is_some, refl, ap, ap₂, sym, subst, ◌∙◌, ⊎_elim}
+use Rattle.std.specs.FinMap.Entries.{is_sorted}
 use Rattle.std.specs.Ordering.{nat_cmp}
 use Rattle.std.proofs.lemmas.Bool.{cases_eq}
 use Rattle.pv_model.specs.Answer.{at_next_line}
@@ -8,8 +8,7 @@ use Rattle.pv_model.specs.Attempt.{Attempt, done, refused, ◌>>=◌}
 use Rattle.pv_model.specs.Bytes.{Bytes}
 use Rattle.pv_model.specs.Effect.{Effect, answers, with_room}
 use Rattle.pv_model.specs.Held.{among, held_by_process, trim}
-use Rattle.pv_model.specs.Numbered.{Numbered, at_number, with_number, least_free, present, keep}
-use Rattle.pv_model.specs.Program.{calls_for, next}
+use Rattle.pv_model.specs.Numbered.{Numbered, at_number, with_number, least_free, present}
 use Rattle.pv_model.specs.State.{OpenFile, Descriptor, Program, Process, Record, live, ended_record, State, process_at, with_process}
 use Rattle.pv_model.specs.Step.{step}
 use Rattle.pv_tree_laws.specs.Kept.{kept}
@@ -19,12 +18,11 @@ use Rattle.pv_laws.specs.States.{SpellsPrograms, IsWhole}
 use Rattle.pv_laws.proofs.Members.{all_of, live-found, among-used, used-among}
 use Rattle.pv_laws.proofs.Outcomes.{at_call}
 use Rattle.pv_laws.proofs.Processes.{process_at-same, process_at-other}
-use Rattle.pv_laws.proofs.Running.{used-same}
 use Rattle.pv_laws.proofs.Trim.{files-trim, processes-trim}
 use Rattle.pv_laws.proofs.Whole.{sorted-put_number}
 use Rattle.pv_rights.proofs.Ends.{whole-in_order, not_next}
-use Rattle.pv_order.specs.Beside.{with_change, change_live}
-use Rattle.pv_order.proofs.Alongside.{Beside, moved, FitsIn, SteppedBeside, IsApartTo, room-beside, step-beside_to}
+use Rattle.pv_order.specs.Beside.{with_change}
+use Rattle.pv_order.proofs.Alongside.{Beside, moved, FitsIn, SteppedBeside, room-beside, step-beside_to}
 use Rattle.pv_order.proofs.BesideCalls.{changes, CallsFit, calls-beside}
 use Rattle.pv_order.proofs.Commuted.{put-changes}
 use Rattle.pv_order.proofs.Exchange.{KeepsParent, changed, put-other, process-changed, with-changed, end-changed}
@@ -39,28 +37,34 @@ used-onward : (s u : State) → is_sorted nat_cmp s.processes ≡ true → is_so
     → ((d : ℕ) (x : Descriptor) → at_number me.descriptors d ≡ Some x → (e : ℕ) × (y : Descriptor) × (at_number more.descriptors e ≡ Some y) × (y.file ≡ x.file))
     → ((m : ℕ) → among (used s) m ≡ true → among (used u) m ≡ true) → (m : ℕ) → among (used (with_process s pid more)) m ≡ true → among (used (with_process u pid more)) m ≡ true
 used-onward s u sorted_s sorted_u pid me more at_u keeps onward m is =
-    let v : State = with_process s pid more in
-    let w : State = with_process u pid more in
     let found = used-among v (sorted-put_number pid (live more) s.processes sorted_s) m is in
-    let own : (d : ℕ) (x : Descriptor) → at_number more.descriptors d ≡ Some x → x.file ≡ m → among (used w) m ≡ true =
-    λ d x has file. subst (λ n. among (used w) n ≡ true) file (among-used w pid more d x (process_at-same u pid more) has) in
-    ⊎_elim
-    (λ here.
-    let both : Some found.1 ≡ Some more = sym found.4 ∙ ap (process_at v) here ∙ process_at-same s pid more in
-    let same : found.1 ≡ more = cc both in
-    own found.2 found.3 (ap (λ (p : Process). at_number p.descriptors found.2) (sym same) ∙ found.5) found.6)
-    (λ apart.
-    let before : among (used s) m ≡ true = subst (λ n. among (used s) n ≡ true) found.6 (among-used s found.0 found.1 found.2 found.3 (sym (process_at-other s pid more found.0 apart) ∙ found.4) found.5) in
-    let there = used-among u sorted_u m (onward m before) in
-    ⊎_elim
-    (λ here.
-    let both : Some there.1 ≡ Some me = sym there.4 ∙ ap (process_at u) here ∙ at_u in
-    let same : there.1 ≡ me = cc both in
-    let kept = keeps there.2 there.3 (ap (λ (p : Process). at_number p.descriptors there.2) (sym same) ∙ there.5) in
-    own kept.0 kept.1 kept.2 (kept.3 ∙ there.6))
-    (λ other. subst (λ n. among (used w) n ≡ true) there.6 (among-used w there.0 there.1 there.2 there.3 (process_at-other u pid more there.0 other ∙ there.4) there.5))
-    (cases_eq there.0 pid))
+    ⊎_elim (λ here. itself found.1 found.2 found.3 (sym found.4 ∙ ap (process_at v) here ∙ process_at-same s pid more) found.5 found.6)
+    (λ apart. another (subst (λ n. among (used s) n ≡ true) found.6 (among-used s found.0 found.1 found.2 found.3 (sym (process_at-other s pid more found.0 apart) ∙ found.4) found.5)))
     (cases_eq found.0 pid)
+  where
+    v : State
+    v = with_process s pid more
+
+    w : State
+    w = with_process u pid more
+
+    own : (d : ℕ) (x : Descriptor) → at_number more.descriptors d ≡ Some x → x.file ≡ m → among (used w) m ≡ true
+    own d x has file = subst (λ n. among (used w) n ≡ true) file (among-used w pid more d x (process_at-same u pid more) has)
+
+    itself : (p : Process) (d : ℕ) (x : Descriptor) → Some p ≡ Some more → at_number p.descriptors d ≡ Some x → x.file ≡ m → among (used w) m ≡ true
+    itself p d x both has file = let same : p ≡ more = cc both in own d x (ap (λ (q : Process). at_number q.descriptors d) (sym same) ∙ has) file
+
+    before : (p : Process) (d : ℕ) (x : Descriptor) → Some p ≡ Some me → at_number p.descriptors d ≡ Some x → x.file ≡ m → among (used w) m ≡ true
+    before p d x both has file =
+        let same : p ≡ me = cc both in
+        let kept = keeps d x (ap (λ (q : Process). at_number q.descriptors d) (sym same) ∙ has) in own kept.0 kept.1 kept.2 (kept.3 ∙ file)
+
+    another : among (used s) m ≡ true → among (used w) m ≡ true
+    another was =
+        let there = used-among u sorted_u m (onward m was) in
+        ⊎_elim (λ here. before there.1 there.2 there.3 (sym there.4 ∙ ap (process_at u) here ∙ at_u) there.5 there.6)
+        (λ other. subst (λ n. among (used w) n ≡ true) there.6 (among-used w there.0 there.1 there.2 there.3 (process_at-other u pid more there.0 other ∙ there.4) there.5))
+        (cases_eq there.0 pid)
 
 -- a new descriptor leaves the others
 more-with_number : (ds : Numbered Descriptor) (new : Descriptor) (d : ℕ) (x : Descriptor) → at_number ds d ≡ Some x
