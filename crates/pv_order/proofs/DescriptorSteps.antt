@@ -27,22 +27,19 @@ use Rattle.pv_tree_laws.proofs.Numbered.{with_number-same_within, with_number-ot
 use Rattle.pv_laws.specs.States.{SpellsPrograms, IsWhole}
 use Rattle.pv_laws.proofs.Outcomes.{at_call}
 use Rattle.pv_laws.proofs.Processes.{process_at-same, with_process-twice, update-with}
-use Rattle.pv_rights.proofs.Ends.{step-is}
+use Rattle.pv_rights.proofs.Ends.{step-is, process_at-trim}
+use Rattle.pv_laws.proofs.BySteps.{step-keeps_whole}
 use Rattle.pv_order.specs.Beside.{with_change}
 use Rattle.pv_order.specs.Commuting.{Commute}
 use Rattle.pv_order.specs.Holding.{changes_descriptors, LeavesOpenFiles}
 use Rattle.pv_order.proofs.Exchange.{KeepsParent}
-use Rattle.pv_order.proofs.HeldApart.{KeepsNodes, SameUse, trim-use, change-is, use-left, step-held}
+use Rattle.pv_order.proofs.HeldApart.{UsesNoMore, KeepsNodes, SameUse, trim-use, change-is, use-left, step-held}
 use Rattle.pv_order.proofs.Lone.{no_act, alone-passes, commute-where}
 use Rattle.pv_order.proofs.Orphans.{orphan, orphaned, next-orphan}
 use Rattle.pv_order.proofs.Told.{lines-told}
 use Rattle.pv_order.proofs.Twice.{answer-held, Two, two-refused, behind_k, whole-behind, at-behind, heir, commute-steps, call-twice}
 
 -- ---- descriptors
-
--- each of some descriptors is of an open file of which there was one before
-abbrev pub UsesNoMore : Numbered Descriptor → Numbered Descriptor → Type 0
-UsesNoMore old new = (d : ℕ) (v : Descriptor) → at_number new d ≡ Some v → (e : ℕ) × (y : Descriptor) × (at_number old e ≡ Some y) × (y.file ≡ v.file)
 
 fewer-itself : (ds : Numbered Descriptor) → UsesNoMore ds ds
 fewer-itself ds d v has = (d, v, has, refl)
@@ -179,49 +176,35 @@ given-keeps now ds v = record { same = λ r. refl; whoever = λ r n. refl }
 given-nodes : (now : Process) (ds : Numbered Descriptor) (v : ℕ) → KeepsNodes (given now ds v)
 given-nodes now ds v = record { held = λ r. refl }
 
--- a step gives its process other descriptors, and leaves all else
+-- a step gives its process other descriptors, and lets go what nobody holds then
 record Gives (program_of : Bytes → Option Program) (s : State) (j : ℕ) (p : Process) (call : Call) (f : Process → Process) (v : ℕ) : Type 0 where
   calls : step program_of s j ≡ step_by program_of s j p (calls_for call)
-  uses : SameUse j f s
-  answered : answer program_of s j call ≡ record { after = with_change s j f; outcome = Value v; walks = 0 }
+  answered : answer program_of s j call ≡ record { after = trim (with_change s j f); outcome = Value v; walks = 0 }
   buffer : buffer_of (process_at (answer program_of s j call).after j) ≡ p.buffer
 
 module _ (program_of : Bytes → Option Program) (s : State) (whole : IsWhole s) (j : ℕ) (p : Process) (at : process_at s j ≡ Some p) (call : Call) (comes : next p ≡ calls_for call) (held : missing_promise p.promises (needs call) ≡ None)
-    (ds : Numbered Descriptor) (v : ℕ) (f : Process → Process) (nodes : KeepsNodes f) (becomes : f p ≡ with_result (record (at_next_line p) { descriptors = ds }) (pos v) 0)
-    (fewer : UsesNoMore p.descriptors ds)
-    (does : effect program_of (at_call s j p) j (at_next_line p) call ≡ done 0 (with_process s j (record (at_next_line p) { descriptors = ds }), returns v))
-    (left : LeavesOpenFiles program_of s j) where
+    (ds : Numbered Descriptor) (v : ℕ) (f : Process → Process) (becomes : f p ≡ with_result (record (at_next_line p) { descriptors = ds }) (pos v) 0)
+    (does : effect program_of (at_call s j p) j (at_next_line p) call ≡ done 0 (with_process s j (record (at_next_line p) { descriptors = ds }), returns v)) where
   abbrev told : Process → Process
   told r = with_result r (pos v) 0
 
-  calls : step program_of s j ≡ step_by program_of s j p (calls_for call)
-  calls = step-is program_of s j p at ∙ ap (step_by program_of s j p) comes
-
-  answered : answer program_of s j call ≡ record { after = trim (with_change s j f); outcome = Value v; walks = 0 }
-  answered =
+  answered-is : answer program_of s j call ≡ record { after = trim (with_change s j f); outcome = Value v; walks = 0 }
+  answered-is =
       answer-held program_of s j p call at held
       ∙ ap (answer_by_attempt s (at_call s j p) j (at_next_line p)) does
       ∙ ap (λ z. record { after = trim z; outcome = Value v; walks = 0 })
       (update-with s j told (record (at_next_line p) { descriptors = ds }) ∙ ap (with_process s j) (sym becomes) ∙ change-is j f s whole.processes.ascending p at)
 
-  uses-same : SameUse j f s
-  uses-same =
-      use-left j f s whole.processes.ascending p at (λ i q d x at_i has. (whole.processes.placed i q at_i).opens d x has)
-      (λ d x has. fewer d x (sym (ap (λ (r : Process). at_number r.descriptors d) becomes) ∙ has))
-      (ap (λ (z : State). z.files) (sym (ap (λ (w : Stepped). w.after) calls ∙ ap (λ (a : Answered). a.after) answered)) ∙ left)
-
-  answered-is : answer program_of s j call ≡ record { after = with_change s j f; outcome = Value v; walks = 0 }
-  answered-is = answered ∙ ap (λ z. record { after = z; outcome = Value v; walks = 0 }) (trim-use j f nodes s uses-same ∙ ap (λ z. with_change z j f) whole.trimmed)
-
   buffer-is : buffer_of (process_at (answer program_of s j call).after j) ≡ p.buffer
   buffer-is =
       ap (λ (a : Answered). buffer_of (process_at a.after j)) answered-is
+      ∙ ap buffer_of (process_at-trim (with_change s j f) j)
       ∙ ap (λ z. buffer_of (process_at z j)) (sym (change-is j f s whole.processes.ascending p at))
       ∙ ap buffer_of (process_at-same s j (f p))
       ∙ ap (λ (r : Process). r.buffer) becomes
 
   gives : Gives program_of s j p call f v
-  gives = record { calls = calls; uses = uses-same; answered = answered-is; buffer = buffer-is }
+  gives = record { calls = step-is program_of s j p at ∙ ap (step_by program_of s j p) comes; answered = answered-is; buffer = buffer-is }
 
 module _ (program_of : Bytes → Option Program) (spells : SpellsPrograms program_of) (s : State) (j k : ℕ) (p : Process) (whole : IsWhole s) (apart : j ≢ k) (at : process_at s j ≡ Some p)
     (call : Call) (comes : next p ≡ calls_for call) (held : missing_promise p.promises (needs call) ≡ None) where
@@ -258,7 +241,7 @@ module _ (program_of : Bytes → Option Program) (spells : SpellsPrograms progra
       (subst (λ b. Two ⊥ no_act s t j n now (refused 0 e c) b) (sym other_is) (two-refused ⊥ no_act s t j n now e c))))
       (alone-passes program_of spells s j k p whole apart at)
 
-  module _ (left : LeavesOpenFiles program_of s j) (left_t : LeavesOpenFiles program_of t j) (does : Holds s t j n now one other) where
+  module _ (left : LeavesOpenFiles program_of s j) (does : Holds s t j n now one other) where
     abbrev f : Process → Process
     f = given now does.descriptors does.value
 
@@ -266,16 +249,21 @@ module _ (program_of : Bytes → Option Program) (spells : SpellsPrograms progra
     nodes = given-nodes now does.descriptors does.value
 
     gives_s : Gives program_of s j p call f does.value
-    gives_s = gives program_of s whole j p at call comes held does.descriptors does.value f nodes refl does.fewer does.one left
+    gives_s = gives program_of s whole j p at call comes held does.descriptors does.value f refl does.one
 
     gives_t : Gives program_of t j (orphan n p) call f does.value
-    gives_t = gives program_of t whole_t j (orphan n p) at_t call comes_t held does.descriptors does.value f nodes refl does.fewer does.other left_t
+    gives_t = gives program_of t whole_t j (orphan n p) at_t call comes_t held does.descriptors does.value f refl does.other
 
-    answer_after : (answer program_of s j call).after ≡ with_change s j f
-    answer_after = ap (λ (a : Answered). a.after) gives_s.answered
+    after_s : (step program_of s j).after ≡ trim (with_change s j f)
+    after_s = ap (λ (w : Stepped). w.after) gives_s.calls ∙ ap (λ (a : Answered). a.after) gives_s.answered
 
-    first_after : (step program_of s j).after ≡ with_change s j f
-    first_after = ap (λ (w : Stepped). w.after) gives_s.calls ∙ answer_after
+    uses : SameUse j f s
+    uses =
+        use-left j f s whole.processes.ascending p at (λ i q d x at_i has. (whole.processes.placed i q at_i).opens d x has) does.fewer
+        (ap (λ (z : State). z.files) (sym after_s) ∙ left)
+
+    settled : (step program_of s j).after ≡ with_change s j f
+    settled = after_s ∙ trim-use j f nodes s uses ∙ ap (λ z. with_change z j f) whole.trimmed
 
     outcome-same : (answer program_of t j call).outcome ≡ (answer program_of s j call).outcome
     outcome-same = ap (λ (a : Answered). a.outcome) gives_t.answered ∙ sym (ap (λ (a : Answered). a.outcome) gives_s.answered)
@@ -283,9 +271,14 @@ module _ (program_of : Bytes → Option Program) (spells : SpellsPrograms progra
     walks-same : (answer program_of t j call).walks ≡ (answer program_of s j call).walks
     walks-same = ap (λ (a : Answered). a.walks) gives_t.answered ∙ sym (ap (λ (a : Answered). a.walks) gives_s.answered)
 
+    -- the state behind both, in the other order, is trimmed
+    whole-both : IsWhole (step program_of (with_change s j f) k).after
+    whole-both = step-keeps_whole program_of spells (with_change s j f) k (subst IsWhole settled (step-keeps_whole program_of spells s j whole))
+
     held-commute : Commute program_of s j k
     held-commute =
-        let beside = step-held j f (given-keeps now does.descriptors does.value) nodes program_of spells s k p whole (λ same. apart (sym same)) at gives_s.uses gives_t.uses in
+        let beside =
+        step-held j f (given-keeps now does.descriptors does.value) nodes program_of spells s k p (orphan n p) whole (λ same. apart (sym same)) at uses whole_t at_t does.fewer in
         record {
           first = record {
             outcome = ap (λ (w : Stepped). w.outcome) gives_t.calls ∙ outcome-same ∙ sym (ap (λ (w : Stepped). w.outcome) gives_s.calls);
@@ -294,20 +287,20 @@ module _ (program_of : Bytes → Option Program) (spells : SpellsPrograms progra
                 ∙ lines-told j p (orphan n p) call (answer program_of s j call) (answer program_of t j call) refl outcome-same walks-same (gives_t.buffer ∙ sym gives_s.buffer)
                 ∙ sym (ap (λ (w : Stepped). w.lines) gives_s.calls);
           };
-          second = record { outcome = ap (λ x. (step program_of x k).outcome) first_after ∙ beside.outcome; lines = ap (λ x. (step program_of x k).lines) first_after ∙ beside.lines };
+          second = record { outcome = ap (λ x. (step program_of x k).outcome) settled ∙ beside.outcome; lines = ap (λ x. (step program_of x k).lines) settled ∙ beside.lines };
           after =
               ap (λ (w : Stepped). w.after) gives_t.calls ∙ ap (λ (a : Answered). a.after) gives_t.answered
-              ∙ sym (ap (λ x. (step program_of x k).after) first_after ∙ beside.after);
+              ∙ sym beside.after ∙ whole-both.trimmed ∙ sym (ap (λ x. (step program_of x k).after) settled);
         }
 
-  pub descriptors-commute_held : changes_descriptors call ≡ true → LeavesOpenFiles program_of s j → LeavesOpenFiles program_of t j → Commute program_of s j k
-  descriptors-commute_held changes left left_t =
+  pub descriptors-commute_held : changes_descriptors call ≡ true → LeavesOpenFiles program_of s j → Commute program_of s j k
+  descriptors-commute_held changes left =
       ⊎_elim
       (λ is. refused-commute is.errno is.cause is.one is.other)
-      (λ is. held-commute left left_t is)
+      (λ is. held-commute left is)
       (call-does s t j n now (whole.processes.placed j p at).descriptors program_of call changes)
 
 pub descriptors-commute : (program_of : Bytes → Option Program) → SpellsPrograms program_of → (s : State) (j k : ℕ) (p : Process) (call : Call) → IsWhole s → j ≢ k → process_at s j ≡ Some p → next p ≡ calls_for call
-    → changes_descriptors call ≡ true → ((a : Promise) → (step program_of s j).outcome ≢ Killed a) → LeavesOpenFiles program_of s j → LeavesOpenFiles program_of (step program_of s k).after j → Commute program_of s j k
-descriptors-commute program_of spells s j k p call whole apart at comes changes alive left left_t =
-    commute-where program_of spells s j k p call whole apart at comes alive (λ held. descriptors-commute_held program_of spells s j k p whole apart at call comes held changes left left_t)
+    → changes_descriptors call ≡ true → ((a : Promise) → (step program_of s j).outcome ≢ Killed a) → LeavesOpenFiles program_of s j → Commute program_of s j k
+descriptors-commute program_of spells s j k p call whole apart at comes changes alive left =
+    commute-where program_of spells s j k p call whole apart at comes alive (λ held. descriptors-commute_held program_of spells s j k p whole apart at call comes held changes left)

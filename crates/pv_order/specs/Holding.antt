@@ -22,10 +22,9 @@ changes_descriptors call = false
 abbrev pub LeavesOpenFiles : (Bytes → Option Program) → State → ℕ → Type 0
 LeavesOpenFiles program_of s pid = (step program_of s pid).after.files ≡ s.files
 
--- such a call, where it does not kill, and a step of another process, which may make, free or end what it will, may be made in either order, where the first ends no open file, neither before the other nor behind it
+-- such a call, where it does not kill and ends no open file, and any step of another process, which may make, free or end what it will, may be made in either order
 abbrev pub DescriptorStepsCommute : Type 0
 DescriptorStepsCommute =
     (program_of : Bytes → Option Program) → SpellsPrograms program_of → (s : State) (j k : ℕ) (p : Process) (call : Call) → IsWhole s → j ≢ k → process_at s j ≡ Some p → next p ≡ calls_for call
-    → IsTrue (changes_descriptors call) → ((a : Promise) → (step program_of s j).outcome ≢ Killed a)
-    → LeavesOpenFiles program_of s j → LeavesOpenFiles program_of (step program_of s k).after j
+    → IsTrue (changes_descriptors call) → ((a : Promise) → (step program_of s j).outcome ≢ Killed a) → LeavesOpenFiles program_of s j
     → Commute program_of s j k
