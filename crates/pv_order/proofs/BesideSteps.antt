@@ -51,8 +51,8 @@ fit-calls k f s pid me other next_other fit =
       reaped = λ test. fits-filter k f (λ r. test r.0) s.processes fit;
       room = λ t fs n. room-changed k f _ _ n (record { same = refl; fit = fit });
       room_opened = λ t fs file close_on_exec n.
-      let q : Process = record me { descriptors = with_number me.descriptors (least_free me.descriptors) (record { file = file; close_on_exec = close_on_exec }) } in
-      room-changed k f _ _ n (record { same = ap (λ ps. record s { tree = t; files = fs; processes = ps }) (put-other k f pid (live q) s.processes other); fit = own q });
+          let q : Process = record me { descriptors = with_number me.descriptors (least_free me.descriptors) (record { file = file; close_on_exec = close_on_exec }) } in
+          room-changed k f _ _ n (record { same = ap (λ ps. record s { tree = t; files = fs; processes = ps }) (put-other k f pid (live q) s.processes other); fit = own q });
     }
 
 step-changed : (k : ℕ) (f : Process → Process) → KeepsParent f → (pid : ℕ) → pid ≢ k → (program_of : Bytes → Option Program) (s : State) → Fits k f s.processes → suc s.last_process ≢ k

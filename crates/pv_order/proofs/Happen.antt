@@ -15,6 +15,9 @@ use Rattle.pv_model.specs.Touch.{Touch, read_file, change_file, file_bytes, desc
 use Rattle.pv_model.specs.Tree.{file_node, node_at}
 use Rattle.pv_rights.specs.Justice.{IsExplained}
 use Rattle.pv_order.specs.Examples.{no_programs, state_behind, apart, unlinking, asking_size, OrderHappens, OffsetsHappen, WritesHappen}
+use Rattle.std.specs.Prelude.{replicate}
+use Rattle.pv_model.specs.Numbered.{Numbered}
+use Rattle.pv_order.specs.Examples.{closing_both, DescriptorsHappen}
 use Rattle.pv_order.specs.Offsets.{GoesBy}
 
 abbrev or_first : Option Process → Process
@@ -119,6 +122,24 @@ offsets-happen = record {
   none_named = refl;
   one_named = refl;
 }
+
+abbrev closer : Process
+closer = or_first (process_at closing_both 1)
+
+abbrev shared_files : Numbered OpenFile
+shared_files = Some (record { node = 2; mode = ReadWrite; append = false; offset = 0; listed = None }) ∷ replicate 127 None
+
+files-before : closing_both.files ≡ shared_files
+unfolding machine_on_literals
+files-before = refl
+
+files-behind : (step no_programs closing_both 1).after.files ≡ shared_files
+unfolding machine_on_literals
+files-behind = refl
+
+pub descriptors-happen : DescriptorsHappen
+unfolding machine_on_literals
+descriptors-happen = record { process = closer; there = refl; next_is = refl; leaves = files-behind ∙ sym files-before; closes = refl; ended = refl; reused = refl; not_reused = refl }
 
 abbrev writer : Process
 writer = or_first (process_at asking_size 1)

@@ -217,10 +217,10 @@ module _ (j : ℕ) (f : Process → Process) where
       use-more more keeps uses =
           record {
             same = λ m.
-            ap (λ (z : State). among (used z) m) (sym (with-changed j f x k more apart))
-            ∙ same-truth (among (used (with_process (with_change x j f) k more)) m) (among (used (with_process x k more)) m)
-            (used-onward (with_change x j f) x sorted-changed sorted k me more at_k keeps (λ n is. sym (uses.same n) ∙ is) m)
-            (used-onward x (with_change x j f) sorted sorted-changed k me more (process-changed j f x k apart ∙ at_k) keeps (λ n is. uses.same n ∙ is) m);
+                ap (λ (z : State). among (used z) m) (sym (with-changed j f x k more apart))
+                ∙ same-truth (among (used (with_process (with_change x j f) k more)) m) (among (used (with_process x k more)) m)
+                (used-onward (with_change x j f) x sorted-changed sorted k me more at_k keeps (λ n is. sym (uses.same n) ∙ is) m)
+                (used-onward x (with_change x j f) sorted sorted-changed k me more (process-changed j f x k apart ∙ at_k) keeps (λ n is. uses.same n ∙ is) m);
           }
 
 -- ---- the step of another process
@@ -254,9 +254,9 @@ module _ (j : ℕ) (f : Process → Process) (keeps : KeepsParent f) (nodes : Ke
     reaped = λ test. tt;
     room = λ t fs n. roomy _ _ n refl (record { same = uses.same });
     room_opened = λ t fs file close_on_exec n.
-    let q : Process = record me { descriptors = with_number me.descriptors (least_free me.descriptors) (record { file = file; close_on_exec = close_on_exec }) } in
-    let more = use-more j f x sorted p at k apart me at_k q (λ d v has. more-with_number me.descriptors (record { file = file; close_on_exec = close_on_exec }) d v has) uses in
-    roomy _ _ n (ap (λ ps. record x { tree = t; files = fs; processes = ps }) (put-other j f k (live q) x.processes apart)) (record { same = more.same });
+        let q : Process = record me { descriptors = with_number me.descriptors (least_free me.descriptors) (record { file = file; close_on_exec = close_on_exec }) } in
+        let more = use-more j f x sorted p at k apart me at_k q (λ d v has. more-with_number me.descriptors (record { file = file; close_on_exec = close_on_exec }) d v has) uses in
+        roomy _ _ n (ap (λ ps. record x { tree = t; files = fs; processes = ps }) (put-other j f k (live q) x.processes apart)) (record { same = more.same });
   }
 
   -- what is used goes by the processes alone
@@ -270,17 +270,17 @@ module _ (j : ℕ) (f : Process → Process) (keeps : KeepsParent f) (nodes : Ke
   no-more x sorted p at fewer = record {
     used = used-before j f x sorted p at fewer;
     held = λ n is.
-    ⊎_elim
-    (λ by_process. wanted-held x.tree (held_after x) n
-    (list_any-append (λ m. m == n) (all_of held_by_process x.processes) (map (λ o. o.node) (present (keep (among (used x)) x.files)))
-    ∙ or_left _ _ (ap (λ ns. among ns n) (sym (held-changed j f nodes x.processes)) ∙ by_process)))
-    (λ by_file.
-    let found = present-at (λ (o : OpenFile). o.node) (keep (among (used (with_change x j f))) x.files) n by_file in
-    let kept = keep-some (among (used (with_change x j f))) x.files found.0 found.1 found.2 in
-    wanted-held x.tree (held_after x) n
-    (subst (λ m. among (held_after x) m ≡ true) found.3 (among-held_file x found.0 found.1 kept.1 (used-before j f x sorted p at fewer found.0 kept.0))))
-    (or_cases (among (all_of held_by_process (changed j f x.processes)) n) _
-    (sym (list_any-append (λ m. m == n) (all_of held_by_process (changed j f x.processes)) (map (λ o. o.node) (present (keep (among (used (with_change x j f))) x.files)))) ∙ is));
+        ⊎_elim
+        (λ by_process. wanted-held x.tree (held_after x) n
+        (list_any-append (λ m. m == n) (all_of held_by_process x.processes) (map (λ o. o.node) (present (keep (among (used x)) x.files)))
+        ∙ or_left _ _ (ap (λ ns. among ns n) (sym (held-changed j f nodes x.processes)) ∙ by_process)))
+        (λ by_file.
+        let found = present-at (λ (o : OpenFile). o.node) (keep (among (used (with_change x j f))) x.files) n by_file in
+        let kept = keep-some (among (used (with_change x j f))) x.files found.0 found.1 found.2 in
+        wanted-held x.tree (held_after x) n
+        (subst (λ m. among (held_after x) m ≡ true) found.3 (among-held_file x found.0 found.1 kept.1 (used-before j f x sorted p at fewer found.0 kept.0))))
+        (or_cases (among (all_of held_by_process (changed j f x.processes)) n) _
+        (sym (list_any-append (λ m. m == n) (all_of held_by_process (changed j f x.processes)) (map (λ o. o.node) (present (keep (among (used (with_change x j f))) x.files)))) ∙ is));
   }
 
 -- ---- a step beside the change
@@ -318,10 +318,11 @@ module _ (program_of : Bytes → Option Program) (spells : SpellsPrograms progra
       }) program_of s whole.tree.well_formed
       (λ me call at comes.
       let good : is_call call ≡ true = subst (IsGoodNext me) comes (good-next me (whole.processes.running k me at)) in
-      let whole_x : IsWhole (at_call s k me) = whole-at_call s k me whole at in
-      (same-moved (effect program_of (at_call s k me) k (at_next_line me) call) (rows me at call comes),
-      sound-effect (at_call s k me) (effect program_of (at_call s k me) k (at_next_line me) call) whole_x
-      (good-effect program_of spells (at_call s k me) k (at_next_line me) call whole_x (process_at-same s k (at_next_line me)) good)))
+      let whole_x : IsWhole (at_call s k me) = whole-at_call s k me whole at in (
+        same-moved (effect program_of (at_call s k me) k (at_next_line me) call) (rows me at call comes),
+        sound-effect (at_call s k me) (effect program_of (at_call s k me) k (at_next_line me) call) whole_x
+            (good-effect program_of spells (at_call s k me) k (at_next_line me) call whole_x (process_at-same s k (at_next_line me)) good),
+      ))
       refl
     where
       same-moved : {b : Attempt Effect} (a : Attempt Effect) → b ≡ moved (changes j f) (λ x. Unit {0}) a → b ≡ moved (changes j f) (λ x. IsWellFormed x.tree) a

@@ -16,6 +16,9 @@ use Rattle.pv_model.specs.State.{Program, Process, State, first_state, process_a
 use Rattle.pv_model.specs.Step.{step, run}
 use Rattle.pv_model.specs.Touch.{file_bytes}
 use Rattle.pv_order.specs.Commuting.{IsAlone}
+use Rattle.pv_model.specs.declared.instruction.Instruction.TheVariants.{Close}
+use Rattle.pv_model.specs.Numbered.{at_number}
+use Rattle.pv_order.specs.Holding.{LeavesOpenFiles}
 use Rattle.pv_order.specs.Offsets.{LeavesOpenFile}
 use Rattle.pv_order.specs.Writes.{LeavesWrite, StaysWithin}
 
@@ -79,6 +82,32 @@ pub record OffsetsHappen : Type 0 where
   -- a listing beside a new name: it is told the name
   pub none_named : (step no_programs (state_behind making_a_name (replicate 3 1 ++ 2 ∷ [])) 1).outcome ≡ Text (record { value = 0; len = 0 })
   pub one_named : (step no_programs (state_behind making_a_name (replicate 3 1 ++ 2 ∷ 2 ∷ [])) 1).outcome ≡ Text (record { value = 1; len = 1 })
+
+-- ---- descriptors
+
+-- a process opens a file that it makes, and forks; then it closes its descriptor, and the child does something else
+abbrev pub closing_beside : List Instruction → Program
+closing_beside others = Open (codes "/x") (flags ReadWrite true) ∷ Fork ∷ JumpIfZero 0 6 ∷ Close (Number (pos 0)) ∷ Exit (Number (pos 0)) ∷ others
+
+-- the child closes its descriptor of the open file too
+abbrev pub closing_both : State
+closing_both = state_behind (closing_beside (Close (Number (pos 0)) ∷ [])) (replicate 3 1 ++ 2 ∷ [])
+
+-- a process that has forked closes the only descriptor of an open file, and its child opens another file
+abbrev pub ending : Program
+ending = Fork ∷ JumpIfZero 0 6 ∷ Open (codes "/x") making ∷ Close (Number (pos 0)) ∷ Exit (Number (pos 0)) ∷ Open (codes "/y") making ∷ []
+
+pub record DescriptorsHappen : Type 0 where
+  -- two closes of one open file: the law's premises, and behind both it has ended
+  pub process : Process
+  pub there : process_at closing_both 1 ≡ Some process
+  pub next_is : next process ≡ calls_for (TheCall.Close (pos 0))
+  pub leaves : LeavesOpenFiles no_programs closing_both 1
+  pub closes : (step no_programs closing_both 2).outcome ≡ Value 0
+  pub ended : at_number (run no_programs (1 ∷ 2 ∷ []) closing_both).final.files 0 ≡ None
+  -- a close that ends an open file, beside an open: that takes the number which the close leaves free, or the next
+  pub reused : is_some (at_number (state_behind ending (replicate 3 1 ++ 2 ∷ 1 ∷ 2 ∷ [])).files 0) ≡ true
+  pub not_reused : at_number (state_behind ending (replicate 3 1 ++ 2 ∷ 2 ∷ 1 ∷ [])).files 0 ≡ None
 
 -- ---- writes
 
