@@ -17,7 +17,7 @@ use Rattle.pv_rights.proofs.Ends.{whole-in_order, not_next}
 use Rattle.pv_order.specs.Beside.{StandsAlike, with_change, become, StepsBeside}
 use Rattle.pv_order.proofs.Exchange.{KeepsParent, Fits, put-other, trim-changed, fits-put, fits-filter, process-changed, with-changed, end-changed, fits-end}
 use Rattle.pv_order.proofs.Alongside.{SteppedBeside, IsApart, step-beside}
-use Rattle.pv_order.proofs.BesideCalls.{changes, AreFit, room-changed, CallsFit, calls-beside}
+use Rattle.pv_order.proofs.BesideCalls.{changes, AreFit, room-changed, CallsFit, calls-fit}
 
 -- in a table that rises, what fits the process that is found fits
 pub fits-found : (k : ℕ) (f : Process → Process) (es : List (ℕ × Record)) → is_sorted nat_cmp es ≡ true → ((x : Process) → find nat_cmp k es ≡ Some (live x) → StandsAlike x (f x)) → Fits k f es
@@ -60,8 +60,8 @@ step-changed : (k : ℕ) (f : Process → Process) → KeepsParent f → (pid : 
 step-changed k f keeps pid other program_of s fit next_other =
     let apart = changes-apart k f keeps pid other in
     step-beside (changes k f) (AreFit k f) pid apart program_of s fit (λ p call at comes.
-    calls-beside k f keeps (at_call s pid p) pid (at_next_line p) other next_other (AreFit k f)
-    (fit-calls k f (at_call s pid p) pid (at_next_line p) other next_other (apart.fit_put s (at_next_line p) fit)) program_of call)
+    calls-fit k f (at_call s pid p) pid (at_next_line p) other next_other (AreFit k f)
+    (fit-calls k f (at_call s pid p) pid (at_next_line p) other next_other (apart.fit_put s (at_next_line p) fit)) keeps program_of call)
 
 pub become-keeps : (q : Process) → KeepsParent (become q)
 become-keeps q = record { same = λ p. refl; whoever = λ p n. refl }

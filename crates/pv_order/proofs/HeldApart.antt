@@ -23,7 +23,7 @@ use Rattle.pv_laws.proofs.Whole.{sorted-put_number}
 use Rattle.pv_rights.proofs.Ends.{whole-in_order, not_next}
 use Rattle.pv_order.specs.Beside.{with_change}
 use Rattle.pv_order.proofs.Alongside.{Beside, moved, FitsIn, room-beside, step-beside_to}
-use Rattle.pv_order.proofs.BesideCalls.{changes, CallsFit, calls-beside}
+use Rattle.pv_order.proofs.BesideCalls.{changes, CallsFit, calls-fit}
 use Rattle.pv_order.proofs.Commuted.{put-changes}
 use Rattle.pv_order.proofs.Exchange.{KeepsParent, changed, put-other, process-changed, with-changed, end-changed}
 use Rattle.std.proofs.lemmas.Bool.{or_left, or_cases}
@@ -340,7 +340,7 @@ step-held j f keeps nodes program_of spells s k p q whole apart at uses whole_t 
     let now : Process = at_next_line me in
     let x : State = at_call s k me in
     let uses_x : SameUse j f x = use-more j f s whole.processes.ascending p at k apart me at_k now (λ d v has. (d, v, has, refl)) uses in
-    (calls-beside j f keeps x k now apart (λ same. not_next s (whole-in_order s whole) j p at (sym same)) (λ x. Unit {0})
-    (use-calls j f keeps nodes x (sorted-put_number k (live now) s.processes whole.processes.ascending) p (process_at-other s k now j (λ same. apart (sym same)) ∙ at) k apart now (process_at-same s k now) uses_x) program_of call).same)
+    (calls-fit j f x k now apart (λ same. not_next s (whole-in_order s whole) j p at (sym same)) (λ x. Unit {0})
+    (use-calls j f keeps nodes x (sorted-put_number k (live now) s.processes whole.processes.ascending) p (process_at-other s k now j (λ same. apart (sym same)) ∙ at) k apart now (process_at-same s k now) uses_x) keeps program_of call).same)
     (λ x same is.
     no-more j f keeps nodes x (ap (is_sorted nat_cmp) same ∙ whole_t.processes.ascending) q (ap (λ ps. live_process (find nat_cmp j ps)) same ∙ at_t) fewer)
