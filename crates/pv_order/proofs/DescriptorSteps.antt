@@ -1,5 +1,5 @@
 -- Steps that change which descriptors their process has, before and behind a step of another process.
-use Rattle.std.proofs.Common.{◌≡◌, ◌≢◌, ℕ, ◌≤◌, ℤ, pos, negsuc, Bool, true, false, ◌==◌, if◌then◌else◌, nat_le, length, Option, None, Some, refl, ap, sym, subst, ◌∙◌, ◌⊎◌, inl, inr, ⊎_elim, arith}
+use Rattle.std.proofs.Common.{◌≡◌, ◌≢◌, ℕ, ◌≤◌, ℤ, pos, negsuc, Bool, true, false, ◌==◌, if◌then◌else◌, nat_le, length, Option, None, Some, refl, ap, sym, ◌∙◌, ◌⊎◌, inl, inr, ⊎_elim, arith}
 use Rattle.std.proofs.lemmas.Bool.{cases_eq, leb-true}
 use Rattle.pv_model.specs.declared.call.Call.{Call}
 use Rattle.pv_model.specs.declared.call.Call.TheVariants as TheCall
@@ -7,9 +7,9 @@ use Rattle.pv_model.specs.declared.errno.Errno.{Errno}
 use Rattle.pv_model.specs.declared.errno.Errno.TheVariants.{EBADF, EMFILE}
 use Rattle.pv_model.specs.declared.outcome.Cause.{Cause}
 use Rattle.pv_model.specs.declared.outcome.Cause.TheVariants.{Plain}
-use Rattle.pv_model.specs.declared.outcome.Outcome.TheVariants.{Value, Killed}
+use Rattle.pv_model.specs.declared.outcome.Outcome.TheVariants.{Killed}
 use Rattle.pv_model.specs.declared.promise.Promise.{Promise}
-use Rattle.pv_model.specs.Answer.{Answered, answer, answer_by_attempt, at_next_line, effect}
+use Rattle.pv_model.specs.Answer.{Answered, at_next_line, effect}
 use Rattle.pv_model.specs.Attempt.{Attempt, done, refused, ◌>>=◌, ◌>>◌, refuse_if, demand}
 use Rattle.pv_model.specs.Bytes.{Bytes}
 use Rattle.pv_model.specs.Calls.Descriptors.{with_duplicate}
@@ -21,23 +21,20 @@ use Rattle.pv_model.specs.Numbered.{Numbered, at_number, with_number, without_nu
 use Rattle.pv_model.specs.Program.{calls_for, next}
 use Rattle.pv_model.specs.Promises.{missing_promise}
 use Rattle.pv_model.specs.State.{Descriptor, Program, Process, State, process_at, with_process}
-use Rattle.pv_model.specs.Step.{Stepped, step, step_by}
-use Rattle.pv_model.specs.Trace.{buffer_of}
+use Rattle.pv_model.specs.Step.{Stepped, step}
 use Rattle.pv_tree_laws.proofs.Numbered.{with_number-same_within, with_number-other_within, without_number-same, without_number-other, least_free-within}
 use Rattle.pv_laws.specs.States.{SpellsPrograms, IsWhole}
 use Rattle.pv_laws.proofs.Outcomes.{at_call}
-use Rattle.pv_laws.proofs.Processes.{process_at-same, with_process-twice, update-with}
-use Rattle.pv_rights.proofs.Ends.{step-is, process_at-trim}
-use Rattle.pv_laws.proofs.BySteps.{step-keeps_whole}
+use Rattle.pv_laws.proofs.Processes.{with_process-twice}
 use Rattle.pv_order.specs.Beside.{with_change}
 use Rattle.pv_order.specs.Commuting.{Commute}
 use Rattle.pv_order.specs.Holding.{changes_descriptors, LeavesOpenFiles}
 use Rattle.pv_order.proofs.Exchange.{KeepsParent}
-use Rattle.pv_order.proofs.HeldApart.{UsesNoMore, KeepsNodes, SameUse, trim-use, change-is, use-left, step-held}
-use Rattle.pv_order.proofs.Lone.{no_act, alone-passes, commute-where}
+use Rattle.pv_order.proofs.HeldApart.{UsesNoMore, KeepsNodes, SameUse, trim-use, use-left, step-held}
+use Rattle.pv_order.proofs.Given.{Gives, gives, refused-commute, given-commute}
+use Rattle.pv_order.proofs.Lone.{commute-where}
 use Rattle.pv_order.proofs.Orphans.{orphan, orphaned, next-orphan}
-use Rattle.pv_order.proofs.Told.{lines-told}
-use Rattle.pv_order.proofs.Twice.{answer-held, Two, two-refused, behind_k, whole-behind, at-behind, heir, commute-steps, call-twice}
+use Rattle.pv_order.proofs.Twice.{behind_k, whole-behind, at-behind, heir}
 
 -- ---- descriptors
 
@@ -176,36 +173,6 @@ given-keeps now ds v = record { same = λ r. refl; whoever = λ r n. refl }
 given-nodes : (now : Process) (ds : Numbered Descriptor) (v : ℕ) → KeepsNodes (given now ds v)
 given-nodes now ds v = record { held = λ r. refl }
 
--- a step gives its process other descriptors, and lets go what nobody holds then
-record Gives (program_of : Bytes → Option Program) (s : State) (j : ℕ) (p : Process) (call : Call) (f : Process → Process) (v : ℕ) : Type 0 where
-  calls : step program_of s j ≡ step_by program_of s j p (calls_for call)
-  answered : answer program_of s j call ≡ record { after = trim (with_change s j f); outcome = Value v; walks = 0 }
-  buffer : buffer_of (process_at (answer program_of s j call).after j) ≡ p.buffer
-
-module _ (program_of : Bytes → Option Program) (s : State) (whole : IsWhole s) (j : ℕ) (p : Process) (at : process_at s j ≡ Some p) (call : Call) (comes : next p ≡ calls_for call) (held : missing_promise p.promises (needs call) ≡ None)
-    (ds : Numbered Descriptor) (v : ℕ) (f : Process → Process) (becomes : f p ≡ with_result (record (at_next_line p) { descriptors = ds }) (pos v) 0)
-    (does : effect program_of (at_call s j p) j (at_next_line p) call ≡ done 0 (with_process s j (record (at_next_line p) { descriptors = ds }), returns v)) where
-  abbrev told : Process → Process
-  told r = with_result r (pos v) 0
-
-  answered-is : answer program_of s j call ≡ record { after = trim (with_change s j f); outcome = Value v; walks = 0 }
-  answered-is =
-      answer-held program_of s j p call at held
-      ∙ ap (answer_by_attempt s (at_call s j p) j (at_next_line p)) does
-      ∙ ap (λ z. record { after = trim z; outcome = Value v; walks = 0 })
-      (update-with s j told (record (at_next_line p) { descriptors = ds }) ∙ ap (with_process s j) (sym becomes) ∙ change-is j f s whole.processes.ascending p at)
-
-  buffer-is : buffer_of (process_at (answer program_of s j call).after j) ≡ p.buffer
-  buffer-is =
-      ap (λ (a : Answered). buffer_of (process_at a.after j)) answered-is
-      ∙ ap buffer_of (process_at-trim (with_change s j f) j)
-      ∙ ap (λ z. buffer_of (process_at z j)) (sym (change-is j f s whole.processes.ascending p at))
-      ∙ ap buffer_of (process_at-same s j (f p))
-      ∙ ap (λ (r : Process). r.buffer) becomes
-
-  gives : Gives program_of s j p call f v
-  gives = record { calls = step-is program_of s j p at ∙ ap (step_by program_of s j p) comes; answered = answered-is; buffer = buffer-is }
-
 module _ (program_of : Bytes → Option Program) (spells : SpellsPrograms program_of) (s : State) (j k : ℕ) (p : Process) (whole : IsWhole s) (apart : j ≢ k) (at : process_at s j ≡ Some p)
     (call : Call) (comes : next p ≡ calls_for call) (held : missing_promise p.promises (needs call) ≡ None) where
   abbrev t : State
@@ -223,23 +190,11 @@ module _ (program_of : Bytes → Option Program) (spells : SpellsPrograms progra
   abbrev now : Process
   now = at_next_line p
 
-  comes_t : next (orphan n p) ≡ calls_for call
-  comes_t = next-orphan n p ∙ ap (orphaned n) comes
-
   abbrev one : Attempt Effect
   one = effect program_of (at_call s j p) j now call
 
   abbrev other : Attempt Effect
   other = effect program_of (at_call t j (orphan n p)) j (orphan n now) call
-
-  -- where both are refused
-  refused-commute : (e : Errno) (c : Cause) → one ≡ refused 0 e c → other ≡ refused 0 e c → Commute program_of s j k
-  refused-commute e c one_is other_is =
-      commute-steps program_of spells s j k p whole apart at ⊥ no_act
-      (call-twice program_of spells s j k p whole apart at ⊥ no_act (λ a z. absurd a) (λ a q h same. absurd a) (λ a q h same. absurd a) call comes held
-      (subst (λ a. Two ⊥ no_act s t j n now a other) (sym one_is)
-      (subst (λ b. Two ⊥ no_act s t j n now (refused 0 e c) b) (sym other_is) (two-refused ⊥ no_act s t j n now e c))))
-      (alone-passes program_of spells s j k p whole apart at)
 
   module _ (left : LeavesOpenFiles program_of s j) (does : Holds s t j n now one other) where
     abbrev f : Process → Process
@@ -248,55 +203,35 @@ module _ (program_of : Bytes → Option Program) (spells : SpellsPrograms progra
     abbrev nodes : KeepsNodes f
     nodes = given-nodes now does.descriptors does.value
 
-    gives_s : Gives program_of s j p call f does.value
-    gives_s = gives program_of s whole j p at call comes held does.descriptors does.value f refl does.one
+    abbrev q : Process
+    q = record now { descriptors = does.descriptors }
 
-    gives_t : Gives program_of t j (orphan n p) call f does.value
-    gives_t = gives program_of t whole_t j (orphan n p) at_t call comes_t held does.descriptors does.value f refl does.other
+    gives_s : Gives program_of s j p call f 0 does.value
+    gives_s = gives program_of s whole j p at call comes held f 0 does.value q refl refl does.one
+
+    gives_t : Gives program_of t j (orphan n p) call f 0 does.value
+    gives_t = gives program_of t whole_t j (orphan n p) at_t call (next-orphan n p ∙ ap (orphaned n) comes) held f 0 does.value (orphan n q) refl refl does.other
 
     after_s : (step program_of s j).after ≡ trim (with_change s j f)
     after_s = ap (λ (w : Stepped). w.after) gives_s.calls ∙ ap (λ (a : Answered). a.after) gives_s.answered
 
     uses : SameUse j f s
     uses =
-        use-left j f s whole.processes.ascending p at (λ i q d x at_i has. (whole.processes.placed i q at_i).opens d x has) does.fewer
+        use-left j f s whole.processes.ascending p at (λ i r d x at_i has. (whole.processes.placed i r at_i).opens d x has) does.fewer
         (ap (λ (z : State). z.files) (sym after_s) ∙ left)
 
     settled : (step program_of s j).after ≡ with_change s j f
     settled = after_s ∙ trim-use j f nodes s uses ∙ ap (λ z. with_change z j f) whole.trimmed
 
-    outcome-same : (answer program_of t j call).outcome ≡ (answer program_of s j call).outcome
-    outcome-same = ap (λ (a : Answered). a.outcome) gives_t.answered ∙ sym (ap (λ (a : Answered). a.outcome) gives_s.answered)
-
-    walks-same : (answer program_of t j call).walks ≡ (answer program_of s j call).walks
-    walks-same = ap (λ (a : Answered). a.walks) gives_t.answered ∙ sym (ap (λ (a : Answered). a.walks) gives_s.answered)
-
-    -- the state behind both, in the other order, is trimmed
-    whole-both : IsWhole (step program_of (with_change s j f) k).after
-    whole-both = step-keeps_whole program_of spells (with_change s j f) k (subst IsWhole settled (step-keeps_whole program_of spells s j whole))
-
     held-commute : Commute program_of s j k
     held-commute =
-        let beside =
-        step-held j f (given-keeps now does.descriptors does.value) nodes program_of spells s k p (orphan n p) whole (λ same. apart (sym same)) at uses whole_t at_t does.fewer in
-        record {
-          first = record {
-            outcome = ap (λ (w : Stepped). w.outcome) gives_t.calls ∙ outcome-same ∙ sym (ap (λ (w : Stepped). w.outcome) gives_s.calls);
-            lines =
-                ap (λ (w : Stepped). w.lines) gives_t.calls
-                ∙ lines-told j p (orphan n p) call (answer program_of s j call) (answer program_of t j call) refl outcome-same walks-same (gives_t.buffer ∙ sym gives_s.buffer)
-                ∙ sym (ap (λ (w : Stepped). w.lines) gives_s.calls);
-          };
-          second = record { outcome = ap (λ x. (step program_of x k).outcome) settled ∙ beside.outcome; lines = ap (λ x. (step program_of x k).lines) settled ∙ beside.lines };
-          after =
-              ap (λ (w : Stepped). w.after) gives_t.calls ∙ ap (λ (a : Answered). a.after) gives_t.answered
-              ∙ sym beside.after ∙ whole-both.trimmed ∙ sym (ap (λ x. (step program_of x k).after) settled);
-        }
+        given-commute program_of spells s j k p whole apart at call comes held f 0 does.value gives_s gives_t settled
+        (step-held j f (given-keeps now does.descriptors does.value) nodes program_of spells s k p (orphan n p) whole (λ same. apart (sym same)) at uses whole_t at_t does.fewer)
 
   pub descriptors-commute_held : changes_descriptors call ≡ true → LeavesOpenFiles program_of s j → Commute program_of s j k
   descriptors-commute_held changes left =
       ⊎_elim
-      (λ is. refused-commute is.errno is.cause is.one is.other)
+      (λ is. refused-commute program_of spells s j k p whole apart at call comes held 0 is.errno is.cause is.one is.other)
       (λ is. held-commute left is)
       (call-does s t j n now (whole.processes.placed j p at).descriptors program_of call changes)
 

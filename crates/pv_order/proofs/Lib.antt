@@ -12,6 +12,7 @@ pub mod Told
 pub mod Twice
 pub mod Lone
 pub mod AskSteps
+pub mod Given
 pub mod DescriptorSteps
 pub mod OffsetSteps
 pub mod OtherBytes
