@@ -208,7 +208,7 @@ module _ (change : State → State) (Fit : State → Type 0) (pid : ℕ) (last :
 
   -- where the call that is made goes along the change, its step does
   module _ (program_of : Bytes → Option Program) (s : State) (fit : Fit s)
-      (rows : (p : Process) (call : Call) → process_at s pid ≡ Some p → next p ≡ calls_for call
+      (rows : (p : Process) (call : Call) → process_at s pid ≡ Some p → next p ≡ calls_for call → missing_promise p.promises (needs call) ≡ None
       → (effect program_of (change (at_call s pid p)) pid (at_next_line p) call ≡ moved change Fit (effect program_of (at_call s pid p) pid (at_next_line p) call))
       × FitsTrim Fit (effect program_of (at_call s pid p) pid (at_next_line p) call)) where
     abbrev u : State
@@ -221,10 +221,10 @@ module _ (change : State → State) (Fit : State → Type 0) (pid : ℕ) (last :
       abbrev now : Process
       now = at_next_line p
 
-      does-beside : (answer_by_attempt s x pid now (effect program_of x pid now call)).after ≡ last
+      does-beside : missing_promise p.promises (needs call) ≡ None → (answer_by_attempt s x pid now (effect program_of x pid now call)).after ≡ last
           → To (answer_by_attempt s x pid now (effect program_of x pid now call)) (answer_by_attempt u (at_call u pid p) pid now (effect program_of (at_call u pid p) pid now call))
-      does-beside is =
-          let both = rows p call at comes in
+      does-beside held is =
+          let both = rows p call at comes held in
           subst (λ y. To (answer_by_attempt s x pid now (effect program_of x pid now call)) (answer_by_attempt u y pid now (effect program_of y pid now call))) (sym (apart.put s now))
           (subst (λ a. To (answer_by_attempt s x pid now (effect program_of x pid now call)) (answer_by_attempt u (change x) pid now a)) (sym both.0)
           (attempt-beside s x now (effect program_of x pid now call) both.1 is))
@@ -244,16 +244,16 @@ module _ (change : State → State) (Fit : State → Type 0) (pid : ℕ) (last :
           by true is = told (at_call u pid p) (apart.put s now) is
           by false is = record { after = trimmed-end s now 6 fit is; outcome = refl; walks = refl }
 
-      where-beside : (o : Option Promise) → (answer_where program_of s x pid now call o).after ≡ last → To (answer_where program_of s x pid now call o) (answer_where program_of u (at_call u pid p) pid now call o)
-      where-beside None is = does-beside is
-      where-beside (Some a) is = missing-beside a is
+      where-beside : (o : Option Promise) → missing_promise p.promises (needs call) ≡ o → (answer_where program_of s x pid now call o).after ≡ last → To (answer_where program_of s x pid now call o) (answer_where program_of u (at_call u pid p) pid now call o)
+      where-beside None held is = does-beside held is
+      where-beside (Some a) missing is = missing-beside a is
 
       answer-beside : (answer program_of s pid call).after ≡ last → To (answer program_of s pid call) (answer program_of u pid call)
       unfolding answer
       answer-beside is =
           subst (λ o. To (answer_of program_of s pid call o) (answer program_of u pid call)) (sym at)
           (subst (λ o. To (answer_of program_of s pid call (Some p)) (answer_of program_of u pid call o)) (sym (apart.there s ∙ at))
-          (where-beside (missing_promise p.promises (needs call)) (sym (ap (λ o. (answer_of program_of s pid call o).after) at) ∙ is)))
+          (where-beside (missing_promise p.promises (needs call)) refl (sym (ap (λ o. (answer_of program_of s pid call o).after) at) ∙ is)))
 
       told-alike : (answer program_of s pid call).after ≡ last → IsToldAlike pid (answer program_of u pid call) (answer program_of s pid call)
       told-alike is =
@@ -289,4 +289,4 @@ module _ (change : State → State) (Fit : State → Type 0) (pid : ℕ) (apart 
   step-beside program_of s fit rows =
       let last : State = (step program_of s pid).after in
       step-beside_to change Fit pid last (ByChange change) (apart-to change Fit pid last apart) program_of s fit
-      (λ p call at comes. let both = rows p call at comes in (both.same, fits-trim change Fit (effect program_of (at_call s pid p) pid (at_next_line p) call) both.fit)) refl
+      (λ p call at comes held. let both = rows p call at comes in (both.same, fits-trim change Fit (effect program_of (at_call s pid p) pid (at_next_line p) call) both.fit)) refl

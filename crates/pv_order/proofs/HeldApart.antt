@@ -31,6 +31,8 @@ use Rattle.std.proofs.lemmas.List.Folds.{list_any-append}
 use Rattle.std.specs.FinMap.Entries.{find}
 use Rattle.pv_model.specs.declared.call.Call.{Call}
 use Rattle.pv_model.specs.Answer.{effect}
+use Rattle.pv_model.specs.Needs.{needs}
+use Rattle.pv_model.specs.Promises.{missing_promise}
 use Rattle.pv_model.specs.Effect.{returns, returns_bytes, ends, waits}
 use Rattle.pv_model.specs.State.{live_process}
 use Rattle.pv_model.specs.Tree.{Tree, root, named_numbers, IsWellFormed}
@@ -146,20 +148,22 @@ module _ (j : ℕ) (f : Process → Process) where
   pub record SameUse (x : State) : Type 0 where
     pub same : (m : ℕ) → among (used (with_change x j f)) m ≡ among (used x) m
 
-  held-changed : KeepsNodes f → (es : List (ℕ × Record)) → all_of held_by_process (changed j f es) ≡ all_of held_by_process es
-  held-changed keeps [] = refl
-  held-changed keeps ((n, live p) ∷ es) = by (n == j) (held-changed keeps es)
+  -- what each process has of it is the same
+  pub all-changed : (g : Process → List ℕ) → ((p : Process) → g (f p) ≡ g p) → (es : List (ℕ × Record)) → all_of g (changed j f es) ≡ all_of g es
+  all-changed g same [] = refl
+  all-changed g same ((n, live p) ∷ es) = by (n == j) (all-changed g same es)
     where
-      by : (b : Bool) → all_of held_by_process (changed j f es) ≡ all_of held_by_process es
-          → all_of held_by_process ((n, if b then live (f p) else live p) ∷ changed j f es) ≡ held_by_process p ++ all_of held_by_process es
-      by true rest = ap₂ (λ (a b : List ℕ). a ++ b) (keeps.held p) rest
-      by false rest = ap (λ (b : List ℕ). held_by_process p ++ b) rest
-  held-changed keeps ((n, ended_record parent status) ∷ es) = by (n == j) (held-changed keeps es)
+      by : (b : Bool) → all_of g (changed j f es) ≡ all_of g es → all_of g ((n, if b then live (f p) else live p) ∷ changed j f es) ≡ g p ++ all_of g es
+      by true rest = ap₂ (λ (a b : List ℕ). a ++ b) (same p) rest
+      by false rest = ap (λ (b : List ℕ). g p ++ b) rest
+  all-changed g same ((n, ended_record parent status) ∷ es) = by (n == j) (all-changed g same es)
     where
-      by : (b : Bool) → all_of held_by_process (changed j f es) ≡ all_of held_by_process es
-          → all_of held_by_process ((n, if b then ended_record parent status else ended_record parent status) ∷ changed j f es) ≡ all_of held_by_process es
+      by : (b : Bool) → all_of g (changed j f es) ≡ all_of g es → all_of g ((n, if b then ended_record parent status else ended_record parent status) ∷ changed j f es) ≡ all_of g es
       by true rest = rest
       by false rest = rest
+
+  held-changed : KeepsNodes f → (es : List (ℕ × Record)) → all_of held_by_process (changed j f es) ≡ all_of held_by_process es
+  held-changed keeps es = all-changed held_by_process keeps.held es
 
   pub trim-use : KeepsNodes f → (x : State) → SameUse x → trim (with_change x j f) ≡ with_change (trim x) j f
   unfolding trim
@@ -302,7 +306,7 @@ module _ (program_of : Bytes → Option Program) (spells : SpellsPrograms progra
   last = (step program_of s k).after
 
   -- where its calls go along the change, and behind it no more is used and held, a step does so
-  pub step-to_trim : ((me : Process) → process_at s k ≡ Some me → (call : Call) → next me ≡ calls_for call
+  pub step-to_trim : ((me : Process) → process_at s k ≡ Some me → (call : Call) → next me ≡ calls_for call → missing_promise me.promises (needs call) ≡ None
       → effect program_of (with_change (at_call s k me) j f) k (at_next_line me) call ≡ moved (changes j f) (λ x. Unit {0}) (effect program_of (at_call s k me) k (at_next_line me) call))
       → ((x : State) → x.processes ≡ last.processes → trim x ≡ last → NoMore j f x) → SteppedTo (ToTrim j f) (step program_of s k) (step program_of (with_change s j f) k)
   step-to_trim rows less =
@@ -316,10 +320,10 @@ module _ (program_of : Bytes → Option Program) (spells : SpellsPrograms progra
         changes = λ x. refl;
         seen = λ x y is. sym (process_at-trim y k) ∙ ap (λ z. process_at z k) is ∙ process_at-trim (with_change x j f) k ∙ process-changed j f x k apart;
       }) program_of s whole.tree.well_formed
-      (λ me call at comes.
+      (λ me call at comes held.
       let good : is_call call ≡ true = subst (IsGoodNext me) comes (good-next me (whole.processes.running k me at)) in
       let whole_x : IsWhole (at_call s k me) = whole-at_call s k me whole at in (
-        same-moved (effect program_of (at_call s k me) k (at_next_line me) call) (rows me at call comes),
+        same-moved (effect program_of (at_call s k me) k (at_next_line me) call) (rows me at call comes held),
         sound-effect (at_call s k me) (effect program_of (at_call s k me) k (at_next_line me) call) whole_x
             (good-effect program_of spells (at_call s k me) k (at_next_line me) call whole_x (process_at-same s k (at_next_line me)) good),
       ))
@@ -336,7 +340,7 @@ pub step-held : (j : ℕ) (f : Process → Process) → KeepsParent f → KeepsN
 step-held j f keeps nodes program_of spells s k p q whole apart at uses whole_t at_t fewer =
     let t : State = (step program_of s k).after in
     step-to_trim program_of spells s whole j k apart f keeps
-    (λ me at_k call comes.
+    (λ me at_k call comes held.
     let now : Process = at_next_line me in
     let x : State = at_call s k me in
     let uses_x : SameUse j f x = use-more j f s whole.processes.ascending p at k apart me at_k now (λ d v has. (d, v, has, refl)) uses in

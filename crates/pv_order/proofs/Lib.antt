@@ -17,6 +17,8 @@ pub mod DescriptorSteps
 pub mod OffsetSteps
 pub mod OtherBytes
 pub mod WriteSteps
+pub mod RoomApart
+pub mod DirectorySteps
 pub mod Relabelled
 pub mod Happen
 pub mod Reordered
