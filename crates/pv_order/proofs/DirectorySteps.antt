@@ -39,7 +39,7 @@ use Rattle.pv_order.specs.Commuting.{Commute}
 use Rattle.pv_order.specs.Holding.{changes_directory, LeavesTree, LeavesWay, HasItsRoom}
 use Rattle.pv_order.proofs.Exchange.{KeepsParent, process-changed}
 use Rattle.pv_order.proofs.Given.{Gives, gives, refused-commute, given-commute}
-use Rattle.pv_order.proofs.HeldApart.{NoMore, all-changed, change-is, step-to_trim}
+use Rattle.pv_order.proofs.HeldApart.{found-same, NoMore, all-changed, change-is, step-to_trim}
 use Rattle.pv_order.proofs.Lone.{commute-where}
 use Rattle.pv_order.proofs.Orphans.{orphan, orphaned, next-orphan}
 use Rattle.pv_order.proofs.RoomApart.{in-order, goes-along}
@@ -203,7 +203,7 @@ module _ (program_of : Bytes → Option Program) (spells : SpellsPrograms progra
 
     -- the directory is there behind the step of k
     directory-there : (node : Node) × (node_at t.tree d ≡ Some node)
-    directory-there = by (node_at (trim u).tree d) refl (ap is_directory refl ∙ placed)
+    directory-there = by (node_at (trim u).tree d) refl placed
       where
         u : State
         u = with_change t j f
@@ -255,9 +255,7 @@ module _ (program_of : Bytes → Option Program) (spells : SpellsPrograms progra
         by-process : (m i : ℕ) (r : Process) → process_at u i ≡ Some r → among (held_by_process r) m ≡ true → among (wanted z.tree (held_after z)) m ≡ true
         by-process m i r at_i is =
             ⊎_elim
-            (λ here.
-            let both : Some r ≡ Some (f (orphan n p)) = sym at_i ∙ ap (process_at u) here ∙ at_u in
-            let mine : r ≡ f (orphan n p) = cc both in own m (ap (λ (v : Process). among (held_by_process v) m) (sym mine) ∙ is))
+            (λ here. own m (ap (λ (v : Process). among (held_by_process v) m) (sym (found-same u i j r (f (orphan n p)) here at_i at_u)) ∙ is))
             (λ others. wanted-held z.tree (held_after z) m (among-held_by z i r m (sym (process-changed j f z i others) ∙ at_i) is))
             (cases_eq i j)
 

@@ -55,13 +55,17 @@ same-truth true b there back = sym (there refl)
 same-truth false true there back = back refl
 same-truth false false there back = refl
 
+-- who is found under one number is one process
+pub found-same : (z : State) (i pid : ℕ) (p q : Process) → i ≡ pid → process_at z i ≡ Some p → process_at z pid ≡ Some q → p ≡ q
+found-same z i pid p q here at there = let both : Some p ≡ Some q = sym at ∙ ap (process_at z) here ∙ there in cc both
+
 -- what is used of a state's open files is used of another's, also where one process comes to use more
 used-onward : (s u : State) → is_sorted nat_cmp s.processes ≡ true → is_sorted nat_cmp u.processes ≡ true → (pid : ℕ) (me more : Process) → process_at u pid ≡ Some me
     → ((d : ℕ) (x : Descriptor) → at_number me.descriptors d ≡ Some x → (e : ℕ) × (y : Descriptor) × (at_number more.descriptors e ≡ Some y) × (y.file ≡ x.file))
     → ((m : ℕ) → among (used s) m ≡ true → among (used u) m ≡ true) → (m : ℕ) → among (used (with_process s pid more)) m ≡ true → among (used (with_process u pid more)) m ≡ true
 used-onward s u sorted_s sorted_u pid me more at_u keeps onward m is =
     let found = used-among v (sorted-put_number pid (live more) s.processes sorted_s) m is in
-    ⊎_elim (λ here. itself found.1 found.2 found.3 (sym found.4 ∙ ap (process_at v) here ∙ process_at-same s pid more) found.5 found.6)
+    ⊎_elim (λ here. itself found.1 found.2 found.3 (found-same v found.0 pid found.1 more here found.4 (process_at-same s pid more)) found.5 found.6)
     (λ apart. another (subst (λ n. among (used s) n ≡ true) found.6 (among-used s found.0 found.1 found.2 found.3 (sym (process_at-other s pid more found.0 apart) ∙ found.4) found.5)))
     (cases_eq found.0 pid)
   where
@@ -74,18 +78,17 @@ used-onward s u sorted_s sorted_u pid me more at_u keeps onward m is =
     own : (d : ℕ) (x : Descriptor) → at_number more.descriptors d ≡ Some x → x.file ≡ m → among (used w) m ≡ true
     own d x has file = subst (λ n. among (used w) n ≡ true) file (among-used w pid more d x (process_at-same u pid more) has)
 
-    itself : (p : Process) (d : ℕ) (x : Descriptor) → Some p ≡ Some more → at_number p.descriptors d ≡ Some x → x.file ≡ m → among (used w) m ≡ true
-    itself p d x both has file = let same : p ≡ more = cc both in own d x (ap (λ (q : Process). at_number q.descriptors d) (sym same) ∙ has) file
+    itself : (p : Process) (d : ℕ) (x : Descriptor) → p ≡ more → at_number p.descriptors d ≡ Some x → x.file ≡ m → among (used w) m ≡ true
+    itself p d x same has file = own d x (ap (λ (q : Process). at_number q.descriptors d) (sym same) ∙ has) file
 
-    before : (p : Process) (d : ℕ) (x : Descriptor) → Some p ≡ Some me → at_number p.descriptors d ≡ Some x → x.file ≡ m → among (used w) m ≡ true
-    before p d x both has file =
-        let same : p ≡ me = cc both in
+    before : (p : Process) (d : ℕ) (x : Descriptor) → p ≡ me → at_number p.descriptors d ≡ Some x → x.file ≡ m → among (used w) m ≡ true
+    before p d x same has file =
         let kept = keeps d x (ap (λ (q : Process). at_number q.descriptors d) (sym same) ∙ has) in own kept.0 kept.1 kept.2 (kept.3 ∙ file)
 
     another : among (used s) m ≡ true → among (used w) m ≡ true
     another was =
         let there = used-among u sorted_u m (onward m was) in
-        ⊎_elim (λ here. before there.1 there.2 there.3 (sym there.4 ∙ ap (process_at u) here ∙ at_u) there.5 there.6)
+        ⊎_elim (λ here. before there.1 there.2 there.3 (found-same u there.0 pid there.1 me here there.4 at_u) there.5 there.6)
         (λ other. subst (λ n. among (used w) n ≡ true) there.6 (among-used w there.0 there.1 there.2 there.3 (process_at-other u pid more there.0 other ∙ there.4) there.5))
         (cases_eq there.0 pid)
 
@@ -184,16 +187,15 @@ module _ (j : ℕ) (f : Process → Process) where
     pub used-before : UsesNoMore p.descriptors (f p).descriptors → (m : ℕ) → among (used (with_change x j f)) m ≡ true → among (used x) m ≡ true
     used-before fewer m is =
         let found = used-among u (sorted-put_number j (live (f p)) x.processes sorted) m (ap (λ (z : State). among (used z) m) change-is ∙ is) in
-        ⊎_elim (λ here. own found.1 found.2 found.3 (sym found.4 ∙ ap (process_at u) here ∙ process_at-same x j (f p)) found.5 found.6)
+        ⊎_elim (λ here. own found.1 found.2 found.3 (found-same u found.0 j found.1 (f p) here found.4 (process_at-same x j (f p))) found.5 found.6)
         (λ apart. subst (λ n. among (used x) n ≡ true) found.6 (among-used x found.0 found.1 found.2 found.3 (sym (process_at-other x j (f p) found.0 apart) ∙ found.4) found.5))
         (cases_eq found.0 j)
       where
         u : State
         u = with_process x j (f p)
 
-        own : (q : Process) (d : ℕ) (v : Descriptor) → Some q ≡ Some (f p) → at_number q.descriptors d ≡ Some v → v.file ≡ m → among (used x) m ≡ true
-        own q d v both has file =
-            let same : q ≡ f p = cc both in
+        own : (q : Process) (d : ℕ) (v : Descriptor) → q ≡ f p → at_number q.descriptors d ≡ Some v → v.file ≡ m → among (used x) m ≡ true
+        own q d v same has file =
             let had = fewer d v (ap (λ (r : Process). at_number r.descriptors d) (sym same) ∙ has) in
             subst (λ n. among (used x) n ≡ true) (had.3 ∙ file) (among-used x j p had.0 had.1 at had.2)
 
