@@ -1,5 +1,5 @@
 -- Steps that change what their process holds, beside steps of other processes: its descriptors, close(2), dup(2), dup2(2); its directory, chdir(2), fchdir(2).
-use Rattle.std.specs.Prelude.{◌≡◌, ◌≢◌, ℕ, Bool, true, false, IsTrue, IsFalse, Option, Some}
+use Rattle.std.specs.Prelude.{◌≡◌, ◌≢◌, ℕ, pos, Bool, true, false, if◌then◌else◌, ◌==◌, IsTrue, IsFalse, Option, None, Some}
 use Rattle.pv_model.specs.declared.call.Call.{Call}
 use Rattle.pv_model.specs.declared.call.Call.TheVariants.{Close, Dup, Dup2, Fchdir, Chdir}
 use Rattle.pv_model.specs.declared.errno.Errno.{Errno}
@@ -9,8 +9,9 @@ use Rattle.pv_model.specs.declared.outcome.Outcome.TheVariants.{Failed, Killed}
 use Rattle.pv_model.specs.declared.promise.Promise.{Promise}
 use Rattle.pv_model.specs.Bytes.{Bytes}
 use Rattle.pv_model.specs.Effect.{open_file}
+use Rattle.pv_model.specs.Numbered.{at_number}
 use Rattle.pv_model.specs.Program.{calls_for, next}
-use Rattle.pv_model.specs.State.{OpenFile, Program, Process, State, process_at}
+use Rattle.pv_model.specs.State.{OpenFile, Descriptor, Program, Process, State, process_at}
 use Rattle.pv_model.specs.Step.{step}
 use Rattle.pv_model.specs.Tree.{is_directory_at}
 use Rattle.pv_laws.specs.States.{SpellsPrograms, IsWhole}
@@ -26,6 +27,31 @@ changes_descriptors call = false
 -- the step of a process leaves the open files as they are: none ends, since each keeps a descriptor
 abbrev pub LeavesOpenFiles : (Bytes → Option Program) → State → ℕ → Type 0
 LeavesOpenFiles program_of s pid = (step program_of s pid).after.files ≡ s.files
+
+-- the number of the descriptor that such a call closes, or makes one of another open file
+abbrev pub closes_number : Call → Option ℕ
+closes_number (Close (pos d)) = Some d
+closes_number (Dup2 (pos d) (pos e)) = if d == e then None else Some e
+closes_number call = None
+
+-- an open file has a descriptor besides number n of a process: another of it, or one of another
+pub record HasOtherDescriptor (s : State) (pid n m : ℕ) : Type 0 where
+  pub user : ℕ
+  pub process : Process
+  pub number : ℕ
+  pub descriptor : Descriptor
+  pub there : process_at s user ≡ Some process
+  pub own : at_number process.descriptors number ≡ Some descriptor
+  pub same : descriptor.file ≡ m
+  pub another : user ≡ pid → number ≢ n
+
+-- such a call, where it does not kill, ends no open file, if that of the descriptor that it closes has another
+abbrev pub DescriptorStepsLeave : Type 0
+DescriptorStepsLeave =
+    (program_of : Bytes → Option Program) (s : State) (pid : ℕ) (p : Process) (call : Call) → IsWhole s → process_at s pid ≡ Some p → next p ≡ calls_for call
+    → IsTrue (changes_descriptors call) → ((a : Promise) → (step program_of s pid).outcome ≢ Killed a)
+    → ((n : ℕ) (v : Descriptor) → closes_number call ≡ Some n → at_number p.descriptors n ≡ Some v → HasOtherDescriptor s pid n v.file)
+    → LeavesOpenFiles program_of s pid
 
 -- such a call, where it does not kill and ends no open file, and any step of another process, which may make, free or end what it will, may be made in either order
 abbrev pub DescriptorStepsCommute : Type 0
