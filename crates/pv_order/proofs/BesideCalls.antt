@@ -8,8 +8,8 @@ use Rattle.pv_model.specs.declared.call.Start.{Start}
 use Rattle.pv_model.specs.declared.call.Start.TheVariants.{WorkingDirectory}
 use Rattle.pv_model.specs.declared.errno.Errno.{Errno}
 use Rattle.pv_model.specs.declared.errno.Errno.TheVariants.{EAGAIN, ECHILD}
-use Rattle.pv_model.specs.declared.outcome.Cause.{Cause}
 use Rattle.pv_model.specs.declared.open_flags.OpenFlags.{OpenFlags}
+use Rattle.pv_model.specs.declared.outcome.Cause.{Cause}
 use Rattle.pv_model.specs.Answer.{effect}
 use Rattle.pv_model.specs.Attempt.{Attempt, done, refused, after_walks, ◌>>=◌, ◌>>◌, refuse_if}
 use Rattle.pv_model.specs.Bytes.{Bytes, is_empty}
@@ -147,38 +147,38 @@ module _ (k : ℕ) (f : Process → Process) (keeps : KeepsParent f) (s : State)
   listed j file None = search parts depth 20
   listed j file (Some name) = search parts depth 20
 
-  pub calls-beside : (program_of : Bytes → Option Program) (call : Call) → R (effect program_of s pid me call) (effect program_of u pid me call)
+  pub calls-along : (program_of : Bytes → Option Program) (call : Call) → R (effect program_of s pid me call) (effect program_of u pid me call)
   unfolding effect
-  calls-beside program_of (TheCall.Exit code) = search parts depth 20
-  calls-beside program_of TheCall.GetPid = search parts depth 20
-  calls-beside program_of TheCall.GetPpid = search parts depth 20
-  calls-beside program_of TheCall.Fork = fork-beside
-  calls-beside program_of TheCall.Wait = wait-beside
-  calls-beside program_of (TheCall.Pledge promises execpromises) = search parts depth 20
-  calls-beside program_of (TheCall.Unveil path letters) = unveil-beside path letters
-  calls-beside program_of (TheCall.Execve path) = search parts depth 20
-  calls-beside program_of (TheCall.Open path flags) = open-beside WorkingDirectory path flags
-  calls-beside program_of (TheCall.OpenAt start path flags) = open-beside start path flags
-  calls-beside program_of (TheCall.Close d) = search parts depth 20
-  calls-beside program_of (TheCall.Dup d) = search parts depth 20
-  calls-beside program_of (TheCall.Dup2 d e) = search parts depth 20
-  calls-beside program_of (TheCall.Read d n) = search parts depth 20
-  calls-beside program_of (TheCall.Write d n) = write-beside d n
-  calls-beside program_of (TheCall.Lseek d by whence) = search parts depth 20
-  calls-beside program_of (TheCall.Fstat d) = search parts depth 20
-  calls-beside program_of (TheCall.Ftruncate d n) = search parts depth 20
-  calls-beside program_of (TheCall.Getdents d) = search (parts, listed) depth 20
-  calls-beside program_of (TheCall.Fchdir d) = search parts depth 20
-  calls-beside program_of (TheCall.Chdir path) = search parts depth 20
-  calls-beside program_of (TheCall.Stat path) = search parts depth 20
-  calls-beside program_of (TheCall.Lstat path) = search parts depth 20
-  calls-beside program_of (TheCall.Readlink path) = search parts depth 20
-  calls-beside program_of (TheCall.Mkdir path) = search parts depth 20
-  calls-beside program_of (TheCall.Symlink text path) = search parts depth 20
-  calls-beside program_of (TheCall.Link path new) = search parts depth 30
-  calls-beside program_of (TheCall.Unlink path) = search parts depth 20
-  calls-beside program_of (TheCall.Rmdir path) = search parts depth 20
-  calls-beside program_of (TheCall.Rename path new) = search parts depth 40
+  calls-along program_of (TheCall.Exit code) = search parts depth 20
+  calls-along program_of TheCall.GetPid = search parts depth 20
+  calls-along program_of TheCall.GetPpid = search parts depth 20
+  calls-along program_of TheCall.Fork = fork-beside
+  calls-along program_of TheCall.Wait = wait-beside
+  calls-along program_of (TheCall.Pledge promises execpromises) = search parts depth 20
+  calls-along program_of (TheCall.Unveil path letters) = unveil-beside path letters
+  calls-along program_of (TheCall.Execve path) = search parts depth 20
+  calls-along program_of (TheCall.Open path flags) = open-beside WorkingDirectory path flags
+  calls-along program_of (TheCall.OpenAt start path flags) = open-beside start path flags
+  calls-along program_of (TheCall.Close d) = search parts depth 20
+  calls-along program_of (TheCall.Dup d) = search parts depth 20
+  calls-along program_of (TheCall.Dup2 d e) = search parts depth 20
+  calls-along program_of (TheCall.Read d n) = search parts depth 20
+  calls-along program_of (TheCall.Write d n) = write-beside d n
+  calls-along program_of (TheCall.Lseek d by whence) = search parts depth 20
+  calls-along program_of (TheCall.Fstat d) = search parts depth 20
+  calls-along program_of (TheCall.Ftruncate d n) = search parts depth 20
+  calls-along program_of (TheCall.Getdents d) = search (parts, listed) depth 20
+  calls-along program_of (TheCall.Fchdir d) = search parts depth 20
+  calls-along program_of (TheCall.Chdir path) = search parts depth 20
+  calls-along program_of (TheCall.Stat path) = search parts depth 20
+  calls-along program_of (TheCall.Lstat path) = search parts depth 20
+  calls-along program_of (TheCall.Readlink path) = search parts depth 20
+  calls-along program_of (TheCall.Mkdir path) = search parts depth 20
+  calls-along program_of (TheCall.Symlink text path) = search parts depth 20
+  calls-along program_of (TheCall.Link path new) = search parts depth 30
+  calls-along program_of (TheCall.Unlink path) = search parts depth 20
+  calls-along program_of (TheCall.Rmdir path) = search parts depth 20
+  calls-along program_of (TheCall.Rename path new) = search parts depth 40
 
 -- what calls of process `pid` leave is fit, and the states for which they ask for room have it alike
 pub record CallsFit (k : ℕ) (f : Process → Process) (s : State) (pid : ℕ) (me : Process) (Fit : State → Type 0) : Type 0 where
@@ -213,4 +213,4 @@ module _ (k : ℕ) (f : Process → Process) (s : State) (pid : ℕ) (me : Proce
   }
 
   pub calls-fit : KeepsParent f → (program_of : Bytes → Option Program) (call : Call) → Beside (changes k f) Fit (effect program_of s pid me call) (effect program_of (with_change s k f) pid me call)
-  calls-fit keeps program_of call = calls-beside k f keeps s pid me (Beside (changes k f) Fit) (IsBeside (changes k f) Fit) fit-along program_of call
+  calls-fit keeps program_of call = calls-along k f keeps s pid me (Beside (changes k f) Fit) (IsBeside (changes k f) Fit) fit-along program_of call

@@ -1,8 +1,8 @@
 -- Steps run beside themselves, in two states that differ inside another process.
 use Rattle.std.proofs.Common.{◌≡◌, ◌≢◌, ℕ, suc, true, cond, List, [], ◌∷◌, Option, Some, refl, ap, sym, subst, ◌∙◌}
+use Rattle.std.proofs.lemmas.Bool.{and_parts}
 use Rattle.std.specs.FinMap.Entries.{find, put, is_sorted, below_all}
 use Rattle.std.specs.Ordering.{nat_cmp, is_eq}
-use Rattle.std.proofs.lemmas.Bool.{and_parts}
 use Rattle.pv_model.specs.Answer.{at_next_line}
 use Rattle.pv_model.specs.Bytes.{Bytes}
 use Rattle.pv_model.specs.Calls.Processes.{child}
@@ -15,9 +15,9 @@ use Rattle.pv_laws.proofs.Outcomes.{at_call}
 use Rattle.pv_laws.proofs.Processes.{number-itself}
 use Rattle.pv_rights.proofs.Ends.{whole-in_order, not_next}
 use Rattle.pv_order.specs.Beside.{StandsAlike, with_change, become, StepsBeside}
-use Rattle.pv_order.proofs.Exchange.{KeepsParent, Fits, put-other, trim-changed, fits-put, fits-filter, process-changed, with-changed, end-changed, fits-end}
 use Rattle.pv_order.proofs.Alongside.{SteppedBeside, IsApart, step-beside}
 use Rattle.pv_order.proofs.BesideCalls.{changes, AreFit, room-changed, CallsFit, calls-fit}
+use Rattle.pv_order.proofs.Exchange.{KeepsParent, Fits, put-other, trim-changed, fits-put, fits-filter, process-changed, with-changed, end-changed, fits-end}
 
 -- in a table that rises, what fits the process that is found fits
 pub fits-found : (k : ℕ) (f : Process → Process) (es : List (ℕ × Record)) → is_sorted nat_cmp es ≡ true → ((x : Process) → find nat_cmp k es ≡ Some (live x) → StandsAlike x (f x)) → Fits k f es

@@ -1,58 +1,45 @@
 -- Steps that change which descriptors their process has, before and behind a step of another process.
-use Rattle.std.proofs.Common.{◌≡◌, ◌≢◌, ℕ, ◌≤◌, ℤ, pos, negsuc, Bool, true, false, ◌==◌, if◌then◌else◌, nat_le, length, Option, None, Some, refl, ap, sym, ◌∙◌, ◌⊎◌, inl, inr, ⊎_elim, arith}
+use Rattle.std.proofs.Common.{◌≡◌, ◌≢◌, ℕ, ◌≤◌, ℤ, pos, negsuc, Bool, true, false, ◌==◌, if◌then◌else◌, nat_le, length, Option, None, Some, refl, ap, sym, ◌∙◌, ◌⊎◌, inl, inr, ⊎_elim, arith, subst}
 use Rattle.std.proofs.lemmas.Bool.{cases_eq, leb-true}
 use Rattle.pv_model.specs.declared.call.Call.{Call}
 use Rattle.pv_model.specs.declared.call.Call.TheVariants as TheCall
 use Rattle.pv_model.specs.declared.errno.Errno.{Errno}
-use Rattle.pv_model.specs.declared.errno.Errno.TheVariants.{EBADF, EMFILE}
+use Rattle.pv_model.specs.declared.errno.Errno.TheVariants.{EBADF, EMFILE, ENOSYS}
 use Rattle.pv_model.specs.declared.outcome.Cause.{Cause}
-use Rattle.pv_model.specs.declared.outcome.Cause.TheVariants.{Plain}
+use Rattle.pv_model.specs.declared.outcome.Cause.TheVariants.{Plain, Promise as ByPromise}
 use Rattle.pv_model.specs.declared.outcome.Outcome.TheVariants.{Killed}
 use Rattle.pv_model.specs.declared.promise.Promise.{Promise}
-use Rattle.pv_model.specs.Answer.{Answered, at_next_line, effect}
+use Rattle.pv_model.specs.Answer.{Answered, at_next_line, effect, answer, answer_by_attempt}
 use Rattle.pv_model.specs.Attempt.{Attempt, done, refused, ◌>>=◌, ◌>>◌, refuse_if, demand}
 use Rattle.pv_model.specs.Bytes.{Bytes}
 use Rattle.pv_model.specs.Calls.Descriptors.{with_duplicate}
 use Rattle.pv_model.specs.Calls.Processes.{with_result}
 use Rattle.pv_model.specs.Effect.{Effect, returns, answers}
-use Rattle.pv_model.specs.Held.{trim}
+use Rattle.pv_model.specs.Errno.{errno_number}
+use Rattle.pv_model.specs.Held.{trim, among}
 use Rattle.pv_model.specs.Needs.{needs}
 use Rattle.pv_model.specs.Numbered.{Numbered, at_number, with_number, without_number, least_free}
 use Rattle.pv_model.specs.Program.{calls_for, next}
 use Rattle.pv_model.specs.Promises.{missing_promise}
-use Rattle.pv_model.specs.State.{Descriptor, Program, Process, State, process_at, with_process}
-use Rattle.pv_model.specs.Step.{Stepped, step}
-use Rattle.pv_tree_laws.proofs.Numbered.{with_number-same_within, with_number-other_within, without_number-same, without_number-other, least_free-within, least_free-free}
+use Rattle.pv_model.specs.State.{Descriptor, Program, Process, State, process_at, with_process, OpenFile}
+use Rattle.pv_model.specs.Step.{Stepped, step, step_by}
+use Rattle.pv_tree_laws.proofs.Numbered.{with_number-same_within, with_number-other_within, without_number-same, without_number-other, least_free-within, least_free-free, keep-some, keep-all}
+use Rattle.pv_laws.specs.Held.{used}
 use Rattle.pv_laws.specs.States.{SpellsPrograms, IsWhole}
+use Rattle.pv_laws.proofs.Members.{among-used, used-among}
 use Rattle.pv_laws.proofs.Outcomes.{at_call}
-use Rattle.pv_laws.proofs.Processes.{with_process-twice}
+use Rattle.pv_laws.proofs.Processes.{with_process-twice, process_at-same, files-update}
+use Rattle.pv_laws.proofs.Trim.{files-trim}
+use Rattle.pv_rights.proofs.Ends.{step-is}
 use Rattle.pv_order.specs.Beside.{with_change}
 use Rattle.pv_order.specs.Commuting.{Commute}
 use Rattle.pv_order.specs.Holding.{changes_descriptors, closes_number, HasOtherDescriptor, LeavesOpenFiles}
-use Rattle.pv_order.proofs.Exchange.{KeepsParent}
-use Rattle.pv_order.proofs.HeldApart.{UsesNoMore, KeepsNodes, SameUse, trim-use, use-left, step-held}
+use Rattle.pv_order.proofs.Exchange.{KeepsParent, process-changed}
 use Rattle.pv_order.proofs.Given.{Gives, gives, refused-commute, given-commute}
-use Rattle.std.proofs.Common.{negsuc, subst}
-use Rattle.pv_model.specs.declared.errno.Errno.TheVariants.{ENOSYS}
-use Rattle.pv_model.specs.declared.outcome.Cause.TheVariants.{Promise as ByPromise}
-use Rattle.pv_model.specs.Answer.{answer, answer_by_attempt}
-use Rattle.pv_model.specs.Errno.{errno_number}
-use Rattle.pv_model.specs.Held.{among}
-use Rattle.pv_model.specs.State.{OpenFile}
-use Rattle.pv_model.specs.Step.{step_by}
-use Rattle.pv_tree_laws.proofs.Numbered.{keep-some, keep-all}
-use Rattle.pv_laws.specs.Held.{used}
-use Rattle.pv_laws.proofs.Members.{among-used, used-among}
-use Rattle.pv_laws.proofs.Processes.{process_at-same, files-update}
-use Rattle.pv_laws.proofs.Trim.{files-trim}
-use Rattle.pv_rights.proofs.Ends.{step-is}
-use Rattle.pv_order.proofs.Exchange.{process-changed}
-use Rattle.pv_order.proofs.HeldApart.{found-same, change-is}
-use Rattle.pv_order.proofs.Twice.{answer-held, answer-lacking}
-use Rattle.pv_order.proofs.Lone.{by-promise}
-use Rattle.pv_order.proofs.Lone.{commute-where}
+use Rattle.pv_order.proofs.HeldApart.{UsesNoMore, KeepsNodes, SameUse, trim-use, use-left, step-held, found-same, change-is}
+use Rattle.pv_order.proofs.Lone.{by-promise, commute-where}
 use Rattle.pv_order.proofs.Orphans.{orphan, orphaned, next-orphan}
-use Rattle.pv_order.proofs.Twice.{behind_k, whole-behind, at-behind, heir}
+use Rattle.pv_order.proofs.Twice.{answer-held, answer-lacking, behind_k, whole-behind, at-behind, heir}
 
 -- ---- descriptors
 

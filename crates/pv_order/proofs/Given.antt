@@ -17,14 +17,14 @@ use Rattle.pv_model.specs.State.{Program, Process, State, process_at, with_proce
 use Rattle.pv_model.specs.Step.{Stepped, step, step_by}
 use Rattle.pv_model.specs.Trace.{buffer_of}
 use Rattle.pv_laws.specs.States.{SpellsPrograms, IsWhole}
+use Rattle.pv_laws.proofs.BySteps.{step-keeps_whole}
 use Rattle.pv_laws.proofs.Outcomes.{at_call}
 use Rattle.pv_laws.proofs.Processes.{process_at-same, update-with}
 use Rattle.pv_rights.proofs.Ends.{step-is, process_at-trim}
-use Rattle.pv_laws.proofs.BySteps.{step-keeps_whole}
 use Rattle.pv_order.specs.Beside.{with_change}
 use Rattle.pv_order.specs.Commuting.{Commute}
-use Rattle.pv_order.proofs.HeldApart.{change-is, ToTrim}
 use Rattle.pv_order.proofs.Alongside.{SteppedTo}
+use Rattle.pv_order.proofs.HeldApart.{change-is, ToTrim}
 use Rattle.pv_order.proofs.Lone.{no_act, alone-passes}
 use Rattle.pv_order.proofs.Orphans.{orphan, orphaned, next-orphan}
 use Rattle.pv_order.proofs.Told.{lines-told}

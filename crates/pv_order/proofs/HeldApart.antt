@@ -1,54 +1,42 @@
--- States in which one process has other descriptors, but the same open files are used: what is trimmed of them, and the steps of other processes.
+-- States in which one process holds something else: what is trimmed of them, and the steps of other processes.
 use Rattle.std.proofs.Common.{◌≡◌, ◌≢◌, ℕ, Bool, true, false, ◌&&◌, ◌||◌, ◌==◌, if◌then◌else◌, List, [], ◌∷◌, ◌++◌, map, Option, None, Some, is_some, refl, ap, ap₂, sym, subst, ◌∙◌, ⊎_elim}
-use Rattle.std.specs.FinMap.Entries.{is_sorted}
+use Rattle.std.proofs.lemmas.Bool.{cases_eq, or_left, or_cases}
+use Rattle.std.proofs.lemmas.List.Folds.{list_any-append}
+use Rattle.std.specs.FinMap.Entries.{is_sorted, find}
 use Rattle.std.specs.Ordering.{nat_cmp}
-use Rattle.std.proofs.lemmas.Bool.{cases_eq}
-use Rattle.pv_model.specs.Answer.{at_next_line}
+use Rattle.pv_model.specs.declared.call.Call.{Call}
+use Rattle.pv_model.specs.Answer.{at_next_line, effect}
 use Rattle.pv_model.specs.Attempt.{Attempt, done, refused, ◌>>=◌}
 use Rattle.pv_model.specs.Bytes.{Bytes}
-use Rattle.pv_model.specs.Effect.{Effect, answers, with_room}
+use Rattle.pv_model.specs.Effect.{Effect, answers, with_room, returns, returns_bytes, ends, waits}
 use Rattle.pv_model.specs.Held.{among, held_by_process, trim}
-use Rattle.pv_model.specs.Numbered.{Numbered, at_number, with_number, least_free, present}
-use Rattle.pv_model.specs.State.{OpenFile, Descriptor, Program, Process, Record, live, ended_record, State, process_at, with_process}
+use Rattle.pv_model.specs.Needs.{needs}
+use Rattle.pv_model.specs.Numbered.{Numbered, at_number, with_number, least_free, present, keep}
+use Rattle.pv_model.specs.Program.{calls_for, next}
+use Rattle.pv_model.specs.Promises.{missing_promise}
+use Rattle.pv_model.specs.State.{OpenFile, Descriptor, Program, Process, Record, live, ended_record, State, process_at, with_process, live_process}
 use Rattle.pv_model.specs.Step.{step}
-use Rattle.pv_tree_laws.specs.Kept.{kept}
+use Rattle.pv_model.specs.Tree.{Tree, root, named_numbers, IsWellFormed}
+use Rattle.pv_tree_laws.specs.Kept.{kept, wanted}
+use Rattle.pv_tree_laws.proofs.Keeping.{wanted-is, wanted-held, in_turn}
 use Rattle.pv_tree_laws.proofs.Numbered.{at_number-keep, keep_if-some, keep-some, keep-keep, keep-agree, with_number-other_within, least_free-within, least_free-free}
 use Rattle.pv_laws.specs.Held.{used}
-use Rattle.pv_laws.specs.States.{SpellsPrograms, IsWhole}
-use Rattle.pv_laws.proofs.Members.{all_of, live-found, among-used, used-among}
-use Rattle.pv_laws.proofs.Outcomes.{at_call}
-use Rattle.pv_laws.proofs.Processes.{process_at-same, process_at-other}
-use Rattle.pv_laws.proofs.Trim.{files-trim, processes-trim}
-use Rattle.pv_laws.proofs.Whole.{sorted-put_number}
-use Rattle.pv_rights.proofs.Ends.{whole-in_order, not_next}
-use Rattle.pv_order.specs.Beside.{with_change}
-use Rattle.pv_order.proofs.Alongside.{Beside, moved, FitsIn, room-beside, step-beside_to}
-use Rattle.pv_order.proofs.BesideCalls.{changes, CallsFit, calls-fit}
-use Rattle.pv_order.proofs.Commuted.{put-changes}
-use Rattle.pv_order.proofs.Exchange.{KeepsParent, changed, put-other, process-changed, with-changed, end-changed}
-use Rattle.std.proofs.lemmas.Bool.{or_left, or_cases}
-use Rattle.std.proofs.lemmas.List.Folds.{list_any-append}
-use Rattle.std.specs.FinMap.Entries.{find}
-use Rattle.pv_model.specs.declared.call.Call.{Call}
-use Rattle.pv_model.specs.Answer.{effect}
-use Rattle.pv_model.specs.Needs.{needs}
-use Rattle.pv_model.specs.Promises.{missing_promise}
-use Rattle.pv_model.specs.Effect.{returns, returns_bytes, ends, waits}
-use Rattle.pv_model.specs.State.{live_process}
-use Rattle.pv_model.specs.Tree.{Tree, root, named_numbers, IsWellFormed}
-use Rattle.pv_tree_laws.specs.Kept.{wanted}
-use Rattle.pv_tree_laws.proofs.Keeping.{wanted-is, wanted-held, in_turn}
-use Rattle.pv_laws.specs.States.{is_call}
-use Rattle.pv_model.specs.Numbered.{keep}
-use Rattle.pv_model.specs.Program.{calls_for, next}
+use Rattle.pv_laws.specs.States.{SpellsPrograms, IsWhole, is_call}
 use Rattle.pv_laws.proofs.Attempts.{Leads}
 use Rattle.pv_laws.proofs.BySteps.{good-effect, IsGoodNext, good-next}
 use Rattle.pv_laws.proofs.Ending.{tree-end}
-use Rattle.pv_laws.proofs.Members.{present-at, among-held_file}
+use Rattle.pv_laws.proofs.Members.{all_of, live-found, among-used, used-among, present-at, among-held_file}
+use Rattle.pv_laws.proofs.Outcomes.{at_call}
+use Rattle.pv_laws.proofs.Processes.{process_at-same, process_at-other}
 use Rattle.pv_laws.proofs.Replies.{IsEffect, whole-at_call}
-use Rattle.pv_laws.proofs.Trim.{held_after, trim_once}
-use Rattle.pv_rights.proofs.Ends.{process_at-trim}
-use Rattle.pv_order.proofs.Alongside.{SteppedTo, FitsTrim}
+use Rattle.pv_laws.proofs.Trim.{files-trim, processes-trim, held_after, trim_once}
+use Rattle.pv_laws.proofs.Whole.{sorted-put_number}
+use Rattle.pv_rights.proofs.Ends.{whole-in_order, not_next, process_at-trim}
+use Rattle.pv_order.specs.Beside.{with_change}
+use Rattle.pv_order.proofs.Alongside.{Beside, moved, FitsIn, room-beside, step-beside_to, SteppedTo, FitsTrim}
+use Rattle.pv_order.proofs.BesideCalls.{changes, CallsFit, calls-fit}
+use Rattle.pv_order.proofs.Commuted.{put-changes}
+use Rattle.pv_order.proofs.Exchange.{KeepsParent, changed, put-other, process-changed, with-changed, end-changed}
 
 same-truth : (a b : Bool) → (a ≡ true → b ≡ true) → (b ≡ true → a ≡ true) → a ≡ b
 same-truth true b there back = sym (there refl)

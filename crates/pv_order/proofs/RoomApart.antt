@@ -32,7 +32,7 @@ use Rattle.pv_rights.proofs.Ends.{step-is}
 use Rattle.pv_order.specs.Beside.{with_change}
 use Rattle.pv_order.specs.Holding.{wants_room, HasItsRoom}
 use Rattle.pv_order.proofs.Alongside.{moved}
-use Rattle.pv_order.proofs.BesideCalls.{changes, CallsAlong, calls-beside}
+use Rattle.pv_order.proofs.BesideCalls.{changes, CallsAlong, calls-along}
 use Rattle.pv_order.proofs.Exchange.{KeepsParent, changed, put-other, where-changed, process-changed, with-changed}
 use Rattle.pv_order.proofs.HeldApart.{NoMore, trim-turn}
 use Rattle.pv_order.proofs.Twice.{answer-held}
@@ -191,4 +191,4 @@ module _ (program_of : Bytes → Option Program) (spells : SpellsPrograms progra
     pub goes-along : KeepsParent f → suc s.last_process ≢ j → effect program_of (with_change x0 j f) k now call ≡ moved (changes j f) (λ x. Unit {0}) (effect program_of x0 k now call)
     goes-along keeps next_other =
         from (effect program_of x0 k now call) (effect program_of (with_change x0 j f) k now call) stepped left-is good
-        (calls-beside j f keeps x0 k now (Roomy j f) (λ z y. y ≡ with_change z j f) (roomy-along j f x0 k now apart next_other) program_of call)
+        (calls-along j f keeps x0 k now (Roomy j f) (λ z y. y ≡ with_change z j f) (roomy-along j f x0 k now apart next_other) program_of call)
