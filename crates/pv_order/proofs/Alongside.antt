@@ -93,17 +93,38 @@ module _ (change : State → State) (Fit : State → Type 0) where
 
 -- ---- answers and steps
 
--- what is answered beside another answer
-pub record AnsweredBeside (change : State → State) (a b : Answered) : Type 0 where
-  pub after : b.after ≡ change a.after
+-- what is answered beside another answer, where the states that are left are related
+pub record AnsweredTo (After : State → State → Type 0) (a b : Answered) : Type 0 where
+  pub after : After a.after b.after
   pub outcome : b.outcome ≡ a.outcome
   pub walks : b.walks ≡ a.walks
 
--- what is stepped beside another step
-pub record SteppedBeside (change : State → State) (a b : Stepped) : Type 0 where
+-- what is stepped beside another step, where the states that are left are related
+pub record SteppedTo (After : State → State → Type 0) (a b : Stepped) : Type 0 where
   pub outcome : b.outcome ≡ a.outcome
   pub lines : b.lines ≡ a.lines
-  pub after : b.after ≡ change a.after
+  pub after : After a.after b.after
+
+-- or differ by the change
+abbrev pub ByChange : (State → State) → State → State → Type 0
+ByChange change x y = y ≡ change x
+
+abbrev pub AnsweredBeside : (State → State) → Answered → Answered → Type 0
+AnsweredBeside change = AnsweredTo (ByChange change)
+
+abbrev pub SteppedBeside : (State → State) → Stepped → Stepped → Type 0
+SteppedBeside change = SteppedTo (ByChange change)
+
+-- a change that leaves process `pid` as it is, and what is done with it, but that what is trimmed to the last state is related
+pub record IsApartTo (change : State → State) (Fit : State → Type 0) (pid : ℕ) (last : State) (After : State → State → Type 0) : Type 0 where
+  pub there : (x : State) → process_at (change x) pid ≡ process_at x pid
+  pub put : (x : State) (p : Process) → with_process (change x) pid p ≡ change (with_process x pid p)
+  pub fit_put : (x : State) (p : Process) → Fit x → Fit (with_process x pid p)
+  pub ended : (x : State) (me : Process) (status : ℕ) → end_process (change x) pid me status ≡ change (end_process x pid me status)
+  pub fit_ended : (x : State) (me : Process) (status : ℕ) → Fit x → Fit (end_process x pid me status)
+  pub trims : (x : State) → Fit x → trim x ≡ last → After (trim x) (trim (change x))
+  pub changes : (x : State) → After x (change x)
+  pub seen : (x y : State) → After x y → process_at y pid ≡ process_at x pid
 
 -- a change that leaves process `pid` as it is, and what is done with it
 pub record IsApart (change : State → State) (Fit : State → Type 0) (pid : ℕ) : Type 0 where
@@ -114,7 +135,40 @@ pub record IsApart (change : State → State) (Fit : State → Type 0) (pid : �
   pub fit_ended : (x : State) (me : Process) (status : ℕ) → Fit x → Fit (end_process x pid me status)
   pub trims : (x : State) → Fit x → trim (change x) ≡ change (trim x)
 
-module _ (change : State → State) (Fit : State → Type 0) (pid : ℕ) (apart : IsApart change Fit pid) where
+apart-to : (change : State → State) (Fit : State → Type 0) (pid : ℕ) (last : State) → IsApart change Fit pid → IsApartTo change Fit pid last (ByChange change)
+apart-to change Fit pid last apart = record {
+  there = apart.there;
+  put = apart.put;
+  fit_put = apart.fit_put;
+  ended = apart.ended;
+  fit_ended = apart.fit_ended;
+  trims = λ x fit is. apart.trims x fit;
+  changes = λ x. refl;
+  seen = λ x y is. ap (λ z. process_at z pid) is ∙ apart.there x;
+}
+
+-- what is trimmed behind an attempt is fit
+abbrev pub FitsReply : (State → Type 0) → Reply → State → Type 0
+FitsReply Fit (returns n) x = Fit x
+FitsReply Fit (returns_bytes n bytes) x = Fit x
+FitsReply Fit (ends status) x = Fit x
+FitsReply Fit waits x = Unit {0}
+
+abbrev pub FitsTrim : (State → Type 0) → Attempt Effect → Type 0
+FitsTrim Fit (done walks (x, r)) = FitsReply Fit r x
+FitsTrim Fit (refused walks e c) = Unit {0}
+
+fits-trim : (change : State → State) (Fit : State → Type 0) (a : Attempt Effect) → FitsIn change Fit a → FitsTrim Fit a
+fits-trim change Fit (done walks (x, returns n)) fit = fit
+fits-trim change Fit (done walks (x, returns_bytes n bytes)) fit = fit
+fits-trim change Fit (done walks (x, ends status)) fit = fit
+fits-trim change Fit (done walks (x, waits)) fit = tt
+fits-trim change Fit (refused walks e c) fit = tt
+
+module _ (change : State → State) (Fit : State → Type 0) (pid : ℕ) (last : State) (After : State → State → Type 0) (apart : IsApartTo change Fit pid last After) where
+  abbrev To : Answered → Answered → Type 0
+  To = AnsweredTo After
+
   updated : (x : State) (g : Process → Process) → update (change x) pid g ≡ change (update x pid g)
   updated x g = ap (update_live (change x) pid g) (apart.there x) ∙ by (process_at x pid)
     where
@@ -129,33 +183,36 @@ module _ (change : State → State) (Fit : State → Type 0) (pid : ℕ) (apart 
       by None = fit
       by (Some p) = apart.fit_put x (g p) fit
 
-  pub trimmed-update : (x : State) (g : Process → Process) → Fit x → trim (update (change x) pid g) ≡ change (trim (update x pid g))
-  trimmed-update x g fit = ap trim (updated x g) ∙ apart.trims (update x pid g) (fit-updated x g fit)
+  trimmed-to : (x : State) (g : Process → Process) → Fit x → trim (update x pid g) ≡ last → After (trim (update x pid g)) (trim (update (change x) pid g))
+  trimmed-to x g fit is = subst (λ z. After (trim (update x pid g)) (trim z)) (sym (updated x g)) (apart.trims (update x pid g) (fit-updated x g fit) is)
 
-  trimmed-end : (x : State) (me : Process) (status : ℕ) → Fit x → trim (end_process (change x) pid me status) ≡ change (trim (end_process x pid me status))
-  trimmed-end x me status fit = ap trim (apart.ended x me status) ∙ apart.trims (end_process x pid me status) (apart.fit_ended x me status fit)
+  trimmed-end : (x : State) (me : Process) (status : ℕ) → Fit x → trim (end_process x pid me status) ≡ last → After (trim (end_process x pid me status)) (trim (end_process (change x) pid me status))
+  trimmed-end x me status fit is =
+      subst (λ z. After (trim (end_process x pid me status)) (trim z)) (sym (apart.ended x me status)) (apart.trims (end_process x pid me status) (apart.fit_ended x me status fit) is)
 
-  reply-beside : (before s : State) (me : Process) (walks : ℕ) (r : Reply) (x : State) → Fit x
-      → AnsweredBeside change (answer_by_reply before s pid me walks r x) (answer_by_reply (change before) (change s) pid me walks r (change x))
-  reply-beside before s me walks (returns n) x fit = record { after = trimmed-update x (λ p. with_result p (pos n) 0) fit; outcome = refl; walks = refl }
-  reply-beside before s me walks (returns_bytes n bytes) x fit = record { after = trimmed-update x (λ p. with_front bytes (with_result p (pos n) 0)) fit; outcome = refl; walks = refl }
-  reply-beside before s me walks (ends status) x fit = record { after = trimmed-end x me status fit; outcome = refl; walks = refl }
-  reply-beside before s me walks waits x fit = record { after = refl; outcome = refl; walks = refl }
+  left-by : (x y : State) → y ≡ change x → After x y
+  left-by x y is = subst (After x) (sym is) (apart.changes x)
 
-  attempt-beside : (before s : State) (me : Process) (a : Attempt Effect) → FitsIn change Fit a
-      → AnsweredBeside change (answer_by_attempt before s pid me a) (answer_by_attempt (change before) (change s) pid me (moved change Fit a))
-  attempt-beside before s me (done walks (x, r)) fit = reply-beside before s me walks r x fit
-  attempt-beside before s me (refused walks e c) fit = record { after = updated s (λ p. with_result p (negsuc 0) (errno_number e)); outcome = refl; walks = refl }
+  reply-beside : (before s : State) (me : Process) (walks : ℕ) (r : Reply) (x : State) → FitsReply Fit r x → (answer_by_reply before s pid me walks r x).after ≡ last
+      → To (answer_by_reply before s pid me walks r x) (answer_by_reply (change before) (change s) pid me walks r (change x))
+  reply-beside before s me walks (returns n) x fit is = record { after = trimmed-to x (λ p. with_result p (pos n) 0) fit is; outcome = refl; walks = refl }
+  reply-beside before s me walks (returns_bytes n bytes) x fit is = record { after = trimmed-to x (λ p. with_front bytes (with_result p (pos n) 0)) fit is; outcome = refl; walks = refl }
+  reply-beside before s me walks (ends status) x fit is = record { after = trimmed-end x me status fit is; outcome = refl; walks = refl }
+  reply-beside before s me walks waits x fit is = record { after = apart.changes before; outcome = refl; walks = refl }
+
+  attempt-beside : (before s : State) (me : Process) (a : Attempt Effect) → FitsTrim Fit a → (answer_by_attempt before s pid me a).after ≡ last
+      → To (answer_by_attempt before s pid me a) (answer_by_attempt (change before) (change s) pid me (moved change Fit a))
+  attempt-beside before s me (done walks (x, r)) fit is = reply-beside before s me walks r x fit is
+  attempt-beside before s me (refused walks e c) fit is =
+      let g : Process → Process = λ p. with_result p (negsuc 0) (errno_number e) in record { after = left-by (update s pid g) (update (change s) pid g) (updated s g); outcome = refl; walks = refl }
 
   -- where the call that is made goes along the change, its step does
   module _ (program_of : Bytes → Option Program) (s : State) (fit : Fit s)
-      (rows : (p : Process) (call : Call) → process_at s pid ≡ Some p → next p ≡ calls_for call
-      → Beside change Fit (effect program_of (at_call s pid p) pid (at_next_line p) call) (effect program_of (change (at_call s pid p)) pid (at_next_line p) call)) where
+      (rows : (p : Process) (call : Call) → process_at s pid ≡ Some p → next p ≡ calls_for call → missing_promise p.promises (needs call) ≡ None
+      → (effect program_of (change (at_call s pid p)) pid (at_next_line p) call ≡ moved change Fit (effect program_of (at_call s pid p) pid (at_next_line p) call))
+      × FitsTrim Fit (effect program_of (at_call s pid p) pid (at_next_line p) call)) where
     abbrev u : State
     u = change s
-
-    abbrev B : Answered → Answered → Type 0
-    B = AnsweredBeside change
 
     module _ (p : Process) (call : Call) (at : process_at s pid ≡ Some p) (comes : next p ≡ calls_for call) where
       abbrev x : State
@@ -164,57 +221,72 @@ module _ (change : State → State) (Fit : State → Type 0) (pid : ℕ) (apart 
       abbrev now : Process
       now = at_next_line p
 
-      does-beside : B (answer_by_attempt s x pid now (effect program_of x pid now call)) (answer_by_attempt u (at_call u pid p) pid now (effect program_of (at_call u pid p) pid now call))
-      does-beside =
-          let both = rows p call at comes in
-          subst (λ y. B (answer_by_attempt s x pid now (effect program_of x pid now call)) (answer_by_attempt u y pid now (effect program_of y pid now call))) (sym (apart.put s now))
-          (subst (λ a. B (answer_by_attempt s x pid now (effect program_of x pid now call)) (answer_by_attempt u (change x) pid now a)) (sym both.same)
-          (attempt-beside s x now (effect program_of x pid now call) both.fit))
+      does-beside : missing_promise p.promises (needs call) ≡ None → (answer_by_attempt s x pid now (effect program_of x pid now call)).after ≡ last
+          → To (answer_by_attempt s x pid now (effect program_of x pid now call)) (answer_by_attempt u (at_call u pid p) pid now (effect program_of (at_call u pid p) pid now call))
+      does-beside held is =
+          let both = rows p call at comes held in
+          subst (λ y. To (answer_by_attempt s x pid now (effect program_of x pid now call)) (answer_by_attempt u y pid now (effect program_of y pid now call))) (sym (apart.put s now))
+          (subst (λ a. To (answer_by_attempt s x pid now (effect program_of x pid now call)) (answer_by_attempt u (change x) pid now a)) (sym both.0)
+          (attempt-beside s x now (effect program_of x pid now call) both.1 is))
 
-      missing-beside : (a : Promise) → B (answer_without_promise s x pid now a) (answer_without_promise u (at_call u pid p) pid now a)
+      missing-beside : (a : Promise) → (answer_without_promise s x pid now a).after ≡ last → To (answer_without_promise s x pid now a) (answer_without_promise u (at_call u pid p) pid now a)
       missing-beside a = by (is_lenient p.promises)
         where
-          told : (y : State) → y ≡ change x
-              → B (answer_by_attempt s x pid now (refused 0 ENOSYS (ByPromise a))) (answer_by_attempt u y pid now (refused 0 ENOSYS (ByPromise a)))
-          told y is =
-              subst (λ z. B (answer_by_attempt s x pid now (refused 0 ENOSYS (ByPromise a))) (answer_by_attempt u z pid now (refused 0 ENOSYS (ByPromise a)))) (sym is)
-              (attempt-beside s x now (refused 0 ENOSYS (ByPromise a)) tt)
+          told : (y : State) → y ≡ change x → (answer_by_attempt s x pid now (refused 0 ENOSYS (ByPromise a))).after ≡ last
+              → To (answer_by_attempt s x pid now (refused 0 ENOSYS (ByPromise a))) (answer_by_attempt u y pid now (refused 0 ENOSYS (ByPromise a)))
+          told y same is =
+              subst (λ z. To (answer_by_attempt s x pid now (refused 0 ENOSYS (ByPromise a))) (answer_by_attempt u z pid now (refused 0 ENOSYS (ByPromise a)))) (sym same)
+              (attempt-beside s x now (refused 0 ENOSYS (ByPromise a)) tt is)
 
-          by : (b : Bool)
-              → B (if b then answer_by_attempt s x pid now (refused 0 ENOSYS (ByPromise a)) else record { after = trim (end_process s pid now 6); outcome = Killed a; walks = 0 })
+          by : (b : Bool) → (if b then answer_by_attempt s x pid now (refused 0 ENOSYS (ByPromise a)) else record { after = trim (end_process s pid now 6); outcome = Killed a; walks = 0 }).after ≡ last
+              → To (if b then answer_by_attempt s x pid now (refused 0 ENOSYS (ByPromise a)) else record { after = trim (end_process s pid now 6); outcome = Killed a; walks = 0 })
               (if b then answer_by_attempt u (at_call u pid p) pid now (refused 0 ENOSYS (ByPromise a)) else record { after = trim (end_process u pid now 6); outcome = Killed a; walks = 0 })
-          by true = told (at_call u pid p) (apart.put s now)
-          by false = record { after = trimmed-end s now 6 fit; outcome = refl; walks = refl }
+          by true is = told (at_call u pid p) (apart.put s now) is
+          by false is = record { after = trimmed-end s now 6 fit is; outcome = refl; walks = refl }
 
-      where-beside : (o : Option Promise) → B (answer_where program_of s x pid now call o) (answer_where program_of u (at_call u pid p) pid now call o)
-      where-beside None = does-beside
-      where-beside (Some a) = missing-beside a
+      where-beside : (o : Option Promise) → missing_promise p.promises (needs call) ≡ o → (answer_where program_of s x pid now call o).after ≡ last → To (answer_where program_of s x pid now call o) (answer_where program_of u (at_call u pid p) pid now call o)
+      where-beside None held is = does-beside held is
+      where-beside (Some a) missing is = missing-beside a is
 
-      answer-beside : B (answer program_of s pid call) (answer program_of u pid call)
+      answer-beside : (answer program_of s pid call).after ≡ last → To (answer program_of s pid call) (answer program_of u pid call)
       unfolding answer
-      answer-beside =
-          subst (λ o. B (answer_of program_of s pid call o) (answer program_of u pid call)) (sym at)
-          (subst (λ o. B (answer_of program_of s pid call (Some p)) (answer_of program_of u pid call o)) (sym (apart.there s ∙ at)) (where-beside (missing_promise p.promises (needs call))))
+      answer-beside is =
+          subst (λ o. To (answer_of program_of s pid call o) (answer program_of u pid call)) (sym at)
+          (subst (λ o. To (answer_of program_of s pid call (Some p)) (answer_of program_of u pid call o)) (sym (apart.there s ∙ at))
+          (where-beside (missing_promise p.promises (needs call)) refl (sym (ap (λ o. (answer_of program_of s pid call o).after) at) ∙ is)))
 
-      told-alike : IsToldAlike pid (answer program_of u pid call) (answer program_of s pid call)
-      told-alike =
-          let both = answer-beside in
+      told-alike : (answer program_of s pid call).after ≡ last → IsToldAlike pid (answer program_of u pid call) (answer program_of s pid call)
+      told-alike is =
+          let both = answer-beside is in
           record {
             outcome = both.outcome;
             walks = both.walks;
-            buffer = λ n len is. ap (λ y. process_at y pid) both.after ∙ apart.there (answer program_of s pid call).after;
+            buffer = λ n len told. apart.seen (answer program_of s pid call).after (answer program_of u pid call).after both.after;
           }
 
-    by-next : (p : Process) → process_at s pid ≡ Some p → (n : Next) → next p ≡ n → SteppedBeside change (step_by program_of s pid p n) (step_by program_of u pid p n)
-    by-next p at (inside q) is = record { outcome = refl; lines = refl; after = apart.put s q }
-    by-next p at (calls_for call) is =
-        let both = answer-beside p call at is in
-        record { outcome = both.outcome; lines = lines-alike pid p call (answer program_of u pid call) (answer program_of s pid call) (told-alike p call at is); after = both.after }
+    by-next : (p : Process) → process_at s pid ≡ Some p → (n : Next) → next p ≡ n → (step_by program_of s pid p n).after ≡ last → SteppedTo After (step_by program_of s pid p n) (step_by program_of u pid p n)
+    by-next p at (inside q) comes is = record { outcome = refl; lines = refl; after = left-by (with_process s pid q) (with_process u pid q) (apart.put s q) }
+    by-next p at (calls_for call) comes is =
+        let both = answer-beside p call at comes is in
+        record { outcome = both.outcome; lines = lines-alike pid p call (answer program_of u pid call) (answer program_of s pid call) (told-alike p call at comes is); after = both.after }
 
-    pub step-beside : SteppedBeside change (step program_of s pid) (step program_of u pid)
+    pub step-beside_to : (step program_of s pid).after ≡ last → SteppedTo After (step program_of s pid) (step program_of u pid)
     unfolding step
-    step-beside = subst (λ o. SteppedBeside change (step_of program_of s pid (process_at s pid)) (step_of program_of u pid o)) (sym (apart.there s)) (by (process_at s pid) refl)
+    step-beside_to is = subst (λ o. SteppedTo After (step_of program_of s pid (process_at s pid)) (step_of program_of u pid o)) (sym (apart.there s)) (by (process_at s pid) refl is)
       where
-        by : (o : Option Process) → process_at s pid ≡ o → SteppedBeside change (step_of program_of s pid o) (step_of program_of u pid o)
-        by None gone = record { outcome = refl; lines = refl; after = refl }
-        by (Some p) at = by-next p at (next p) refl
+        by : (o : Option Process) → process_at s pid ≡ o → (step_of program_of s pid o).after ≡ last → SteppedTo After (step_of program_of s pid o) (step_of program_of u pid o)
+        by None gone is = record { outcome = refl; lines = refl; after = apart.changes s }
+        by (Some p) at is = by-next p at (next p) refl is
+
+module _ (change : State → State) (Fit : State → Type 0) (pid : ℕ) (apart : IsApart change Fit pid) where
+  pub trimmed-update : (x : State) (g : Process → Process) → Fit x → trim (update (change x) pid g) ≡ change (trim (update x pid g))
+  trimmed-update x g fit = let last : State = trim (update x pid g) in trimmed-to change Fit pid last (ByChange change) (apart-to change Fit pid last apart) x g fit refl
+
+  pub step-beside : (program_of : Bytes → Option Program) (s : State) → Fit s
+      → ((p : Process) (call : Call) → process_at s pid ≡ Some p → next p ≡ calls_for call
+      → Beside change Fit (effect program_of (at_call s pid p) pid (at_next_line p) call) (effect program_of (change (at_call s pid p)) pid (at_next_line p) call))
+      → SteppedBeside change (step program_of s pid) (step program_of (change s) pid)
+  step-beside program_of s fit rows =
+      let last : State = (step program_of s pid).after in
+      step-beside_to change Fit pid last (ByChange change) (apart-to change Fit pid last apart) program_of s fit
+      (λ p call at comes held. let both = rows p call at comes in (both.same, fits-trim change Fit (effect program_of (at_call s pid p) pid (at_next_line p) call) both.fit)) refl

@@ -1,27 +1,29 @@
 -- Each call run beside itself, in two states that differ inside another process.
-use Rattle.std.proofs.Common.{◌≢◌, ℕ, zero, suc, ℤ, not, ◌||◌, ◌==◌, nat_le, nat_lt, List, [], ◌∷◌, length, Option, None, Some, refl, ap, sym, subst}
-use Rattle.std.specs.FinMap.Entries.{put}
+use Rattle.std.proofs.Common.{◌≢◌, ℕ, zero, suc, ℤ, not, Bool, true, false, ◌||◌, ◌==◌, nat_le, nat_lt, cond, List, [], ◌∷◌, length, Option, None, Some, refl, ap, sym, subst}
+use Rattle.std.specs.FinMap.Entries.{put, where_key}
 use Rattle.std.specs.Ordering.{nat_cmp}
 use Rattle.pv_model.specs.declared.call.Call.{Call}
 use Rattle.pv_model.specs.declared.call.Call.TheVariants as TheCall
 use Rattle.pv_model.specs.declared.call.Start.{Start}
 use Rattle.pv_model.specs.declared.call.Start.TheVariants.{WorkingDirectory}
+use Rattle.pv_model.specs.declared.errno.Errno.{Errno}
 use Rattle.pv_model.specs.declared.errno.Errno.TheVariants.{EAGAIN, ECHILD}
 use Rattle.pv_model.specs.declared.open_flags.OpenFlags.{OpenFlags}
+use Rattle.pv_model.specs.declared.outcome.Cause.{Cause}
 use Rattle.pv_model.specs.Answer.{effect}
-use Rattle.pv_model.specs.Attempt.{Attempt, ◌>>=◌, ◌>>◌, refuse_if}
+use Rattle.pv_model.specs.Attempt.{Attempt, done, refused, after_walks, ◌>>=◌, ◌>>◌, refuse_if}
 use Rattle.pv_model.specs.Bytes.{Bytes, is_empty}
-use Rattle.pv_model.specs.Calls.Descriptors.{open_node, open_at, write, after_write, list_name}
+use Rattle.pv_model.specs.Calls.Descriptors.{with_descriptor, open_node, open_at, write, after_write, list_name}
 use Rattle.pv_model.specs.Calls.Processes.{child, fork, children, statuses, reap, wait}
 use Rattle.pv_model.specs.Calls.Restraints.{unveil}
-use Rattle.pv_model.specs.Effect.{Effect, returns, answers, with_room}
+use Rattle.pv_model.specs.Effect.{Effect, Reply, returns, answers, with_room}
 use Rattle.pv_model.specs.Numbered.{Numbered}
 use Rattle.pv_model.specs.State.{OpenFile, Program, Process, live, State, with_process}
 use Rattle.pv_model.specs.Tree.{Tree}
 use Rattle.pv_laws.proofs.Rests
 use Rattle.pv_order.specs.Beside.{with_change}
-use Rattle.pv_order.proofs.Alongside.{IsBeside, Beside, after-beside, bind-beside, then-beside, cond-beside, done-beside, refused-beside, cond-state, room-beside}
-use Rattle.pv_order.proofs.Exchange.{KeepsParent, changed, Fits, put-other, length-changed, where-changed, children-changed, trim-changed, fits-put, fits-filter}
+use Rattle.pv_order.proofs.Alongside.{IsBeside, Beside, after-beside, bind-beside, then-beside, done-beside, refused-beside, room-beside}
+use Rattle.pv_order.proofs.Exchange.{KeepsParent, changed, Fits, put-other, length-changed, where-changed, children-changed, trim-changed}
 
 -- the change of a process, and the states that are fit for it
 abbrev pub changes : ℕ → (Process → Process) → State → State
@@ -34,24 +36,68 @@ pub room-changed : (k : ℕ) (f : Process → Process) (x y : State) (n : ℕ) �
     → Beside (changes k f) (AreFit k f) (with_room x >>= (λ roomy. answers roomy n)) (with_room y >>= (λ roomy. answers roomy n))
 room-changed k f x y n is = room-beside (changes k f) (AreFit k f) (λ z fit. trim-changed k f z fit) (λ z. refl) x y n is
 
-module _ (k : ℕ) (f : Process → Process) (keeps : KeepsParent f) (s : State) (pid : ℕ) (me : Process) (other : pid ≢ k) (fit : Fits k f s.processes) (next_other : suc s.last_process ≢ k) where
+-- a relation of attempts in two states that differ inside another process: it goes through the parts of rows, and holds of what calls do there
+pub record CallsAlong (k : ℕ) (f : Process → Process) (s : State) (pid : ℕ) (me : Process) (R : Attempt Effect → Attempt Effect → Type 0) (S : State → State → Type 0) : Type 1 where
+  pub walked : (n : ℕ) (a b : Attempt Effect) → R a b → R (after_walks n a) (after_walks n b)
+  pub bound : {B : Type 0} (a : Attempt B) (g h : B → Attempt Effect) → ((v : B) → R (g v) (h v)) → R (a >>= g) (a >>= h)
+  pub behind : {B : Type 0} (a : Attempt B) (g h : Attempt Effect) → R g h → R (a >> g) (a >> h)
+  pub refuses : (n : ℕ) (e : Errno) (c : Cause) → R (refused n e c) (refused n e c)
+  pub does : (n : ℕ) (r : Reply) (x y : State) → S x y → R (done n (x, r)) (done n (y, r))
+  pub left : (t : Tree) (fs : Numbered OpenFile) → S (record s { tree = t; files = fs }) (record (with_change s k f) { tree = t; files = fs })
+  pub own : (t : Tree) (fs : Numbered OpenFile) (q : Process)
+      → S (record s { tree = t; files = fs; processes = put nat_cmp pid (live q) s.processes }) (record s { tree = t; files = fs; processes = put nat_cmp pid (live q) (changed k f s.processes) })
+  pub forked : S (record s { processes = put nat_cmp (suc s.last_process) (live (child s pid me)) s.processes; last_process = suc s.last_process })
+      (record s { processes = put nat_cmp (suc s.last_process) (live (child s pid me)) (changed k f s.processes); last_process = suc s.last_process })
+  pub reaped : (test : ℕ → Bool) → S (record s { processes = where_key nat_cmp test s.processes }) (record s { processes = where_key nat_cmp test (changed k f s.processes) })
+  pub room : (t : Tree) (fs : Numbered OpenFile) (n : ℕ)
+      → R (with_room (record s { tree = t; files = fs }) >>= (λ roomy. answers roomy n)) (with_room (record (with_change s k f) { tree = t; files = fs }) >>= (λ roomy. answers roomy n))
+  pub room_opened : (t : Tree) (fs : Numbered OpenFile) (file : ℕ) (close_on_exec : Bool) (n : ℕ)
+      → R (with_room (with_descriptor s pid me (record s { tree = t; files = fs }) file close_on_exec) >>= (λ roomy. answers roomy n))
+      (with_room (with_descriptor (with_change s k f) pid me (record (with_change s k f) { tree = t; files = fs }) file close_on_exec) >>= (λ roomy. answers roomy n))
+
+module _ (k : ℕ) (f : Process → Process) (keeps : KeepsParent f) (s : State) (pid : ℕ) (me : Process) (R : Attempt Effect → Attempt Effect → Type 0) (S : State → State → Type 0) (along : CallsAlong k f s pid me R S) where
   abbrev u : State
   u = with_change s k f
 
-  abbrev B : Attempt Effect → Attempt Effect → Type 0
-  B = Beside (changes k f) (AreFit k f)
+  walked-along : (n : ℕ) (a b : Attempt Effect) → R a b → R (after_walks n a) (after_walks n b)
+  walked-along n a b is = along.walked n a b is
 
-  tree-beside : (t : Tree) (fs : Numbered OpenFile) → IsBeside (changes k f) (AreFit k f) (record s { tree = t; files = fs }) (record u { tree = t; files = fs })
-  tree-beside t fs = record { same = refl; fit = fit }
+  bound-along : {B : Type 0} (a : Attempt B) (g h : B → Attempt Effect) → ((v : B) → R (g v) (h v)) → R (a >>= g) (a >>= h)
+  bound-along a g h is = along.bound a g h is
 
-  own-beside : (t : Tree) (fs : Numbered OpenFile) (q : Process)
-      → IsBeside (changes k f) (AreFit k f) (record s { tree = t; files = fs; processes = put nat_cmp pid (live q) s.processes }) (record u { tree = t; files = fs; processes = put nat_cmp pid (live q) (changed k f s.processes) })
-  own-beside t fs q = record {
-    same = ap (λ ps. record s { tree = t; files = fs; processes = ps }) (put-other k f pid (live q) s.processes other);
-    fit = fits-put k f pid (live q) s.processes (λ p is here. absurd (other here)) fit;
-  }
+  behind-along : {B : Type 0} (a : Attempt B) (g h : Attempt Effect) → R g h → R (a >> g) (a >> h)
+  behind-along a g h is = along.behind a g h is
 
-  ruleset parts = (bind-beside, then-beside, cond-beside, done-beside, refused-beside, room-changed, tree-beside, own-beside, cond-state)
+  cond-along : (b : Bool) (x y v w : Attempt Effect) → R x v → R y w → R (cond b x y) (cond b v w)
+  cond-along true x y v w is other = is
+  cond-along false x y v w is other = other
+
+  does-along : (n : ℕ) (r : Reply) (x y : State) → S x y → R (done n (x, r)) (done n (y, r))
+  does-along n r x y is = along.does n r x y is
+
+  refuses-along : (n : ℕ) (e : Errno) (c : Cause) → R (refused n e c) (refused n e c)
+  refuses-along n e c = along.refuses n e c
+
+  cond-along_state : (b : Bool) (x y v w : State) → S x v → S y w → S (cond b x y) (cond b v w)
+  cond-along_state true x y v w is more = is
+  cond-along_state false x y v w is more = more
+
+  tree-along : (t : Tree) (fs : Numbered OpenFile) → S (record s { tree = t; files = fs }) (record u { tree = t; files = fs })
+  tree-along t fs = along.left t fs
+
+  own-along : (t : Tree) (fs : Numbered OpenFile) (q : Process)
+      → S (record s { tree = t; files = fs; processes = put nat_cmp pid (live q) s.processes }) (record u { tree = t; files = fs; processes = put nat_cmp pid (live q) (changed k f s.processes) })
+  own-along t fs q = along.own t fs q
+
+  room-along : (t : Tree) (fs : Numbered OpenFile) (n : ℕ) → R (with_room (record s { tree = t; files = fs }) >>= (λ roomy. answers roomy n)) (with_room (record u { tree = t; files = fs }) >>= (λ roomy. answers roomy n))
+  room-along t fs n = along.room t fs n
+
+  room-opened : (t : Tree) (fs : Numbered OpenFile) (file : ℕ) (close_on_exec : Bool) (n : ℕ)
+      → R (with_room (with_descriptor s pid me (record s { tree = t; files = fs }) file close_on_exec) >>= (λ roomy. answers roomy n))
+      (with_room (with_descriptor u pid me (record u { tree = t; files = fs }) file close_on_exec) >>= (λ roomy. answers roomy n))
+  room-opened t fs file close_on_exec n = along.room_opened t fs file close_on_exec n
+
+  ruleset parts = (bound-along, behind-along, cond-along, does-along, refuses-along, room-along, room-opened, tree-along, own-along, cond-along_state)
 
   abbrev number : ℕ
   number = suc s.last_process
@@ -59,85 +105,112 @@ module _ (k : ℕ) (f : Process → Process) (keeps : KeepsParent f) (s : State)
   abbrev forked : State → State
   forked x = record (with_process x number (child x pid me)) { last_process = number }
 
-  fork-beside : B (fork s pid me) (fork u pid me)
+  fork-beside : R (fork s pid me) (fork u pid me)
   fork-beside =
-      subst (λ n. B (fork s pid me) (refuse_if EAGAIN (nat_le 32 n || nat_lt 99999 number) >> answers (forked u) number)) (sym (length-changed k f s.processes))
-      (then-beside (changes k f) (AreFit k f) (refuse_if EAGAIN (nat_le 32 (length s.processes) || nat_lt 99999 number)) (answers (forked s) number) (answers (forked u) number)
-      (done-beside (changes k f) (AreFit k f) 0 (returns number) (forked s) (forked u) (record {
-        same = ap (λ ps. record s { processes = ps; last_process = number }) (put-other k f number (live (child s pid me)) s.processes next_other);
-        fit = fits-put k f number (live (child s pid me)) s.processes (λ p is here. absurd (next_other here)) fit;
-      })))
+      subst (λ n. R (fork s pid me) (refuse_if EAGAIN (nat_le 32 n || nat_lt 99999 number) >> answers (forked u) number)) (sym (length-changed k f s.processes))
+      (behind-along (refuse_if EAGAIN (nat_le 32 (length s.processes) || nat_lt 99999 number)) (answers (forked s) number) (answers (forked u) number) (does-along 0 (returns number) (forked s) (forked u) along.forked))
 
-  reap-beside : (ss : List (ℕ × ℕ)) → B (reap s pid me ss) (reap u pid me ss)
+  reap-beside : (ss : List (ℕ × ℕ)) → R (reap s pid me ss) (reap u pid me ss)
   reap-beside [] = search parts depth 20
-  reap-beside ((n, status) ∷ rs) =
-      done-beside (changes k f) (AreFit k f) 0 _ _ _ (record {
-        same = ap (λ ps. record s { processes = ps }) (where-changed k f (λ j. not (j == n)) s.processes);
-        fit = fits-filter k f (λ r. not (r.0 == n)) s.processes fit;
-      })
+  reap-beside ((n, status) ∷ rs) = does-along 0 _ _ _ (along.reaped (λ j. not (j == n)))
 
-  wait-beside : B (wait s pid me) (wait u pid me)
+  wait-beside : R (wait s pid me) (wait u pid me)
   wait-beside =
       let both = children-changed k f keeps pid s.processes in
-      subst (λ b. B (wait s pid me) (refuse_if ECHILD b >> reap u pid me (statuses (children u pid me)))) (sym both.1)
-      (then-beside (changes k f) (AreFit k f) (refuse_if ECHILD (is_empty (children s pid me))) (reap s pid me (statuses (children s pid me))) (reap u pid me (statuses (children u pid me)))
-      (subst (λ ss. B (reap s pid me (statuses (children s pid me))) (reap u pid me ss)) (sym both.0) (reap-beside (statuses (children s pid me)))))
+      subst (λ b. R (wait s pid me) (refuse_if ECHILD b >> reap u pid me (statuses (children u pid me)))) (sym both.1)
+      (behind-along (refuse_if ECHILD (is_empty (children s pid me))) (reap s pid me (statuses (children s pid me))) (reap u pid me (statuses (children u pid me)))
+      (subst (λ ss. R (reap s pid me (statuses (children s pid me))) (reap u pid me ss)) (sym both.0) (reap-beside (statuses (children s pid me)))))
 
-  unveil-beside : (path letters : Option Bytes) → B (unveil s pid me path letters) (unveil u pid me path letters)
+  unveil-beside : (path letters : Option Bytes) → R (unveil s pid me path letters) (unveil u pid me path letters)
   unveil-beside None None = search parts depth 20
   unveil-beside None (Some text) = search parts depth 20
   unveil-beside (Some path) None = search parts depth 20
   unveil-beside (Some path) (Some text) = search parts depth 20
 
   node-beside : (flags : OpenFlags) (name : Option (ℕ × Bytes)) (node : Option ℕ)
-      → B (open_node s pid me flags name node >>= Rests.open_7 s pid me) (open_node u pid me flags name node >>= Rests.open_7 u pid me)
-  node-beside flags name (Some n) = search (parts, after-beside) depth 20
-  node-beside flags (Some p) None = search (parts, after-beside) depth 20
+      → R (open_node s pid me flags name node >>= Rests.open_7 s pid me) (open_node u pid me flags name node >>= Rests.open_7 u pid me)
+  node-beside flags name (Some n) = search (parts, walked-along) depth 20
+  node-beside flags (Some p) None = search (parts, walked-along) depth 20
   node-beside flags None None = search parts depth 20
 
-  open-beside : (start : Start) (path : Bytes) (flags : OpenFlags) → B (open_at s pid me start path flags) (open_at u pid me start path flags)
-  open-beside start path flags = search (bind-beside, then-beside, node-beside) depth 40
+  open-beside : (start : Start) (path : Bytes) (flags : OpenFlags) → R (open_at s pid me start path flags) (open_at u pid me start path flags)
+  open-beside start path flags = search (bound-along, behind-along, node-beside) depth 40
 
-  written : (j : ℕ) (file : OpenFile) (count : ℕ) → IsBeside (changes k f) (AreFit k f) (after_write s pid me j file count) (after_write u pid me j file count)
-  written j file zero = search parts depth 20
-  written j file (suc n) = search parts depth 20
+  written : (j : ℕ) (file : OpenFile) (count n : ℕ) → R (with_room (after_write s pid me j file count) >>= (λ roomy. answers roomy n)) (with_room (after_write u pid me j file count) >>= (λ roomy. answers roomy n))
+  written j file zero n = search parts depth 20
+  written j file (suc count) n = search parts depth 20
 
-  write-beside : (d n : ℤ) → B (write s pid me d n) (write u pid me d n)
-  write-beside d n = search (bind-beside, then-beside, room-changed, written) depth 20
+  write-beside : (d n : ℤ) → R (write s pid me d n) (write u pid me d n)
+  write-beside d n = search (bound-along, behind-along, written) depth 20
 
-  listed : (j : ℕ) (file : OpenFile) (o : Option Bytes) → B (list_name s pid me j file o) (list_name u pid me j file o)
+  listed : (j : ℕ) (file : OpenFile) (o : Option Bytes) → R (list_name s pid me j file o) (list_name u pid me j file o)
   listed j file None = search parts depth 20
   listed j file (Some name) = search parts depth 20
 
-  pub calls-beside : (program_of : Bytes → Option Program) (call : Call) → B (effect program_of s pid me call) (effect program_of u pid me call)
+  pub calls-along : (program_of : Bytes → Option Program) (call : Call) → R (effect program_of s pid me call) (effect program_of u pid me call)
   unfolding effect
-  calls-beside program_of (TheCall.Exit code) = search parts depth 20
-  calls-beside program_of TheCall.GetPid = search parts depth 20
-  calls-beside program_of TheCall.GetPpid = search parts depth 20
-  calls-beside program_of TheCall.Fork = fork-beside
-  calls-beside program_of TheCall.Wait = wait-beside
-  calls-beside program_of (TheCall.Pledge promises execpromises) = search parts depth 20
-  calls-beside program_of (TheCall.Unveil path letters) = unveil-beside path letters
-  calls-beside program_of (TheCall.Execve path) = search parts depth 20
-  calls-beside program_of (TheCall.Open path flags) = open-beside WorkingDirectory path flags
-  calls-beside program_of (TheCall.OpenAt start path flags) = open-beside start path flags
-  calls-beside program_of (TheCall.Close d) = search parts depth 20
-  calls-beside program_of (TheCall.Dup d) = search parts depth 20
-  calls-beside program_of (TheCall.Dup2 d e) = search parts depth 20
-  calls-beside program_of (TheCall.Read d n) = search parts depth 20
-  calls-beside program_of (TheCall.Write d n) = write-beside d n
-  calls-beside program_of (TheCall.Lseek d by whence) = search parts depth 20
-  calls-beside program_of (TheCall.Fstat d) = search parts depth 20
-  calls-beside program_of (TheCall.Ftruncate d n) = search parts depth 20
-  calls-beside program_of (TheCall.Getdents d) = search (parts, listed) depth 20
-  calls-beside program_of (TheCall.Fchdir d) = search parts depth 20
-  calls-beside program_of (TheCall.Chdir path) = search parts depth 20
-  calls-beside program_of (TheCall.Stat path) = search parts depth 20
-  calls-beside program_of (TheCall.Lstat path) = search parts depth 20
-  calls-beside program_of (TheCall.Readlink path) = search parts depth 20
-  calls-beside program_of (TheCall.Mkdir path) = search parts depth 20
-  calls-beside program_of (TheCall.Symlink text path) = search parts depth 20
-  calls-beside program_of (TheCall.Link path new) = search parts depth 30
-  calls-beside program_of (TheCall.Unlink path) = search parts depth 20
-  calls-beside program_of (TheCall.Rmdir path) = search parts depth 20
-  calls-beside program_of (TheCall.Rename path new) = search parts depth 40
+  calls-along program_of (TheCall.Exit code) = search parts depth 20
+  calls-along program_of TheCall.GetPid = search parts depth 20
+  calls-along program_of TheCall.GetPpid = search parts depth 20
+  calls-along program_of TheCall.Fork = fork-beside
+  calls-along program_of TheCall.Wait = wait-beside
+  calls-along program_of (TheCall.Pledge promises execpromises) = search parts depth 20
+  calls-along program_of (TheCall.Unveil path letters) = unveil-beside path letters
+  calls-along program_of (TheCall.Execve path) = search parts depth 20
+  calls-along program_of (TheCall.Open path flags) = open-beside WorkingDirectory path flags
+  calls-along program_of (TheCall.OpenAt start path flags) = open-beside start path flags
+  calls-along program_of (TheCall.Close d) = search parts depth 20
+  calls-along program_of (TheCall.Dup d) = search parts depth 20
+  calls-along program_of (TheCall.Dup2 d e) = search parts depth 20
+  calls-along program_of (TheCall.Read d n) = search parts depth 20
+  calls-along program_of (TheCall.Write d n) = write-beside d n
+  calls-along program_of (TheCall.Lseek d by whence) = search parts depth 20
+  calls-along program_of (TheCall.Fstat d) = search parts depth 20
+  calls-along program_of (TheCall.Ftruncate d n) = search parts depth 20
+  calls-along program_of (TheCall.Getdents d) = search (parts, listed) depth 20
+  calls-along program_of (TheCall.Fchdir d) = search parts depth 20
+  calls-along program_of (TheCall.Chdir path) = search parts depth 20
+  calls-along program_of (TheCall.Stat path) = search parts depth 20
+  calls-along program_of (TheCall.Lstat path) = search parts depth 20
+  calls-along program_of (TheCall.Readlink path) = search parts depth 20
+  calls-along program_of (TheCall.Mkdir path) = search parts depth 20
+  calls-along program_of (TheCall.Symlink text path) = search parts depth 20
+  calls-along program_of (TheCall.Link path new) = search parts depth 30
+  calls-along program_of (TheCall.Unlink path) = search parts depth 20
+  calls-along program_of (TheCall.Rmdir path) = search parts depth 20
+  calls-along program_of (TheCall.Rename path new) = search parts depth 40
+
+-- what calls of process `pid` leave is fit, and the states for which they ask for room have it alike
+pub record CallsFit (k : ℕ) (f : Process → Process) (s : State) (pid : ℕ) (me : Process) (Fit : State → Type 0) : Type 0 where
+  pub left : (t : Tree) (fs : Numbered OpenFile) → Fit (record s { tree = t; files = fs })
+  pub own : (t : Tree) (fs : Numbered OpenFile) (q : Process) → Fit (record s { tree = t; files = fs; processes = put nat_cmp pid (live q) s.processes })
+  pub forked : Fit (record s { processes = put nat_cmp (suc s.last_process) (live (child s pid me)) s.processes; last_process = suc s.last_process })
+  pub reaped : (test : ℕ → Bool) → Fit (record s { processes = where_key nat_cmp test s.processes })
+  pub room : (t : Tree) (fs : Numbered OpenFile) (n : ℕ)
+      → Beside (changes k f) Fit (with_room (record s { tree = t; files = fs }) >>= (λ roomy. answers roomy n)) (with_room (record (with_change s k f) { tree = t; files = fs }) >>= (λ roomy. answers roomy n))
+  pub room_opened : (t : Tree) (fs : Numbered OpenFile) (file : ℕ) (close_on_exec : Bool) (n : ℕ)
+      → Beside (changes k f) Fit (with_room (with_descriptor s pid me (record s { tree = t; files = fs }) file close_on_exec) >>= (λ roomy. answers roomy n))
+      (with_room (with_descriptor (with_change s k f) pid me (record (with_change s k f) { tree = t; files = fs }) file close_on_exec) >>= (λ roomy. answers roomy n))
+
+-- so both do the same, but for the change
+module _ (k : ℕ) (f : Process → Process) (s : State) (pid : ℕ) (me : Process) (other : pid ≢ k) (next_other : suc s.last_process ≢ k) (Fit : State → Type 0) (fits : CallsFit k f s pid me Fit) where
+  fit-along : CallsAlong k f s pid me (Beside (changes k f) Fit) (IsBeside (changes k f) Fit)
+  fit-along = record {
+    walked = after-beside (changes k f) Fit;
+    bound = λ a g h is. bind-beside (changes k f) Fit a g h is;
+    behind = λ a g h is. then-beside (changes k f) Fit a g h is;
+    refuses = refused-beside (changes k f) Fit;
+    does = done-beside (changes k f) Fit;
+    left = λ t fs. record { same = refl; fit = fits.left t fs };
+    own = λ t fs q. record { same = ap (λ ps. record s { tree = t; files = fs; processes = ps }) (put-other k f pid (live q) s.processes other); fit = fits.own t fs q };
+    forked = record {
+      same = ap (λ ps. record s { processes = ps; last_process = suc s.last_process }) (put-other k f (suc s.last_process) (live (child s pid me)) s.processes next_other);
+      fit = fits.forked;
+    };
+    reaped = λ test. record { same = ap (λ ps. record s { processes = ps }) (where-changed k f test s.processes); fit = fits.reaped test };
+    room = fits.room;
+    room_opened = fits.room_opened;
+  }
+
+  pub calls-fit : KeepsParent f → (program_of : Bytes → Option Program) (call : Call) → Beside (changes k f) Fit (effect program_of s pid me call) (effect program_of (with_change s k f) pid me call)
+  calls-fit keeps program_of call = calls-along k f keeps s pid me (Beside (changes k f) Fit) (IsBeside (changes k f) Fit) fit-along program_of call

@@ -1,10 +1,12 @@
 -- Steps run beside themselves, in two states that differ inside another process.
 use Rattle.std.proofs.Common.{◌≡◌, ◌≢◌, ℕ, suc, true, cond, List, [], ◌∷◌, Option, Some, refl, ap, sym, subst, ◌∙◌}
-use Rattle.std.specs.FinMap.Entries.{find, is_sorted, below_all}
-use Rattle.std.specs.Ordering.{nat_cmp, is_eq}
 use Rattle.std.proofs.lemmas.Bool.{and_parts}
+use Rattle.std.specs.FinMap.Entries.{find, put, is_sorted, below_all}
+use Rattle.std.specs.Ordering.{nat_cmp, is_eq}
 use Rattle.pv_model.specs.Answer.{at_next_line}
 use Rattle.pv_model.specs.Bytes.{Bytes}
+use Rattle.pv_model.specs.Calls.Processes.{child}
+use Rattle.pv_model.specs.Numbered.{with_number, least_free}
 use Rattle.pv_model.specs.State.{Program, Process, Record, live, ended_record, State, process_at}
 use Rattle.pv_model.specs.Step.{step}
 use Rattle.pv_laws.specs.States.{IsWhole}
@@ -13,9 +15,9 @@ use Rattle.pv_laws.proofs.Outcomes.{at_call}
 use Rattle.pv_laws.proofs.Processes.{number-itself}
 use Rattle.pv_rights.proofs.Ends.{whole-in_order, not_next}
 use Rattle.pv_order.specs.Beside.{StandsAlike, with_change, become, StepsBeside}
-use Rattle.pv_order.proofs.Exchange.{KeepsParent, Fits, trim-changed, fits-put, process-changed, with-changed, end-changed, fits-end}
 use Rattle.pv_order.proofs.Alongside.{SteppedBeside, IsApart, step-beside}
-use Rattle.pv_order.proofs.BesideCalls.{changes, AreFit, calls-beside}
+use Rattle.pv_order.proofs.BesideCalls.{changes, AreFit, room-changed, CallsFit, calls-fit}
+use Rattle.pv_order.proofs.Exchange.{KeepsParent, Fits, put-other, trim-changed, fits-put, fits-filter, process-changed, with-changed, end-changed, fits-end}
 
 -- in a table that rises, what fits the process that is found fits
 pub fits-found : (k : ℕ) (f : Process → Process) (es : List (ℕ × Record)) → is_sorted nat_cmp es ≡ true → ((x : Process) → find nat_cmp k es ≡ Some (live x) → StandsAlike x (f x)) → Fits k f es
@@ -38,12 +40,28 @@ changes-apart k f keeps pid other = record {
   trims = λ x fit. trim-changed k f x fit;
 }
 
+-- what calls leave fits, where the state does
+fit-calls : (k : ℕ) (f : Process → Process) (s : State) (pid : ℕ) (me : Process) → pid ≢ k → suc s.last_process ≢ k → Fits k f s.processes → CallsFit k f s pid me (AreFit k f)
+fit-calls k f s pid me other next_other fit =
+    let own : (q : Process) → Fits k f (put nat_cmp pid (live q) s.processes) = λ q. fits-put k f pid (live q) s.processes (λ p is here. absurd (other here)) fit in
+    record {
+      left = λ t fs. fit;
+      own = λ t fs q. own q;
+      forked = fits-put k f (suc s.last_process) (live (child s pid me)) s.processes (λ p is here. absurd (next_other here)) fit;
+      reaped = λ test. fits-filter k f (λ r. test r.0) s.processes fit;
+      room = λ t fs n. room-changed k f _ _ n (record { same = refl; fit = fit });
+      room_opened = λ t fs file close_on_exec n.
+          let q : Process = record me { descriptors = with_number me.descriptors (least_free me.descriptors) (record { file = file; close_on_exec = close_on_exec }) } in
+          room-changed k f _ _ n (record { same = ap (λ ps. record s { tree = t; files = fs; processes = ps }) (put-other k f pid (live q) s.processes other); fit = own q });
+    }
+
 step-changed : (k : ℕ) (f : Process → Process) → KeepsParent f → (pid : ℕ) → pid ≢ k → (program_of : Bytes → Option Program) (s : State) → Fits k f s.processes → suc s.last_process ≢ k
     → SteppedBeside (changes k f) (step program_of s pid) (step program_of (with_change s k f) pid)
 step-changed k f keeps pid other program_of s fit next_other =
     let apart = changes-apart k f keeps pid other in
     step-beside (changes k f) (AreFit k f) pid apart program_of s fit (λ p call at comes.
-    calls-beside k f keeps (at_call s pid p) pid (at_next_line p) other (apart.fit_put s (at_next_line p) fit) next_other program_of call)
+    calls-fit k f (at_call s pid p) pid (at_next_line p) other next_other (AreFit k f)
+    (fit-calls k f (at_call s pid p) pid (at_next_line p) other next_other (apart.fit_put s (at_next_line p) fit)) keeps program_of call)
 
 pub become-keeps : (q : Process) → KeepsParent (become q)
 become-keeps q = record { same = λ p. refl; whoever = λ p n. refl }

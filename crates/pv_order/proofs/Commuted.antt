@@ -36,7 +36,7 @@ module _ (k : ℕ) (f : Process → Process) where
       let parts = and_parts (is_lt (nat_cmp k e.0)) (below_all nat_cmp k es) below in
       ap₂ (λ b (xs : List (ℕ × Record)). (e.0, if b then change_live f e.1 else e.1) ∷ xs) (not-itself e.0 parts.0) (unchanged-above es parts.1)
 
-  put-changes : (es : List (ℕ × Record)) (p : Process) → is_sorted nat_cmp es ≡ true → find nat_cmp k es ≡ Some (live p) → put nat_cmp k (live (f p)) es ≡ changed k f es
+  pub put-changes : (es : List (ℕ × Record)) (p : Process) → is_sorted nat_cmp es ≡ true → find nat_cmp k es ≡ Some (live p) → put nat_cmp k (live (f p)) es ≡ changed k f es
   put-changes [] p sorted found = cc found
   put-changes (e ∷ es) p sorted found = by (nat_cmp k e.0) refl (λ there. put-changes es p parts.1 there)
     where

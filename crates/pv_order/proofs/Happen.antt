@@ -15,6 +15,16 @@ use Rattle.pv_model.specs.Touch.{Touch, read_file, change_file, file_bytes, desc
 use Rattle.pv_model.specs.Tree.{file_node, node_at}
 use Rattle.pv_rights.specs.Justice.{IsExplained}
 use Rattle.pv_order.specs.Examples.{no_programs, state_behind, apart, unlinking, asking_size, OrderHappens, OffsetsHappen, WritesHappen}
+use Rattle.std.specs.Prelude.{replicate}
+use Rattle.pv_model.specs.Numbered.{Numbered}
+use Rattle.pv_order.specs.Examples.{closing_both, entering_open, DescriptorsHappen, DirectoriesHappen}
+use Rattle.std.specs.Prelude.{true}
+use Rattle.pv_model.specs.declared.errno.Errno.{Errno}
+use Rattle.pv_model.specs.declared.outcome.Cause.{Cause}
+use Rattle.pv_model.specs.declared.outcome.Outcome.TheVariants.{Value, Failed}
+use Rattle.pv_model.specs.Tree.{directory_node, Tree, is_directory_at}
+use Rattle.pv_model.specs.declared.version.Version.TheVariants.{V1}
+use Rattle.pv_order.specs.Holding.{wants_room}
 use Rattle.pv_order.specs.Offsets.{GoesBy}
 
 abbrev or_first : Option Process → Process
@@ -118,6 +128,81 @@ offsets-happen = record {
   five_written = refl;
   none_named = refl;
   one_named = refl;
+}
+
+abbrev closer : Process
+closer = or_first (process_at closing_both 1)
+
+abbrev shared_files : Numbered OpenFile
+shared_files = Some (record { node = 2; mode = ReadWrite; append = false; offset = 0; listed = None }) ∷ replicate 127 None
+
+files-before : closing_both.files ≡ shared_files
+unfolding machine_on_literals
+files-before = refl
+
+files-behind : (step no_programs closing_both 1).after.files ≡ shared_files
+unfolding machine_on_literals
+files-behind = refl
+
+pub descriptors-happen : DescriptorsHappen
+unfolding machine_on_literals
+descriptors-happen = record { process = closer; there = refl; next_is = refl; leaves = files-behind ∙ sym files-before; closes = refl; ended = refl; reused = refl; not_reused = refl }
+
+abbrev enterer : Process
+enterer = or_first (process_at entering_open 1)
+
+abbrev entered_open : OpenFile
+entered_open = record { node = 2; mode = Reading; append = false; offset = 0; listed = None }
+
+enterer-opened : open_file entering_open enterer (pos 0) ≡ Some (0, entered_open)
+unfolding machine_on_literals
+enterer-opened = refl
+
+directory-before : is_directory_at entering_open.tree 2 ≡ true
+unfolding machine_on_literals
+directory-before = refl
+
+directory-behind : is_directory_at (step no_programs entering_open 2).after.tree 2 ≡ true
+unfolding machine_on_literals
+directory-behind = refl
+
+way-left : (m : ℕ) (file : OpenFile) → open_file entering_open enterer (pos 0) ≡ Some (m, file) → is_directory_at (step no_programs entering_open 2).after.tree file.node ≡ is_directory_at entering_open.tree file.node
+way-left m file opened =
+    let same : entered_open ≡ file = ap or_none (sym enterer-opened ∙ opened) in
+    subst (λ (f : OpenFile). is_directory_at (step no_programs entering_open 2).after.tree f.node ≡ is_directory_at entering_open.tree f.node) same (directory-behind ∙ sym directory-before)
+
+remover-removes : (step no_programs entering_open 2).outcome ≡ Value 0
+unfolding machine_on_literals
+remover-removes = refl
+
+remover-room : (errno : Errno) (cause : Cause) → (step no_programs entering_open 2).outcome ≡ Failed errno cause → wants_room errno ≡ false
+remover-room errno cause fails = let bad : Value 0 ≡ Failed errno cause = sym remover-removes ∙ fails in cc bad
+
+abbrev entered_tree : Tree
+entered_tree = record { nodes = None ∷ Some (directory_node ((codes "d", 2) ∷ [])) ∷ Some (directory_node []) ∷ replicate 14 None; blocks = 14; inodes = 16; version = V1 }
+
+tree-before : entering_open.tree ≡ entered_tree
+unfolding machine_on_literals
+tree-before = refl
+
+tree-behind : (step no_programs entering_open 1).after.tree ≡ entered_tree
+unfolding machine_on_literals
+tree-behind = refl
+
+pub directories-happen : DirectoriesHappen
+unfolding machine_on_literals
+directories-happen = record {
+  process = enterer;
+  there = refl;
+  next_is = refl;
+  leaves = tree-behind ∙ sym tree-before;
+  way = way-left;
+  room = remover-room;
+  removes = remover-removes;
+  entered = refl;
+  gone = refl;
+  reused = refl;
+  not_reused = refl;
 }
 
 abbrev writer : Process

@@ -112,24 +112,28 @@ pub lone-commute : (program_of : Bytes → Option Program) → SpellsPrograms pr
 lone-commute program_of spells s j k p whole apart at lone =
     let is = alone-commutes program_of spells s k j p whole (λ same. apart (sym same)) at lone in record { first = is.second; second = is.first; after = sym is.after }
 
--- a call that lacks a promise goes by its process alone, unless it kills
-pub commute-where : (program_of : Bytes → Option Program) → SpellsPrograms program_of → (s : State) (j k : ℕ) (p : Process) (call : Call) → IsWhole s → j ≢ k → process_at s j ≡ Some p → next p ≡ calls_for call
-    → ((a : Promise) → (step program_of s j).outcome ≢ Killed a) → (missing_promise p.promises (needs call) ≡ None → Commute program_of s j k) → Commute program_of s j k
+-- a call that does not kill lacks no promise, or is answered for it
+pub by-promise : (P : Type 0) (program_of : Bytes → Option Program) (s : State) (j : ℕ) (p : Process) (call : Call) → process_at s j ≡ Some p → next p ≡ calls_for call → ((a : Promise) → (step program_of s j).outcome ≢ Killed a)
+    → ((a : Promise) → missing_promise p.promises (needs call) ≡ Some a → is_lenient p.promises ≡ true → P) → (missing_promise p.promises (needs call) ≡ None → P) → P
 unfolding answer
-commute-where program_of spells s j k p call whole apart at comes alive held = by (missing_promise p.promises (needs call)) refl
+by-promise P program_of s j p call at comes alive lacks held = by (missing_promise p.promises (needs call)) refl
   where
-    lone : (a : Promise) → missing_promise p.promises (needs call) ≡ Some a → is_lenient p.promises ≡ true → IsAlone p (next p)
-    lone a missing lenient = subst (IsAlone p) (sym comes) (subst (IsAloneWhere p call) (sym missing) lenient)
-
-    lacks : (a : Promise) → missing_promise p.promises (needs call) ≡ Some a → (b : Bool) → is_lenient p.promises ≡ b → Commute program_of s j k
-    lacks a missing true lenient = alone-commutes program_of spells s j k p whole apart at (lone a missing lenient)
-    lacks a missing false kills =
+    of : (a : Promise) → missing_promise p.promises (needs call) ≡ Some a → (b : Bool) → is_lenient p.promises ≡ b → P
+    of a missing true lenient = lacks a missing lenient
+    of a missing false kills =
         absurd (alive a
         (ap (λ (w : Stepped). w.outcome) (step-is program_of s j p at ∙ ap (step_by program_of s j p) comes)
         ∙ ap (λ o. (answer_of program_of s j call o).outcome) at
         ∙ ap (λ o. (answer_where program_of s (at_call s j p) j (at_next_line p) call o).outcome) missing
         ∙ ap (λ b. (if b then answer_by_attempt s (at_call s j p) j (at_next_line p) (refused 0 ENOSYS (ByPromise a)) else record { after = trim (end_process s j (at_next_line p) 6); outcome = Killed a; walks = 0 }).outcome) kills))
 
-    by : (o : Option Promise) → missing_promise p.promises (needs call) ≡ o → Commute program_of s j k
+    by : (o : Option Promise) → missing_promise p.promises (needs call) ≡ o → P
     by None is = held is
-    by (Some a) missing = lacks a missing (is_lenient p.promises) refl
+    by (Some a) missing = of a missing (is_lenient p.promises) refl
+
+-- a call that lacks a promise goes by its process alone, unless it kills
+pub commute-where : (program_of : Bytes → Option Program) → SpellsPrograms program_of → (s : State) (j k : ℕ) (p : Process) (call : Call) → IsWhole s → j ≢ k → process_at s j ≡ Some p → next p ≡ calls_for call
+    → ((a : Promise) → (step program_of s j).outcome ≢ Killed a) → (missing_promise p.promises (needs call) ≡ None → Commute program_of s j k) → Commute program_of s j k
+commute-where program_of spells s j k p call whole apart at comes alive held =
+    by-promise (Commute program_of s j k) program_of s j p call at comes alive
+    (λ a missing lenient. alone-commutes program_of spells s j k p whole apart at (subst (IsAlone p) (sym comes) (subst (IsAloneWhere p call) (sym missing) lenient))) held

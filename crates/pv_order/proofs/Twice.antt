@@ -82,13 +82,13 @@ module _ (A : Type 0) (act : A → State → State) (s t : State) (j n : ℕ) (n
 -- ---- before a step of process k, and behind it
 
 -- a call whose promises are held has its row's effect
-answer-held : (program_of : Bytes → Option Program) (s : State) (pid : ℕ) (p : Process) (call : Call) → process_at s pid ≡ Some p → missing_promise p.promises (needs call) ≡ None
+pub answer-held : (program_of : Bytes → Option Program) (s : State) (pid : ℕ) (p : Process) (call : Call) → process_at s pid ≡ Some p → missing_promise p.promises (needs call) ≡ None
     → answer program_of s pid call ≡ answer_by_attempt s (at_call s pid p) pid (at_next_line p) (effect program_of (at_call s pid p) pid (at_next_line p) call)
 unfolding answer
 answer-held program_of s pid p call at held = ap (answer_of program_of s pid call) at ∙ ap (answer_where program_of s (at_call s pid p) pid (at_next_line p) call) held
 
 -- and one that lacks a promise is answered so, under `error`
-answer-lacking : (program_of : Bytes → Option Program) (s : State) (pid : ℕ) (p : Process) (call : Call) (a : Promise) → process_at s pid ≡ Some p → missing_promise p.promises (needs call) ≡ Some a
+pub answer-lacking : (program_of : Bytes → Option Program) (s : State) (pid : ℕ) (p : Process) (call : Call) (a : Promise) → process_at s pid ≡ Some p → missing_promise p.promises (needs call) ≡ Some a
     → is_lenient p.promises ≡ true → answer program_of s pid call ≡ answer_by_attempt s (at_call s pid p) pid (at_next_line p) (refused 0 ENOSYS (ByPromise a))
 unfolding answer
 answer-lacking program_of s pid p call a at missing lenient =

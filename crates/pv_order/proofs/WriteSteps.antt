@@ -55,7 +55,7 @@ over-within old at new within' =
     long ∙ omega (arith, within')
 
 -- an attempt that has room
-roomy : (z : State) (v : ℕ) → is_too_long (trim z).tree ≡ false → fits (trim z).tree ≡ true → (with_room z >>= (λ room. answers room v)) ≡ answers z v
+pub roomy : (z : State) (v : ℕ) → is_too_long (trim z).tree ≡ false → fits (trim z).tree ≡ true → (with_room z >>= (λ room. answers room v)) ≡ answers z v
 roomy z v short fit = ap₂ (λ l m. (refuse_if EFBIG l >> (refuse_if ENOSPC (not m) >> give z)) >>= (λ room. answers room v)) short fit
 
 -- ---- the acts

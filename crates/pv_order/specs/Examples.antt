@@ -16,6 +16,14 @@ use Rattle.pv_model.specs.State.{Program, Process, State, first_state, process_a
 use Rattle.pv_model.specs.Step.{step, run}
 use Rattle.pv_model.specs.Touch.{file_bytes}
 use Rattle.pv_order.specs.Commuting.{IsAlone}
+use Rattle.pv_model.specs.declared.instruction.Instruction.TheVariants.{Close}
+use Rattle.pv_model.specs.Numbered.{at_number}
+use Rattle.pv_model.specs.declared.errno.Errno.TheVariants.{ENOENT}
+use Rattle.pv_model.specs.declared.instruction.Instruction.TheVariants.{Chdir, Fchdir, Rmdir}
+use Rattle.pv_model.specs.declared.outcome.Cause.TheVariants.{Plain}
+use Rattle.pv_model.specs.declared.outcome.Outcome.TheVariants.{Failed}
+use Rattle.pv_model.specs.Tree.{root, find_entry}
+use Rattle.pv_order.specs.Holding.{LeavesOpenFiles, LeavesTree, LeavesWay, HasItsRoom}
 use Rattle.pv_order.specs.Offsets.{LeavesOpenFile}
 use Rattle.pv_order.specs.Writes.{LeavesWrite, StaysWithin}
 
@@ -79,6 +87,78 @@ pub record OffsetsHappen : Type 0 where
   -- a listing beside a new name: it is told the name
   pub none_named : (step no_programs (state_behind making_a_name (replicate 3 1 ++ 2 ∷ [])) 1).outcome ≡ Text (record { value = 0; len = 0 })
   pub one_named : (step no_programs (state_behind making_a_name (replicate 3 1 ++ 2 ∷ 2 ∷ [])) 1).outcome ≡ Text (record { value = 1; len = 1 })
+
+-- ---- descriptors
+
+-- a process opens a file that it makes, and forks; then it closes its descriptor, and the child does something else
+abbrev pub closing_beside : List Instruction → Program
+closing_beside others = Open (codes "/x") (flags ReadWrite true) ∷ Fork ∷ JumpIfZero 0 6 ∷ Close (Number (pos 0)) ∷ Exit (Number (pos 0)) ∷ others
+
+-- the child closes its descriptor of the open file too
+abbrev pub closing_both : State
+closing_both = state_behind (closing_beside (Close (Number (pos 0)) ∷ [])) (replicate 3 1 ++ 2 ∷ [])
+
+-- a process that has forked closes the only descriptor of an open file, and its child opens another file
+abbrev pub ending : Program
+ending = Fork ∷ JumpIfZero 0 6 ∷ Open (codes "/x") making ∷ Close (Number (pos 0)) ∷ Exit (Number (pos 0)) ∷ Open (codes "/y") making ∷ []
+
+pub record DescriptorsHappen : Type 0 where
+  -- two closes of one open file: the law's premises, and behind both it has ended
+  pub process : Process
+  pub there : process_at closing_both 1 ≡ Some process
+  pub next_is : next process ≡ calls_for (TheCall.Close (pos 0))
+  pub leaves : LeavesOpenFiles no_programs closing_both 1
+  pub closes : (step no_programs closing_both 2).outcome ≡ Value 0
+  pub ended : at_number (run no_programs (1 ∷ 2 ∷ []) closing_both).final.files 0 ≡ None
+  -- a close that ends an open file, beside an open: that takes the number which the close leaves free, or the next
+  pub reused : is_some (at_number (state_behind ending (replicate 3 1 ++ 2 ∷ 1 ∷ 2 ∷ [])).files 0) ≡ true
+  pub not_reused : at_number (state_behind ending (replicate 3 1 ++ 2 ∷ 2 ∷ 1 ∷ [])).files 0 ≡ None
+
+-- ---- directories
+
+-- a process opens a directory that it makes, and forks; then it goes into the directory, by the descriptor or by the name, and the child takes the directory's name away
+abbrev pub entering : Instruction → Program
+entering way =
+    Mkdir (codes "/d")
+    ∷ Open (codes "/d") (flags Reading false)
+    ∷ Fork
+    ∷ JumpIfZero 0 7
+    ∷ way
+    ∷ Exit (Number (pos 0))
+    ∷ Rmdir (codes "/d")
+    ∷ []
+
+abbrev pub entering_open : State
+entering_open = state_behind (entering (Fchdir (Number (pos 0)))) (replicate 4 1 ++ 2 ∷ [])
+
+-- a process that has forked stands in a directory that has no name any more, and leaves it; the child makes a directory
+abbrev pub leaving : Program
+leaving =
+    Fork
+    ∷ JumpIfZero 0 8
+    ∷ Mkdir (codes "/d")
+    ∷ Chdir (codes "/d")
+    ∷ Rmdir (codes "/d")
+    ∷ Chdir (codes "/")
+    ∷ Exit (Number (pos 0))
+    ∷ Mkdir (codes "/e")
+    ∷ []
+
+pub record DirectoriesHappen : Type 0 where
+  -- an fchdir beside the rmdir of the directory: the law's premises
+  pub process : Process
+  pub there : process_at entering_open 1 ≡ Some process
+  pub next_is : next process ≡ calls_for (TheCall.Fchdir (pos 0))
+  pub leaves : LeavesTree no_programs entering_open 1
+  pub way : LeavesWay no_programs entering_open process (TheCall.Fchdir (pos 0)) 2
+  pub room : HasItsRoom no_programs entering_open 2
+  pub removes : (step no_programs entering_open 2).outcome ≡ Value 0
+  -- a chdir beside it: behind it the name is gone
+  pub entered : (step no_programs (state_behind (entering (Chdir (codes "/d"))) (replicate 4 1 ++ 2 ∷ [])) 1).outcome ≡ Value 0
+  pub gone : (step no_programs (state_behind (entering (Chdir (codes "/d"))) (replicate 4 1 ++ 2 ∷ 2 ∷ [])) 1).outcome ≡ Failed ENOENT Plain
+  -- a chdir that lets its old directory go, beside a mkdir: that takes the number which is left free, or the next
+  pub reused : find_entry (state_behind leaving (replicate 5 1 ++ 2 ∷ 1 ∷ 2 ∷ [])).tree root (codes "e") ≡ Some 2
+  pub not_reused : find_entry (state_behind leaving (replicate 5 1 ++ 2 ∷ 2 ∷ 1 ∷ [])).tree root (codes "e") ≡ Some 3
 
 -- ---- writes
 

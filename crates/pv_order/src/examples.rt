@@ -1,6 +1,7 @@
 //! Worked runs of two processes, by computing.
 
 ghost use Rattle.pv_order.specs.Examples.{OrderHappens, OffsetsHappen, WritesHappen};
+ghost use Rattle.pv_order.specs.Examples.{DescriptorsHappen, DirectoriesHappen};
 
 /// Behind a fork each of two processes may ask for its number first; but of two that go on through one open file which they
 /// share, each is told where the other left it.
@@ -12,6 +13,18 @@ pub fn order_happens()
 /// name in the directory, are told something else in the other order.
 pub fn offsets_happen()
     ensures { OffsetsHappen }
+{}
+
+/// Two processes may close their descriptors of one open file in either order; but an open takes another number where a close that
+/// ends an open file comes first.
+pub fn descriptors_happen()
+    ensures { DescriptorsHappen }
+{}
+
+/// An fchdir and the rmdir of the directory may be made in either order; but a chdir behind it finds no name, and a mkdir takes another
+/// number where a chdir out of a directory without a name comes first.
+pub fn directories_happen()
+    ensures { DirectoriesHappen }
 {}
 
 /// A write within its file and a stat of the file may be made in either order; but of two writes to the same bytes the later one's

@@ -1,0 +1,23 @@
+//! Laws of steps that change what their own process holds: close(2), dup(2), dup2(2), chdir(2), fchdir(2).
+
+ghost use Rattle.pv_order.specs.Holding.{DescriptorStepsLeave, DescriptorStepsCommute, DirectoryStepsCommute};
+
+/// A close, a dup or a dup2, where it does not kill, ends no open file if that of the descriptor that it closes has another descriptor,
+/// of this process or of another.
+pub fn descriptor_steps_leave()
+    ensures { DescriptorStepsLeave }
+{}
+
+/// A close, a dup or a dup2 of one process, where it does not kill and ends no open file, and any step of another, whatever that makes,
+/// frees or ends, may be made in either order: each answers the same and tells the same lines as it would first, and the state in the
+/// end is the same.
+pub fn descriptor_steps_commute()
+    ensures { DescriptorStepsCommute }
+{}
+
+/// A chdir or an fchdir of one process, where it does not kill and lets no node go, and any step of another that leaves where it
+/// leads and is not refused for want of room, whatever else the other makes, frees or ends, may be made in either order: each answers
+/// the same and tells the same lines as it would first, and the state in the end is the same.
+pub fn directory_steps_commute()
+    ensures { DirectoryStepsCommute }
+{}
