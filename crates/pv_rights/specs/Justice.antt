@@ -1,6 +1,8 @@
 -- Laws of what justifies each touch of a step.
-use Rattle.std.specs.Prelude.{◌≡◌, ℕ, Option, None, Some}
+use Rattle.std.specs.Prelude.{◌≡◌, ◌⊎◌, ℕ, Bool, true, false, IsTrue, Option, None, Some}
 use Rattle.pv_model.specs.declared.call.Call.{Call}
+use Rattle.pv_model.specs.declared.call.Call.TheVariants.{Lseek, Fstat, Stat, Lstat}
+use Rattle.pv_model.specs.declared.call.Whence.TheVariants.{End}
 use Rattle.pv_model.specs.declared.open_flags.Mode.{Mode}
 use Rattle.pv_model.specs.Bytes.{Bytes}
 use Rattle.pv_model.specs.Needs.{needs}
@@ -15,6 +17,24 @@ abbrev pub IsExplained : State → ℕ → Touch → Type 0
 IsExplained s pid touch =
     (p : Process) × (call : Call) × (process_at s pid ≡ Some p) × (next p ≡ calls_for call)
     × (missing_promise p.promises (needs call) ≡ None) × Justifies s p call touch
+
+-- calls that ask for the size of the node that they tell of
+abbrev pub asks_size : Call → Bool
+asks_size (Stat path) = true
+asks_size (Lstat path) = true
+asks_size (Fstat d) = true
+asks_size (Lseek d by End) = true
+asks_size call = false
+
+-- a call goes by the length of a file: it asks for its size, or might write or cut it
+abbrev pub GoesByLength : State → Process → Call → ℕ → Type 0
+GoesByLength s p call f = (IsTrue (asks_size call) × Justifies s p call (tell_node f)) ⊎ Justifies s p call (change_file f)
+
+-- the next call of a process does so, its promises held
+abbrev pub IsByLength : State → ℕ → ℕ → Type 0
+IsByLength s pid f =
+    (p : Process) × (call : Call) × (process_at s pid ≡ Some p) × (next p ≡ calls_for call)
+    × (missing_promise p.promises (needs call) ≡ None) × GoesByLength s p call f
 
 -- an entry changes only where a place of the call's at that entry is allowed for c
 abbrev pub EntriesAreJustified : Type 0
