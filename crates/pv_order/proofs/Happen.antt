@@ -17,7 +17,7 @@ use Rattle.pv_rights.specs.Justice.{IsExplained}
 use Rattle.pv_order.specs.Examples.{no_programs, state_behind, apart, unlinking, asking_size, OrderHappens, OffsetsHappen, WritesHappen}
 use Rattle.pv_order.specs.Offsets.{GoesBy}
 
-abbrev or_first : Option Process → Process
+abbrev pub or_first : Option Process → Process
 or_first None = first_process []
 or_first (Some p) = p
 
@@ -29,7 +29,7 @@ order-happens = record { process = or_first (process_at (state_behind apart (1 �
 
 module _ (s : State) (pid : ℕ) (p : Process) (call : Call) (at : process_at s pid ≡ Some p) (comes : next p ≡ calls_for call) where
   -- whoever makes a call there makes this one
-  same-call : (q : Process) (made : Call) → process_at s pid ≡ Some q → next q ≡ calls_for made → made ≡ call
+  pub same-call : (q : Process) (made : Call) → process_at s pid ≡ Some q → next q ≡ calls_for made → made ≡ call
   same-call q made there next_is =
       let both : Some p ≡ Some q = sym at ∙ there in
       let same : p ≡ q = cc both in
@@ -37,7 +37,7 @@ module _ (s : State) (pid : ℕ) (p : Process) (call : Call) (at : process_at s 
       let is : call ≡ made = cc asked in sym is
 
   module _ (none : descriptor_of call ≡ None) where
-    goes-by_none : (k : ℕ) → ¬ GoesBy s pid k
+    pub goes-by_none : (k : ℕ) → ¬ GoesBy s pid k
     goes-by_none k goes =
         let bad : None ≡ Some goes.named.d = sym none ∙ ap descriptor_of (sym (same-call goes.named.p goes.named.call goes.named.at goes.named.next_is)) ∙ goes.named.own in cc bad
 
@@ -58,13 +58,13 @@ module _ (s : State) (pid : ℕ) (p : Process) (call : Call) (at : process_at s 
           let mine : is.0 ≡ p = cc both in
           subst (λ (q : Process). Justifies s q call touch) mine (subst (λ (c : Call). Justifies s is.0 c touch) (same-call is.0 is.1 is.2 is.3) is.5)
 
-      not-read : (f : ℕ) → ¬ IsExplained s pid (read_file f)
+      pub not-read : (f : ℕ) → ¬ IsExplained s pid (read_file f)
       not-read f is = (untouched (read_file f) f (justified (read_file f) is)).0 refl
 
-      not-changed : (f : ℕ) → ¬ IsExplained s pid (change_file f)
+      pub not-changed : (f : ℕ) → ¬ IsExplained s pid (change_file f)
       not-changed f is = (untouched (change_file f) f (justified (change_file f) is)).1 refl
 
-abbrev or_none : Option (ℕ × OpenFile) → OpenFile
+abbrev pub or_none : Option (ℕ × OpenFile) → OpenFile
 or_none None = record { node = 0; mode = Reading; append = false; offset = 0; listed = None }
 or_none (Some own) = own.1
 

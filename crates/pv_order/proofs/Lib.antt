@@ -13,7 +13,10 @@ pub mod Lone
 pub mod AskSteps
 pub mod OffsetSteps
 pub mod OtherBytes
+pub mod ContentSteps
 pub mod WriteSteps
+pub mod CutSteps
 pub mod Relabelled
 pub mod Happen
+pub mod GrowingHappen
 pub mod Reordered

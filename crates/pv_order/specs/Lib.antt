@@ -3,5 +3,7 @@ pub mod Commuting
 pub mod Asking
 pub mod Offsets
 pub mod Writes
+pub mod Growing
 pub mod Tableless
 pub mod Examples
+pub mod GrowingExamples

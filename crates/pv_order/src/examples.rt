@@ -1,6 +1,7 @@
 //! Worked runs of two processes, by computing.
 
 ghost use Rattle.pv_order.specs.Examples.{OrderHappens, OffsetsHappen, WritesHappen};
+ghost use Rattle.pv_order.specs.GrowingExamples.{GrowingHappens, CutsHappen};
 
 /// Behind a fork each of two processes may ask for its number first; but of two that go on through one open file which they
 /// share, each is told where the other left it.
@@ -12,6 +13,19 @@ pub fn order_happens()
 /// name in the directory, are told something else in the other order.
 pub fn offsets_happen()
     ensures { OffsetsHappen }
+{}
+
+/// A write that makes its file longer within its block and an unlink of the file may be made in either order; but a read, a step to
+/// the file's end and a step through the same open file are told of the longer file, and of two writes that need the last block the
+/// first gets it.
+pub fn growing_happens()
+    ensures { GrowingHappens }
+{}
+
+/// A cut of a file within its block and an unlink of the file may be made in either order; but a read and a step to the file's end
+/// are told of the shorter file, and a cut that frees a block lets the other's write have it.
+pub fn cuts_happen()
+    ensures { CutsHappen }
 {}
 
 /// A write within its file and a stat of the file may be made in either order; but of two writes to the same bytes the later one's

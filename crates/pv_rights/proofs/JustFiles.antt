@@ -20,7 +20,7 @@ use Rattle.pv_model.specs.Program.{calls_for, next}
 use Rattle.pv_model.specs.Promises.{Need, missing_promise}
 use Rattle.pv_model.specs.Sealed.{is_file}
 use Rattle.pv_model.specs.State.{Program, Process, State, writes, process_at}
-use Rattle.pv_model.specs.Touch.{Touch, change_file, change_entry, file_bytes, flags_of, IsAllowed, HasDescriptor, Touches, Justifies, change_by_descriptor, change_by_open, entry_by_place}
+use Rattle.pv_model.specs.Touch.{change_file, change_entry, file_bytes, flags_of, IsAllowed, HasDescriptor, Touches, Justifies, change_by_descriptor, change_by_open, entry_by_place}
 use Rattle.pv_model.specs.Tree.{Node, file_node, Tree, node_at, entries_of, is_directory_at, find_entry, with_entry, without_entry, with_new_node}
 use Rattle.pv_model.specs.Unveil.{Table, letters_at, judge_entry, governing_entry, judgement}
 use Rattle.pv_laws.specs.States.{is_call, IsTree, IsWhole}

@@ -30,7 +30,7 @@ use Rattle.pv_rights.specs.Secrets.{StepsAlike}
 use Rattle.pv_rights.proofs.JustFiles.{entries-justified, files-justified}
 use Rattle.pv_rights.proofs.JustGains.{gains-justified}
 use Rattle.pv_rights.proofs.JustTelling.{telling-justified}
-use Rattle.pv_rights.proofs.Near.{IsExact, IsFine, itself, itself-fine, near-length_of, AreNear, near_state, IsNear, near-trim, same-but_file, near-bytes}
+use Rattle.pv_rights.proofs.Near.{IsExact, IsFine, as_is, as_is-fine, near-length_of, AreNear, near_state, IsNear, near-trim, same-but_file, near-bytes}
 use Rattle.pv_rights.proofs.NearCalls.{AreNearBy, near-effect}
 use Rattle.pv_rights.proofs.Touched.{back}
 
@@ -161,14 +161,14 @@ module _ (size : ℕ → ℕ) (fine : IsFine size) where
 
 -- with other bytes, as many, it does so
 near-as_many : (program_of : Bytes → Option Program) (s : State) (pid f : ℕ) (bytes : Bytes) → length bytes ≡ length (file_bytes s f)
-    → IsExplained s pid (read_file f) ⊎ AreNearSteps itself itself-fine f (step program_of s pid) (step program_of (with_bytes s f bytes) pid)
-near-as_many program_of s pid f bytes long = near-or_read itself itself-fine program_of s pid f bytes long (λ by m n same. same)
+    → IsExplained s pid (read_file f) ⊎ AreNearSteps as_is as_is-fine f (step program_of s pid) (step program_of (with_bytes s f bytes) pid)
+near-as_many program_of s pid f bytes long = near-or_read as_is as_is-fine program_of s pid f bytes long (λ by m n same. same)
 
 pub reads-justified : (program_of : Bytes → Option Program) (s : State) (pid f : ℕ) → Touches program_of s pid (read_file f) → IsExplained s pid (read_file f)
 reads-justified program_of s pid f reads =
     let u : State = with_bytes s f reads.0 in
     ⊎_elim (λ explained. explained)
-    (λ alike. absurd (⊎_elim (λ other. other alike.outcome) (λ apart. apart (same-but_file itself f (step program_of s pid).after (step program_of u pid).after alike.after)) reads.3))
+    (λ alike. absurd (⊎_elim (λ other. other alike.outcome) (λ apart. apart (same-but_file as_is f (step program_of s pid).after (step program_of u pid).after alike.after)) reads.3))
     (near-as_many program_of s pid f reads.0 reads.2)
 
 -- with other bytes, as many, the step answers alike and leaves a state that differs in them alone, where the read is not justified
@@ -180,8 +180,8 @@ alike-or_read program_of s pid f bytes long =
     (λ alike. inr (record {
       outcome = alike.outcome;
       lines = alike.lines;
-      after = same-but_file itself f (step program_of s pid).after (step program_of u pid).after alike.after;
-      as_many = near-length_of itself f (step program_of s pid).after (step program_of u pid).after alike.after;
+      after = same-but_file as_is f (step program_of s pid).after (step program_of u pid).after alike.after;
+      as_many = near-length_of as_is f (step program_of s pid).after (step program_of u pid).after alike.after;
     }))
     (near-as_many program_of s pid f bytes long)
 

@@ -44,11 +44,18 @@ abbrev pub IsFine : (ℕ → ℕ) → Type 0
 IsFine size = (m n : ℕ) → size m ≡ size n → rounded_up m 512 ≡ rounded_up n 512
 
 -- a length as it is
-abbrev pub itself : ℕ → ℕ
-itself n = n
+abbrev pub as_is : ℕ → ℕ
+as_is n = n
 
-abbrev pub itself-fine : IsFine itself
-itself-fine m n same = ap (λ k. rounded_up k 512) same
+abbrev pub as_is-fine : IsFine as_is
+as_is-fine m n same = ap (λ k. rounded_up k 512) same
+
+-- the blocks that a length takes
+abbrev pub blocks : ℕ → ℕ
+blocks n = rounded_up n 512
+
+abbrev pub blocks-fine : IsFine blocks
+blocks-fine m n same = same
 
 needs-as_much : (v : Version) (m n : ℕ) → rounded_up m 512 ≡ rounded_up n 512 → need v m ≡ need v n
 unfolding need
@@ -63,7 +70,7 @@ past_whole k m n same = by (nat_lt (512 * k) m) (nat_lt (512 * k) n) refl refl
     by false true p q = absurd (omega (arith, same, ltb-false (512 * k) m p, ltb-true (512 * k) n q))
     by false false p q = refl
 
-past-alike : (v : Version) (m n : ℕ) → rounded_up m 512 ≡ rounded_up n 512 → nat_lt (greatest_length v) m ≡ nat_lt (greatest_length v) n
+pub past-alike : (v : Version) (m n : ℕ) → rounded_up m 512 ≡ rounded_up n 512 → nat_lt (greatest_length v) m ≡ nat_lt (greatest_length v) n
 past-alike V1 m n same = past_whole 266 m n same
 past-alike V2 m n same = past_whole 1290 m n same
 

@@ -48,7 +48,7 @@ use Rattle.pv_model.specs.Walks.{Walk, follow_of, from_here, execve_walk}
 over-length : (old : Bytes) (at : ℕ) (new : Bytes) → length (overwrite old at new) ≡ min at (length old + (at - length old)) + length new + (length old - (at + length new))
 over-length old at new = simp (length-append, length-take, length-drop, length-replicate)
 
-size-length : (old : Bytes) (n : ℕ) → length (resize old n) ≡ n
+pub size-length : (old : Bytes) (n : ℕ) → length (resize old n) ≡ n
 size-length old n = let long : length (resize old n) ≡ min n (length old) + (n - length old) = simp (length-append, length-take, length-replicate) in omega (arith, long)
 
 module _ (size : ℕ → ℕ) (fine : IsFine size) where
