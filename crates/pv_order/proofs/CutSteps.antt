@@ -36,17 +36,12 @@ use Rattle.pv_order.specs.Commuting.{Commute}
 use Rattle.pv_order.specs.Growing.{KeepsBlocks, LeavesCut}
 use Rattle.pv_order.proofs.Alongside.{SteppedBeside}
 use Rattle.pv_order.proofs.ContentSteps.{Content, put_content, settled-content, settled-content_u, short-content, short-content_u, fit-content, fit-content_u, passes-content}
+use Rattle.pv_order.proofs.LeftFiles.{OpenAlike, alike-open}
 use Rattle.pv_order.proofs.Lone.{commute-where}
 use Rattle.pv_order.proofs.Orphans.{orphan}
 use Rattle.pv_order.proofs.OtherBytes.{bytes-left, leaves-bytes, may-be_long}
 use Rattle.pv_order.proofs.Twice.{acts, Two, two-after, two-refused, two-demand, behind_k, whole-behind, heir, quiet, quiet-behind, passes-by, commute-steps, call-twice}
 use Rattle.pv_order.proofs.WriteSteps.{roomy, written-file}
-
--- an open file and what another process leaves of it
-abbrev OpenAlike : Option (ℕ × OpenFile) → Option (ℕ × OpenFile) → Type 0
-OpenAlike None None = Unit {0}
-OpenAlike (Some (m, file)) (Some (n, left)) = (n ≡ m) × IsSameFile file left
-OpenAlike _ _ = ⊥
 
 module _ (program_of : Bytes → Option Program) (spells : SpellsPrograms program_of) (s : State) (j k : ℕ) (p : Process) (whole : IsWhole s) (apart : j ≢ k) (at : process_at s j ≡ Some p) where
   abbrev u : State
@@ -112,27 +107,6 @@ module _ (program_of : Bytes → Option Program) (spells : SpellsPrograms progra
   passes (Some a) q same = passes-content blocks blocks-fine program_of spells s j k p whole apart at a q same
 
   -- ---- the row
-
-  abbrev Alike : Option Descriptor → Type 0
-  Alike o = OpenAlike (open_file_of s o) (open_file_of u o)
-
-  alike-open : (d : ℤ) → OpenAlike (open_file s p d) (open_file u p d)
-  alike-open (negsuc e) = tt
-  alike-open (pos e) = by (at_number p.descriptors e) refl
-    where
-      found : (d : Descriptor) → at_number p.descriptors e ≡ Some d → (o : Option OpenFile) → at_number s.files d.file ≡ o → Alike (Some d)
-      found d is None none = let some : is_some (at_number s.files d.file) ≡ true = (whole.processes.placed j p at).opens e d is in let no : is_some (at_number s.files d.file) ≡ false = ap is_some none in cc
-      found d is (Some file) there =
-          let left = others-files program_of s k (whole-in_order s whole) j p e d file apart at is there in
-          subst (λ o. OpenAlike (option_map (λ (f : OpenFile). (d.file, f)) o) (open_file_of u (Some d))) (sym there)
-          (subst (λ o. OpenAlike (Some (d.file, file)) (option_map (λ (f : OpenFile). (d.file, f)) o)) (sym left.1) (refl, left.2))
-
-      of : (o : Option Descriptor) → at_number p.descriptors e ≡ o → Alike o → Alike (at_number p.descriptors e)
-      of o is alike = subst Alike (sym is) alike
-
-      by : (o : Option Descriptor) → at_number p.descriptors e ≡ o → Alike (at_number p.descriptors e)
-      by None is = of None is tt
-      by (Some d) is = of (Some d) is (found d is (at_number s.files d.file) refl)
 
   module _ (d c : ℤ) (keeps : KeepsBlocks s p d c) (leaves : LeavesCut s p d k) where
     abbrev cut_by : State → ℕ → ℕ → Attempt Effect
@@ -228,7 +202,7 @@ module _ (program_of : Bytes → Option Program) (spells : SpellsPrograms progra
 
     effect-two : T (effect program_of x j now (TheCall.Ftruncate d c)) (effect program_of y j (orphan n now) (TheCall.Ftruncate d c))
     unfolding effect
-    effect-two = row-by (open_file s p d) (open_file u p d) refl refl (alike-open d)
+    effect-two = row-by (open_file s p d) (open_file u p d) refl refl (alike-open program_of s j k p whole apart at d)
 
     pub cut-commutes : next p ≡ calls_for (TheCall.Ftruncate d c) → missing_promise p.promises (needs (TheCall.Ftruncate d c)) ≡ None → Commute program_of s j k
     cut-commutes comes held =

@@ -10,6 +10,7 @@ pub mod Orphans
 pub mod Told
 pub mod Twice
 pub mod Lone
+pub mod LeftFiles
 pub mod AskSteps
 pub mod OffsetSteps
 pub mod OtherBytes
