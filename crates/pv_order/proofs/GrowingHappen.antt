@@ -15,19 +15,8 @@ use Rattle.pv_rights.specs.Justice.{IsByLength, asks_size}
 use Rattle.pv_order.specs.Growing.{file_blocks, LeavesContent}
 use Rattle.pv_order.specs.GrowingExamples.{growing_unlinked, shrinking_unlinked, GrowingHappens, CutsHappen}
 use Rattle.pv_order.specs.Offsets.{GoesBy}
-use Rattle.pv_order.proofs.Happen.{or_first, or_none, same-call, goes-by_none, not-read, not-changed}
-
--- a process whose next call has no descriptor, opens nothing, executes nothing and asks for no size leaves what a file holds
-leaves-content : (s : State) (pid : ℕ) (p : Process) (call : Call) → process_at s pid ≡ Some p → next p ≡ calls_for call → descriptor_of call ≡ None → flags_of call ≡ None
-    → ((path : Rattle.pv_model.specs.Bytes.Bytes) → call ≡ TheCall.Execve path → ⊥) → asks_size call ≡ false → (f : ℕ) → LeavesContent s pid f
-leaves-content s pid p call at comes none opens executes asks f = (not-read s pid p call at comes none opens executes f, not-by_length)
-  where
-    not-by_length : ¬ IsByLength s pid f
-    not-by_length is =
-        ⊎_elim
-        (λ asked. let asks' : asks_size is.1 ≡ false = ap asks_size (same-call s pid p call at comes is.0 is.1 is.2 is.3) ∙ asks in let said = asked.0 in cc (said, asks'))
-        (λ changes. not-changed s pid p call at comes none opens executes f (is.0, is.1, is.2, is.3, is.4, changes))
-        is.5
+use Rattle.pv_order.proofs.Happen.{or_first, or_none}
+use Rattle.pv_order.proofs.NoDescriptor.{goes-by_none, leaves-content}
 
 abbrev unlink : Call
 unlink = TheCall.Unlink (codes "/x")

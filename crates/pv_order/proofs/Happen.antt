@@ -16,6 +16,7 @@ use Rattle.pv_model.specs.Tree.{file_node, node_at}
 use Rattle.pv_rights.specs.Justice.{IsExplained}
 use Rattle.pv_order.specs.Examples.{no_programs, state_behind, apart, unlinking, asking_size, OrderHappens, OffsetsHappen, WritesHappen}
 use Rattle.pv_order.specs.Offsets.{GoesBy}
+use Rattle.pv_order.proofs.NoDescriptor.{goes-by_none, not-read, not-changed}
 
 abbrev pub or_first : Option Process → Process
 or_first None = first_process []
@@ -24,45 +25,6 @@ or_first (Some p) = p
 pub order-happens : OrderHappens
 unfolding machine_on_literals
 order-happens = record { process = or_first (process_at (state_behind apart (1 ∷ [])) 1); there = refl; lone = refl; other = refl; first = refl; second = refl }
-
--- ---- a process whose next call has no descriptor
-
-module _ (s : State) (pid : ℕ) (p : Process) (call : Call) (at : process_at s pid ≡ Some p) (comes : next p ≡ calls_for call) where
-  -- whoever makes a call there makes this one
-  pub same-call : (q : Process) (made : Call) → process_at s pid ≡ Some q → next q ≡ calls_for made → made ≡ call
-  same-call q made there next_is =
-      let both : Some p ≡ Some q = sym at ∙ there in
-      let same : p ≡ q = cc both in
-      let asked : calls_for call ≡ calls_for made = sym comes ∙ ap next same ∙ next_is in
-      let is : call ≡ made = cc asked in sym is
-
-  module _ (none : descriptor_of call ≡ None) where
-    pub goes-by_none : (k : ℕ) → ¬ GoesBy s pid k
-    goes-by_none k goes =
-        let bad : None ≡ Some goes.named.d = sym none ∙ ap descriptor_of (sym (same-call goes.named.p goes.named.call goes.named.at goes.named.next_is)) ∙ goes.named.own in cc bad
-
-    module _ (opens : flags_of call ≡ None) (executes : (path : Bytes) → call ≡ TheCall.Execve path → ⊥) where
-      untouched : (touch : Touch) (f : ℕ) → Justifies s p call touch → (touch ≡ read_file f → ⊥) × (touch ≡ change_file f → ⊥)
-      untouched _ f (read_by_descriptor n has) = (λ is. let bad : None ≡ Some has.0 = sym none ∙ has.3 in cc bad, λ is. cc is)
-      untouched _ f (read_by_execve path place n is allowed node) = (λ same. executes path is, λ same. cc same)
-      untouched _ f (change_by_descriptor n has) = (λ is. cc is, λ is. let bad : None ≡ Some has.0 = sym none ∙ has.3 in cc bad)
-      untouched _ f (change_by_open flags place n flagged cut allowed node) = (λ is. cc is, λ is. let bad : None ≡ Some flags = sym opens ∙ flagged in cc bad)
-      untouched _ f (entry_by_place place d name allowed named) = (λ is. cc is, λ is. cc is)
-      untouched _ f (tell_by_descriptor n has) = (λ is. cc is, λ is. cc is)
-      untouched _ f (tell_by_place place n allowed node) = (λ is. cc is, λ is. cc is)
-      untouched _ f (gain_by_open flags place n mode flagged same allowed node) = (λ is. cc is, λ is. cc is)
-
-      justified : (touch : Touch) → IsExplained s pid touch → Justifies s p call touch
-      justified touch is =
-          let both : Some is.0 ≡ Some p = sym is.2 ∙ at in
-          let mine : is.0 ≡ p = cc both in
-          subst (λ (q : Process). Justifies s q call touch) mine (subst (λ (c : Call). Justifies s is.0 c touch) (same-call is.0 is.1 is.2 is.3) is.5)
-
-      pub not-read : (f : ℕ) → ¬ IsExplained s pid (read_file f)
-      not-read f is = (untouched (read_file f) f (justified (read_file f) is)).0 refl
-
-      pub not-changed : (f : ℕ) → ¬ IsExplained s pid (change_file f)
-      not-changed f is = (untouched (change_file f) f (justified (change_file f) is)).1 refl
 
 abbrev pub or_none : Option (ℕ × OpenFile) → OpenFile
 or_none None = record { node = 0; mode = Reading; append = false; offset = 0; listed = None }

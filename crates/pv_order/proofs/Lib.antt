@@ -18,6 +18,9 @@ pub mod ContentSteps
 pub mod WriteSteps
 pub mod CutSteps
 pub mod Relabelled
+pub mod NoDescriptor
+pub mod EntrySteps
 pub mod Happen
 pub mod GrowingHappen
+pub mod EntriesHappen
 pub mod Reordered

@@ -2,6 +2,7 @@
 
 ghost use Rattle.pv_order.specs.Examples.{OrderHappens, OffsetsHappen, WritesHappen};
 ghost use Rattle.pv_order.specs.GrowingExamples.{GrowingHappens, CutsHappen};
+ghost use Rattle.pv_order.specs.EntriesExamples.{EntriesHappen};
 
 /// Behind a fork each of two processes may ask for its number first; but of two that go on through one open file which they
 /// share, each is told where the other left it.
@@ -26,6 +27,13 @@ pub fn growing_happens()
 /// are told of the shorter file, and a cut that frees a block lets the other's write have it.
 pub fn cuts_happen()
     ensures { CutsHappen }
+{}
+
+/// A listing of a directory and a rename of it may be made in either order; but a listing of the directory above is told the new
+/// name, a symlink takes the last block from another's write, an fstat is told of a file that became longer, and a getppid of the
+/// process that adopted.
+pub fn entries_happen()
+    ensures { EntriesHappen }
 {}
 
 /// A write within its file and a stat of the file may be made in either order; but of two writes to the same bytes the later one's
