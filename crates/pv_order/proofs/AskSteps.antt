@@ -1,5 +1,5 @@
 -- Steps that ask the tree, before and behind a step of another process that leaves it.
-use Rattle.std.proofs.Common.{◌≡◌, ◌≢◌, ℕ, ℤ, pos, negsuc, true, false, Option, None, Some, is_some, option_map, refl, ap, sym, subst, ◌∙◌}
+use Rattle.std.proofs.Common.{◌≡◌, ◌≢◌, ℕ, ℤ, true, Option, None, Some, refl, ap, sym, subst, ◌∙◌}
 use Rattle.pv_model.specs.declared.call.Call.{Call}
 use Rattle.pv_model.specs.declared.call.Call.TheVariants as TheCall
 use Rattle.pv_model.specs.declared.errno.Errno.TheVariants.{EBADF}
@@ -11,15 +11,12 @@ use Rattle.pv_model.specs.Attempt.{Attempt, done, ◌>>=◌, demand}
 use Rattle.pv_model.specs.Bytes.{Bytes}
 use Rattle.pv_model.specs.Effect.{Effect, returns, returns_bytes, answers_bytes, open_file, status_of, status}
 use Rattle.pv_model.specs.Needs.{needs}
-use Rattle.pv_model.specs.Numbered.{at_number}
 use Rattle.pv_model.specs.Program.{calls_for, next}
 use Rattle.pv_model.specs.Promises.{missing_promise}
-use Rattle.pv_model.specs.State.{OpenFile, Descriptor, Program, Process, State, process_at, with_process, with_tree}
+use Rattle.pv_model.specs.State.{OpenFile, Program, Process, State, process_at, with_process, with_tree}
 use Rattle.pv_model.specs.Step.{step}
 use Rattle.pv_model.specs.Tree.{node_at}
 use Rattle.pv_laws.specs.States.{SpellsPrograms, IsWhole}
-use Rattle.pv_rights.proofs.Ends.{whole-in_order}
-use Rattle.pv_rights.proofs.Frames.{others-files}
 use Rattle.pv_order.specs.Asking.{asks_tree, LeavesNode}
 use Rattle.pv_order.specs.Commuting.{Commute}
 use Rattle.pv_order.proofs.LeftFiles.{OpenAlike, alike-open}

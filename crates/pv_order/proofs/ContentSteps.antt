@@ -11,8 +11,8 @@ use Rattle.pv_model.specs.Touch.{file_bytes, with_bytes}
 use Rattle.pv_model.specs.Tree.{Tree, node_at}
 use Rattle.pv_laws.specs.States.{are_bytes, SpellsPrograms, IsWhole}
 use Rattle.pv_laws.proofs.Running.{SameHolds}
-use Rattle.pv_rights.specs.Justice.{IsByLength}
-use Rattle.pv_rights.proofs.Near.{IsExact, IsFine}
+use Rattle.pv_rights.specs.Justice.{DoesNext}
+use Rattle.pv_rights.proofs.Near.{GoesByLength, IsExact, IsFine}
 use Rattle.pv_order.specs.Beside.{with_change, become}
 use Rattle.pv_order.specs.Writes.{LeavesBytes}
 use Rattle.pv_order.proofs.Alongside.{SteppedBeside}
@@ -32,7 +32,7 @@ module _ (size : ℕ → ℕ) (fine : IsFine size) where
     pub same : file_bytes t node ≡ file_bytes s node
     pub good : are_bytes bytes ≡ true
     pub leaves : LeavesBytes s k node
-    pub exact : IsByLength s k node → IsExact size
+    pub exact : DoesNext GoesByLength s k node → IsExact size
 
   abbrev pub put_content : (s t : State) (k : ℕ) → Content s t k → State → State
   put_content s t k a x = with_bytes x a.node a.bytes

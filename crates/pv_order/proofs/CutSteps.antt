@@ -1,5 +1,5 @@
 -- A cut that leaves its file in as many blocks, before and behind a step of another process.
-use Rattle.std.proofs.Common.{◌≡◌, ◌≢◌, ℕ, ◌-◌, ℤ, pos, negsuc, Bool, true, false, not, length, take, replicate, Option, None, Some, is_some, option_map, refl, ap, sym, subst, ◌∙◌}
+use Rattle.std.proofs.Common.{◌≡◌, ◌≢◌, ℕ, ◌-◌, ℤ, Bool, true, false, not, length, take, replicate, Option, None, Some, refl, ap, sym, subst, ◌∙◌}
 use Rattle.pv_model.specs.declared.call.Call.TheVariants as TheCall
 use Rattle.pv_model.specs.declared.errno.Errno.TheVariants.{EBADF, EINVAL, EFBIG}
 use Rattle.pv_model.specs.declared.open_flags.Mode.{Mode}
@@ -10,7 +10,7 @@ use Rattle.pv_model.specs.Answer.{at_next_line, update_live, update, effect}
 use Rattle.pv_model.specs.Attempt.{Attempt, after_walks, ◌>>=◌, ◌>>◌, refuse_if, demand}
 use Rattle.pv_model.specs.Bytes.{Bytes}
 use Rattle.pv_model.specs.Calls.Descriptors.{natural, is_past_greatest, with_content}
-use Rattle.pv_model.specs.Effect.{Effect, answers, with_room, open_file_of, open_file, bytes_of, resize}
+use Rattle.pv_model.specs.Effect.{Effect, answers, with_room, open_file, bytes_of, resize}
 use Rattle.pv_model.specs.Held.{trim}
 use Rattle.pv_model.specs.Needs.{needs}
 use Rattle.pv_model.specs.Numbered.{at_number}
@@ -18,7 +18,7 @@ use Rattle.pv_model.specs.Program.{calls_for, next}
 use Rattle.pv_model.specs.Promises.{missing_promise}
 use Rattle.pv_model.specs.Room.{is_too_long, fits}
 use Rattle.pv_model.specs.Sealed.{is_file}
-use Rattle.pv_model.specs.State.{OpenFile, Descriptor, Program, Process, State, writes, process_at, with_process, with_tree}
+use Rattle.pv_model.specs.State.{OpenFile, Program, Process, State, writes, process_at, with_process, with_tree}
 use Rattle.pv_model.specs.Step.{step}
 use Rattle.pv_model.specs.Touch.{file_bytes}
 use Rattle.pv_model.specs.Tree.{node_at}
@@ -27,8 +27,6 @@ use Rattle.pv_laws.proofs.ByFile.{open_file-at, file-bytes}
 use Rattle.pv_laws.proofs.Processes.{update-with}
 use Rattle.pv_laws.proofs.Running.{SameHolds, list_all-take, list_all-replicate, list_all-both}
 use Rattle.pv_rights.specs.Growth.{IsSameFile}
-use Rattle.pv_rights.proofs.Ends.{whole-in_order}
-use Rattle.pv_rights.proofs.Frames.{others-files}
 use Rattle.pv_rights.proofs.Near.{blocks, blocks-fine}
 use Rattle.pv_rights.proofs.NearCalls.{size-length}
 use Rattle.pv_order.specs.Beside.{with_change, become}
@@ -39,7 +37,7 @@ use Rattle.pv_order.proofs.ContentSteps.{Content, put_content, settled-content, 
 use Rattle.pv_order.proofs.LeftFiles.{OpenAlike, alike-open}
 use Rattle.pv_order.proofs.Lone.{commute-where}
 use Rattle.pv_order.proofs.Orphans.{orphan}
-use Rattle.pv_order.proofs.OtherBytes.{bytes-left, leaves-bytes, may-be_long}
+use Rattle.pv_order.proofs.OtherBytes.{bytes-left, not_by-length, may-be_long}
 use Rattle.pv_order.proofs.Twice.{acts, Two, two-after, two-refused, two-demand, behind_k, whole-behind, heir, quiet, quiet-behind, passes-by, commute-steps, call-twice}
 use Rattle.pv_order.proofs.WriteSteps.{roomy, written-file}
 
@@ -136,7 +134,7 @@ module _ (program_of : Bytes → Option Program) (spells : SpellsPrograms progra
       is_u = ap (λ i. is_file (node_at u.tree i)) (sym alike.node) ∙ written-file u m left whole_u behind (ap writes alike.mode ∙ may_write)
 
       same-bytes : file_bytes u file.node ≡ old
-      same-bytes = bytes-left program_of k file.node s whole is is_u (leaves-bytes s k file.node (leaves m file own)).1
+      same-bytes = bytes-left program_of k file.node s whole is is_u (leaves m file own).0.1
 
       module _ (size : ℕ) (some : natural c ≡ Some size) where
         act-of : A
@@ -148,8 +146,8 @@ module _ (program_of : Bytes → Option Program) (spells : SpellsPrograms progra
           long = ap blocks (size-length old size) ∙ keeps m file size own some;
           same = same-bytes;
           good = list_all-both is_byte (take size old) (replicate (size - length old) 0) (list_all-take is_byte size old (file-bytes s whole file.node).1) (list_all-replicate is_byte (size - length old) 0 refl);
-          leaves = leaves-bytes s k file.node (leaves m file own);
-          exact = λ by. absurd ((leaves m file own).1 by);
+          leaves = (leaves m file own).0;
+          exact = λ by. absurd (not_by-length s k file.node (leaves m file own) by);
         }
 
         put-s : with_tree x (with_content x.tree file.node (resize (bytes_of (node_at x.tree file.node)) size)) ≡ act act-of x

@@ -1,6 +1,5 @@
 -- The steps of worked runs with calls that change entries, by computing.
-use Rattle.std.proofs.Common.{◌≡◌, ℕ, pos, false, [], Option, None, Some, refl, ap, sym, subst, ◌∙◌}
-use Rattle.pv_model.specs.declared.call.Call.TheVariants as TheCall
+use Rattle.std.proofs.Common.{◌≡◌, ℕ, pos, false, [], None, Some, refl, ap, sym, subst, ◌∙◌}
 use Rattle.pv_model.specs.declared.open_flags.Mode.TheVariants.{Read as Reading}
 use Rattle.pv_model.specs.Effect.{open_file}
 use Rattle.pv_model.specs.OnLiterals.{machine_on_literals}

@@ -1,5 +1,5 @@
 -- The steps of worked runs with writes and cuts that leave their file in as many blocks, by computing.
-use Rattle.std.proofs.Common.{◌≡◌, ℕ, ◌*◌, ◌≤◌, pos, false, None, Some, refl, ap, sym, subst, ◌∙◌, arith, ⊎_elim}
+use Rattle.std.proofs.Common.{◌≡◌, ℕ, ◌*◌, ◌≤◌, pos, false, None, Some, refl, ap, sym, subst, ◌∙◌, arith}
 use Rattle.std.specs.Prelude.{codes}
 use Rattle.pv_model.specs.declared.call.Call.{Call}
 use Rattle.pv_model.specs.declared.call.Call.TheVariants as TheCall
@@ -9,9 +9,7 @@ use Rattle.pv_model.specs.Effect.{open_file}
 use Rattle.pv_model.specs.OnLiterals.{machine_on_literals}
 use Rattle.pv_model.specs.Program.{calls_for, next}
 use Rattle.pv_model.specs.Room.{rounded_up}
-use Rattle.pv_model.specs.State.{OpenFile, Process, State, process_at}
-use Rattle.pv_model.specs.Touch.{descriptor_of, flags_of}
-use Rattle.pv_rights.specs.Justice.{IsByLength, asks_size}
+use Rattle.pv_model.specs.State.{OpenFile, Process, process_at}
 use Rattle.pv_order.specs.Growing.{file_blocks, LeavesContent}
 use Rattle.pv_order.specs.GrowingExamples.{growing_unlinked, shrinking_unlinked, GrowingHappens, CutsHappen}
 use Rattle.pv_order.specs.Offsets.{GoesBy}

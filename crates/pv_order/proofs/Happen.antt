@@ -4,19 +4,18 @@ use Rattle.std.specs.Prelude.{codes}
 use Rattle.pv_model.specs.declared.call.Call.{Call}
 use Rattle.pv_model.specs.declared.call.Call.TheVariants as TheCall
 use Rattle.pv_model.specs.declared.open_flags.Mode.TheVariants.{Read as Reading, ReadWrite}
-use Rattle.pv_model.specs.Bytes.{Bytes}
 use Rattle.pv_model.specs.Calls.Descriptors.{within, write_end}
 use Rattle.pv_model.specs.Effect.{open_file}
 use Rattle.pv_model.specs.OnLiterals.{machine_on_literals}
 use Rattle.pv_model.specs.Program.{calls_for, next}
-use Rattle.pv_model.specs.State.{OpenFile, Process, State, first_process, process_at}
+use Rattle.pv_model.specs.State.{OpenFile, Process, first_process, process_at}
 use Rattle.pv_model.specs.Step.{step}
-use Rattle.pv_model.specs.Touch.{Touch, read_file, change_file, file_bytes, descriptor_of, flags_of, Justifies, read_by_descriptor, read_by_execve, change_by_descriptor, change_by_open, entry_by_place, tell_by_descriptor, tell_by_place, gain_by_open}
+use Rattle.pv_model.specs.Touch.{file_bytes, descriptor_of}
 use Rattle.pv_model.specs.Tree.{file_node, node_at}
-use Rattle.pv_rights.specs.Justice.{IsExplained}
 use Rattle.pv_order.specs.Examples.{no_programs, state_behind, apart, unlinking, asking_size, OrderHappens, OffsetsHappen, WritesHappen}
 use Rattle.pv_order.specs.Offsets.{GoesBy}
-use Rattle.pv_order.proofs.NoDescriptor.{goes-by_none, not-read, not-changed}
+use Rattle.pv_order.specs.Writes.{LeavesBytes}
+use Rattle.pv_order.proofs.NoDescriptor.{goes-by_none, leaves-bytes}
 
 abbrev pub or_first : Option Process → Process
 or_first None = first_process []
@@ -115,11 +114,11 @@ stays-within m file count opened counted =
     subst (λ (f : OpenFile). write_end asking_size 1 writer f count ≤ length (file_bytes asking_size f.node)) same
     (subst (λ (i : ℕ). write_end asking_size 1 writer written_open i ≤ length (file_bytes asking_size 2)) two (omega (arith, five-there)))
 
-left-written : (m : ℕ) (file : OpenFile) → open_file asking_size writer (pos 0) ≡ Some (m, file) → (¬ GoesBy asking_size 2 m) × ((¬ IsExplained asking_size 2 (read_file file.node)) × (¬ IsExplained asking_size 2 (change_file file.node)))
+left-written : (m : ℕ) (file : OpenFile) → open_file asking_size writer (pos 0) ≡ Some (m, file) → (¬ GoesBy asking_size 2 m) × LeavesBytes asking_size 2 file.node
 left-written m file opened =
     let call : Call = TheCall.Stat (codes "/x") in (
       goes-by_none asking_size 2 asker call asker-there asker-next refl m,
-      (not-read asking_size 2 asker call asker-there asker-next refl refl (λ path is. cc is) file.node, not-changed asking_size 2 asker call asker-there asker-next refl refl (λ path is. cc is) file.node),
+      leaves-bytes asking_size 2 asker call asker-there asker-next refl refl (λ path is. cc is) file.node,
     )
 
 pub writes-happen : WritesHappen

@@ -1,5 +1,5 @@
 -- What a step of another process leaves of the open file of a descriptor: its node and its mode.
-use Rattle.std.proofs.Common.{◌≡◌, ◌≢◌, ℕ, ℤ, pos, negsuc, true, false, Option, None, Some, is_some, option_map, refl, ap, sym, subst, ◌∙◌}
+use Rattle.std.proofs.Common.{◌≡◌, ◌≢◌, ℕ, ℤ, pos, negsuc, true, false, Option, None, Some, is_some, option_map, refl, ap, sym, subst}
 use Rattle.pv_model.specs.Bytes.{Bytes}
 use Rattle.pv_model.specs.Effect.{open_file_of, open_file}
 use Rattle.pv_model.specs.Numbered.{at_number}

@@ -1,14 +1,15 @@
 -- A process whose next call has no descriptor: what it goes by, and what it leaves of files.
-use Rattle.std.proofs.Common.{◌≡◌, ℕ, false, Option, None, Some, refl, ap, sym, subst, ◌∙◌, ⊎_elim}
+use Rattle.std.proofs.Common.{◌≡◌, ℕ, false, None, Some, refl, ap, sym, subst, ◌∙◌}
 use Rattle.pv_model.specs.declared.call.Call.{Call}
 use Rattle.pv_model.specs.declared.call.Call.TheVariants as TheCall
 use Rattle.pv_model.specs.Bytes.{Bytes}
 use Rattle.pv_model.specs.Program.{calls_for, next}
 use Rattle.pv_model.specs.State.{Process, State, process_at}
 use Rattle.pv_model.specs.Touch.{Touch, read_file, change_file, descriptor_of, flags_of, Justifies, read_by_descriptor, read_by_execve, change_by_descriptor, change_by_open, entry_by_place, tell_by_descriptor, tell_by_place, gain_by_open}
-use Rattle.pv_rights.specs.Justice.{IsExplained, IsByLength, asks_size}
+use Rattle.pv_rights.specs.Justice.{IsExplained, asks_size}
 use Rattle.pv_order.specs.Growing.{LeavesContent}
 use Rattle.pv_order.specs.Offsets.{GoesBy}
+use Rattle.pv_order.specs.Writes.{LeavesBytes}
 
 module _ (s : State) (pid : ℕ) (p : Process) (call : Call) (at : process_at s pid ≡ Some p) (comes : next p ≡ calls_for call) where
   -- whoever makes a call there makes this one
@@ -41,20 +42,12 @@ module _ (s : State) (pid : ℕ) (p : Process) (call : Call) (at : process_at s 
           let mine : is.0 ≡ p = cc both in
           subst (λ (q : Process). Justifies s q call touch) mine (subst (λ (c : Call). Justifies s is.0 c touch) (same-call is.0 is.1 is.2 is.3) is.5)
 
-      pub not-read : (f : ℕ) → ¬ IsExplained s pid (read_file f)
-      not-read f is = (untouched (read_file f) f (justified (read_file f) is)).0 refl
+      pub leaves-bytes : (f : ℕ) → LeavesBytes s pid f
+      leaves-bytes f = (
+        λ reads. (untouched (read_file f) f (justified (read_file f) (reads.0, reads.1, reads.2, reads.3, reads.4, reads.5.1))).0 refl,
+        λ changes. (untouched (change_file f) f (justified (change_file f) (changes.0, changes.1, changes.2, changes.3, changes.4, changes.5.1))).1 refl,
+      )
 
-      pub not-changed : (f : ℕ) → ¬ IsExplained s pid (change_file f)
-      not-changed f is = (untouched (change_file f) f (justified (change_file f) is)).1 refl
-
--- a process whose next call has no descriptor, opens nothing, executes nothing and asks for no size leaves what a file holds
-pub leaves-content : (s : State) (pid : ℕ) (p : Process) (call : Call) → process_at s pid ≡ Some p → next p ≡ calls_for call → descriptor_of call ≡ None → flags_of call ≡ None
-    → ((path : Bytes) → call ≡ TheCall.Execve path → ⊥) → asks_size call ≡ false → (f : ℕ) → LeavesContent s pid f
-leaves-content s pid p call at comes none opens executes asks f = (not-read s pid p call at comes none opens executes f, not-by_length)
-  where
-    not-by_length : ¬ IsByLength s pid f
-    not-by_length is =
-        ⊎_elim
-        (λ asked. let asks' : asks_size is.1 ≡ false = ap asks_size (same-call s pid p call at comes is.0 is.1 is.2 is.3) ∙ asks in let said = asked.0 in cc (said, asks'))
-        (λ changes. not-changed s pid p call at comes none opens executes f (is.0, is.1, is.2, is.3, is.4, changes))
-        is.5
+      -- and one that asks for no size leaves what a file holds
+      pub leaves-content : asks_size call ≡ false → (f : ℕ) → LeavesContent s pid f
+      leaves-content asks f = (leaves-bytes f, λ asked. let said = asked.5.0 in let asks' : asks_size asked.1 ≡ false = ap asks_size (same-call asked.0 asked.1 asked.2 asked.3) ∙ asks in cc (said, asks'))

@@ -1,5 +1,5 @@
 -- States with other bytes in a file, whose lengths are of one size.
-use Rattle.std.proofs.Common.{◌≡◌, inr, ⊎_elim, ℕ, ◌≤◌, true, false, length, Option, None, Some, refl, ap, sym, subst, ◌∙◌, zero-le}
+use Rattle.std.proofs.Common.{◌≡◌, ⊎_elim, ℕ, ◌≤◌, true, false, length, Option, None, Some, refl, ap, sym, subst, ◌∙◌, zero-le}
 use Rattle.std.specs.Prelude.{Contains, filter_map}
 use Rattle.std.proofs.lemmas.Bool.{le-ltb}
 use Rattle.pv_model.specs.declared.call.Call.{Call}
@@ -23,11 +23,11 @@ use Rattle.pv_tree_laws.proofs.Rooms.{length-within}
 use Rattle.pv_laws.specs.States.{are_bytes, IsWhole}
 use Rattle.pv_laws.proofs.Grown.{tree-content, carries-content, ready-tree}
 use Rattle.pv_laws.proofs.Replies.{whole-trim}
-use Rattle.pv_rights.specs.Justice.{IsByLength, IsExplained}
+use Rattle.pv_rights.specs.Justice.{ChangesBytes, DoesNext}
 use Rattle.pv_rights.proofs.Changed.{file-trim}
-use Rattle.pv_rights.proofs.JustFiles.{files-justified}
+use Rattle.pv_rights.proofs.JustFiles.{files-changed}
 use Rattle.pv_rights.proofs.JustReads.{near-or_read}
-use Rattle.pv_rights.proofs.Near.{IsExact, IsFine, blocks, blocks-fine, past-alike, near-view, AreNear, near-at, near_state, IsNear, near-trim, fits-near, too_long-near, near-bytes, same-but_file, resolve-near, judgement-near}
+use Rattle.pv_rights.proofs.Near.{GoesByLength, IsExact, IsFine, blocks, blocks-fine, past-alike, near-view, AreNear, near-at, near_state, IsNear, near-trim, fits-near, too_long-near, near-bytes, same-but_file, resolve-near, judgement-near}
 use Rattle.pv_order.specs.Growing.{LeavesContent, ContentsAlterNothing}
 use Rattle.pv_order.specs.Writes.{LeavesBytes}
 
@@ -55,14 +55,15 @@ file-within z f whole = by (node_at z.tree f) refl
 -- ---- a step that leaves the bytes of a file
 
 module _ (program_of : Bytes → Option Program) (k f : ℕ) where
-  pub bytes-left : (s : State) → IsWhole s → is_file (node_at s.tree f) ≡ true → is_file (node_at (step program_of s k).after.tree f) ≡ true → ¬ IsExplained s k (change_file f)
+  pub bytes-left : (s : State) → IsWhole s → is_file (node_at s.tree f) ≡ true → is_file (node_at (step program_of s k).after.tree f) ≡ true → ¬ DoesNext ChangesBytes s k f
       → file_bytes (step program_of s k).after f ≡ file_bytes s f
   bytes-left s whole file behind not =
-      ⊎_elim (λ same. same) (λ differs. absurd (not (files-justified program_of s k f whole (file, behind, differs)))) (cases_name (file_bytes (step program_of s k).after f) (file_bytes s f))
+      ⊎_elim (λ same. same) (λ differs. absurd (not (files-changed program_of s k f whole (file, behind, differs)))) (cases_name (file_bytes (step program_of s k).after f) (file_bytes s f))
 
--- what leaves a file's bytes and does not go by how many they are does not change them
-pub leaves-bytes : (s : State) (k f : ℕ) → LeavesContent s k f → LeavesBytes s k f
-leaves-bytes s k f leaves = (leaves.0, λ changes. leaves.1 (changes.0, changes.1, changes.2, changes.3, changes.4, inr changes.5))
+-- what leaves a file does not go by how many its bytes are
+pub not_by-length : (s : State) (k f : ℕ) → LeavesContent s k f → ¬ DoesNext GoesByLength s k f
+not_by-length s k f leaves by =
+    ⊎_elim (λ asks. leaves.1 (by.0, by.1, by.2, by.3, by.4, asks)) (λ changes. leaves.0.1 (by.0, by.1, by.2, by.3, by.4, changes)) by.5
 
 -- ---- bytes of one size
 
@@ -131,10 +132,10 @@ module _ (size : ℕ → ℕ) (fine : IsFine size) where
     change-near _ (tell_by_place place n allowed node) g is = cc is
     change-near _ (gain_by_open flags place n mode flagged same allowed node) g is = cc is
 
-  pub explained-near : (s : State) (k f : ℕ) (b : Bytes) → size (length b) ≡ size (length (file_bytes s f)) → IsExplained (with_bytes s f b) k (change_file f) → IsExplained s k (change_file f)
-  explained-near s k f b long is =
+  pub changes-near : (s : State) (k f : ℕ) (b : Bytes) → size (length b) ≡ size (length (file_bytes s f)) → DoesNext ChangesBytes (with_bytes s f b) k f → DoesNext ChangesBytes s k f
+  changes-near s k f b long is =
       let near = near-bytes size s f b long in
-      (is.0, is.1, is.2, is.3, is.4, change-near f s (with_bytes s f b).tree.nodes near.nodes is.0 is.1 (change_file f) (subst (λ y. Justifies y is.0 is.1 (change_file f)) near.rest is.5) f refl)
+      (is.0, is.1, is.2, is.3, is.4, (is.5.0, change-near f s (with_bytes s f b).tree.nodes near.nodes is.0 is.1 (change_file f) (subst (λ y. Justifies y is.0 is.1 (change_file f)) near.rest is.5.1) f refl))
 
   -- ---- it goes along other bytes
 
@@ -145,7 +146,7 @@ module _ (size : ℕ → ℕ) (fine : IsFine size) where
       pub after : (step program_of (with_bytes s f b) k).after ≡ with_bytes (step program_of s k).after f b
 
     pub goes-along : (s : State) (b : Bytes) → IsWhole s → is_file (node_at s.tree f) ≡ true → is_file (node_at (step program_of s k).after.tree f) ≡ true → size (length b) ≡ size (length (file_bytes s f)) → are_bytes b ≡ true
-        → LeavesBytes s k f → (IsByLength s k f → IsExact size) → GoesAlong s b
+        → LeavesBytes s k f → (DoesNext GoesByLength s k f → IsExact size) → GoesAlong s b
     goes-along s b whole file behind long good leaves exact =
         let t : State = (step program_of s k).after in
         let s' : State = with_bytes s f b in
@@ -156,12 +157,12 @@ module _ (size : ℕ → ℕ) (fine : IsFine size) where
         let file' : is_file (node_at s'.tree f) ≡ true = still-file s f b long ∙ file in
         let behind' : is_file (node_at t'.tree f) ≡ true =
         near-view size is_file (node_at t.tree f) (node_at t'.tree f) (λ executable old new same. refl) (near-at size f t.tree.nodes t'.tree.nodes alike.after.nodes f) ∙ behind in
-        let same : file_bytes t' f ≡ b = bytes-left program_of k f s' (whole-bytes s f b long whole file good) file' behind' (λ is. leaves.1 (explained-near s k f b long is)) ∙ bytes-there s f b file in
+        let same : file_bytes t' f ≡ b = bytes-left program_of k f s' (whole-bytes s f b long whole file good) file' behind' (λ is. leaves.1 (changes-near s k f b long is)) ∙ bytes-there s f b file in
         record { outcome = alike.outcome; lines = alike.lines; after = sym (same-but_file size f t t' alike.after) ∙ ap (with_bytes t f) same })
         (near-or_read size fine program_of s k f b long exact)
 
 -- a step that leaves a file goes along other bytes in as many blocks
 pub contents-alter-nothing : ContentsAlterNothing
 contents-alter-nothing program_of s pid f bytes whole file behind good long leaves =
-    let along = goes-along blocks blocks-fine program_of pid f s bytes whole file behind long good (leaves-bytes s pid f leaves) (λ by. absurd (leaves.1 by)) in
+    let along = goes-along blocks blocks-fine program_of pid f s bytes whole file behind long good leaves.0 (λ by. absurd (not_by-length s pid f leaves by)) in
     record { outcome = along.outcome; lines = along.lines; after = along.after }

@@ -31,9 +31,9 @@ use Rattle.pv_laws.proofs.Rests
 use Rattle.pv_laws.proofs.Running.{SameHolds, list_all-take}
 use Rattle.pv_laws.proofs.Standing.{my-running}
 use Rattle.pv_rights.specs.Growth.{IsSameFile}
-use Rattle.pv_rights.specs.Justice.{IsByLength}
+use Rattle.pv_rights.specs.Justice.{DoesNext}
 use Rattle.pv_rights.proofs.Does.{open_file_for-is}
-use Rattle.pv_rights.proofs.Near.{IsExact, IsFine, as_is, as_is-fine, blocks, blocks-fine}
+use Rattle.pv_rights.proofs.Near.{GoesByLength, IsExact, IsFine, as_is, as_is-fine, blocks, blocks-fine}
 use Rattle.pv_order.specs.Beside.{with_change, become}
 use Rattle.pv_order.specs.Commuting.{Commute}
 use Rattle.pv_order.specs.Offsets.{with_file_change, GoesBy}
@@ -44,7 +44,7 @@ use Rattle.pv_order.proofs.ContentSteps.{Content, put_content, settled-content, 
 use Rattle.pv_order.proofs.Lone.{commute-where}
 use Rattle.pv_order.proofs.OffsetSteps.{same-open, goes-as_before}
 use Rattle.pv_order.proofs.Orphans.{orphan}
-use Rattle.pv_order.proofs.OtherBytes.{bytes-left, leaves-bytes, may-be_long}
+use Rattle.pv_order.proofs.OtherBytes.{bytes-left, not_by-length, may-be_long}
 use Rattle.pv_order.proofs.ShiftCalls.{HasFile, step-shifted}
 use Rattle.pv_order.proofs.Shifts.{put-is_change, trim-shifted}
 use Rattle.pv_order.proofs.Twice.{acts, Two, two-demand, behind_k, whole-behind, heir, quiet, quiet-behind, passes-by, commute-steps, call-twice}
@@ -194,7 +194,7 @@ module _ (size : ℕ → ℕ) (fine : IsFine size) (program_of : Bytes → Optio
       (m : ℕ) (file : OpenFile) (count : ℕ) → open_file s p d ≡ Some (m, file) → within 4096 c ≡ Some count
       → size (max (length (file_bytes s file.node)) (write_end s j p file count)) ≡ size (length (file_bytes s file.node))
 
-  module _ (d c : ℤ) (stays : KeepsSize d c) (leaves : LeavesWrite s p d k) (exact : (m : ℕ) (file : OpenFile) → open_file s p d ≡ Some (m, file) → IsByLength s k file.node → IsExact size) where
+  module _ (d c : ℤ) (stays : KeepsSize d c) (leaves : LeavesWrite s p d k) (exact : (m : ℕ) (file : OpenFile) → open_file s p d ≡ Some (m, file) → DoesNext GoesByLength s k file.node → IsExact size) where
     opened : open_file u p d ≡ open_file s p d
     opened = same-open program_of s k j p whole apart at d (λ m file is. (leaves m file is).0)
 
@@ -351,4 +351,4 @@ growing-writes-commute program_of spells s j k p d c whole apart at comes alive 
     commute-where program_of spells s j k p (TheCall.Write d c) whole apart at comes alive
     (write-commutes blocks blocks-fine program_of spells s j k p whole apart at d c
     (λ m file count own some. in_blocks (length (file_bytes s file.node)) (write_end s j p file count) (ends m file count own some))
-    (λ m file own. let is = leaves m file own in (is.0, leaves-bytes s k file.node is.1)) (λ m file own by. absurd ((leaves m file own).1.1 by)) comes)
+    (λ m file own. let is = leaves m file own in (is.0, is.1.0)) (λ m file own by. absurd (not_by-length s k file.node (leaves m file own).1 by)) comes)

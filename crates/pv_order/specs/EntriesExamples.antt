@@ -1,9 +1,8 @@
 -- Calls that change entries beside calls on descriptors, and calls that are told of a node or of a parent: such as may be made in either order, and such as may not.
-use Rattle.std.specs.Prelude.{◌≡◌, ℕ, false, true, List, [], ◌∷◌, ◌++◌, replicate, take, codes, pos, Option, Some}
+use Rattle.std.specs.Prelude.{◌≡◌, ℕ, false, true, List, [], ◌∷◌, ◌++◌, replicate, take, codes, pos, Some}
 use Rattle.pv_model.specs.declared.call.Call.TheVariants as TheCall
 use Rattle.pv_model.specs.declared.errno.Errno.TheVariants.{ENOSPC}
 use Rattle.pv_model.specs.declared.instruction.Instruction.TheVariants.{JumpIfZero, Fork, GetPpid, Exit, Open, Write, Fstat, Getdents, Mkdir, Symlink, Rename}
-use Rattle.pv_model.specs.declared.instruction.Instruction.{Instruction}
 use Rattle.pv_model.specs.declared.instruction.Operand.TheVariants.{Number}
 use Rattle.pv_model.specs.declared.open_flags.Mode.TheVariants.{Read as Reading, ReadWrite}
 use Rattle.pv_model.specs.declared.outcome.Cause.TheVariants.{Plain}

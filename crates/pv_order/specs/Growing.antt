@@ -12,20 +12,21 @@ use Rattle.pv_model.specs.Room.{rounded_up}
 use Rattle.pv_model.specs.Sealed.{is_file}
 use Rattle.pv_model.specs.State.{OpenFile, Program, Process, State, process_at}
 use Rattle.pv_model.specs.Step.{Stepped, step}
-use Rattle.pv_model.specs.Touch.{read_file, file_bytes, with_bytes}
+use Rattle.pv_model.specs.Touch.{file_bytes, with_bytes}
 use Rattle.pv_model.specs.Tree.{node_at}
 use Rattle.pv_laws.specs.States.{are_bytes, SpellsPrograms, IsWhole}
-use Rattle.pv_rights.specs.Justice.{IsExplained, IsByLength}
+use Rattle.pv_rights.specs.Justice.{AsksSize, DoesNext}
 use Rattle.pv_order.specs.Commuting.{Commute}
 use Rattle.pv_order.specs.Offsets.{GoesBy}
+use Rattle.pv_order.specs.Writes.{LeavesBytes}
 
 -- the blocks that the bytes of a file take
 abbrev pub file_blocks : State → ℕ → ℕ
 file_blocks s f = rounded_up (length (file_bytes s f)) BLOCK
 
--- the next call of a process has nothing by which it might read or change the bytes of a file, or ask how many they are
+-- the next call of a process neither reads the bytes of a file nor might change them, nor asks how many they are: it is no stat or lstat of it, and no fstat or lseek to its end by a descriptor of it
 abbrev pub LeavesContent : State → ℕ → ℕ → Type 0
-LeavesContent s pid f = (¬ IsExplained s pid (read_file f)) × (¬ IsByLength s pid f)
+LeavesContent s pid f = LeavesBytes s pid f × (¬ DoesNext AsksSize s pid f)
 
 -- two steps answer alike and tell the same lines, and what they leave differs in a file alone, by these bytes
 pub record StepsBesideBytes (f : ℕ) (bytes : Bytes) (a b : Stepped) : Type 0 where

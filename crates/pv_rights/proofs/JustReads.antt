@@ -19,18 +19,18 @@ use Rattle.pv_model.specs.Program.{Next, inside, calls_for, next}
 use Rattle.pv_model.specs.Promises.{missing_promise, is_lenient}
 use Rattle.pv_model.specs.State.{Program, Process, State, process_at}
 use Rattle.pv_model.specs.Step.{Stepped, step, step_of, step_by}
-use Rattle.pv_model.specs.Touch.{read_file, change_file, change_entry, tell_node, gain_descriptor, with_bytes, file_bytes, Touches, Justifies, IsJustified}
+use Rattle.pv_model.specs.Touch.{read_file, change_file, change_entry, tell_node, gain_descriptor, with_bytes, file_bytes, Touches, IsJustified}
 use Rattle.pv_model.specs.Trace.{call_lines}
 use Rattle.pv_model.specs.Tree.{Node}
 use Rattle.pv_laws.specs.States.{IsWhole}
 use Rattle.pv_laws.proofs.Outcomes.{at_call}
 use Rattle.pv_laws.proofs.Apart.{lines-alike}
-use Rattle.pv_rights.specs.Justice.{GoesByLength, IsByLength, IsExplained}
+use Rattle.pv_rights.specs.Justice.{ReadsBytes, DoesNext, IsExplained}
 use Rattle.pv_rights.specs.Secrets.{StepsAlike}
 use Rattle.pv_rights.proofs.JustFiles.{entries-justified, files-justified}
 use Rattle.pv_rights.proofs.JustGains.{gains-justified}
 use Rattle.pv_rights.proofs.JustTelling.{telling-justified}
-use Rattle.pv_rights.proofs.Near.{IsExact, IsFine, as_is, as_is-fine, near-length_of, AreNear, near_state, IsNear, near-trim, same-but_file, near-bytes}
+use Rattle.pv_rights.proofs.Near.{GoesByLength, IsExact, IsFine, as_is, as_is-fine, near-length_of, AreNear, near_state, IsNear, near-trim, same-but_file, near-bytes}
 use Rattle.pv_rights.proofs.NearCalls.{AreNearBy, near-effect}
 use Rattle.pv_rights.proofs.Touched.{back}
 
@@ -108,7 +108,7 @@ module _ (size : ℕ → ℕ) (fine : IsFine size) where
       now = at_next_line me
 
       abbrev IsRead : Type 0
-      IsRead = (missing_promise me.promises (needs call) ≡ None) × Justifies s me call (read_file f)
+      IsRead = (missing_promise me.promises (needs call) ≡ None) × ReadsBytes s me call f
 
       lacking : (p : Promise) → IsNearAnswer f (answer_where program_of s x pid now call (Some p)) (answer_where program_of u (at_call u pid me) pid now call (Some p))
       lacking p =
@@ -121,12 +121,12 @@ module _ (size : ℕ → ℕ) (fine : IsFine size) where
 
       -- what goes by the length behind the line goes by it before
       length_back : GoesByLength x now call f → GoesByLength s me call f
-      length_back by = ⊎_elim (λ asks. inl (asks.0, back s pid me call (tell_node f) asks.1)) (λ changes. inr (back s pid me call (change_file f) changes)) by
+      length_back by = ⊎_elim (λ asks. inl (asks.0, back s pid me call (tell_node f) asks.1)) (λ changes. inr (changes.0, back s pid me call (change_file f) changes.1)) by
 
       by_promise : ((missing_promise me.promises (needs call) ≡ None) → GoesByLength s me call f → IsExact size) → (o : Option Promise) → missing_promise me.promises (needs call) ≡ o
           → IsRead ⊎ IsNearAnswer f (answer_where program_of s x pid now call o) (answer_where program_of u (at_call u pid me) pid now call o)
       by_promise exact None held =
-          ⊎_elim (λ justified. inl (held, back s pid me call (read_file f) justified))
+          ⊎_elim (λ justified. inl (held, (justified.0, back s pid me call (read_file f) justified.1)))
           (λ by. inr (near-attempt f s u near_s x (at_call u pid me) (record { nodes = near; rest = refl }) pid now (effect program_of x pid now call) (effect program_of (at_call u pid me) pid now call) by))
           (near-effect size fine f x ys near pid now program_of call (λ by. exact held (length_back by)))
       by_promise exact (Some p) lacks = inr (lacking p)
@@ -138,36 +138,36 @@ module _ (size : ℕ → ℕ) (fine : IsFine size) where
 
     -- ---- steps
 
-    module _ (exact : IsByLength s pid f → IsExact size) where
-      by_next : (me : Process) → process_at s pid ≡ Some me → (n : Next) → next me ≡ n → IsExplained s pid (read_file f) ⊎ AreNearSteps f (step_by program_of s pid me n) (step_by program_of u pid me n)
+    module _ (exact : DoesNext GoesByLength s pid f → IsExact size) where
+      by_next : (me : Process) → process_at s pid ≡ Some me → (n : Next) → next me ≡ n → DoesNext ReadsBytes s pid f ⊎ AreNearSteps f (step_by program_of s pid me n) (step_by program_of u pid me n)
       by_next me at (inside q) is = inr (record { outcome = refl; lines = refl; after = record { nodes = near; rest = refl } })
       by_next me at (calls_for call) is =
           ⊎_elim (λ read. inl (me, call, at, is, read.0, read.1)) (λ alike. inr (record { outcome = alike.outcome; lines = near-lines f pid me call (answer program_of s pid call) (answer program_of u pid call) alike; after = alike.after })) (by_call me call (λ held by. exact (me, call, at, is, held, by)) at)
 
-      by_process : (o : Option Process) → process_at s pid ≡ o → IsExplained s pid (read_file f) ⊎ AreNearSteps f (step_of program_of s pid o) (step_of program_of u pid o)
+      by_process : (o : Option Process) → process_at s pid ≡ o → DoesNext ReadsBytes s pid f ⊎ AreNearSteps f (step_of program_of s pid o) (step_of program_of u pid o)
       by_process None gone = inr (record { outcome = refl; lines = refl; after = near_s })
       by_process (Some me) at = by_next me at (next me) refl
 
-      by_step : IsExplained s pid (read_file f) ⊎ AreNearSteps f (step program_of s pid) (step program_of u pid)
+      by_step : DoesNext ReadsBytes s pid f ⊎ AreNearSteps f (step program_of s pid) (step program_of u pid)
       unfolding step
       by_step = by_process (process_at s pid) refl
 
   -- with other bytes, of one size, the step answers alike and leaves a state that differs in them alone, where the read is not justified, and lengths of one size are the same if it goes by that
-  pub near-or_read : (program_of : Bytes → Option Program) (s : State) (pid f : ℕ) (bytes : Bytes) → size (length bytes) ≡ size (length (file_bytes s f)) → (IsByLength s pid f → IsExact size)
-      → IsExplained s pid (read_file f) ⊎ AreNearSteps f (step program_of s pid) (step program_of (with_bytes s f bytes) pid)
+  pub near-or_read : (program_of : Bytes → Option Program) (s : State) (pid f : ℕ) (bytes : Bytes) → size (length bytes) ≡ size (length (file_bytes s f)) → (DoesNext GoesByLength s pid f → IsExact size)
+      → DoesNext ReadsBytes s pid f ⊎ AreNearSteps f (step program_of s pid) (step program_of (with_bytes s f bytes) pid)
   near-or_read program_of s pid f bytes long exact =
       let near = near-bytes size s f bytes long in
-      subst (λ (y : State). IsExplained s pid (read_file f) ⊎ AreNearSteps f (step program_of s pid) (step program_of y pid)) (sym near.rest) (by_step program_of f s pid (with_bytes s f bytes).tree.nodes near.nodes exact)
+      subst (λ (y : State). DoesNext ReadsBytes s pid f ⊎ AreNearSteps f (step program_of s pid) (step program_of y pid)) (sym near.rest) (by_step program_of f s pid (with_bytes s f bytes).tree.nodes near.nodes exact)
 
 -- with other bytes, as many, it does so
 near-as_many : (program_of : Bytes → Option Program) (s : State) (pid f : ℕ) (bytes : Bytes) → length bytes ≡ length (file_bytes s f)
-    → IsExplained s pid (read_file f) ⊎ AreNearSteps as_is as_is-fine f (step program_of s pid) (step program_of (with_bytes s f bytes) pid)
+    → DoesNext ReadsBytes s pid f ⊎ AreNearSteps as_is as_is-fine f (step program_of s pid) (step program_of (with_bytes s f bytes) pid)
 near-as_many program_of s pid f bytes long = near-or_read as_is as_is-fine program_of s pid f bytes long (λ by m n same. same)
 
 pub reads-justified : (program_of : Bytes → Option Program) (s : State) (pid f : ℕ) → Touches program_of s pid (read_file f) → IsExplained s pid (read_file f)
 reads-justified program_of s pid f reads =
     let u : State = with_bytes s f reads.0 in
-    ⊎_elim (λ explained. explained)
+    ⊎_elim (λ e. (e.0, e.1, e.2, e.3, e.4, e.5.1))
     (λ alike. absurd (⊎_elim (λ other. other alike.outcome) (λ apart. apart (same-but_file as_is f (step program_of s pid).after (step program_of u pid).after alike.after)) reads.3))
     (near-as_many program_of s pid f reads.0 reads.2)
 
@@ -176,7 +176,7 @@ pub alike-or_read : (program_of : Bytes → Option Program) (s : State) (pid f :
     → IsExplained s pid (read_file f) ⊎ StepsAlike f (step program_of s pid) (step program_of (with_bytes s f bytes) pid)
 alike-or_read program_of s pid f bytes long =
     let u : State = with_bytes s f bytes in
-    ⊎_elim (λ explained. inl explained)
+    ⊎_elim (λ e. inl (e.0, e.1, e.2, e.3, e.4, e.5.1))
     (λ alike. inr (record {
       outcome = alike.outcome;
       lines = alike.lines;

@@ -5,6 +5,7 @@ use Rattle.std.specs.Option.{option_or}
 use Rattle.std.specs.Prelude.{option_to_list}
 use Rattle.std.proofs.lemmas.List.Sums.{sum_by-cons}
 use Rattle.std.proofs.lemmas.Bool.{ltb-true, ltb-false, cases_eq}
+use Rattle.pv_model.specs.declared.call.Call.{Call}
 use Rattle.pv_model.specs.declared.follow.Follow.{Follow}
 use Rattle.pv_model.specs.declared.perms.Perms.{Perms}
 use Rattle.pv_model.specs.declared.place.Place.{Place}
@@ -19,11 +20,12 @@ use Rattle.pv_model.specs.Effect.{bytes_of, status_of, status}
 use Rattle.pv_model.specs.Held.{among, trim}
 use Rattle.pv_model.specs.Numbered.{Numbered, at_number, with_number, least_free, keep_if, keep_from, keep, present, numbered_from}
 use Rattle.pv_model.specs.Room.{node_length, rounded_up, index_blocks, need, greatest_length, is_too_long, fits}
-use Rattle.pv_model.specs.State.{State, with_tree}
+use Rattle.pv_model.specs.State.{Process, State, with_tree}
 use Rattle.pv_model.specs.Touch.{file_bytes, with_bytes, SameButFile}
 use Rattle.pv_model.specs.Tree.{Node, directory_node, file_node, link_node, Tree, root, node_at, entries_of, entries_at, is_directory, is_directory_at, find_entry, parent, above_or_none, ancestors_within, ancestors, named_numbers, new_number}
 use Rattle.pv_model.specs.Unveil.{Table, entry_for, target_of, climb, directory_rights, governing_entry, judge_entry, judgement}
 use Rattle.pv_model.specs.Walk.{resolve}
+use Rattle.pv_rights.specs.Justice.{AsksSize, ChangesBytes}
 use Rattle.pv_tree_laws.specs.Walk
 use Rattle.pv_tree_laws.proofs.Places.{parent-alike, resolve-alike}
 
@@ -42,6 +44,10 @@ IsExact size = (m n : ℕ) → size m ≡ size n → m ≡ n
 -- lengths of one size take as many blocks
 abbrev pub IsFine : (ℕ → ℕ) → Type 0
 IsFine size = (m n : ℕ) → size m ≡ size n → rounded_up m 512 ≡ rounded_up n 512
+
+-- a call goes by the length of a file: it asks for its size, or might change its bytes
+abbrev pub GoesByLength : State → Process → Call → ℕ → Type 0
+GoesByLength s p call f = AsksSize s p call f ⊎ ChangesBytes s p call f
 
 -- a length as it is
 abbrev pub as_is : ℕ → ℕ

@@ -34,15 +34,15 @@ use Rattle.pv_model.specs.Perms.{letter_r, letter_x, letter_c, read_letters}
 use Rattle.pv_model.specs.Promises.{narrow_promises, is_lenient}
 use Rattle.pv_model.specs.Room.{is_too_long, fits}
 use Rattle.pv_model.specs.State.{OpenFile, Program, Process, State, reads, writes, with_process, with_tree}
-use Rattle.pv_model.specs.Touch.{place_found, read_file, Justifies, read_by_descriptor, read_by_execve, change_by_descriptor, tell_by_descriptor, tell_by_place}
+use Rattle.pv_model.specs.Touch.{place_found, read_by_descriptor, read_by_execve, change_by_descriptor, tell_by_descriptor, tell_by_place}
 use Rattle.pv_model.specs.Tree.{Node, directory_node, file_node, link_node, Tree, node_at, entries_at, is_directory, is_directory_at, with_node, with_entry, without_entry, new_number, with_new_node}
 use Rattle.pv_model.specs.Unveil.{judgement, target_of}
 use Rattle.pv_model.specs.Walk.{Walked, begins_walk, resolve, is_absolute}
 use Rattle.pv_tree_laws.proofs.Entries.{by_name, is_other}
 use Rattle.pv_laws.proofs.Rests
 use Rattle.pv_rights.proofs.Does.{first-place, open_file_for-is}
-use Rattle.pv_rights.specs.Justice.{GoesByLength, asks_size}
-use Rattle.pv_rights.proofs.Near.{IsExact, IsFine, near-view, AreNear, near-at, near-beside, near-set, near-file, with_nodes, entries-near, directory-near, resolve-near, judgement-near, target-near, ancestors-near, status-near, link-near, long-near, new-near, near_state, IsNear, near-trim, fits-near, too_long-near}
+use Rattle.pv_rights.specs.Justice.{ReadsBytes, asks_size}
+use Rattle.pv_rights.proofs.Near.{GoesByLength, IsExact, IsFine, near-view, AreNear, near-at, near-beside, near-set, near-file, with_nodes, entries-near, directory-near, resolve-near, judgement-near, target-near, ancestors-near, status-near, link-near, long-near, new-near, near_state, IsNear, near-trim, fits-near, too_long-near}
 use Rattle.pv_model.specs.Walks.{Walk, follow_of, from_here, execve_walk}
 
 over-length : (old : Bytes) (at : ℕ) (new : Bytes) → length (overwrite old at new) ≡ min at (length old + (at - length old)) + length new + (length old - (at + length new))
@@ -525,12 +525,12 @@ module _ (size : ℕ → ℕ) (fine : IsFine size) where
 
     -- ---- what reads a file's bytes
 
-    or-read : (d n : ℤ) → Or (Justifies s me (TheCall.Read d n) (read_file f)) (read s pid me d n) (read u pid me d n)
+    or-read : (d n : ℤ) → Or (ReadsBytes s me (TheCall.Read d n) f) (read s pid me d n) (read u pid me d n)
     or-read d n =
-        or-demand (Justifies s me (TheCall.Read d n) (read_file f)) EBADF (open_file_for s pid me reads d) (Rests.read_1 s pid me n) (Rests.read_1 u pid me n) (λ g is.
+        or-demand (ReadsBytes s me (TheCall.Read d n) f) EBADF (open_file_for s pid me reads d) (Rests.read_1 s pid me n) (Rests.read_1 u pid me n) (λ g is.
         let both = open_file_for-is s pid me reads d g.0 g.1 is in
         ⊎_elim
-        (λ here. inl (read_by_descriptor f (d, g.0, g.1, refl, both.0, here, both.1)))
+        (λ here. inl (refl, read_by_descriptor f (d, g.0, g.1, refl, both.0, here, both.1)))
         (λ other. inr (
         near-bind f (demand EINVAL (within 4096 n)) (demand EINVAL (within 4096 n)) refl (Rests.read_2 s pid me g.0 g.1) (Rests.read_2 u pid me g.0 g.1) (λ count.
         near-then f (refuse_if EISDIR (is_directory_at s.tree g.1.node)) (refuse_if EISDIR (is_directory_at u.tree g.1.node)) (ap (refuse_if EISDIR) (dir-near g.1.node)) (Rests.read_3 s pid me g.0 g.1 count) (Rests.read_3 u pid me g.0 g.1 count)
@@ -542,13 +542,13 @@ module _ (size : ℕ → ℕ) (fine : IsFine size) where
             subst (λ (bytes : Bytes). B (Rests.read_3 s pid me k file count) (answers_bytes (Rattle.pv_model.specs.Effect.with_file u k (record file { offset = file.offset + length bytes })) (length bytes) bytes))
             (ap (λ o. take count (drop file.offset (bytes_of o))) (sym same)) (refl, refl, record { nodes = near; rest = refl })
 
-    or-execve : (program_of : Bytes → Option Program) (path : Bytes) → Or (Justifies s me (TheCall.Execve path) (read_file f)) (execve s pid me program_of path) (execve u pid me program_of path)
+    or-execve : (program_of : Bytes → Option Program) (path : Bytes) → Or (ReadsBytes s me (TheCall.Execve path) f) (execve s pid me program_of path) (execve u pid me program_of path)
     or-execve program_of path =
-        let C : Type 0 = Justifies s me (TheCall.Execve path) (read_file f) in
+        let C : Type 0 = ReadsBytes s me (TheCall.Execve path) f in
         or-place C me.directory Last path letter_x (Rests.execve_1 s pid me program_of) (Rests.execve_1 u pid me program_of) (λ place found allowed.
         or-demand C ENOENT (node_of place) (Rests.execve_2 s pid me program_of) (Rests.execve_2 u pid me program_of) (λ n is.
         ⊎_elim
-        (λ here. inl (read_by_execve path place f refl (first-place (λ (w : Walk). place_found (end_of s me w)) (execve_walk path) [] place (ap place_found found), allowed) (is ∙ ap (λ k. Some k) here)))
+        (λ here. inl (refl, read_by_execve path place f refl (first-place (λ (w : Walk). place_found (end_of s me w)) (execve_walk path) [] place (ap place_found found), allowed) (is ∙ ap (λ k. Some k) here)))
         (λ other. inr (
         near-bind f (demand EACCES (executable_bytes (node_at s.tree n))) (demand EACCES (executable_bytes (node_at u.tree n))) (ap (λ o. demand EACCES (executable_bytes o)) (near-beside size f s.tree.nodes ys near n other))
         (Rests.execve_3 s pid me program_of) (Rests.execve_3 u pid me program_of) (λ bytes.
@@ -557,7 +557,7 @@ module _ (size : ℕ → ℕ) (fine : IsFine size) where
 
     -- ---- each call
 
-    pub near-effect : (program_of : Bytes → Option Program) (call : Call) → (GoesByLength s me call f → IsExact size) → Or (Justifies s me call (read_file f)) (effect program_of s pid me call) (effect program_of u pid me call)
+    pub near-effect : (program_of : Bytes → Option Program) (call : Call) → (GoesByLength s me call f → IsExact size) → Or (ReadsBytes s me call f) (effect program_of s pid me call) (effect program_of u pid me call)
     unfolding effect
     near-effect program_of (TheCall.Exit code) exact = inr (refl, refl, record { nodes = near; rest = refl })
     near-effect program_of TheCall.GetPid exact = inr (leaf pid)
@@ -578,7 +578,7 @@ module _ (size : ℕ → ℕ) (fine : IsFine size) where
     near-effect program_of (TheCall.Dup d) exact = inr (near-dup d)
     near-effect program_of (TheCall.Dup2 d e) exact = inr (near-dup2 d e)
     near-effect program_of (TheCall.Read d n) exact = or-read d n
-    near-effect program_of (TheCall.Write d n) exact = inr (near-write d n (λ g may own. exact (inr (change_by_descriptor f (d, g.0, g.1, refl, own.0, own.1, may)))))
+    near-effect program_of (TheCall.Write d n) exact = inr (near-write d n (λ g may own. exact (inr (refl, change_by_descriptor f (d, g.0, g.1, refl, own.0, own.1, may)))))
     near-effect program_of (TheCall.Lseek d by whence) exact = inr (near-lseek d by whence (λ asks g own. exact (inl (asks, tell_by_descriptor f (d, g.0, g.1, refl, own.0, own.1, refl)))))
     near-effect program_of (TheCall.Fstat d) exact = inr (near-fstat d (λ g own. exact (inl (refl, tell_by_descriptor f (d, g.0, g.1, refl, own.0, own.1, refl)))))
     near-effect program_of (TheCall.Ftruncate d n) exact = inr (near-ftruncate d n)
