@@ -75,7 +75,7 @@ module _ (size : ℕ → ℕ) (fine : IsFine size) where
         → SteppedBeside (λ z. put_content s t k a (with_change z j (become q))) (step program_of s k) (step program_of (put_content s t k a (with_change s j (become q))) k)
     passes-content a q same =
         let s' : State = with_bytes s a.node a.bytes in
-        let along = goes-along size fine program_of k a.node s a.bytes whole a.file a.behind a.long a.good a.leaves a.exact in
+        let along = goes-along size fine program_of k a.node s a.bytes whole a.file a.long a.good a.leaves a.exact in
         let inside = others-alter-nothing program_of s' k j p q (whole-bytes size fine s a.node a.bytes a.long whole a.file a.good) apart at (alike-held p q same) in
         record {
           outcome = inside.outcome ∙ along.outcome;

@@ -9,9 +9,9 @@ use Rattle.pv_model.specs.Effect.{open_file}
 use Rattle.pv_model.specs.Program.{calls_for, next}
 use Rattle.pv_model.specs.State.{Program, Process, State, process_at}
 use Rattle.pv_model.specs.Step.{step}
-use Rattle.pv_model.specs.Touch.{descriptor_of, flags_of}
+use Rattle.pv_model.specs.Touch.{descriptor_of}
 use Rattle.pv_laws.specs.States.{SpellsPrograms, IsWhole}
-use Rattle.pv_rights.specs.Justice.{asks_size}
+use Rattle.pv_rights.specs.Justice.{reads_bytes, changes_bytes, asks_size}
 use Rattle.pv_order.specs.Asking.{LeavesNode}
 use Rattle.pv_order.specs.Commuting.{Commute}
 use Rattle.pv_order.specs.Entries.{changes_entries, StandsApart}
@@ -19,24 +19,24 @@ use Rattle.pv_order.specs.Growing.{LeavesContent}
 use Rattle.pv_order.specs.Offsets.{GoesBy, moves_offset}
 use Rattle.pv_order.proofs.AskSteps.{fstats-commute}
 use Rattle.pv_order.proofs.CutSteps.{cuts-commute}
-use Rattle.pv_order.proofs.NoDescriptor.{goes-by_none, leaves-content}
+use Rattle.pv_order.proofs.NextCalls.{goes-by_none, leaves-content}
 use Rattle.pv_order.proofs.OffsetSteps.{offsets-commute}
 use Rattle.pv_order.proofs.WriteSteps.{growing-writes-commute}
 
 -- what a call that changes entries is not
 record IsPlain (call : Call) : Type 0 where
   descriptor : descriptor_of call ≡ None
-  opens : flags_of call ≡ None
-  executes : (path : Bytes) → call ≡ TheCall.Execve path → ⊥
+  reads : reads_bytes call ≡ false
+  changes : changes_bytes call ≡ false
   asks : asks_size call ≡ false
 
 plain : (call : Call) → changes_entries call ≡ true → IsPlain call
-plain (TheCall.Mkdir path) is = record { descriptor = refl; opens = refl; executes = λ other same. cc same; asks = refl }
-plain (TheCall.Symlink text path) is = record { descriptor = refl; opens = refl; executes = λ other same. cc same; asks = refl }
-plain (TheCall.Link path new) is = record { descriptor = refl; opens = refl; executes = λ other same. cc same; asks = refl }
-plain (TheCall.Unlink path) is = record { descriptor = refl; opens = refl; executes = λ other same. cc same; asks = refl }
-plain (TheCall.Rmdir path) is = record { descriptor = refl; opens = refl; executes = λ other same. cc same; asks = refl }
-plain (TheCall.Rename path new) is = record { descriptor = refl; opens = refl; executes = λ other same. cc same; asks = refl }
+plain (TheCall.Mkdir path) is = record { descriptor = refl; reads = refl; changes = refl; asks = refl }
+plain (TheCall.Symlink text path) is = record { descriptor = refl; reads = refl; changes = refl; asks = refl }
+plain (TheCall.Link path new) is = record { descriptor = refl; reads = refl; changes = refl; asks = refl }
+plain (TheCall.Unlink path) is = record { descriptor = refl; reads = refl; changes = refl; asks = refl }
+plain (TheCall.Rmdir path) is = record { descriptor = refl; reads = refl; changes = refl; asks = refl }
+plain (TheCall.Rename path new) is = record { descriptor = refl; reads = refl; changes = refl; asks = refl }
 plain call is = cc is
 
 -- two steps in the other order
@@ -49,7 +49,7 @@ module _ (program_of : Bytes → Option Program) (spells : SpellsPrograms progra
   away m = goes-by_none s j p entries at comes (plain entries changes).descriptor m
 
   left : (f : ℕ) → LeavesContent s j f
-  left f = let is = plain entries changes in leaves-content s j p entries at comes is.descriptor is.opens is.executes is.asks f
+  left f = let is = plain entries changes in leaves-content s j p entries at comes is.reads is.changes is.asks f
 
   moves : (call : Call) (d : ℤ) → descriptor_of call ≡ Some d → moves_offset call ≡ true → next q ≡ calls_for call → LeavesNode program_of s q d j → Commute program_of s k j
   moves call d own is next_is leaves =

@@ -3,6 +3,7 @@ use Rattle.std.proofs.Common.{◌≡◌, ℕ, ◌*◌, ◌≤◌, pos, false, No
 use Rattle.std.specs.Prelude.{codes}
 use Rattle.pv_model.specs.declared.call.Call.{Call}
 use Rattle.pv_model.specs.declared.call.Call.TheVariants as TheCall
+use Rattle.pv_model.specs.declared.call.Whence.TheVariants.{Current}
 use Rattle.pv_model.specs.declared.open_flags.Mode.TheVariants.{ReadWrite}
 use Rattle.pv_model.specs.Calls.Descriptors.{within, natural, write_end}
 use Rattle.pv_model.specs.Effect.{open_file}
@@ -11,13 +12,16 @@ use Rattle.pv_model.specs.Program.{calls_for, next}
 use Rattle.pv_model.specs.Room.{rounded_up}
 use Rattle.pv_model.specs.State.{OpenFile, Process, process_at}
 use Rattle.pv_order.specs.Growing.{file_blocks, LeavesContent}
-use Rattle.pv_order.specs.GrowingExamples.{growing_unlinked, shrinking_unlinked, GrowingHappens, CutsHappen}
+use Rattle.pv_order.specs.GrowingExamples.{growing_unlinked, shrinking_beside, GrowingHappens, CutsHappen}
 use Rattle.pv_order.specs.Offsets.{GoesBy}
 use Rattle.pv_order.proofs.Happen.{or_first, or_none}
-use Rattle.pv_order.proofs.NoDescriptor.{goes-by_none, leaves-content}
+use Rattle.pv_order.proofs.NextCalls.{goes-by_none, leaves-content}
 
 abbrev unlink : Call
 unlink = TheCall.Unlink (codes "/x")
+
+abbrev seek : Call
+seek = TheCall.Lseek (pos 0) (pos 0) Current
 
 abbrev stands : OpenFile
 stands = record { node = 2; mode = ReadWrite; append = false; offset = 5; listed = None }
@@ -57,7 +61,7 @@ ends-in_block m file count opened counted =
 left-growing : (m : ℕ) (file : OpenFile) → open_file growing_unlinked writer (pos 0) ≡ Some (m, file) → (¬ GoesBy growing_unlinked 2 m) × LeavesContent growing_unlinked 2 file.node
 left-growing m file opened = (
   goes-by_none growing_unlinked 2 writers_child unlink writers_child-there writers_child-next refl m,
-  leaves-content growing_unlinked 2 writers_child unlink writers_child-there writers_child-next refl refl (λ path is. cc is) refl file.node,
+  leaves-content growing_unlinked 2 writers_child unlink writers_child-there writers_child-next refl refl refl file.node,
 )
 
 pub growing-happens : GrowingHappens
@@ -81,36 +85,36 @@ growing-happens = record {
 -- ---- a cut
 
 abbrev cutter : Process
-cutter = or_first (process_at shrinking_unlinked 1)
+cutter = or_first (process_at shrinking_beside 1)
 
 abbrev cutters_child : Process
-cutters_child = or_first (process_at shrinking_unlinked 2)
+cutters_child = or_first (process_at shrinking_beside 2)
 
-cutter-opened : open_file shrinking_unlinked cutter (pos 0) ≡ Some (0, stands)
+cutter-opened : open_file shrinking_beside cutter (pos 0) ≡ Some (0, stands)
 unfolding machine_on_literals
 cutter-opened = refl
 
-cutters_child-there : process_at shrinking_unlinked 2 ≡ Some cutters_child
+cutters_child-there : process_at shrinking_beside 2 ≡ Some cutters_child
 unfolding machine_on_literals
 cutters_child-there = refl
 
-cutters_child-next : next cutters_child ≡ calls_for unlink
+cutters_child-next : next cutters_child ≡ calls_for seek
 unfolding machine_on_literals
 cutters_child-next = refl
 
-cut-block : file_blocks shrinking_unlinked 2 ≡ 1
+cut-block : file_blocks shrinking_beside 2 ≡ 1
 unfolding machine_on_literals
 cut-block = refl
 
-keeps-block : (m : ℕ) (file : OpenFile) (size : ℕ) → open_file shrinking_unlinked cutter (pos 0) ≡ Some (m, file) → natural (pos 2) ≡ Some size → rounded_up size 512 ≡ file_blocks shrinking_unlinked file.node
+keeps-block : (m : ℕ) (file : OpenFile) (size : ℕ) → open_file shrinking_beside cutter (pos 0) ≡ Some (m, file) → natural (pos 2) ≡ Some size → rounded_up size 512 ≡ file_blocks shrinking_beside file.node
 keeps-block m file size opened is =
     let two : 2 ≡ size = cc is in
     let same : stands ≡ file = ap or_none (sym cutter-opened ∙ opened) in
-    subst (λ (f : OpenFile). rounded_up size 512 ≡ file_blocks shrinking_unlinked f.node) same
-    (subst (λ (i : ℕ). rounded_up i 512 ≡ file_blocks shrinking_unlinked 2) two (sym cut-block))
+    subst (λ (f : OpenFile). rounded_up size 512 ≡ file_blocks shrinking_beside f.node) same
+    (subst (λ (i : ℕ). rounded_up i 512 ≡ file_blocks shrinking_beside 2) two (sym cut-block))
 
-left-cut : (m : ℕ) (file : OpenFile) → open_file shrinking_unlinked cutter (pos 0) ≡ Some (m, file) → LeavesContent shrinking_unlinked 2 file.node
-left-cut m file opened = leaves-content shrinking_unlinked 2 cutters_child unlink cutters_child-there cutters_child-next refl refl (λ path is. cc is) refl file.node
+left-cut : (m : ℕ) (file : OpenFile) → open_file shrinking_beside cutter (pos 0) ≡ Some (m, file) → LeavesContent shrinking_beside 2 file.node
+left-cut m file opened = leaves-content shrinking_beside 2 cutters_child seek cutters_child-there cutters_child-next refl refl refl file.node
 
 pub cuts-happen : CutsHappen
 unfolding machine_on_literals
@@ -120,6 +124,7 @@ cuts-happen = record {
   next_is = refl;
   keeps = keeps-block;
   leaves = left-cut;
+  seeks = refl;
   read_five = refl;
   read_two = refl;
   end_at_five = refl;

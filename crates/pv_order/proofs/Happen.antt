@@ -15,7 +15,7 @@ use Rattle.pv_model.specs.Tree.{file_node, node_at}
 use Rattle.pv_order.specs.Examples.{no_programs, state_behind, apart, unlinking, asking_size, OrderHappens, OffsetsHappen, WritesHappen}
 use Rattle.pv_order.specs.Offsets.{GoesBy}
 use Rattle.pv_order.specs.Writes.{LeavesBytes}
-use Rattle.pv_order.proofs.NoDescriptor.{goes-by_none, leaves-bytes}
+use Rattle.pv_order.proofs.NextCalls.{goes-by_none, leaves-bytes}
 
 abbrev pub or_first : Option Process → Process
 or_first None = first_process []
@@ -118,7 +118,7 @@ left-written : (m : ℕ) (file : OpenFile) → open_file asking_size writer (pos
 left-written m file opened =
     let call : Call = TheCall.Stat (codes "/x") in (
       goes-by_none asking_size 2 asker call asker-there asker-next refl m,
-      leaves-bytes asking_size 2 asker call asker-there asker-next refl refl (λ path is. cc is) file.node,
+      leaves-bytes asking_size 2 asker call asker-there asker-next refl refl file.node,
     )
 
 pub writes-happen : WritesHappen

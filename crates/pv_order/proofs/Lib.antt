@@ -18,7 +18,7 @@ pub mod ContentSteps
 pub mod WriteSteps
 pub mod CutSteps
 pub mod Relabelled
-pub mod NoDescriptor
+pub mod NextCalls
 pub mod EntrySteps
 pub mod Happen
 pub mod GrowingHappen

@@ -1,5 +1,5 @@
 -- States with other bytes in a file, whose lengths are of one size.
-use Rattle.std.proofs.Common.{◌≡◌, ⊎_elim, ℕ, ◌≤◌, true, false, length, Option, None, Some, refl, ap, sym, subst, ◌∙◌, zero-le}
+use Rattle.std.proofs.Common.{◌≡◌, ⊎_elim, ℕ, ◌≤◌, Bool, true, false, length, Option, None, Some, refl, ap, sym, subst, ◌∙◌, zero-le}
 use Rattle.std.specs.Prelude.{Contains, filter_map}
 use Rattle.std.proofs.lemmas.Bool.{le-ltb}
 use Rattle.pv_model.specs.declared.call.Call.{Call}
@@ -12,7 +12,7 @@ use Rattle.pv_model.specs.Held.{trim}
 use Rattle.pv_model.specs.Numbered.{Numbered}
 use Rattle.pv_model.specs.Room.{greatest_length, is_too_long, fits}
 use Rattle.pv_model.specs.Sealed.{is_file}
-use Rattle.pv_model.specs.State.{Program, Process, State}
+use Rattle.pv_model.specs.State.{Program, Process, State, with_tree}
 use Rattle.pv_model.specs.Step.{step}
 use Rattle.pv_model.specs.Touch.{Touch, change_file, file_bytes, with_bytes, place_found, places, IsAllowed, Justifies, read_by_descriptor, read_by_execve, change_by_descriptor, change_by_open, entry_by_place, tell_by_descriptor, tell_by_place, gain_by_open}
 use Rattle.pv_model.specs.Tree.{Node, directory_node, file_node, link_node, node_at}
@@ -41,6 +41,16 @@ bytes-there z f b file = by (node_at z.tree f) refl file
     by (Some (link_node text)) at is = cc is
     by (Some (file_node executable old)) at is =
         ap (λ o. bytes_of (node_at (with_content_of z.tree f o b) f)) at ∙ ap bytes_of (node_at-same z.tree f (file_node executable b) (at_number-below z.tree.nodes f (file_node executable old) at))
+
+-- where no file is, none has other bytes
+no-file : (z : State) (f : ℕ) (b : Bytes) → is_file (node_at z.tree f) ≡ false → with_bytes z f b ≡ z
+no-file z f b none = by (node_at z.tree f) none
+  where
+    by : (o : Option Node) → is_file o ≡ false → with_tree z (with_content_of z.tree f o b) ≡ z
+    by None is = refl
+    by (Some (directory_node es)) is = refl
+    by (Some (link_node text)) is = refl
+    by (Some (file_node executable old)) is = cc is
 
 -- a file is not longer than any may be
 file-within : (z : State) (f : ℕ) → IsWhole z → length (file_bytes z f) ≤ greatest_length z.tree.version
@@ -145,24 +155,31 @@ module _ (size : ℕ → ℕ) (fine : IsFine size) where
       pub lines : (step program_of (with_bytes s f b) k).lines ≡ (step program_of s k).lines
       pub after : (step program_of (with_bytes s f b) k).after ≡ with_bytes (step program_of s k).after f b
 
-    pub goes-along : (s : State) (b : Bytes) → IsWhole s → is_file (node_at s.tree f) ≡ true → is_file (node_at (step program_of s k).after.tree f) ≡ true → size (length b) ≡ size (length (file_bytes s f)) → are_bytes b ≡ true
-        → LeavesBytes s k f → (DoesNext GoesByLength s k f → IsExact size) → GoesAlong s b
-    goes-along s b whole file behind long good leaves exact =
-        let t : State = (step program_of s k).after in
-        let s' : State = with_bytes s f b in
-        let t' : State = (step program_of s' k).after in
-        ⊎_elim
-        (λ read. absurd (leaves.0 read))
-        (λ alike.
-        let file' : is_file (node_at s'.tree f) ≡ true = still-file s f b long ∙ file in
-        let behind' : is_file (node_at t'.tree f) ≡ true =
-        near-view size is_file (node_at t.tree f) (node_at t'.tree f) (λ executable old new same. refl) (near-at size f t.tree.nodes t'.tree.nodes alike.after.nodes f) ∙ behind in
-        let same : file_bytes t' f ≡ b = bytes-left program_of k f s' (whole-bytes s f b long whole file good) file' behind' (λ is. leaves.1 (changes-near s k f b long is)) ∙ bytes-there s f b file in
-        record { outcome = alike.outcome; lines = alike.lines; after = sym (same-but_file size f t t' alike.after) ∙ ap (with_bytes t f) same })
+    pub goes-along : (s : State) (b : Bytes) → IsWhole s → is_file (node_at s.tree f) ≡ true → size (length b) ≡ size (length (file_bytes s f)) → are_bytes b ≡ true → LeavesBytes s k f
+        → (DoesNext GoesByLength s k f → IsExact size) → GoesAlong s b
+    goes-along s b whole file long good leaves exact =
+        ⊎_elim (λ read. absurd (leaves.0 read)) (λ alike. record { outcome = alike.outcome; lines = alike.lines; after = sym (same-but_file size f t t' alike.after) ∙ behind alike.after (is_file (node_at t.tree f)) refl })
         (near-or_read size fine program_of s k f b long exact)
+      where
+        t : State
+        t = (step program_of s k).after
+
+        s' : State
+        s' = with_bytes s f b
+
+        t' : State
+        t' = (step program_of s' k).after
+
+        behind : IsNear size f t t' → (is : Bool) → is_file (node_at t.tree f) ≡ is → with_bytes t f (file_bytes t' f) ≡ with_bytes t f b
+        behind near false none = no-file t f (file_bytes t' f) none ∙ sym (no-file t f b none)
+        behind near true there =
+            let file' : is_file (node_at s'.tree f) ≡ true = still-file s f b long ∙ file in
+            let there' : is_file (node_at t'.tree f) ≡ true =
+            near-view size is_file (node_at t.tree f) (node_at t'.tree f) (λ executable old new same. refl) (near-at size f t.tree.nodes t'.tree.nodes near.nodes f) ∙ there in
+            ap (with_bytes t f) (bytes-left program_of k f s' (whole-bytes s f b long whole file good) file' there' (λ is. leaves.1 (changes-near s k f b long is)) ∙ bytes-there s f b file)
 
 -- a step that leaves a file goes along other bytes in as many blocks
 pub contents-alter-nothing : ContentsAlterNothing
-contents-alter-nothing program_of s pid f bytes whole file behind good long leaves =
-    let along = goes-along blocks blocks-fine program_of pid f s bytes whole file behind long good leaves.0 (λ by. absurd (not_by-length s pid f leaves by)) in
+contents-alter-nothing program_of s pid f bytes whole file good long leaves =
+    let along = goes-along blocks blocks-fine program_of pid f s bytes whole file long good leaves.0 (λ by. absurd (not_by-length s pid f leaves by)) in
     record { outcome = along.outcome; lines = along.lines; after = along.after }

@@ -34,10 +34,10 @@ pub record StepsBesideBytes (f : ℕ) (bytes : Bytes) (a b : Stepped) : Type 0 w
   pub lines : b.lines ≡ a.lines
   pub after : b.after ≡ with_bytes a.after f bytes
 
--- a step of such a call depends on nothing of the file's bytes but the number of their blocks, and leaves them, where the file stays
+-- a step of such a call depends on nothing of the file's bytes but the number of their blocks, and leaves them, where it leaves the file
 abbrev pub ContentsAlterNothing : Type 0
 ContentsAlterNothing =
-    (program_of : Bytes → Option Program) (s : State) (pid f : ℕ) (bytes : Bytes) → IsWhole s → IsTrue (is_file (node_at s.tree f)) → IsTrue (is_file (node_at (step program_of s pid).after.tree f))
+    (program_of : Bytes → Option Program) (s : State) (pid f : ℕ) (bytes : Bytes) → IsWhole s → IsTrue (is_file (node_at s.tree f))
     → IsTrue (are_bytes bytes) → rounded_up (length bytes) BLOCK ≡ file_blocks s f → LeavesContent s pid f
     → StepsBesideBytes f bytes (step program_of s pid) (step program_of (with_bytes s f bytes) pid)
 

@@ -47,8 +47,12 @@ before_second = before ++ 2 ∷ []
 abbrev pub growing_unlinked : State
 growing_unlinked = state_behind (five_bytes grows (Unlink (codes "/x") ∷ [])) before
 
-abbrev pub shrinking_unlinked : State
-shrinking_unlinked = state_behind (five_bytes shrinks (Unlink (codes "/x") ∷ [])) before
+-- the child asks where the open file that they share stands
+abbrev pub to_ask_where : List Instruction
+to_ask_where = Lseek (Number (pos 0)) (Number (pos 0)) Current ∷ []
+
+abbrev pub shrinking_beside : State
+shrinking_beside = state_behind (five_bytes shrinks to_ask_where) before
 
 -- the child reads the file, or goes to its end, by an open file of its own
 abbrev pub to_its_end : List Instruction
@@ -64,9 +68,8 @@ told_before changes others = (step no_programs (state_behind (five_bytes changes
 abbrev pub told_behind : Instruction → List Instruction → Outcome
 told_behind changes others = (step no_programs (state_behind (five_bytes changes others) (before_second ++ 1 ∷ [])) 2).outcome
 
--- the child asks where the open file that they share stands
 abbrev pub shared : Program
-shared = five_bytes grows (Lseek (Number (pos 0)) (Number (pos 0)) Current ∷ [])
+shared = five_bytes grows to_ask_where
 
 -- an image with as many blocks, of which the names take one
 abbrev pub state_within : ℕ → Program → List ℕ → State
@@ -113,12 +116,13 @@ pub record GrowingHappens : Type 0 where
   pub finds_none : (step no_programs (state_within 2 both_grow (replicate 4 1 ++ 2 ∷ 2 ∷ [])) 1).outcome ≡ Failed ENOSPC Plain
 
 pub record CutsHappen : Type 0 where
-  -- a cut that leaves its file in its block, beside an unlink of it: the law's premises
+  -- a cut that leaves its file in its block, beside a step through the same open file: the law's premises
   pub cutter : Process
-  pub there : process_at shrinking_unlinked 1 ≡ Some cutter
+  pub there : process_at shrinking_beside 1 ≡ Some cutter
   pub next_is : next cutter ≡ calls_for (TheCall.Ftruncate (pos 0) (pos 2))
-  pub keeps : KeepsBlocks shrinking_unlinked cutter (pos 0) (pos 2)
-  pub leaves : LeavesCut shrinking_unlinked cutter (pos 0) 2
+  pub keeps : KeepsBlocks shrinking_beside cutter (pos 0) (pos 2)
+  pub leaves : LeavesCut shrinking_beside cutter (pos 0) 2
+  pub seeks : (step no_programs shrinking_beside 2).outcome ≡ Value 5
   -- beside a read, and a step to the file's end: they are told of the shorter file
   pub read_five : told_before shrinks to_read ≡ Text (record { value = 5; len = 5 })
   pub read_two : told_behind shrinks to_read ≡ Text (record { value = 2; len = 2 })

@@ -23,8 +23,8 @@ pub fn growing_happens()
     ensures { GrowingHappens }
 {}
 
-/// A cut of a file within its block and an unlink of the file may be made in either order; but a read and a step to the file's end
-/// are told of the shorter file, and a cut that frees a block lets the other's write have it.
+/// A cut of a file within its block and a step through the same open file may be made in either order; but a read and a step to the
+/// file's end are told of the shorter file, and a cut that frees a block lets the other's write have it.
 pub fn cuts_happen()
     ensures { CutsHappen }
 {}
