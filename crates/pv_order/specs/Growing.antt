@@ -34,14 +34,14 @@ pub record StepsBesideBytes (f : ℕ) (bytes : Bytes) (a b : Stepped) : Type 0 w
   pub lines : b.lines ≡ a.lines
   pub after : b.after ≡ with_bytes a.after f bytes
 
--- a step of such a call depends on nothing of the file's bytes but the number of their blocks, and leaves them, where it leaves the file
+-- a step that leaves what a file holds depends on nothing of its bytes but the number of their blocks, and leaves them, unless it frees the file
 abbrev pub ContentsAlterNothing : Type 0
 ContentsAlterNothing =
     (program_of : Bytes → Option Program) (s : State) (pid f : ℕ) (bytes : Bytes) → IsWhole s → IsTrue (is_file (node_at s.tree f))
     → IsTrue (are_bytes bytes) → rounded_up (length bytes) BLOCK ≡ file_blocks s f → LeavesContent s pid f
     → StepsBesideBytes f bytes (step program_of s pid) (step program_of (with_bytes s f bytes) pid)
 
--- the next step of process k goes by no open file of descriptor d of p, and leaves the file behind it
+-- the next step of process k goes by no open file of descriptor d of p, and leaves what the file behind it holds
 abbrev pub LeavesGrowing : State → Process → ℤ → ℕ → Type 0
 LeavesGrowing s p d k = (m : ℕ) (file : OpenFile) → open_file s p d ≡ Some (m, file) → (¬ GoesBy s k m) × LeavesContent s k file.node
 
@@ -50,14 +50,14 @@ abbrev pub EndsInBlocks : State → ℕ → Process → ℤ → ℤ → Type 0
 EndsInBlocks s pid p d c =
     (m : ℕ) (file : OpenFile) (count : ℕ) → open_file s p d ≡ Some (m, file) → within BUFFER c ≡ Some count → write_end s pid p file count ≤ BLOCK * file_blocks s file.node
 
--- such a write, where it does not kill, and a step of another process that leaves what it goes by and what it writes, which may else make, free or end what it will, may be made in either order
+-- such a write, where it does not kill, and such a step of another process, which may else make, free or end what it will, may be made in either order
 abbrev pub GrowingWritesCommute : Type 0
 GrowingWritesCommute =
     (program_of : Bytes → Option Program) → SpellsPrograms program_of → (s : State) (j k : ℕ) (p : Process) (d c : ℤ) → IsWhole s → j ≢ k → process_at s j ≡ Some p → next p ≡ calls_for (Write d c)
     → ((a : Promise) → (step program_of s j).outcome ≢ Killed a) → EndsInBlocks s j p d c → LeavesGrowing s p d k
     → Commute program_of s j k
 
--- the next step of process k leaves the file behind descriptor d of p
+-- the next step of process k leaves what the file behind descriptor d of p holds
 abbrev pub LeavesCut : State → Process → ℤ → ℕ → Type 0
 LeavesCut s p d k = (m : ℕ) (file : OpenFile) → open_file s p d ≡ Some (m, file) → LeavesContent s k file.node
 
@@ -66,7 +66,7 @@ abbrev pub KeepsBlocks : State → Process → ℤ → ℤ → Type 0
 KeepsBlocks s p d n =
     (m : ℕ) (file : OpenFile) (size : ℕ) → open_file s p d ≡ Some (m, file) → natural n ≡ Some size → rounded_up size BLOCK ≡ file_blocks s file.node
 
--- a cut to as many bytes, where it does not kill, and a step of another process that leaves the file, which may else make, free or end what it will, may be made in either order
+-- a cut to as many bytes, where it does not kill, and such a step of another process, which may else make, free or end what it will, may be made in either order
 abbrev pub CutsCommute : Type 0
 CutsCommute =
     (program_of : Bytes → Option Program) → SpellsPrograms program_of → (s : State) (j k : ℕ) (p : Process) (d n : ℤ) → IsWhole s → j ≢ k → process_at s j ≡ Some p → next p ≡ calls_for (Ftruncate d n)
