@@ -59,7 +59,7 @@ bytes-by_descriptor program_of s pid p f whole at none changes =
     let e = files-written program_of s pid f whole changes in
     let same = one-of p e.me s pid e.at at in
     let has : HasDescriptor s e.me e.call writes f =
-    ⊎_elim (λ own. own)
+    ⊎_elim (λ own. own.1)
     (λ cut. absurd (no-wpath e.me.promises cut.flags.mode (if cut.flags.create then needs_cpath else []) cut.written (ap (is_pledged_without (Wpath ∷ [])) same ∙ none)
     (ap (missing_promise e.me.promises) (sym (needs-open e.call cut.flags cut.flagged)) ∙ e.held))) e.written in
     (e.call, ap next (sym same) ∙ e.next_is, subst (λ (q : Process). HasDescriptor s q e.call writes f) same has)

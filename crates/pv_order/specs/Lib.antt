@@ -4,5 +4,9 @@ pub mod Asking
 pub mod Offsets
 pub mod Writes
 pub mod Holding
+pub mod Growing
+pub mod Entries
 pub mod Tableless
 pub mod Examples
+pub mod GrowingExamples
+pub mod EntriesExamples

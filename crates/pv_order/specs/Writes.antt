@@ -10,15 +10,15 @@ use Rattle.pv_model.specs.Effect.{open_file}
 use Rattle.pv_model.specs.Program.{calls_for, next}
 use Rattle.pv_model.specs.State.{OpenFile, Program, Process, State, process_at}
 use Rattle.pv_model.specs.Step.{step}
-use Rattle.pv_model.specs.Touch.{read_file, change_file, file_bytes}
+use Rattle.pv_model.specs.Touch.{file_bytes}
 use Rattle.pv_laws.specs.States.{SpellsPrograms, IsWhole}
-use Rattle.pv_rights.specs.Justice.{IsExplained}
+use Rattle.pv_rights.specs.Justice.{ReadsBytes, ChangesBytes, DoesNext}
 use Rattle.pv_order.specs.Commuting.{Commute}
 use Rattle.pv_order.specs.Offsets.{GoesBy}
 
--- the next call of a process has nothing by which it might read or change the bytes of a file: no descriptor of it that is open for that, no execve of it, no open that cuts it
+-- the next call of a process neither reads the bytes of a file nor might change them: it is no read, write or ftruncate by a descriptor of it that is open for that, no execve of it, and no open that cuts it
 abbrev pub LeavesBytes : State → ℕ → ℕ → Type 0
-LeavesBytes s pid f = (¬ IsExplained s pid (read_file f)) × (¬ IsExplained s pid (change_file f))
+LeavesBytes s pid f = (¬ DoesNext ReadsBytes s pid f) × (¬ DoesNext ChangesBytes s pid f)
 
 -- the next step of process k goes by no open file of descriptor d of p, and leaves the bytes behind it
 abbrev pub LeavesWrite : State → Process → ℤ → ℕ → Type 0

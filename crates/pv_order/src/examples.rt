@@ -2,6 +2,8 @@
 
 ghost use Rattle.pv_order.specs.Examples.{OrderHappens, OffsetsHappen, WritesHappen};
 ghost use Rattle.pv_order.specs.Examples.{DescriptorsHappen, DirectoriesHappen};
+ghost use Rattle.pv_order.specs.GrowingExamples.{GrowingHappens, CutsHappen};
+ghost use Rattle.pv_order.specs.EntriesExamples.{EntriesHappen};
 
 /// Behind a fork each of two processes may ask for its number first; but of two that go on through one open file which they
 /// share, each is told where the other left it.
@@ -25,6 +27,26 @@ pub fn descriptors_happen()
 /// number where a chdir out of a directory without a name comes first.
 pub fn directories_happen()
     ensures { DirectoriesHappen }
+{}
+
+/// A write that makes its file longer within its block and an unlink of the file may be made in either order; but a read, a step to
+/// the file's end and a step through the same open file are told of the longer file, and of two writes that need the last block the
+/// first gets it.
+pub fn growing_happens()
+    ensures { GrowingHappens }
+{}
+
+/// A cut of a file within its block and a step through the same open file may be made in either order; but a read and a step to the
+/// file's end are told of the shorter file, and a cut that frees a block lets the other's write have it.
+pub fn cuts_happen()
+    ensures { CutsHappen }
+{}
+
+/// A listing of a directory and a rename of it may be made in either order; but a listing of the directory above is told the new
+/// name, a symlink takes the last block from another's write, an fstat is told of a file that became longer, and a getppid of the
+/// process that adopted.
+pub fn entries_happen()
+    ensures { EntriesHappen }
 {}
 
 /// A write within its file and a stat of the file may be made in either order; but of two writes to the same bytes the later one's

@@ -9,6 +9,8 @@
 //! - `offsets`: what of open files steps do not depend on, and steps that move where one stands.
 //! - `writes`: writes that stay within their files.
 //! - `holding`: steps that change what their own process holds.
+//! - `growing`: writes and cuts that leave their file in as many blocks.
+//! - `entries`: calls that change entries, beside calls on descriptors.
 //! - `tableless`: calls on descriptors do not ask the table.
 //! - `examples`: steps that may be made in either order, and steps that may not.
 #![tactic(auto)]
@@ -16,7 +18,9 @@
 pub mod asking;
 pub mod beside;
 pub mod commuting;
+pub mod entries;
 pub mod examples;
+pub mod growing;
 pub mod holding;
 pub mod offsets;
 pub mod tableless;

@@ -31,6 +31,7 @@ use Rattle.pv_laws.specs.States.{is_call, IsWhole}
 use Rattle.pv_laws.proofs.Attempts.{Leads, leads-after_walks, leads-walk}
 use Rattle.pv_laws.proofs.Standing.{IsFinePlace}
 use Rattle.pv_rights.specs.Growth.{MayDoNoMore}
+use Rattle.pv_rights.specs.Justice.{changes_bytes}
 use Rattle.pv_model.specs.Walks.{Walk}
 
 -- an answer that the process goes on with
@@ -39,6 +40,10 @@ goes_on (returns n) = true
 goes_on (returns_bytes n bytes) = true
 goes_on (ends status) = false
 goes_on waits = false
+
+-- a call that changes bytes, by its own descriptor of a file that is open for writing
+abbrev pub WritesBy : State → Process → Call → ℕ → Type 0
+WritesBy s me call f = (changes_bytes call ≡ true) × HasDescriptor s me call writes f
 
 module _ (s : State) (pid : ℕ) (me : Process) (call : Call) where
   -- in a whole state the place is one that calls may use
@@ -74,8 +79,8 @@ module _ (s : State) (pid : ℕ) (me : Process) (call : Call) where
     -- an open file stands elsewhere
     moves : (k : ℕ) (old new : OpenFile) (r : Reply) → at_number s.files k ≡ Some old → new.node ≡ old.node → new.mode ≡ old.mode → IsOwnFile k old → goes_on r ≡ true → Does (with_file s k new) r
     -- a file has other bytes
-    cuts : (f : ℕ) (bytes : Bytes) → HasDescriptor s me call writes f → Does (with_tree s (with_content s.tree f bytes)) (returns 0)
-    writes_bytes : (f : ℕ) (bytes : Bytes) (k : ℕ) (old new : OpenFile) (n : ℕ) → HasDescriptor s me call writes f → at_number s.files k ≡ Some old → new.node ≡ old.node → new.mode ≡ old.mode → IsOwnFile k old
+    cuts : (f : ℕ) (bytes : Bytes) → WritesBy s me call f → Does (with_tree s (with_content s.tree f bytes)) (returns 0)
+    writes_bytes : (f : ℕ) (bytes : Bytes) (k : ℕ) (old new : OpenFile) (n : ℕ) → WritesBy s me call f → at_number s.files k ≡ Some old → new.node ≡ old.node → new.mode ≡ old.mode → IsOwnFile k old
         → Does (with_file (with_tree s (with_content s.tree f bytes)) k new) (returns n)
     -- an entry comes, goes, or moves
     makes : (place : Place) (p : ℕ × Bytes) (node : Node) → MayChange place p → node_of place ≡ None → entries_of (Some node) ≡ []

@@ -17,7 +17,7 @@ use Rattle.pv_model.specs.Effect.{Effect, returns, answers, judge_for, walk_from
 use Rattle.pv_model.specs.Needs.{needs, needs_cpath}
 use Rattle.pv_model.specs.Perms.{letter_r, letter_c}
 use Rattle.pv_model.specs.State.{OpenFile, Process, State, writes, with_tree}
-use Rattle.pv_model.specs.Touch.{place_found, places, HasDescriptor}
+use Rattle.pv_model.specs.Touch.{place_found, places}
 use Rattle.pv_model.specs.Tree.{Node, directory_node, link_node, entries_of, node_at, is_directory_at, entries_at, with_new_node, with_entry, without_entry}
 use Rattle.pv_model.specs.Unveil.{judgement}
 use Rattle.pv_model.specs.Walk.{resolve}
@@ -26,7 +26,7 @@ use Rattle.pv_laws.proofs.Attempts.{Leads, leads-then, leads-refuse_if, leads-de
 use Rattle.pv_laws.proofs.ByFile.{open_file-at}
 use Rattle.pv_laws.proofs.ByTree.{fine-place}
 use Rattle.pv_laws.proofs.Rests
-use Rattle.pv_rights.proofs.Does.{Does, stays, cuts, writes_bytes, makes, links, unlinks, renames, MayChange, Did, first-place, second-place, leads-judged, open_file_for-is}
+use Rattle.pv_rights.proofs.Does.{WritesBy, Does, stays, cuts, writes_bytes, makes, links, unlinks, renames, MayChange, Did, first-place, second-place, leads-judged, open_file_for-is}
 use Rattle.pv_model.specs.Walks.{Walk, from_here, mkdir_walk, symlink_walk, linked_walk, new_link_walk, unlink_walk, rmdir_walk, rename_walk}
 
 no_node : (o : Option ℕ) → is_some o ≡ false → o ≡ None
@@ -163,7 +163,7 @@ module _ (s : State) (pid : ℕ) (me : Process) where
 
   -- ---- bytes
 
-  does-written : (d n : ℤ) (k : ℕ) (file : OpenFile) (count : ℕ) → HasDescriptor s me (TheCall.Write d n) writes file.node → open_file s me d ≡ Some (k, file) → Rattle.pv_model.specs.Numbered.at_number s.files k ≡ Some file
+  does-written : (d n : ℤ) (k : ℕ) (file : OpenFile) (count : ℕ) → WritesBy s me (TheCall.Write d n) file.node → open_file s me d ≡ Some (k, file) → Rattle.pv_model.specs.Numbered.at_number s.files k ≡ Some file
       → Does s pid me (TheCall.Write d n) (after_write s pid me k file count) (returns count)
   does-written d n k file zero has is there = stays (returns 0)
   does-written d n k file (suc m) has is there =
@@ -178,7 +178,7 @@ module _ (s : State) (pid : ℕ) (me : Process) where
       leads-then (D C) (refuse_if EFBIG (is_past_greatest s.tree (write_end s pid me file count))) (Rests.write_3 s pid me k file count) (
       leads-room (D C) (after_write s pid me k file count) (λ roomy. answers roomy count) (λ short fit.
       let both = open_file_for-is s pid me writes d k file is in
-      does-written d n k file count (d, k, file, refl, both.0, refl, both.1) both.0 (open_file-at s me d k file both.0)))))
+      does-written d n k file count (refl, (d, k, file, refl, both.0, refl, both.1)) both.0 (open_file-at s me d k file both.0)))))
 
   pub does-ftruncate : (d n : ℤ) → Leads (D (TheCall.Ftruncate d n)) (ftruncate s pid me d n)
   does-ftruncate d n =
@@ -188,4 +188,4 @@ module _ (s : State) (pid : ℕ) (me : Process) where
       leads-demand (D C) EINVAL (natural n) (Rests.ftruncate_3 s pid me file) (λ size natural_size.
       leads-then (D C) (refuse_if EFBIG (is_past_greatest s.tree size)) (Rests.ftruncate_4 s pid me file size) (
       leads-room (D C) (Rests.resized s pid me file size) (λ roomy. answers roomy 0) (λ short fit.
-      cuts file.node (resize (bytes_of (node_at s.tree file.node)) size) (d, k, file, refl, is, refl, not-false (writes file.mode) may_write))))))
+      cuts file.node (resize (bytes_of (node_at s.tree file.node)) size) (refl, (d, k, file, refl, is, refl, not-false (writes file.mode) may_write)))))))

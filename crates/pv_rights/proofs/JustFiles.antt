@@ -20,7 +20,7 @@ use Rattle.pv_model.specs.Program.{calls_for, next}
 use Rattle.pv_model.specs.Promises.{Need, missing_promise}
 use Rattle.pv_model.specs.Sealed.{is_file}
 use Rattle.pv_model.specs.State.{Program, Process, State, writes, process_at}
-use Rattle.pv_model.specs.Touch.{Touch, change_file, change_entry, file_bytes, flags_of, IsAllowed, HasDescriptor, Touches, Justifies, change_by_descriptor, change_by_open, entry_by_place}
+use Rattle.pv_model.specs.Touch.{change_file, change_entry, file_bytes, flags_of, IsAllowed, Touches, Justifies, change_by_descriptor, change_by_open, entry_by_place}
 use Rattle.pv_model.specs.Tree.{Node, file_node, Tree, node_at, entries_of, is_directory_at, find_entry, with_entry, without_entry, with_new_node}
 use Rattle.pv_model.specs.Unveil.{Table, letters_at, judge_entry, governing_entry, judgement}
 use Rattle.pv_laws.specs.States.{is_call, IsTree, IsWhole}
@@ -32,7 +32,7 @@ use Rattle.pv_tree_laws.proofs.Entries.{by_name}
 use Rattle.pv_laws.proofs.Outcomes.{at_call}
 use Rattle.pv_laws.proofs.Processes.{process_at-same, tree-update}
 use Rattle.pv_laws.proofs.Replies.{whole-at_call}
-use Rattle.pv_rights.specs.Justice.{IsExplained}
+use Rattle.pv_rights.specs.Justice.{changes_bytes, ChangesBytes, DoesNext, IsExplained}
 use Rattle.pv_rights.proofs.Changed.{cases_entry, content-other, entries-content, file-beside, entry-with_other, entry-without_other, new-within, entry-new_other, file-new, entry-trim, file-trim}
 use Rattle.pv_rights.proofs.Does
 use Rattle.pv_rights.proofs.Narrowing.{covers-along}
@@ -99,10 +99,18 @@ pub record IsCut (s : State) (me : Process) (call : Call) (f : ℕ) : Type 0 whe
 
 -- how a call writes a file: by a descriptor that is open for writing, or by such an open
 abbrev pub IsWritten : State → Process → Call → ℕ → Type 0
-IsWritten s me call f = HasDescriptor s me call writes f ⊎ IsCut s me call f
+IsWritten s me call f = Does.WritesBy s me call f ⊎ IsCut s me call f
 
 written-justifies : (s : State) (me : Process) (call : Call) (f : ℕ) → IsWritten s me call f → Justifies s me call (change_file f)
-written-justifies s me call f is = ⊎_elim (λ has. change_by_descriptor f has) (λ c. change_by_open c.flags c.place f c.flagged c.truncates c.allowed c.node) is
+written-justifies s me call f is = ⊎_elim (λ has. change_by_descriptor f has.1) (λ c. change_by_open c.flags c.place f c.flagged c.truncates c.allowed c.node) is
+
+written-changes : (s : State) (me : Process) (call : Call) (f : ℕ) → IsWritten s me call f → changes_bytes call ≡ true
+written-changes s me call f is = ⊎_elim (λ has. has.0) (λ c. opens call c.flags c.flagged) is
+  where
+    opens : (call : Call) (flags : OpenFlags) → flags_of call ≡ Some flags → changes_bytes call ≡ true
+    opens (TheCall.Open path g) flags flagged = refl
+    opens (TheCall.OpenAt start path g) flags flagged = refl
+    opens call flags flagged = cc flagged
 
 -- a call needs cpath, perhaps behind others
 abbrev pub AsksCpath : Call → Type 0
@@ -339,3 +347,9 @@ pub files-justified : (program_of : Bytes → Option Program) (s : State) (pid :
 files-justified program_of s pid f whole changes =
     let e = files-written program_of s pid f whole changes in
     (e.me, e.call, e.at, e.next_is, e.held, written-justifies s e.me e.call f e.written)
+
+-- so by a call that changes bytes
+pub files-changed : (program_of : Bytes → Option Program) (s : State) (pid : ℕ) (f : ℕ) → IsWhole s → Touches program_of s pid (change_file f) → DoesNext ChangesBytes s pid f
+files-changed program_of s pid f whole changes =
+    let e = files-written program_of s pid f whole changes in
+    (e.me, e.call, e.at, e.next_is, e.held, (written-changes s e.me e.call f e.written, written-justifies s e.me e.call f e.written))

@@ -1,6 +1,8 @@
 -- Laws of what justifies each touch of a step.
-use Rattle.std.specs.Prelude.{◌≡◌, ℕ, Option, None, Some}
+use Rattle.std.specs.Prelude.{◌≡◌, ℕ, Bool, true, false, IsTrue, Option, None, Some}
 use Rattle.pv_model.specs.declared.call.Call.{Call}
+use Rattle.pv_model.specs.declared.call.Call.TheVariants.{Execve, Open, OpenAt, Read, Write, Lseek, Fstat, Ftruncate, Stat, Lstat}
+use Rattle.pv_model.specs.declared.call.Whence.TheVariants.{End}
 use Rattle.pv_model.specs.declared.open_flags.Mode.{Mode}
 use Rattle.pv_model.specs.Bytes.{Bytes}
 use Rattle.pv_model.specs.Needs.{needs}
@@ -15,6 +17,42 @@ abbrev pub IsExplained : State → ℕ → Touch → Type 0
 IsExplained s pid touch =
     (p : Process) × (call : Call) × (process_at s pid ≡ Some p) × (next p ≡ calls_for call)
     × (missing_promise p.promises (needs call) ≡ None) × Justifies s p call touch
+
+-- calls that read a file's bytes, that may change them, and that ask for the size of the node of which they tell
+abbrev pub reads_bytes : Call → Bool
+reads_bytes (Read d n) = true
+reads_bytes (Execve path) = true
+reads_bytes call = false
+
+abbrev pub changes_bytes : Call → Bool
+changes_bytes (Write d n) = true
+changes_bytes (Ftruncate d n) = true
+changes_bytes (Open path flags) = true
+changes_bytes (OpenAt start path flags) = true
+changes_bytes call = false
+
+abbrev pub asks_size : Call → Bool
+asks_size (Stat path) = true
+asks_size (Lstat path) = true
+asks_size (Fstat d) = true
+asks_size (Lseek d by End) = true
+asks_size call = false
+
+-- a call reads the bytes of a file, changes them, or asks how many they are, where that is justified
+abbrev pub ReadsBytes : State → Process → Call → ℕ → Type 0
+ReadsBytes s p call f = IsTrue (reads_bytes call) × Justifies s p call (read_file f)
+
+abbrev pub ChangesBytes : State → Process → Call → ℕ → Type 0
+ChangesBytes s p call f = IsTrue (changes_bytes call) × Justifies s p call (change_file f)
+
+abbrev pub AsksSize : State → Process → Call → ℕ → Type 0
+AsksSize s p call f = IsTrue (asks_size call) × Justifies s p call (tell_node f)
+
+-- the next call of a process, whose promises are held, does so
+abbrev pub DoesNext : (State → Process → Call → ℕ → Type 0) → State → ℕ → ℕ → Type 0
+DoesNext Does s pid f =
+    (p : Process) × (call : Call) × (process_at s pid ≡ Some p) × (next p ≡ calls_for call)
+    × (missing_promise p.promises (needs call) ≡ None) × Does s p call f
 
 -- an entry changes only where a place of the call's at that entry is allowed for c
 abbrev pub EntriesAreJustified : Type 0

@@ -8,17 +8,17 @@ use Rattle.pv_model.specs.Trace.{trace_bytes}
 use Rattle.pv_laws.specs.States.{SpellsPrograms, IsWhole}
 use Rattle.pv_laws.proofs.BySteps.{step-keeps_whole}
 use Rattle.pv_rights.proofs.Closed.{sealed-answers_alike}
-use Rattle.pv_rights.proofs.Near.{near-bytes, near-length_of, same-but_file}
+use Rattle.pv_rights.proofs.Near.{as_is, near-bytes, near-length_of, same-but_file}
 use Rattle.pv_secrets.specs.Sealing.{IsSealedFile, IsFrozenFile, IsLeftFrozen, RunAlike, TellsNothing}
 use Rattle.pv_secrets.proofs.Stays.{sealed-stays, frozen-stays}
 
 pub sealed-for_ever : (program_of : Bytes → Option Program) → SpellsPrograms program_of → (s : State) (pids : List ℕ) (f : ℕ) (bytes : Bytes) → IsWhole s → IsSealedFile s f
     → length bytes ≡ length (file_bytes s f) → TellsNothing program_of s pids f bytes
 sealed-for_ever program_of spells s [] f bytes whole is long =
-    let near = near-bytes s f bytes long in
+    let near = near-bytes as_is s f bytes long in
     record {
       still = is;
-      alike = record { lines = refl; text = refl; final = same-but_file f s (with_bytes s f bytes) near; as_many = near-length_of f s (with_bytes s f bytes) near };
+      alike = record { lines = refl; text = refl; final = same-but_file as_is f s (with_bytes s f bytes) near; as_many = near-length_of as_is f s (with_bytes s f bytes) near };
     }
 sealed-for_ever program_of spells s (pid ∷ pids) f bytes whole is long =
     let alike = sealed-answers_alike program_of s pid f bytes whole is.file is.sealed long in
