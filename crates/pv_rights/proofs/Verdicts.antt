@@ -26,7 +26,7 @@ use Rattle.pv_model.specs.Unveil.{Table, entry_for, letters_at, directory_rights
 use Rattle.pv_model.proofs.Rights.{Governs-directory_rights, directory_rights-Governs}
 use Rattle.pv_tree_laws.proofs.Above.{ancestors-above}
 use Rattle.pv_tree_laws.proofs.Trees.{IsOrdered, ordered, sound}
-use Rattle.pv_rights.specs.Reasons.{IsFirstReason, IsExact}
+use Rattle.pv_rights.specs.Reasons.{IsFirstReason, IsFirstLeak, IsExact}
 use Rattle.pv_rights.proofs.Members.{In, empty-from, none-in, in-map, map-in, in-filter, filter-in, in-kept, kept-in, in-flat, flat-in, any-in, in-any, least-in, least-low, numbered-at, at-numbered, entry-in, in-entry}
 
 -- ---- promises
@@ -496,6 +496,43 @@ module _ (s : State) (f : ℕ) where
       by : (l : List Why) → is_empty l ≡ true → Sealed.first_leak s f ps ≡ None → Sealed.leak_or pid l (Sealed.first_leak s f ps) ≡ None
       by [] none rest = rest
       by (why ∷ whys) none rest = cc none
+
+  pub first-leaks : (ps : Leaky) (pid : ℕ) (why : Why) → Sealed.first_leak s f ps ≡ Some (pid, why) → IsFirstLeak s f ps pid why
+  first-leaks [] pid why is = cc is
+  first-leaks ((n, p) ∷ ps) pid why is = by (λ later. first-leaks ps pid why later) (Sealed.leaks s p f) refl is
+    where
+      by : (Sealed.first_leak s f ps ≡ Some (pid, why) → IsFirstLeak s f ps pid why) → (l : List Why) → Sealed.leaks s p f ≡ l → Sealed.leak_or n l (Sealed.first_leak s f ps) ≡ Some (pid, why)
+          → IsFirstLeak s f ((n, p) ∷ ps) pid why
+      by again [] none later =
+          let rest = again later in
+          record {
+            process = rest.process;
+            before = (n, p) ∷ rest.before;
+            behind = rest.behind;
+            stands = ap (λ (qs : Leaky). (n, p) ∷ qs) rest.stands;
+            quiet = and_from _ _ (ap is_empty none) rest.quiet;
+            whys = rest.whys;
+            leaks = rest.leaks;
+          }
+      by again (w ∷ ws) some told =
+          let one : ◌≡◌ {A = ℕ × Why} (n, w) (pid, why) = cc told in
+          let number : n ≡ pid = ap (λ (x : ℕ × Why). x.0) one in
+          let reason : w ≡ why = ap (λ (x : ℕ × Why). x.1) one in
+          record { process = p; before = []; behind = ps; stands = ap (λ (k : ℕ). (k, p) ∷ ps) number; quiet = refl; whys = ws; leaks = some ∙ ap (λ (x : Why). x ∷ ws) reason }
+
+  leaks-behind : (before behind : Leaky) (p : Process) (pid : ℕ) (why : Why) (whys : List Why) → Sealed.leaks s p f ≡ why ∷ whys
+      → list_all (λ (e : ℕ × Process). is_empty (Sealed.leaks s e.1 f)) before ≡ true → Sealed.first_leak s f (before ++ (pid, p) ∷ behind) ≡ Some (pid, why)
+  leaks-behind [] behind p pid why whys is quiet = ap (λ (l : List Why). Sealed.leak_or pid l (Sealed.first_leak s f behind)) is
+  leaks-behind ((n, q) ∷ before) behind p pid why whys is quiet =
+      let parts = and_parts (is_empty (Sealed.leaks s q f)) _ quiet in
+      by (Sealed.leaks s q f) parts.0 (leaks-behind before behind p pid why whys is parts.1)
+    where
+      by : (l : List Why) → is_empty l ≡ true → Sealed.first_leak s f (before ++ (pid, p) ∷ behind) ≡ Some (pid, why) → Sealed.leak_or n l (Sealed.first_leak s f (before ++ (pid, p) ∷ behind)) ≡ Some (pid, why)
+      by [] none rest = rest
+      by (w ∷ ws) some rest = cc some
+
+  pub leaks-first : (ps : Leaky) (pid : ℕ) (why : Why) → IsFirstLeak s f ps pid why → Sealed.first_leak s f ps ≡ Some (pid, why)
+  leaks-first ps pid why is = ap (Sealed.first_leak s f) is.stands ∙ leaks-behind is.before is.behind is.process pid why is.whys is.leaks is.quiet
 
   abbrev live : Leaky
   live = live_processes s.processes

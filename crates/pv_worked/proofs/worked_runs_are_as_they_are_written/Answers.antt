@@ -59,6 +59,7 @@ returns c = record {
   };
   execve = record {
     execve_refusals = Execve.execve_refusals;
+    execve_keeps_lock = Execve.execve_keeps_lock;
     execve_under_execpromises = Execve.execve_under_execpromises;
     execve_without_execpromises = Execve.execve_without_execpromises;
     close_on_exec = Execve.close_on_exec;
@@ -173,6 +174,7 @@ returns c = record {
   };
   processes = record {
     ends = Processes.ends;
+    orphan_keeps_promises = Processes.orphan_keeps_promises;
     least_is_waited_for = Processes.least_is_waited_for;
     first_has_no_parent = Processes.first_has_no_parent;
   };
@@ -227,6 +229,7 @@ returns c = record {
     file_made_again = Unveils.file_made_again;
     unlink_needs_letter = Unveils.unlink_needs_letter;
     child_has_table = Unveils.child_has_table;
+    name_in_removed_directory = Unveils.name_in_removed_directory;
   };
   walks = record {
     kept_link = Walks.kept_link;
