@@ -45,7 +45,7 @@ pub execve_under_execpromises : shown_of (
 unfolding bundles_on_literals
 execve_under_execpromises = refl
 
--- the lock goes with the table
+-- an execve under execpromises keeps the lock too
 pub execve_keeps_lock : shown_of (
     codes "image 64 64" ∷
     codes "dir \"/pub\"" ∷
