@@ -62,6 +62,7 @@ pub record AllExecve : Type 0 where
   pub execve_refusals : Stated Execve.execve_refusals
   pub execve_keeps_lock : Stated Execve.execve_keeps_lock
   pub execve_under_execpromises : Stated Execve.execve_under_execpromises
+  pub execve_keeps_lock : Stated Execve.execve_keeps_lock
   pub execve_without_execpromises : Stated Execve.execve_without_execpromises
   pub close_on_exec : Stated Execve.close_on_exec
 
@@ -177,6 +178,7 @@ pub record AllProcesses : Type 0 where
   pub ends : Stated Processes.ends
   pub orphan_keeps_promises : Stated Processes.orphan_keeps_promises
   pub least_is_waited_for : Stated Processes.least_is_waited_for
+  pub promises_outlast_parent : Stated Processes.promises_outlast_parent
   pub first_has_no_parent : Stated Processes.first_has_no_parent
 
 pub record AllPromises : Type 0 where
@@ -227,6 +229,7 @@ pub record AllUnveils : Type 0 where
   pub descriptors_stay : Stated Unveils.descriptors_stay
   pub links_and_dots : Stated Unveils.links_and_dots
   pub directory_made_again : Stated Unveils.directory_made_again
+  pub absent_name_holds_directory : Stated Unveils.absent_name_holds_directory
   pub file_made_again : Stated Unveils.file_made_again
   pub unlink_needs_letter : Stated Unveils.unlink_needs_letter
   pub child_has_table : Stated Unveils.child_has_table

@@ -67,6 +67,36 @@ pub execve_under_execpromises : shown_of (
 unfolding bundles_on_literals
 execve_under_execpromises = refl
 
+-- an execve under execpromises keeps the lock too
+pub execve_keeps_lock : shown_of (
+    codes "image 64 64" ∷
+    codes "dir \"/pub\"" ∷
+    codes "dir \"/etc\"" ∷
+    codes "bytes \"/etc/motd\" \"hello\"" ∷
+    codes "dir \"/bin\"" ∷
+    codes "exec \"/bin/p\" 2" ∷
+    codes "unveil \"/etc\" \"r\"" ∷
+    codes "open \"/etc/motd\" r" ∷
+    codes "exec \"/init\" 5" ∷
+    codes "unveil \"/pub\" \"r\"" ∷
+    codes "unveil \"/bin\" \"x\"" ∷
+    codes "unveil null null" ∷
+    codes "pledge null \"stdio rpath unveil\"" ∷
+    codes "execve \"/bin/p\"" ∷
+    codes "schedule" ∷
+    codes "1 7" ∷ []) ≡ Some (
+    codes "RET   unveil 0" ∷
+    codes "RET   unveil 0" ∷
+    codes "RET   unveil 0" ∷
+    codes "RET   pledge 0" ∷
+    codes "RET   execve 0" ∷
+    codes "UNVL  locked" ∷
+    codes "RET   unveil -1 errno 1 EPERM" ∷
+    codes "UNVL  none, needs r" ∷
+    codes "RET   open -1 errno 2 ENOENT" ∷ [])
+unfolding bundles_on_literals
+execve_keeps_lock = refl
+
 -- any other execve drops promises and table
 pub execve_without_execpromises : shown_of (
     codes "image 64 64" ∷

@@ -108,6 +108,30 @@ pub least_is_waited_for : shown_of (
 unfolding bundles_on_literals
 least_is_waited_for = refl
 
+-- a child keeps its promises when its parent ends
+pub promises_outlast_parent : shown_of (
+    codes "image 64 64" ∷
+    codes "bytes \"/f\" \"x\"" ∷
+    codes "exec \"/init\" 7" ∷
+    codes "pledge \"stdio rpath proc\" null" ∷
+    codes "fork" ∷
+    codes "jz r0 5" ∷
+    codes "exit 0" ∷
+    codes "getppid" ∷
+    codes "open \"/f\" r" ∷
+    codes "mkdir \"/d\"" ∷
+    codes "schedule" ∷
+    codes "1 4" ∷
+    codes "2 4" ∷ []) ≡ Some (
+    codes "RET   pledge 0" ∷
+    codes "RET   fork 2" ∷
+    codes "2 RET   getppid 0" ∷
+    codes "2 RET   open 0" ∷
+    codes "2 PLDG  mkdir, \"cpath\", killed" ∷
+    codes "2 PSIG  SIGABRT" ∷ [])
+unfolding bundles_on_literals
+promises_outlast_parent = refl
+
 -- the parent of process 1
 pub first_has_no_parent : shown_of (
     codes "image 64 64" ∷

@@ -195,6 +195,36 @@ pub directory_made_again : shown_of (
 unfolding bundles_on_literals
 directory_made_again = refl
 
+-- an entry for a name that is absent holds its directory: no other node gets the number
+pub absent_name_holds_directory : shown_of (
+    codes "image 64 64" ∷
+    codes "dir \"/d\"" ∷
+    codes "exec \"/init\" 8" ∷
+    codes "fork" ∷
+    codes "jz r0 7" ∷
+    codes "rmdir \"/d\"" ∷
+    codes "mkdir \"/e\"" ∷
+    codes "stat \"/e\"" ∷
+    codes "open \"/e/x\" w+create" ∷
+    codes "unveil \"/d/x\" \"r\"" ∷
+    codes "open \"/e/x\" r" ∷
+    codes "schedule" ∷
+    codes "1 2" ∷
+    codes "2 2" ∷
+    codes "1 4" ∷
+    codes "2" ∷ []) ≡ Some (
+    codes "RET   fork 2" ∷
+    codes "2 RET   unveil 0" ∷
+    codes "RET   rmdir 0" ∷
+    codes "RET   mkdir 0" ∷
+    codes "GIO   read 8 0100040000000000" ∷
+    codes "RET   stat 0" ∷
+    codes "RET   open 0" ∷
+    codes "2 UNVL  none, needs r" ∷
+    codes "2 RET   open -1 errno 2 ENOENT" ∷ [])
+unfolding bundles_on_literals
+absent_name_holds_directory = refl
+
 -- a file that is made again has the same name
 pub file_made_again : shown_of (
     codes "image 64 64" ∷

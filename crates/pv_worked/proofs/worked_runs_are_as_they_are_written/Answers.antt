@@ -61,6 +61,7 @@ returns c = record {
     execve_refusals = Execve.execve_refusals;
     execve_keeps_lock = Execve.execve_keeps_lock;
     execve_under_execpromises = Execve.execve_under_execpromises;
+    execve_keeps_lock = Execve.execve_keeps_lock;
     execve_without_execpromises = Execve.execve_without_execpromises;
     close_on_exec = Execve.close_on_exec;
   };
@@ -176,6 +177,7 @@ returns c = record {
     ends = Processes.ends;
     orphan_keeps_promises = Processes.orphan_keeps_promises;
     least_is_waited_for = Processes.least_is_waited_for;
+    promises_outlast_parent = Processes.promises_outlast_parent;
     first_has_no_parent = Processes.first_has_no_parent;
   };
   promises = record {
@@ -226,6 +228,7 @@ returns c = record {
     descriptors_stay = Unveils.descriptors_stay;
     links_and_dots = Unveils.links_and_dots;
     directory_made_again = Unveils.directory_made_again;
+    absent_name_holds_directory = Unveils.absent_name_holds_directory;
     file_made_again = Unveils.file_made_again;
     unlink_needs_letter = Unveils.unlink_needs_letter;
     child_has_table = Unveils.child_has_table;
