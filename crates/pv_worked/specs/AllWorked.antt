@@ -60,7 +60,6 @@ pub record AllErrors : Type 0 where
 
 pub record AllExecve : Type 0 where
   pub execve_refusals : Stated Execve.execve_refusals
-  pub execve_keeps_lock : Stated Execve.execve_keeps_lock
   pub execve_under_execpromises : Stated Execve.execve_under_execpromises
   pub execve_keeps_lock : Stated Execve.execve_keeps_lock
   pub execve_without_execpromises : Stated Execve.execve_without_execpromises
@@ -176,7 +175,6 @@ pub record AllOpenat : Type 0 where
 
 pub record AllProcesses : Type 0 where
   pub ends : Stated Processes.ends
-  pub orphan_keeps_promises : Stated Processes.orphan_keeps_promises
   pub least_is_waited_for : Stated Processes.least_is_waited_for
   pub promises_outlast_parent : Stated Processes.promises_outlast_parent
   pub first_has_no_parent : Stated Processes.first_has_no_parent
@@ -233,7 +231,6 @@ pub record AllUnveils : Type 0 where
   pub file_made_again : Stated Unveils.file_made_again
   pub unlink_needs_letter : Stated Unveils.unlink_needs_letter
   pub child_has_table : Stated Unveils.child_has_table
-  pub name_in_removed_directory : Stated Unveils.name_in_removed_directory
 
 pub record AllWalks : Type 0 where
   pub kept_link : Stated Walks.kept_link

@@ -20,28 +20,6 @@ pub execve_refusals : shown_of (
 unfolding bundles_on_literals
 execve_refusals = refl
 
--- an execve under execpromises keeps the lock with the table: the new program may unveil nothing
-pub execve_keeps_lock : shown_of (
-    codes "image 64 64" ∷
-    codes "dir \"/bin\"" ∷
-    codes "exec \"/bin/p\" 1" ∷
-    codes "unveil \"/bin\" \"r\"" ∷
-    codes "exec \"/init\" 4" ∷
-    codes "unveil \"/bin\" \"rx\"" ∷
-    codes "unveil null null" ∷
-    codes "pledge null \"stdio unveil\"" ∷
-    codes "execve \"/bin/p\"" ∷
-    codes "schedule" ∷
-    codes "1 5" ∷ []) ≡ Some (
-    codes "RET   unveil 0" ∷
-    codes "RET   unveil 0" ∷
-    codes "RET   pledge 0" ∷
-    codes "RET   execve 0" ∷
-    codes "UNVL  locked" ∷
-    codes "RET   unveil -1 errno 1 EPERM" ∷ [])
-unfolding bundles_on_literals
-execve_keeps_lock = refl
-
 -- an execve under execpromises keeps the table
 pub execve_under_execpromises : shown_of (
     codes "image 64 64" ∷

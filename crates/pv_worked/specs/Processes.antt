@@ -62,27 +62,6 @@ pub ends : shown_of (
 unfolding bundles_on_literals
 ends = refl
 
--- a child whose parent ended is pledged as it was: what its promises lack kills it
-pub orphan_keeps_promises : shown_of (
-    codes "image 64 64" ∷
-    codes "exec \"/init\" 5" ∷
-    codes "fork" ∷
-    codes "jz r0 4" ∷
-    codes "exit 0" ∷
-    codes "pledge \"stdio\" null" ∷
-    codes "mkdir \"/x\"" ∷
-    codes "schedule" ∷
-    codes "1 2" ∷
-    codes "2 2" ∷
-    codes "1" ∷
-    codes "2" ∷ []) ≡ Some (
-    codes "RET   fork 2" ∷
-    codes "2 RET   pledge 0" ∷
-    codes "2 PLDG  mkdir, \"cpath\", killed" ∷
-    codes "2 PSIG  SIGABRT" ∷ [])
-unfolding bundles_on_literals
-orphan_keeps_promises = refl
-
 -- of the children that have ended, the one with the least number is waited for
 pub least_is_waited_for : shown_of (
     codes "image 64 64" ∷

@@ -300,31 +300,3 @@ pub child_has_table : shown_of (
     codes "2 RET   open -1 errno 2 ENOENT" ∷ [])
 unfolding bundles_on_literals
 child_has_table = refl
-
--- an entry for a name holds its directory: the number of the removed one is given to no other, so the entry says nothing of a new directory
-pub name_in_removed_directory : shown_of (
-    codes "image 64 64" ∷
-    codes "dir \"/d\"" ∷
-    codes "exec \"/init\" 8" ∷
-    codes "fork" ∷
-    codes "jz r0 7" ∷
-    codes "rmdir \"/d\"" ∷
-    codes "mkdir \"/e\"" ∷
-    codes "open \"/e/f\" w+create" ∷
-    codes "jmp 6" ∷
-    codes "unveil \"/d/f\" \"r\"" ∷
-    codes "stat \"/e/f\"" ∷
-    codes "schedule" ∷
-    codes "1 2" ∷
-    codes "2 2" ∷
-    codes "1 3" ∷
-    codes "2" ∷ []) ≡ Some (
-    codes "RET   fork 2" ∷
-    codes "2 RET   unveil 0" ∷
-    codes "RET   rmdir 0" ∷
-    codes "RET   mkdir 0" ∷
-    codes "RET   open 0" ∷
-    codes "2 UNVL  none, needs r" ∷
-    codes "2 RET   stat -1 errno 2 ENOENT" ∷ [])
-unfolding bundles_on_literals
-name_in_removed_directory = refl

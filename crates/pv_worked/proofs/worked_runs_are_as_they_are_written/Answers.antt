@@ -59,7 +59,6 @@ returns c = record {
   };
   execve = record {
     execve_refusals = Execve.execve_refusals;
-    execve_keeps_lock = Execve.execve_keeps_lock;
     execve_under_execpromises = Execve.execve_under_execpromises;
     execve_keeps_lock = Execve.execve_keeps_lock;
     execve_without_execpromises = Execve.execve_without_execpromises;
@@ -175,7 +174,6 @@ returns c = record {
   };
   processes = record {
     ends = Processes.ends;
-    orphan_keeps_promises = Processes.orphan_keeps_promises;
     least_is_waited_for = Processes.least_is_waited_for;
     promises_outlast_parent = Processes.promises_outlast_parent;
     first_has_no_parent = Processes.first_has_no_parent;
@@ -232,7 +230,6 @@ returns c = record {
     file_made_again = Unveils.file_made_again;
     unlink_needs_letter = Unveils.unlink_needs_letter;
     child_has_table = Unveils.child_has_table;
-    name_in_removed_directory = Unveils.name_in_removed_directory;
   };
   walks = record {
     kept_link = Walks.kept_link;
