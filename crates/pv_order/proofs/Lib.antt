@@ -14,6 +14,7 @@ pub mod Lone
 pub mod LeftFiles
 pub mod AskSteps
 pub mod Given
+pub mod OwnSteps
 pub mod DescriptorSteps
 pub mod OffsetSteps
 pub mod OtherBytes
@@ -21,6 +22,7 @@ pub mod ContentSteps
 pub mod WriteSteps
 pub mod RoomApart
 pub mod DirectorySteps
+pub mod UnveilSteps
 pub mod CutSteps
 pub mod Relabelled
 pub mod NextCalls
