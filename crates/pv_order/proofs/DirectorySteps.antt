@@ -1,43 +1,30 @@
 -- Steps that change their process's directory, before and behind a step of another process.
-use Rattle.std.proofs.Common.{◌≡◌, ◌≢◌, ℕ, ℤ, pos, negsuc, true, false, not, ◌==◌, Option, None, Some, is_some, option_map, refl, ap, sym, subst, ◌∙◌, ⊎_elim}
-use Rattle.std.proofs.lemmas.Bool.{cases_eq, eqb-true, or_cases, or_right}
-use Rattle.std.specs.FinMap.Entries.{find, is_sorted}
-use Rattle.std.specs.Ordering.{nat_cmp}
+use Rattle.std.proofs.Common.{◌≡◌, ◌≢◌, ℕ, ℤ, pos, negsuc, true, false, not, Option, None, Some, is_some, option_map, refl, ap, sym, subst, ◌∙◌}
 use Rattle.pv_model.specs.declared.call.Call.{Call}
 use Rattle.pv_model.specs.declared.call.Call.TheVariants as TheCall
 use Rattle.pv_model.specs.declared.errno.Errno.TheVariants.{EBADF, ENOTDIR}
 use Rattle.pv_model.specs.declared.outcome.Outcome.TheVariants.{Killed}
 use Rattle.pv_model.specs.declared.promise.Promise.{Promise}
-use Rattle.pv_model.specs.Answer.{Answered, at_next_line, effect}
+use Rattle.pv_model.specs.Answer.{at_next_line, effect}
 use Rattle.pv_model.specs.Attempt.{Attempt, done, refused, after_walks, ◌>>=◌, ◌>>◌, give, refuse_if, demand}
 use Rattle.pv_model.specs.Bytes.{Bytes}
 use Rattle.pv_model.specs.Calls.Descriptors.{directory_of}
 use Rattle.pv_model.specs.Calls.Processes.{with_result}
 use Rattle.pv_model.specs.Effect.{Effect, returns, answers, open_file_of, open_file}
-use Rattle.pv_model.specs.Held.{among, used_files, held_by_process, held_by_table, trim}
 use Rattle.pv_model.specs.Needs.{needs}
-use Rattle.pv_model.specs.Numbered.{at_number, keep}
+use Rattle.pv_model.specs.Numbered.{at_number}
 use Rattle.pv_model.specs.Program.{calls_for, next}
 use Rattle.pv_model.specs.Promises.{missing_promise}
-use Rattle.pv_model.specs.State.{OpenFile, Descriptor, Program, Process, State, live_process, process_at, with_process, with_tree}
-use Rattle.pv_model.specs.Step.{Stepped, step}
-use Rattle.pv_model.specs.Tree.{Node, Tree, node_at, is_directory, is_directory_at}
-use Rattle.pv_tree_laws.specs.Kept.{wanted}
-use Rattle.pv_tree_laws.proofs.Keeping.{wanted-held}
-use Rattle.pv_tree_laws.proofs.Numbered.{keep-some}
-use Rattle.pv_laws.specs.Held.{used}
+use Rattle.pv_model.specs.State.{OpenFile, Descriptor, Program, Process, State, process_at, with_process, with_tree}
+use Rattle.pv_model.specs.Step.{step}
+use Rattle.pv_model.specs.Tree.{Tree, is_directory_at}
 use Rattle.pv_laws.specs.States.{SpellsPrograms, IsWhole}
-use Rattle.pv_laws.proofs.BySteps.{step-keeps_whole}
-use Rattle.pv_laws.proofs.Members.{among-held_by, among-held_file, held_cases}
 use Rattle.pv_laws.proofs.Outcomes.{at_call}
-use Rattle.pv_laws.proofs.Processes.{process_at-same, with_process-twice}
-use Rattle.pv_laws.proofs.Trim.{held_after, tree-trim, files-trim}
-use Rattle.pv_rights.proofs.Ends.{whole-in_order, not_next, process_at-trim}
+use Rattle.pv_rights.proofs.Ends.{whole-in_order}
 use Rattle.pv_rights.proofs.Frames.{others-files}
-use Rattle.pv_order.specs.Beside.{with_change}
 use Rattle.pv_order.specs.Commuting.{Commute}
 use Rattle.pv_order.specs.Holding.{changes_directory, LeavesTree, LeavesWay, HasItsRoom}
-use Rattle.pv_order.proofs.Exchange.{KeepsParent, process-changed}
+use Rattle.pv_order.proofs.Exchange.{KeepsParent}
 use Rattle.pv_order.proofs.Given.{Gives, gives, refused-commute}
 use Rattle.pv_order.proofs.HeldApart.{UsesNoMore}
 use Rattle.pv_order.proofs.Lone.{commute-where}

@@ -4,7 +4,7 @@ use Rattle.std.proofs.lemmas.Bool.{cases_eq, eqb-true, or_cases}
 use Rattle.std.specs.FinMap.Entries.{find, is_sorted}
 use Rattle.std.specs.Ordering.{nat_cmp}
 use Rattle.pv_model.specs.declared.call.Call.{Call}
-use Rattle.pv_model.specs.Answer.{Answered, at_next_line, effect}
+use Rattle.pv_model.specs.Answer.{Answered}
 use Rattle.pv_model.specs.Attempt.{Attempt, done, refused, after_walks, ◌>>=◌, ◌>>◌}
 use Rattle.pv_model.specs.Bytes.{Bytes}
 use Rattle.pv_model.specs.Effect.{Effect, returns}
@@ -23,7 +23,6 @@ use Rattle.pv_laws.specs.Held.{used}
 use Rattle.pv_laws.specs.States.{SpellsPrograms, IsWhole}
 use Rattle.pv_laws.proofs.BySteps.{step-keeps_whole}
 use Rattle.pv_laws.proofs.Members.{among-held_by, among-held_file, held_cases}
-use Rattle.pv_laws.proofs.Outcomes.{at_call}
 use Rattle.pv_laws.proofs.Processes.{process_at-same, with_process-twice}
 use Rattle.pv_laws.proofs.Standing.{table-there}
 use Rattle.pv_laws.proofs.Trim.{held_after, tree-trim, files-trim}

@@ -1,5 +1,5 @@
 -- Steps that unveil a path, before and behind a step of another process.
-use Rattle.std.proofs.Common.{◌≡◌, ◌≢◌, ℕ, pos, negsuc, Bool, true, false, ◌||◌, ◌==◌, if◌then◌else◌, nat_le, length, [], ◌∷◌, ◌++◌, map, Option, None, Some, refl, ap, sym, subst, ◌∙◌, ⊎_elim}
+use Rattle.std.proofs.Common.{◌≡◌, ◌≢◌, ℕ, pos, negsuc, Bool, true, false, ◌||◌, ◌==◌, if◌then◌else◌, nat_le, length, [], ◌∷◌, ◌++◌, Option, None, Some, refl, ap, sym, subst, ◌∙◌, ⊎_elim}
 use Rattle.std.proofs.Math.Seq.{map-set_same}
 use Rattle.std.proofs.lemmas.Bool.{and_parts, cases_eq, eqb-true, or_left, or_right, or_cases}
 use Rattle.std.proofs.lemmas.List.{map-append}
@@ -32,10 +32,10 @@ use Rattle.pv_model.specs.Program.{calls_for, next}
 use Rattle.pv_model.specs.Promises.{missing_promise}
 use Rattle.pv_model.specs.State.{OpenFile, Program, Process, State, process_at, with_process, with_tree}
 use Rattle.pv_model.specs.Step.{Stepped, step, step_by}
-use Rattle.pv_model.specs.Tree.{Node, Tree, root, named_numbers, node_at}
+use Rattle.pv_model.specs.Tree.{Tree, root, named_numbers, node_at}
 use Rattle.pv_model.specs.Unveil.{Table, same_target, entry_for, letters_at, with_letters, target_directory}
 use Rattle.pv_tree_laws.specs.Kept.{wanted}
-use Rattle.pv_tree_laws.proofs.Keeping.{only_nodes_all, wanted-is, wanted-held}
+use Rattle.pv_tree_laws.proofs.Keeping.{only_nodes_all, wanted-is}
 use Rattle.pv_tree_laws.proofs.Numbered.{keep-some}
 use Rattle.pv_laws.specs.Held.{used}
 use Rattle.pv_laws.specs.States.{SpellsPrograms, IsWhole}
