@@ -23,6 +23,7 @@ pub mod WriteSteps
 pub mod RoomApart
 pub mod DirectorySteps
 pub mod UnveilSteps
+pub mod ExecveSteps
 pub mod CutSteps
 pub mod Relabelled
 pub mod NextCalls
