@@ -29,6 +29,7 @@ pub mod Relabelled
 pub mod NextCalls
 pub mod EntrySteps
 pub mod Happen
+pub mod HoldingHappen
 pub mod GrowingHappen
 pub mod EntriesHappen
 pub mod Reordered
