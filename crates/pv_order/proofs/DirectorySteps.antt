@@ -6,7 +6,7 @@ use Rattle.pv_model.specs.declared.errno.Errno.TheVariants.{EBADF, ENOTDIR}
 use Rattle.pv_model.specs.declared.outcome.Outcome.TheVariants.{Killed}
 use Rattle.pv_model.specs.declared.promise.Promise.{Promise}
 use Rattle.pv_model.specs.Answer.{at_next_line, effect}
-use Rattle.pv_model.specs.Attempt.{Attempt, done, refused, after_walks, ◌>>=◌, ◌>>◌, give, refuse_if, demand}
+use Rattle.pv_model.specs.Attempt.{Attempt, done, after_walks, ◌>>=◌, ◌>>◌, give, refuse_if, demand}
 use Rattle.pv_model.specs.Bytes.{Bytes}
 use Rattle.pv_model.specs.Calls.Descriptors.{directory_of}
 use Rattle.pv_model.specs.Calls.Processes.{with_result}
@@ -25,11 +25,10 @@ use Rattle.pv_rights.proofs.Frames.{others-files}
 use Rattle.pv_order.specs.Commuting.{Commute}
 use Rattle.pv_order.specs.Holding.{changes_directory, LeavesTree, LeavesWay, HasItsRoom}
 use Rattle.pv_order.proofs.Exchange.{KeepsParent}
-use Rattle.pv_order.proofs.Given.{Gives, gives, refused-commute}
 use Rattle.pv_order.proofs.HeldApart.{UsesNoMore}
 use Rattle.pv_order.proofs.Lone.{commute-where}
-use Rattle.pv_order.proofs.Orphans.{orphan, orphaned, next-orphan}
-use Rattle.pv_order.proofs.OwnSteps.{Becomes, becomes-bind, becomes-then, becomes, becomes-there, used-same, files-stay, own-commute}
+use Rattle.pv_order.proofs.Orphans.{orphan}
+use Rattle.pv_order.proofs.OwnSteps.{Becomes, becomes-bind, becomes-then, becomes, becomes-there, become-commute, used-same, files-stay, own-commute}
 use Rattle.pv_order.proofs.Twice.{behind_k, whole-behind, at-behind, heir}
 
 -- ---- what such a call does
@@ -131,48 +130,25 @@ module _ (program_of : Bytes → Option Program) (spells : SpellsPrograms progra
   call-enters (TheCall.Chdir path) is way = chdir-enters s t j n now way program_of path
   call-enters call is way = cc is
 
-  module _ (call : Call) (comes : next p ≡ calls_for call) (held : missing_promise p.promises (needs call) ≡ None) (leaves : LeavesTree program_of s j) (room : HasItsRoom program_of s k) (w d : ℕ)
-      (one : effect program_of (at_call s j p) j now call ≡ done w (with_process s j (record now { directory = d }), returns 0))
-      (two : effect program_of (at_call t j (orphan n p)) j (orphan n now) call ≡ done w (with_process t j (record (orphan n now) { directory = d }), returns 0)) where
-    abbrev q : Process
-    q = record now { directory = d }
+  -- the process behind the call, whatever its parent and descriptors are
+  abbrev f : ℕ → Process → Process
+  f d r = record (with_result (record now { directory = d }) (pos 0) 0) { parent = r.parent; descriptors = r.descriptors }
 
-    -- the process behind the call, whatever its parent and descriptors are
-    abbrev f : Process → Process
-    f r = record (with_result q (pos 0) 0) { parent = r.parent; descriptors = r.descriptors }
+  keeps : (d : ℕ) → KeepsParent (f d)
+  keeps d = record { same = λ r. refl; whoever = λ r m. refl }
 
-    keeps : KeepsParent f
-    keeps = record { same = λ r. refl; whoever = λ r m. refl }
-
-    fewer : UsesNoMore p.descriptors (f p).descriptors
-    fewer i v has = (i, v, has, refl)
-
-    gives_s : Gives program_of s j p call f w 0
-    gives_s = gives program_of s whole j p at call comes held f w 0 q refl one
-
-    gives_t : Gives program_of t j (orphan n p) call f w 0
-    gives_t = gives program_of t whole_t j (orphan n p) at_t call (next-orphan n p ∙ ap (orphaned n) comes) held f w 0 (orphan n q) refl two
-
-    entered-commute : Commute program_of s j k
-    entered-commute =
-        own-commute program_of spells s j k p whole apart at call comes held f keeps fewer w gives_s gives_t leaves
-        (files-stay program_of spells s j k p whole apart at call comes held f keeps fewer w gives_s gives_t (used-same j f (λ r. refl) s)) room
+  fewer : (d : ℕ) → UsesNoMore p.descriptors (f d p).descriptors
+  fewer d i v has = (i, v, has, refl)
 
   directory-commutes : (call : Call) → next p ≡ calls_for call → changes_directory call ≡ true → LeavesTree program_of s j → LeavesWay program_of s p call k → HasItsRoom program_of s k → missing_promise p.promises (needs call) ≡ None
       → Commute program_of s j k
-  directory-commutes call comes changes leaves way room held = by (effect program_of (at_call s j p) j now call) refl (call-enters call changes way)
-    where
-      b : Attempt Effect
-      b = effect program_of (at_call t j (orphan n p)) j (orphan n now) call
-
-      by : (a : Attempt Effect) → effect program_of (at_call s j p) j now call ≡ a → Enters s t j n now a b → Commute program_of s j k
-      by (done w (z, r)) is both =
-          let told = both.by in
-          let d : ℕ = told.1.0 in
-          let q : Process = record now { directory = d } in
-          entered-commute call comes held leaves room w d (is ∙ ap (λ v. done w (v, r)) (told.3 ∙ ap (with_process s j) told.1.1) ∙ ap (λ v. done w (with_process s j q, v)) told.2)
-          (told.4 ∙ ap (λ v. done w (with_process t j (orphan n v), r)) told.1.1 ∙ ap (λ v. done w (with_process t j (orphan n q), v)) told.2)
-      by (refused w e c) is both = refused-commute program_of spells s j k p whole apart at call comes held w e c is both.by
+  directory-commutes call comes changes leaves way room held =
+      become-commute program_of spells s j k p whole apart at call comes held (HasOther now) (call-enters call changes way)
+      (λ w q such one two.
+      let d : ℕ = such.0 in
+      let is_given : f d p ≡ with_result q (pos 0) 0 = ap (λ r. with_result r (pos 0) 0) (sym such.1) in
+      own-commute program_of spells s j k p whole apart at call comes held (f d) (keeps d) (fewer d) w q is_given one two leaves
+      (files-stay program_of spells s j k p whole apart at call comes held (f d) (keeps d) (fewer d) w q is_given one two (used-same j (f d) (λ r. refl) s)) room)
 
 pub directories-commute : (program_of : Bytes → Option Program) → SpellsPrograms program_of → (s : State) (j k : ℕ) (p : Process) (call : Call) → IsWhole s → j ≢ k → process_at s j ≡ Some p → next p ≡ calls_for call
     → changes_directory call ≡ true → ((a : Promise) → (step program_of s j).outcome ≢ Killed a) → LeavesTree program_of s j → LeavesWay program_of s p call k → HasItsRoom program_of s k → Commute program_of s j k

@@ -1,11 +1,11 @@
 -- Steps that execute a program, before and behind a step of another process.
-use Rattle.std.proofs.Common.{◌≡◌, ◌≢◌, ℕ, pos, Option, None, Some, refl, ap, sym, subst, ◌∙◌}
+use Rattle.std.proofs.Common.{◌≡◌, ◌≢◌, ℕ, pos, Option, None, Some, refl, ap, sym, subst}
 use Rattle.pv_model.specs.declared.call.Call.{Call}
 use Rattle.pv_model.specs.declared.call.Call.TheVariants as TheCall
 use Rattle.pv_model.specs.declared.outcome.Outcome.TheVariants.{Killed}
 use Rattle.pv_model.specs.declared.promise.Promise.{Promise}
 use Rattle.pv_model.specs.Answer.{at_next_line, effect}
-use Rattle.pv_model.specs.Attempt.{Attempt, done, refused, ◌>>=◌, ◌>>◌}
+use Rattle.pv_model.specs.Attempt.{Attempt, done, ◌>>=◌, ◌>>◌}
 use Rattle.pv_model.specs.Bytes.{Bytes}
 use Rattle.pv_model.specs.Calls.Processes.{with_result, with_program}
 use Rattle.pv_model.specs.Effect.{Effect, returns}
@@ -16,17 +16,15 @@ use Rattle.pv_model.specs.State.{Program, Process, State, process_at, with_proce
 use Rattle.pv_model.specs.Step.{step}
 use Rattle.pv_laws.specs.States.{SpellsPrograms, IsWhole}
 use Rattle.pv_laws.proofs.ByProcess.{kept_descriptor}
-use Rattle.pv_laws.proofs.Outcomes.{at_call}
 use Rattle.pv_order.specs.Beside.{become}
 use Rattle.pv_order.specs.Commuting.{Commute}
 use Rattle.pv_order.specs.Holding.{LeavesOpenFiles, LeavesTree, HasItsRoom}
 use Rattle.pv_order.proofs.Exchange.{KeepsParent}
-use Rattle.pv_order.proofs.Given.{Gives, gives, refused-commute}
 use Rattle.pv_order.proofs.HeldApart.{UsesNoMore}
 use Rattle.pv_order.proofs.Lone.{commute-where}
-use Rattle.pv_order.proofs.Orphans.{orphan, orphaned, next-orphan}
-use Rattle.pv_order.proofs.OwnSteps.{Becomes, becomes-bind, becomes-then, becomes-there, own-commute}
-use Rattle.pv_order.proofs.Twice.{behind_k, whole-behind, at-behind, heir}
+use Rattle.pv_order.proofs.Orphans.{orphan}
+use Rattle.pv_order.proofs.OwnSteps.{Becomes, becomes-bind, becomes-then, becomes-there, become-commute, own-commute}
+use Rattle.pv_order.proofs.Twice.{behind_k, heir}
 
 -- ---- what the call does
 
@@ -81,47 +79,21 @@ module _ (program_of : Bytes → Option Program) (spells : SpellsPrograms progra
   abbrev now : Process
   now = at_next_line p
 
-  module _ (held : missing_promise p.promises (needs (TheCall.Execve path)) ≡ None) where
-    module _ (w : ℕ) (program : Program) (one : effect program_of (at_call s j p) j now call ≡ done w (with_process s j (with_program s j now program), returns 0))
-        (two : effect program_of (at_call t j (orphan n p)) j (orphan n now) call ≡ done w (with_process t j (orphan n (with_program s j now program)), returns 0)) where
-      abbrev q : Process
-      q = with_program s j now program
+  -- the process behind the call, whatever it was
+  abbrev f : Program → Process → Process
+  f program = become (with_result (with_program s j now program) (pos 0) 0)
 
-      -- the process behind the call, whatever it was
-      abbrev f : Process → Process
-      f = become (with_result q (pos 0) 0)
+  keeps : (program : Program) → KeepsParent (f program)
+  keeps program = record { same = λ r. refl; whoever = λ r m. refl }
 
-      keeps : KeepsParent f
-      keeps = record { same = λ r. refl; whoever = λ r m. refl }
+  fewer : (program : Program) → UsesNoMore p.descriptors (f program p).descriptors
+  fewer program i v has = (i, v, kept_descriptor p.descriptors i v has, refl)
 
-      fewer : UsesNoMore p.descriptors (f p).descriptors
-      fewer i v has = (i, v, kept_descriptor p.descriptors i v has, refl)
-
-      gives_s : Gives program_of s j p call f w 0
-      gives_s = gives program_of s whole j p at call comes held f w 0 q refl one
-
-      gives_t : Gives program_of t j (orphan n p) call f w 0
-      gives_t =
-          gives program_of t (whole-behind program_of spells s j k p whole apart at) j (orphan n p) (at-behind program_of spells s j k p whole apart at) call (next-orphan n p ∙ ap (orphaned n) comes) held f w 0
-          (orphan n q) refl two
-
-      begun-commute : Commute program_of s j k
-      begun-commute = own-commute program_of spells s j k p whole apart at call comes held f keeps fewer w gives_s gives_t leaves files room
-
-    held-commute : Commute program_of s j k
-    held-commute = by (effect program_of (at_call s j p) j now call) refl (execve-becomes s t j n now way program_of path)
-      where
-        b : Attempt Effect
-        b = effect program_of (at_call t j (orphan n p)) j (orphan n now) call
-
-        by : (a : Attempt Effect) → effect program_of (at_call s j p) j now call ≡ a → Becomes s t j n now (Begins s j now) a b → Commute program_of s j k
-        by (done w (z, r)) is both =
-            let told = both.by in
-            let program : Program = told.1.0 in
-            let begun : Process = with_program s j now program in
-            begun-commute w program (is ∙ ap (λ v. done w (v, r)) (told.3 ∙ ap (with_process s j) told.1.1) ∙ ap (λ v. done w (with_process s j begun, v)) told.2)
-            (told.4 ∙ ap (λ v. done w (with_process t j (orphan n v), r)) told.1.1 ∙ ap (λ v. done w (with_process t j (orphan n begun), v)) told.2)
-        by (refused w e c) is both = refused-commute program_of spells s j k p whole apart at call comes held w e c is both.by
+  execve-commutes : missing_promise p.promises (needs (TheCall.Execve path)) ≡ None → Commute program_of s j k
+  execve-commutes held =
+      become-commute program_of spells s j k p whole apart at call comes held (Begins s j now) (execve-becomes s t j n now way program_of path)
+      (λ w q such one two.
+      own-commute program_of spells s j k p whole apart at call comes held (f such.0) (keeps such.0) (fewer such.0) w q (ap (λ r. with_result r (pos 0) 0) (sym such.1)) one two leaves files room)
 
   pub execves-commute : ((a : Promise) → (step program_of s j).outcome ≢ Killed a) → Commute program_of s j k
-  execves-commute alive = commute-where program_of spells s j k p (TheCall.Execve path) whole apart at comes alive held-commute
+  execves-commute alive = commute-where program_of spells s j k p call whole apart at comes alive execve-commutes

@@ -1,12 +1,13 @@
 -- Steps that give their process other things to hold, before and behind a step of another process, whatever they are.
-use Rattle.std.proofs.Common.{◌≡◌, ◌≢◌, ℕ, true, false, ◌==◌, Option, None, Some, refl, ap, sym, subst, ◌∙◌, ⊎_elim}
+use Rattle.std.proofs.Common.{◌≡◌, ◌≢◌, ℕ, pos, true, false, ◌==◌, Option, None, Some, refl, ap, sym, subst, ◌∙◌, ⊎_elim}
 use Rattle.std.proofs.lemmas.Bool.{cases_eq, eqb-true, or_cases}
 use Rattle.std.specs.FinMap.Entries.{find, is_sorted}
 use Rattle.std.specs.Ordering.{nat_cmp}
 use Rattle.pv_model.specs.declared.call.Call.{Call}
-use Rattle.pv_model.specs.Answer.{Answered}
+use Rattle.pv_model.specs.Answer.{Answered, at_next_line, effect}
 use Rattle.pv_model.specs.Attempt.{Attempt, done, refused, after_walks, ◌>>=◌, ◌>>◌}
 use Rattle.pv_model.specs.Bytes.{Bytes}
+use Rattle.pv_model.specs.Calls.Processes.{with_result}
 use Rattle.pv_model.specs.Effect.{Effect, returns}
 use Rattle.pv_model.specs.Held.{among, used_files, held_by_process, held_by_table, trim}
 use Rattle.pv_model.specs.Needs.{needs}
@@ -23,6 +24,7 @@ use Rattle.pv_laws.specs.Held.{used}
 use Rattle.pv_laws.specs.States.{SpellsPrograms, IsWhole}
 use Rattle.pv_laws.proofs.BySteps.{step-keeps_whole}
 use Rattle.pv_laws.proofs.Members.{among-held_by, among-held_file, held_cases}
+use Rattle.pv_laws.proofs.Outcomes.{at_call}
 use Rattle.pv_laws.proofs.Processes.{process_at-same, with_process-twice}
 use Rattle.pv_laws.proofs.Standing.{table-there}
 use Rattle.pv_laws.proofs.Trim.{held_after, tree-trim, files-trim}
@@ -31,9 +33,9 @@ use Rattle.pv_order.specs.Beside.{with_change}
 use Rattle.pv_order.specs.Commuting.{Commute}
 use Rattle.pv_order.specs.Holding.{LeavesOpenFiles, LeavesTree, HasItsRoom}
 use Rattle.pv_order.proofs.Exchange.{KeepsParent, process-changed}
-use Rattle.pv_order.proofs.Given.{Gives, given-commute}
+use Rattle.pv_order.proofs.Given.{Gives, gives, refused-commute, given-commute}
 use Rattle.pv_order.proofs.HeldApart.{found-same, UsesNoMore, NoMore, all-changed, used-before, change-is, step-to_trim}
-use Rattle.pv_order.proofs.Orphans.{orphan}
+use Rattle.pv_order.proofs.Orphans.{orphan, orphaned, next-orphan}
 use Rattle.pv_order.proofs.RoomApart.{in-order, goes-along}
 use Rattle.pv_order.proofs.Twice.{behind_k, whole-behind, at-behind, heir}
 
@@ -98,8 +100,37 @@ module _ (program_of : Bytes → Option Program) (spells : SpellsPrograms progra
   abbrev other : k ≢ j
   other same = apart (sym same)
 
-  module _ (f : Process → Process) (keeps : KeepsParent f) (fewer : UsesNoMore p.descriptors (f p).descriptors) (w : ℕ)
-      (gives_s : Gives program_of s j p call f w 0) (gives_t : Gives program_of t j (orphan n p) call f w 0) where
+  abbrev now : Process
+  now = at_next_line p
+
+  abbrev one : Attempt Effect
+  one = effect program_of (at_call s j p) j now call
+
+  abbrev two : Attempt Effect
+  two = effect program_of (at_call t j (orphan n p)) j (orphan n now) call
+
+  -- both are refused, or make the process the same other one, behind which they may change places
+  pub become-commute : (IsSuch : Process → Type 0) → Becomes s t j n now IsSuch one two
+      → ((w : ℕ) (q : Process) → IsSuch q → one ≡ done w (with_process s j q, returns 0) → two ≡ done w (with_process t j (orphan n q), returns 0) → Commute program_of s j k) → Commute program_of s j k
+  become-commute IsSuch both passes = by one refl both
+    where
+      by : (a : Attempt Effect) → one ≡ a → Becomes s t j n now IsSuch a two → Commute program_of s j k
+      by (done w (z, r)) is both =
+          let told = both.by in
+          let q : Process = told.0 in
+          passes w q told.1 (is ∙ ap (λ v. done w (v, r)) told.3 ∙ ap (λ v. done w (with_process s j q, v)) told.2) (told.4 ∙ ap (λ v. done w (with_process t j (orphan n q), v)) told.2)
+      by (refused w e c) is both = refused-commute program_of spells s j k p whole apart at call comes held w e c is both.by
+
+  -- by f, which may leave more of the process than the call tells
+  module _ (f : Process → Process) (keeps : KeepsParent f) (fewer : UsesNoMore p.descriptors (f p).descriptors) (w : ℕ) (q : Process) (is_given : f p ≡ with_result q (pos 0) 0)
+      (one_is : one ≡ done w (with_process s j q, returns 0)) (two_is : two ≡ done w (with_process t j (orphan n q), returns 0)) where
+    gives_s : Gives program_of s j p call f w 0
+    gives_s = gives program_of s whole j p at call comes held f w 0 q is_given one_is
+
+    gives_t : Gives program_of t j (orphan n p) call f w 0
+    gives_t =
+        gives program_of t whole_t j (orphan n p) at_t call (next-orphan n p ∙ ap (orphaned n) comes) held f w 0 (orphan n q) (keeps.whoever p n ∙ ap (orphan n) is_given) two_is
+
     after_s : (step program_of s j).after ≡ trim (with_change s j f)
     after_s = ap (λ (r : Stepped). r.after) gives_s.calls ∙ ap (λ (a : Answered). a.after) gives_s.answered
 

@@ -48,12 +48,12 @@ use Rattle.pv_order.specs.Beside.{with_change}
 use Rattle.pv_order.specs.Commuting.{Commute}
 use Rattle.pv_order.specs.Holding.{LeavesTree, HasItsRoom}
 use Rattle.pv_order.proofs.Exchange.{KeepsParent, process-changed}
-use Rattle.pv_order.proofs.Given.{Gives, gives, refused-commute}
+use Rattle.pv_order.proofs.Given.{gives}
 use Rattle.pv_order.proofs.HeldApart.{found-same, UsesNoMore, change-is}
 use Rattle.pv_order.proofs.Lone.{by-promise, commute-where}
-use Rattle.pv_order.proofs.Orphans.{orphan, orphaned, next-orphan}
-use Rattle.pv_order.proofs.OwnSteps.{Becomes, becomes-bind, becomes-then, becomes-there, used-same, files-stay, own-commute}
-use Rattle.pv_order.proofs.Twice.{answer-held, answer-lacking, behind_k, whole-behind, at-behind, heir}
+use Rattle.pv_order.proofs.Orphans.{orphan}
+use Rattle.pv_order.proofs.OwnSteps.{Becomes, becomes-bind, becomes-then, becomes-there, become-commute, used-same, files-stay, own-commute}
+use Rattle.pv_order.proofs.Twice.{answer-held, answer-lacking, behind_k, heir}
 
 -- ---- what a table holds
 
@@ -223,10 +223,10 @@ module _ (program_of : Bytes → Option Program) (s : State) (j : ℕ) (p : Proc
       ap (λ (r : Stepped). r.after.tree) calls ∙ ap (λ (a : Answered). a.after.tree) is ∙ tree-update (at_call s j p) j (λ q. with_result q (negsuc 0) (errno_number e))
 
   module _ (held : missing_promise p.promises (needs call) ≡ None) where
-    pub table-leaves : (w : ℕ) (table : Table) → HoldsMore p.table table → does ≡ done w (with_process s j (record now { table = Some table }), returns 0) → LeavesTree program_of s j
-    table-leaves w table more is =
-        let given = gives program_of s whole j p at call comes held (unveiled now table) w 0 (record now { table = Some table }) refl is in
-        ap (λ (r : Stepped). r.after.tree) given.calls ∙ ap (λ (a : Answered). a.after.tree) given.answered ∙ tree-stays s j p whole at now table more
+    pub table-leaves : (w : ℕ) (q : Process) → Unveils now q → does ≡ done w (with_process s j q, returns 0) → LeavesTree program_of s j
+    table-leaves w q such is =
+        let given = gives program_of s whole j p at call comes held (unveiled now such.0) w 0 q (ap (λ r. with_result r (pos 0) 0) (sym such.2)) is in
+        ap (λ (r : Stepped). r.after.tree) given.calls ∙ ap (λ (a : Answered). a.after.tree) given.answered ∙ tree-stays s j p whole at now such.0 such.1
 
     held-leaves : LeavesTree program_of s j
     held-leaves = by does refl (unveil-becomes s s j p.parent now refl program_of path text)
@@ -234,8 +234,7 @@ module _ (program_of : Bytes → Option Program) (s : State) (j : ℕ) (p : Proc
         by : (a : Attempt Effect) → does ≡ a → Becomes s s j p.parent now (Unveils now) a (effect program_of (with_process s j (orphan p.parent now)) j (orphan p.parent now) call) → LeavesTree program_of s j
         by (done w (z, r)) is both =
             let told = both.by in
-            table-leaves w told.1.0 told.1.1
-            (is ∙ ap (λ v. done w (v, r)) (told.3 ∙ ap (with_process s j) told.1.2) ∙ ap (λ v. done w (with_process s j (record now { table = Some told.1.0 }), v)) told.2)
+            table-leaves w told.0 told.1 (is ∙ ap (λ v. done w (v, r)) told.3 ∙ ap (λ v. done w (with_process s j told.0, v)) told.2)
         by (refused w e c) is both = refused-leaves w e c (answer-held program_of s j p call at held ∙ ap (answer_by_attempt s (at_call s j p) j now) is)
 
   pub unveils-leave : ((a : Promise) → (step program_of s j).outcome ≢ Killed a) → LeavesTree program_of s j
@@ -245,56 +244,33 @@ module _ (program_of : Bytes → Option Program) (s : State) (j : ℕ) (p : Proc
 
 module _ (program_of : Bytes → Option Program) (spells : SpellsPrograms program_of) (s : State) (j k : ℕ) (p : Process) (path text : Bytes) (whole : IsWhole s) (apart : j ≢ k) (at : process_at s j ≡ Some p)
     (comes : next p ≡ calls_for (TheCall.Unveil (Some path) (Some text))) (way : LeavesTree program_of s k) (room : HasItsRoom program_of s k) where
+  abbrev asked : Call
+  asked = TheCall.Unveil (Some path) (Some text)
+
   abbrev t : State
   t = behind_k program_of spells s j k p whole apart at
 
   abbrev n : ℕ
   n = heir program_of spells s j k p whole apart at
 
-  module _ (held : missing_promise p.promises (needs (TheCall.Unveil (Some path) (Some text))) ≡ None) where
-    abbrev asked : Call
-    asked = TheCall.Unveil (Some path) (Some text)
+  abbrev me : Process
+  me = at_next_line p
 
-    abbrev me : Process
-    me = at_next_line p
+  abbrev g : Table → Process → Process
+  g = unveiled me
 
-    module _ (w : ℕ) (table : Table) (more : HoldsMore p.table table) (one : effect program_of (at_call s j p) j me asked ≡ done w (with_process s j (record me { table = Some table }), returns 0))
-        (two : effect program_of (at_call t j (orphan n p)) j (orphan n me) asked ≡ done w (with_process t j (record (orphan n me) { table = Some table }), returns 0)) where
-      abbrev g : Process → Process
-      g = unveiled me table
+  fewer : (table : Table) → UsesNoMore p.descriptors (g table p).descriptors
+  fewer table i v has = (i, v, has, refl)
 
-      keeps : KeepsParent g
-      keeps = unveiled-keeps me table
-
-      fewer : UsesNoMore p.descriptors (g p).descriptors
-      fewer i v has = (i, v, has, refl)
-
-      gives_s : Gives program_of s j p asked g w 0
-      gives_s = gives program_of s whole j p at asked comes held g w 0 (record me { table = Some table }) refl one
-
-      gives_t : Gives program_of t j (orphan n p) asked g w 0
-      gives_t =
-          gives program_of t (whole-behind program_of spells s j k p whole apart at) j (orphan n p) (at-behind program_of spells s j k p whole apart at) asked (next-orphan n p ∙ ap (orphaned n) comes) held g w 0
-          (orphan n (record me { table = Some table })) refl two
-
-      unveiled-commute : Commute program_of s j k
-      unveiled-commute =
-          own-commute program_of spells s j k p whole apart at asked comes held g keeps fewer w gives_s gives_t (table-leaves program_of s j p path text whole at comes held w table more one)
-          (files-stay program_of spells s j k p whole apart at asked comes held g keeps fewer w gives_s gives_t (used-same j g (λ r. refl) s)) room
-
-    held-commute : Commute program_of s j k
-    held-commute = by (effect program_of (at_call s j p) j me asked) refl (unveil-becomes s t j n me way program_of path text)
-      where
-        b : Attempt Effect
-        b = effect program_of (at_call t j (orphan n p)) j (orphan n me) asked
-
-        by : (a : Attempt Effect) → effect program_of (at_call s j p) j me asked ≡ a → Becomes s t j n me (Unveils me) a b → Commute program_of s j k
-        by (done w (z, r)) is both =
-            let told = both.by in
-            let q : Process = record me { table = Some told.1.0 } in
-            unveiled-commute w told.1.0 told.1.1 (is ∙ ap (λ v. done w (v, r)) (told.3 ∙ ap (with_process s j) told.1.2) ∙ ap (λ v. done w (with_process s j q, v)) told.2)
-            (told.4 ∙ ap (λ v. done w (with_process t j (orphan n v), r)) told.1.2 ∙ ap (λ v. done w (with_process t j (orphan n q), v)) told.2)
-        by (refused w e c) is both = refused-commute program_of spells s j k p whole apart at asked comes held w e c is both.by
+  unveil-commutes : missing_promise p.promises (needs (TheCall.Unveil (Some path) (Some text))) ≡ None → Commute program_of s j k
+  unveil-commutes held =
+      become-commute program_of spells s j k p whole apart at asked comes held (Unveils me) (unveil-becomes s t j n me way program_of path text)
+      (λ w q such one two.
+      let table : Table = such.0 in
+      let is_given : g table p ≡ with_result q (pos 0) 0 = ap (λ r. with_result r (pos 0) 0) (sym such.2) in
+      own-commute program_of spells s j k p whole apart at asked comes held (g table) (unveiled-keeps me table) (fewer table) w q is_given one two
+      (table-leaves program_of s j p path text whole at comes held w q such one)
+      (files-stay program_of spells s j k p whole apart at asked comes held (g table) (unveiled-keeps me table) (fewer table) w q is_given one two (used-same j (g table) (λ r. refl) s)) room)
 
   pub unveils-commute : ((a : Promise) → (step program_of s j).outcome ≢ Killed a) → Commute program_of s j k
-  unveils-commute alive = commute-where program_of spells s j k p (TheCall.Unveil (Some path) (Some text)) whole apart at comes alive held-commute
+  unveils-commute alive = commute-where program_of spells s j k p asked whole apart at comes alive unveil-commutes
