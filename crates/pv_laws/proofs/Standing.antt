@@ -113,7 +113,7 @@ targets-there t (e ∷ es) all n is =
     of (of_directory d) is = is
     of (of_name d name) is = (and_parts (is_directory_at t d) _ is).0
 
-table-there : (t : Tree) (table : Option Table) → is_table t table ≡ true → (n : ℕ) → among (held_by_table table) n ≡ true → is_directory_at t n ≡ true
+pub table-there : (t : Tree) (table : Option Table) → is_table t table ≡ true → (n : ℕ) → among (held_by_table table) n ≡ true → is_directory_at t n ≡ true
 table-there t None is n held = cc
 table-there t (Some table) is n held = targets-there t table (and_parts (nat_le (length table) 64) _ is).1 n held
 

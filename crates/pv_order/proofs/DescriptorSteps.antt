@@ -231,10 +231,10 @@ module _ (program_of : Bytes → Option Program) (spells : SpellsPrograms progra
     q = record now { descriptors = does.descriptors }
 
     gives_s : Gives program_of s j p call f 0 does.value
-    gives_s = gives program_of s whole j p at call comes held f 0 does.value q refl refl does.one
+    gives_s = gives program_of s whole j p at call comes held f 0 does.value q refl does.one
 
     gives_t : Gives program_of t j (orphan n p) call f 0 does.value
-    gives_t = gives program_of t whole_t j (orphan n p) at_t call (next-orphan n p ∙ ap (orphaned n) comes) held f 0 does.value (orphan n q) refl refl does.other
+    gives_t = gives program_of t whole_t j (orphan n p) at_t call (next-orphan n p ∙ ap (orphaned n) comes) held f 0 does.value (orphan n q) refl does.other
 
     after_s : (step program_of s j).after ≡ trim (with_change s j f)
     after_s = ap (λ (w : Stepped). w.after) gives_s.calls ∙ ap (λ (a : Answered). a.after) gives_s.answered
@@ -249,7 +249,7 @@ module _ (program_of : Bytes → Option Program) (spells : SpellsPrograms progra
 
     held-commute : Commute program_of s j k
     held-commute =
-        given-commute program_of spells s j k p whole apart at call comes held f 0 does.value gives_s gives_t settled
+        given-commute program_of spells s j k p whole apart at call comes held f (given-keeps now does.descriptors does.value) 0 does.value gives_s gives_t settled
         (step-held j f (given-keeps now does.descriptors does.value) nodes program_of spells s k p (orphan n p) whole (λ same. apart (sym same)) at uses whole_t at_t does.fewer)
 
   pub descriptors-commute_held : changes_descriptors call ≡ true → LeavesOpenFiles program_of s j → Commute program_of s j k
@@ -294,7 +294,7 @@ module _ (program_of : Bytes → Option Program) (s : State) (j : ℕ) (p : Proc
 
     after_u : (step program_of s j).after ≡ trim u
     after_u =
-        let is = gives program_of s whole j p at call comes held g 0 does.value (record mine { descriptors = does.descriptors }) refl refl does.one in
+        let is = gives program_of s whole j p at call comes held g 0 does.value (record mine { descriptors = does.descriptors }) refl does.one in
         ap (λ (w : Stepped). w.after) is.calls ∙ ap (λ (a : Answered). a.after) is.answered
 
     abbrev Uses : ℕ → Type 0

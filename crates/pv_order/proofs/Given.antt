@@ -24,6 +24,7 @@ use Rattle.pv_rights.proofs.Ends.{step-is, process_at-trim}
 use Rattle.pv_order.specs.Beside.{with_change}
 use Rattle.pv_order.specs.Commuting.{Commute}
 use Rattle.pv_order.proofs.Alongside.{SteppedTo}
+use Rattle.pv_order.proofs.Exchange.{KeepsParent}
 use Rattle.pv_order.proofs.HeldApart.{change-is, ToTrim}
 use Rattle.pv_order.proofs.Lone.{no_act, alone-passes}
 use Rattle.pv_order.proofs.Orphans.{orphan, orphaned, next-orphan}
@@ -34,10 +35,10 @@ use Rattle.pv_order.proofs.Twice.{answer-held, Two, behind_k, whole-behind, at-b
 pub record Gives (program_of : Bytes → Option Program) (s : State) (j : ℕ) (p : Process) (call : Call) (f : Process → Process) (w v : ℕ) : Type 0 where
   pub calls : step program_of s j ≡ step_by program_of s j p (calls_for call)
   pub answered : answer program_of s j call ≡ record { after = trim (with_change s j f); outcome = Value v; walks = w }
-  pub buffer : buffer_of (process_at (answer program_of s j call).after j) ≡ p.buffer
+  pub buffer : buffer_of (process_at (answer program_of s j call).after j) ≡ (f p).buffer
 
 module _ (program_of : Bytes → Option Program) (s : State) (whole : IsWhole s) (j : ℕ) (p : Process) (at : process_at s j ≡ Some p) (call : Call) (comes : next p ≡ calls_for call) (held : missing_promise p.promises (needs call) ≡ None)
-    (f : Process → Process) (w v : ℕ) (q : Process) (becomes : f p ≡ with_result q (pos v) 0) (buffer : q.buffer ≡ p.buffer)
+    (f : Process → Process) (w v : ℕ) (q : Process) (becomes : f p ≡ with_result q (pos v) 0)
     (does : effect program_of (at_call s j p) j (at_next_line p) call ≡ done w (with_process s j q, returns v)) where
   abbrev told : Process → Process
   told r = with_result r (pos v) 0
@@ -49,14 +50,12 @@ module _ (program_of : Bytes → Option Program) (s : State) (whole : IsWhole s)
       ∙ ap (λ z. record { after = trim z; outcome = Value v; walks = w })
       (update-with s j told q ∙ ap (with_process s j) (sym becomes) ∙ change-is j f s whole.processes.ascending p at)
 
-  buffer-is : buffer_of (process_at (answer program_of s j call).after j) ≡ p.buffer
+  buffer-is : buffer_of (process_at (answer program_of s j call).after j) ≡ (f p).buffer
   buffer-is =
       ap (λ (a : Answered). buffer_of (process_at a.after j)) answered-is
       ∙ ap buffer_of (process_at-trim (with_change s j f) j)
       ∙ ap (λ z. buffer_of (process_at z j)) (sym (change-is j f s whole.processes.ascending p at))
       ∙ ap buffer_of (process_at-same s j (f p))
-      ∙ ap (λ (r : Process). r.buffer) becomes
-      ∙ buffer
 
   pub gives : Gives program_of s j p call f w v
   gives = record { calls = step-is program_of s j p at ∙ ap (step_by program_of s j p) comes; answered = answered-is; buffer = buffer-is }
@@ -96,13 +95,17 @@ module _ (program_of : Bytes → Option Program) (spells : SpellsPrograms progra
       (alone-passes program_of spells s j k p whole apart at)
 
   -- where both are given the same, it is all that the first is left with, and the step of k goes along it
-  module _ (f : Process → Process) (w v : ℕ) (gives_s : Gives program_of s j p call f w v) (gives_t : Gives program_of t j (orphan n p) call f w v) (settled : (step program_of s j).after ≡ with_change s j f)
+  module _ (f : Process → Process) (keeps : KeepsParent f) (w v : ℕ) (gives_s : Gives program_of s j p call f w v) (gives_t : Gives program_of t j (orphan n p) call f w v) (settled : (step program_of s j).after ≡ with_change s j f)
       (beside : SteppedTo (ToTrim j f) (step program_of s k) (step program_of (with_change s j f) k)) where
     outcome-same : (answer program_of t j call).outcome ≡ (answer program_of s j call).outcome
     outcome-same = ap (λ (a : Answered). a.outcome) gives_t.answered ∙ sym (ap (λ (a : Answered). a.outcome) gives_s.answered)
 
     walks-same : (answer program_of t j call).walks ≡ (answer program_of s j call).walks
     walks-same = ap (λ (a : Answered). a.walks) gives_t.answered ∙ sym (ap (λ (a : Answered). a.walks) gives_s.answered)
+
+    -- of the buffer the parent tells nothing
+    buffer-same : buffer_of (process_at (answer program_of t j call).after j) ≡ buffer_of (process_at (answer program_of s j call).after j)
+    buffer-same = gives_t.buffer ∙ ap (λ (r : Process). r.buffer) (keeps.whoever p n) ∙ sym gives_s.buffer
 
     -- the state behind both, in the other order, is trimmed
     whole-both : IsWhole (step program_of (with_change s j f) k).after
@@ -114,7 +117,7 @@ module _ (program_of : Bytes → Option Program) (spells : SpellsPrograms progra
         outcome = ap (λ (w : Stepped). w.outcome) gives_t.calls ∙ outcome-same ∙ sym (ap (λ (w : Stepped). w.outcome) gives_s.calls);
         lines =
             ap (λ (w : Stepped). w.lines) gives_t.calls
-            ∙ lines-told j p (orphan n p) call (answer program_of s j call) (answer program_of t j call) refl outcome-same walks-same (gives_t.buffer ∙ sym gives_s.buffer)
+            ∙ lines-told j p (orphan n p) call (answer program_of s j call) (answer program_of t j call) refl outcome-same walks-same buffer-same
             ∙ sym (ap (λ (w : Stepped). w.lines) gives_s.calls);
       };
       second = record { outcome = ap (λ x. (step program_of x k).outcome) settled ∙ beside.outcome; lines = ap (λ x. (step program_of x k).lines) settled ∙ beside.lines };

@@ -139,7 +139,7 @@ remover-removes = refl
 remover-room : (errno : Errno) (cause : Cause) → (step no_programs entering_open 2).outcome ≡ Failed errno cause → wants_room errno ≡ false
 remover-room errno cause fails = let bad : Value 0 ≡ Failed errno cause = sym remover-removes ∙ fails in cc bad
 
-abbrev entered_tree : Tree
+abbrev pub entered_tree : Tree
 entered_tree = record { nodes = None ∷ Some (directory_node ((codes "d", 2) ∷ [])) ∷ Some (directory_node []) ∷ replicate 14 None; blocks = 14; inodes = 16; version = V1 }
 
 tree-before : entering_open.tree ≡ entered_tree

@@ -14,6 +14,7 @@ pub mod Lone
 pub mod LeftFiles
 pub mod AskSteps
 pub mod Given
+pub mod OwnSteps
 pub mod DescriptorSteps
 pub mod OffsetSteps
 pub mod OtherBytes
@@ -21,11 +22,14 @@ pub mod ContentSteps
 pub mod WriteSteps
 pub mod RoomApart
 pub mod DirectorySteps
+pub mod UnveilSteps
+pub mod ExecveSteps
 pub mod CutSteps
 pub mod Relabelled
 pub mod NextCalls
 pub mod EntrySteps
 pub mod Happen
+pub mod HoldingHappen
 pub mod GrowingHappen
 pub mod EntriesHappen
 pub mod Reordered

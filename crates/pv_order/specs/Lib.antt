@@ -8,5 +8,6 @@ pub mod Growing
 pub mod Entries
 pub mod Tableless
 pub mod Examples
+pub mod HoldingExamples
 pub mod GrowingExamples
 pub mod EntriesExamples

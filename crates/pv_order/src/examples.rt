@@ -2,6 +2,7 @@
 
 ghost use Rattle.pv_order.specs.Examples.{OrderHappens, OffsetsHappen, WritesHappen};
 ghost use Rattle.pv_order.specs.Examples.{DescriptorsHappen, DirectoriesHappen};
+ghost use Rattle.pv_order.specs.HoldingExamples.{UnveilsHappen, ExecvesHappen};
 ghost use Rattle.pv_order.specs.GrowingExamples.{GrowingHappens, CutsHappen};
 ghost use Rattle.pv_order.specs.EntriesExamples.{EntriesHappen};
 
@@ -27,6 +28,19 @@ pub fn descriptors_happen()
 /// number where a chdir out of a directory without a name comes first.
 pub fn directories_happen()
     ensures { DirectoriesHappen }
+{}
+
+/// An unveil of a directory and an open of it may be made in either order; but behind a rename of the directory the entry is for
+/// the name that is free.
+pub fn unveils_happen()
+    ensures { UnveilsHappen }
+{}
+
+/// An execve that closes a descriptor and a close of the other one may be made in either order; but behind an unlink of the file it
+/// finds no name, an open takes another number where an execve that ends an open file comes first, and so does a mkdir where one that
+/// lets a directory go does.
+pub fn execves_happen()
+    ensures { ExecvesHappen }
 {}
 
 /// A write that makes its file longer within its block and an unlink of the file may be made in either order; but a read, a step to

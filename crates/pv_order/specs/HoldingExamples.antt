@@ -1,0 +1,136 @@
+-- Steps that unveil a path or execute a program beside steps of another process: such as may be made in either order, and such as may not.
+use Rattle.std.specs.Prelude.{◌≡◌, ℕ, true, false, List, [], ◌∷◌, ◌++◌, replicate, codes, pos, Option, None, Some, is_some, option_and_then}
+use Rattle.pv_model.specs.declared.call.Call.TheVariants as TheCall
+use Rattle.pv_model.specs.declared.errno.Errno.TheVariants.{ENOENT}
+use Rattle.pv_model.specs.declared.instruction.Instruction.{Instruction}
+use Rattle.pv_model.specs.declared.instruction.Instruction.TheVariants.{JumpIfZero, Fork, GetPid, Exit, Unveil, Execve, Open, Close, Mkdir, Rmdir, Unlink, Rename}
+use Rattle.pv_model.specs.declared.instruction.Operand.TheVariants.{Number}
+use Rattle.pv_model.specs.declared.open_flags.Mode.TheVariants.{Read as Reading}
+use Rattle.pv_model.specs.declared.open_flags.OpenFlags.{OpenFlags}
+use Rattle.pv_model.specs.declared.outcome.Cause.TheVariants.{Plain}
+use Rattle.pv_model.specs.declared.outcome.Outcome.TheVariants.{Value, Failed}
+use Rattle.pv_model.specs.declared.target.Target.TheVariants.{Directory, Name}
+use Rattle.pv_model.specs.Bytes.{Bytes}
+use Rattle.pv_model.specs.Manifest.{make, manifest_tree}
+use Rattle.pv_model.specs.Numbered.{at_number}
+use Rattle.pv_model.specs.Perms.{letter_r}
+use Rattle.pv_model.specs.Program.{calls_for, next}
+use Rattle.pv_model.specs.State.{Program, Process, State, first_state, process_at}
+use Rattle.pv_model.specs.Step.{step, run}
+use Rattle.pv_model.specs.Tree.{file_node, root, find_entry}
+use Rattle.pv_model.specs.Unveil.{Table}
+use Rattle.pv_order.specs.Examples.{no_programs, state_behind, flags}
+use Rattle.pv_order.specs.Holding.{LeavesOpenFiles, LeavesTree, HasItsRoom}
+
+-- ---- unveil(2)
+
+-- a process makes a directory, node 2, and forks; then it unveils the directory, and the child does something else
+abbrev pub unveiling : Instruction → Program
+unveiling other =
+    Mkdir (codes "/d")
+    ∷ Fork
+    ∷ JumpIfZero 0 6
+    ∷ Unveil (Some (codes "/d")) (Some (codes "r"))
+    ∷ Exit (Number (pos 0))
+    ∷ other
+    ∷ []
+
+abbrev pub both_there : List ℕ
+both_there = replicate 3 1 ++ 2 ∷ []
+
+-- the child opens the directory
+abbrev pub unveiling_open : State
+unveiling_open = state_behind (unveiling (Open (codes "/d") (flags Reading false))) both_there
+
+-- the child gives the directory another name
+abbrev pub table_behind : List ℕ → Option Table
+table_behind pids = option_and_then (λ p. p.table) (process_at (state_behind (unveiling (Rename (codes "/d") (codes "/e"))) (both_there ++ pids)) 1)
+
+pub record UnveilsHappen : Type 0 where
+  -- an unveil of a directory that another opens: the law's premises
+  pub process : Process
+  pub there : process_at unveiling_open 1 ≡ Some process
+  pub next_is : next process ≡ calls_for (TheCall.Unveil (Some (codes "/d")) (Some (codes "r")))
+  pub way : LeavesTree no_programs unveiling_open 2
+  pub room : HasItsRoom no_programs unveiling_open 2
+  pub unveils : (step no_programs unveiling_open 1).outcome ≡ Value 0
+  pub opens : (step no_programs unveiling_open 2).outcome ≡ Value 0
+  -- an unveil beside a rename of the directory: its entry is for the directory, or for the name that is free
+  pub of_directory : table_behind (1 ∷ 2 ∷ []) ≡ Some ((Directory 2, letter_r) ∷ [])
+  pub of_name : table_behind (2 ∷ 1 ∷ []) ≡ Some ((Name root (codes "d"), letter_r) ∷ [])
+
+-- ---- execve(2)
+
+-- each file that may be executed spells this program
+abbrev pub one_program : Bytes → Option Program
+one_program bytes = Some (GetPid ∷ [])
+
+-- the state behind steps from a tree with such a file, node 2
+abbrev pub state_with_program : Program → List ℕ → State
+state_with_program program pids = (run one_program pids (first_state (manifest_tree 14 16 (make (codes "/p") (file_node true (codes "getpid")) ∷ [])) program)).final
+
+-- an open whose descriptor an execve closes
+abbrev pub marked : OpenFlags
+marked = record (flags Reading false) { close_on_exec = true }
+
+-- a process opens the file so, and forks; then it executes the file, and the child does something else
+abbrev pub executing : Instruction → Program
+executing other =
+    Open (codes "/p") marked
+    ∷ Fork
+    ∷ JumpIfZero 0 6
+    ∷ Execve (codes "/p")
+    ∷ Exit (Number (pos 0))
+    ∷ other
+    ∷ []
+
+-- the child closes its descriptor of the open file
+abbrev pub executing_both : State
+executing_both = state_with_program (executing (Close (Number (pos 0)))) both_there
+
+-- a process that has forked has the only descriptor of an open file, which an execve closes; the child opens the file too
+abbrev pub ending_by_execve : Program
+ending_by_execve =
+    Fork
+    ∷ JumpIfZero 0 6
+    ∷ Open (codes "/p") marked
+    ∷ Execve (codes "/p")
+    ∷ Exit (Number (pos 0))
+    ∷ Open (codes "/p") (flags Reading false)
+    ∷ []
+
+-- a process that has forked has an entry for a directory without a name, and executes a file without it; the child makes a directory
+abbrev pub leaving_by_execve : Program
+leaving_by_execve =
+    Fork
+    ∷ JumpIfZero 0 9
+    ∷ Mkdir (codes "/d")
+    ∷ Unveil (Some (codes "/")) (Some (codes "rwxc"))
+    ∷ Unveil (Some (codes "/d")) (Some (codes "rwxc"))
+    ∷ Rmdir (codes "/d")
+    ∷ Execve (codes "/p")
+    ∷ Exit (Number (pos 0))
+    ∷ Mkdir (codes "/e")
+    ∷ []
+
+pub record ExecvesHappen : Type 0 where
+  -- an execve that closes a descriptor, beside a close of the other one: the law's premises, and behind both the open file has ended
+  pub process : Process
+  pub there : process_at executing_both 1 ≡ Some process
+  pub next_is : next process ≡ calls_for (TheCall.Execve (codes "/p"))
+  pub leaves : LeavesTree one_program executing_both 1
+  pub files : LeavesOpenFiles one_program executing_both 1
+  pub way : LeavesTree one_program executing_both 2
+  pub room : HasItsRoom one_program executing_both 2
+  pub executes : (step one_program executing_both 1).outcome ≡ Value 0
+  pub closes : (step one_program executing_both 2).outcome ≡ Value 0
+  pub ended : at_number (run one_program (1 ∷ 2 ∷ []) executing_both).final.files 0 ≡ None
+  -- an execve beside an unlink of the file: behind it the name is gone
+  pub executed : (step one_program (state_with_program (executing (Unlink (codes "/p"))) both_there) 1).outcome ≡ Value 0
+  pub gone : (step one_program (state_with_program (executing (Unlink (codes "/p"))) (both_there ++ 2 ∷ [])) 1).outcome ≡ Failed ENOENT Plain
+  -- an execve that ends an open file, beside an open: that takes the number which is left free, or the next
+  pub reused : is_some (at_number (state_with_program ending_by_execve (both_there ++ 1 ∷ 2 ∷ [])).files 0) ≡ true
+  pub not_reused : at_number (state_with_program ending_by_execve (both_there ++ 2 ∷ 1 ∷ [])).files 0 ≡ None
+  -- an execve that lets a directory go with the table, beside a mkdir: that takes the number which is left free, or the next
+  pub freed : find_entry (state_with_program leaving_by_execve (replicate 6 1 ++ 2 ∷ 1 ∷ 2 ∷ [])).tree root (codes "e") ≡ Some 3
+  pub not_freed : find_entry (state_with_program leaving_by_execve (replicate 6 1 ++ 2 ∷ 2 ∷ 1 ∷ [])).tree root (codes "e") ≡ Some 4
