@@ -1,7 +1,7 @@
 -- States whose trees or open files change.
 use Rattle.std.proofs.Common.{◌≡◌, ℕ, true, false, cond, not, ◌&&◌, ◌||◌, ◌==◌, nat_le, [], ◌∷◌, map, length, Option, None, Some, is_some, refl, ap, ap₂, sym, ◌∙◌, ⊎_elim, arith}
 use Rattle.std.specs.List.{list_all}
-use Rattle.std.proofs.lemmas.Bool.{and_parts, and_from, or_cases, or_left, or_right, cases_eq, cases_Bool}
+use Rattle.std.proofs.lemmas.Bool.{and_parts, and_from, or_cases, eqb-true}
 use Rattle.pv_model.specs.declared.place.Place.{Place}
 use Rattle.pv_model.specs.declared.place.Place.TheVariants.{At, Node as Unnamed}
 use Rattle.pv_model.specs.declared.follow.Follow.{Follow}
@@ -11,10 +11,10 @@ use Rattle.pv_model.specs.Held.{among, held_by_table}
 use Rattle.pv_model.specs.Numbered.{Numbered, at_number}
 use Rattle.pv_model.specs.Sealed.{is_file}
 use Rattle.pv_model.specs.State.{OpenFile, Process, State, process_at, with_process, with_tree}
-use Rattle.pv_model.specs.Tree.{Node, link_node, Tree, node_at, is_directory, is_directory_at, is_removed, find_entry, is_name}
+use Rattle.pv_model.specs.Tree.{Node, link_node, Tree, node_at, is_directory, is_directory_at}
 use Rattle.pv_model.specs.declared.target.Target.{Target}
 use Rattle.pv_model.specs.declared.target.Target.TheVariants.{Directory as of_directory, Name as of_name}
-use Rattle.pv_model.specs.Unveil.{Table, target_directory, target_of}
+use Rattle.pv_model.specs.Unveil.{Table, same_target, target_directory, target_of}
 use Rattle.pv_model.specs.Walk.{resolve}
 use Rattle.pv_laws.specs.States.{is_byte, is_text_byte, are_bytes, has_bytes, is_text, IsTree, is_listed, IsOpenFile, AreFiles, is_target, is_table, IsRunning, IsPlaced, AreProcesses, IsSolid, IsWhole}
 use Rattle.pv_tree_laws.proofs.Places.{list_all-weaker, IsGoodPlace, is_spelled, resolve-good, piece-name, link-text, not_zero}
@@ -102,11 +102,18 @@ file-carried t u f carries is =
       listed = ap (λ v. is_listed v f.listed) carries.version ∙ is.listed;
     }
 
+-- targets that are the same hold one directory
+pub same-directory : (a b : Target) → same_target a b ≡ true → target_directory a ≡ target_directory b
+same-directory (of_directory d) (of_directory e) is = eqb-true d e is
+same-directory (of_directory d) (of_name e name) is = cc
+same-directory (of_name d name) (of_directory e) is = cc
+same-directory (of_name d name) (of_name e other) is = eqb-true d e (and_parts (d == e) _ is).0
+
 targets-there : (t : Tree) (table : Table) → list_all (λ e. is_target t e.0) table ≡ true → (n : ℕ) → among (map (λ e. target_directory e.0) table) n ≡ true → is_directory_at t n ≡ true
 targets-there t [] all n is = cc
 targets-there t (e ∷ es) all n is =
     let parts = and_parts (is_target t e.0) (list_all (λ e. is_target t e.0) es) all in
-    ⊎_elim (λ here. ap (is_directory_at t) (sym (Rattle.std.proofs.lemmas.Bool.eqb-true (target_directory e.0) n here)) ∙ of e.0 parts.0) (λ there. targets-there t es parts.1 n there)
+    ⊎_elim (λ here. ap (is_directory_at t) (sym (eqb-true (target_directory e.0) n here)) ∙ of e.0 parts.0) (λ there. targets-there t es parts.1 n there)
     (or_cases (target_directory e.0 == n) _ is)
   where
     of : (target : Target) → is_target t target ≡ true → is_directory_at t (target_directory target) ≡ true

@@ -1,7 +1,7 @@
 -- Steps that unveil a path, before and behind a step of another process.
 use Rattle.std.proofs.Common.{◌≡◌, ◌≢◌, ℕ, pos, negsuc, Bool, true, false, ◌||◌, ◌==◌, if◌then◌else◌, nat_le, length, [], ◌∷◌, ◌++◌, Option, None, Some, refl, ap, sym, subst, ◌∙◌, ⊎_elim}
 use Rattle.std.proofs.Math.Seq.{map-set_same}
-use Rattle.std.proofs.lemmas.Bool.{and_parts, cases_eq, eqb-true, or_left, or_right, or_cases}
+use Rattle.std.proofs.lemmas.Bool.{cases_eq, or_left, or_right, or_cases}
 use Rattle.std.proofs.lemmas.List.{map-append}
 use Rattle.std.proofs.lemmas.List.Folds.{list_any-append}
 use Rattle.std.proofs.lemmas.List.Quantifiers.{position-Some}
@@ -16,7 +16,6 @@ use Rattle.pv_model.specs.declared.outcome.Outcome.TheVariants.{Killed}
 use Rattle.pv_model.specs.declared.perms.Perms.{Perms}
 use Rattle.pv_model.specs.declared.promise.Promise.{Promise}
 use Rattle.pv_model.specs.declared.target.Target.{Target}
-use Rattle.pv_model.specs.declared.target.Target.TheVariants.{Directory, Name}
 use Rattle.pv_model.specs.Answer.{Answered, answer, answer_by_attempt, at_next_line, effect}
 use Rattle.pv_model.specs.Attempt.{Attempt, done, refused, ◌>>=◌, ◌>>◌, give, refuse}
 use Rattle.pv_model.specs.Bytes.{Bytes}
@@ -42,6 +41,7 @@ use Rattle.pv_laws.specs.States.{SpellsPrograms, IsWhole}
 use Rattle.pv_laws.proofs.Members.{among-held_by, among-held_file, held_cases}
 use Rattle.pv_laws.proofs.Outcomes.{at_call}
 use Rattle.pv_laws.proofs.Processes.{process_at-same, tree-update}
+use Rattle.pv_laws.proofs.Standing.{same-directory}
 use Rattle.pv_laws.proofs.Trim.{held_after, tree-trim}
 use Rattle.pv_rights.proofs.Ends.{step-is}
 use Rattle.pv_order.specs.Beside.{with_change}
@@ -56,12 +56,6 @@ use Rattle.pv_order.proofs.OwnSteps.{Becomes, becomes-bind, becomes-then, become
 use Rattle.pv_order.proofs.Twice.{answer-held, answer-lacking, behind_k, heir}
 
 -- ---- what a table holds
-
-same-directory : (a b : Target) → same_target a b ≡ true → target_directory a ≡ target_directory b
-same-directory (Directory d) (Directory e) is = eqb-true d e is
-same-directory (Directory d) (Name e name) is = cc
-same-directory (Name d name) (Directory e) is = cc
-same-directory (Name d name) (Name e other) is = eqb-true d e (and_parts (d == e) _ is).0
 
 -- a table holds what another does, and perhaps more
 abbrev HoldsMore : Option Table → Table → Type 0

@@ -1,9 +1,9 @@
 -- What a table's targets hold with another entry, or with other letters.
-use Rattle.std.proofs.Common.{◌≡◌, ℕ, ◌+◌, ◌⊎◌, inl, inr, Bool, true, false, ◌==◌, nat_le, nat_lt, List, [], ◌∷◌, ◌++◌, length, Option, None, Some, refl, ap, sym, subst, ap₂, ◌∙◌, ⊎_elim, arith}
+use Rattle.std.proofs.Common.{◌≡◌, ℕ, ◌+◌, ◌⊎◌, inl, inr, Bool, true, false, nat_le, nat_lt, List, [], ◌∷◌, ◌++◌, length, Option, None, Some, refl, ap, sym, subst, ap₂, ◌∙◌, arith}
 use Rattle.std.specs.Prelude.{if◌then◌else◌}
 use Rattle.std.specs.Option.{IsSomeAnd}
 use Rattle.std.proofs.Math.Seq.{map-set_same}
-use Rattle.std.proofs.lemmas.Bool.{and_parts, cases_eq, ne_eqb, ltb-true, ltb-false}
+use Rattle.std.proofs.lemmas.Bool.{ltb-true, ltb-false}
 use Rattle.std.proofs.lemmas.List.{length-set, length_push, map-append}
 use Rattle.std.proofs.lemmas.List.Quantifiers.{position-Some}
 use Rattle.pv_model.specs.declared.errno.Errno.TheVariants.{EPERM, E2BIG}
@@ -11,13 +11,13 @@ use Rattle.pv_model.specs.declared.limits.TheConstants.{UNVEILS}
 use Rattle.pv_model.specs.declared.outcome.Cause.TheVariants.{Unveil as ByUnveil}
 use Rattle.pv_model.specs.declared.perms.Perms.{Perms}
 use Rattle.pv_model.specs.declared.target.Target.{Target}
-use Rattle.pv_model.specs.declared.target.Target.TheVariants.{Directory, Name}
 use Rattle.pv_model.specs.Attempt.{refused, refuse, give}
 use Rattle.pv_model.specs.Calls.Restraints.{add_entry, entries_of_table}
 use Rattle.pv_model.specs.Held.{held_by_table}
 use Rattle.pv_model.specs.Perms.{covers}
 use Rattle.pv_model.specs.State.{State, Process}
 use Rattle.pv_model.specs.Unveil.{Table, same_target, entry_for, letters_at, with_letters, target_directory}
+use Rattle.pv_laws.proofs.Standing.{same-directory}
 use Rattle.pv_procs.specs.ProcessTable.{ProcessTable, with_process, update, state_with}
 use Rattle.pv_tree.specs.Holding.{HeldTree, holds_at}
 use Rattle.pv_unveil.specs.Added.{put_in, add_to}
@@ -29,15 +29,6 @@ use Rattle.pv_parts.proofs.Attempts.{after_none}
 use Rattle.pv_parts.proofs.Changing.{IsBefore, updated, counted-changed, state-put}
 use Rattle.pv_parts.proofs.Targets.{of_entry, directories, held-entries}
 use Rattle.pv_parts.proofs.Trimming.{times-append, times-cons}
-
-same-number : (m n : ℕ) → (m == n) ≡ true → m ≡ n
-same-number m n is = ⊎_elim (λ same. same) (λ other. let isnt = ne_eqb m n other in cc) (cases_eq m n)
-
-same-directory : (a b : Target) → same_target a b ≡ true → target_directory a ≡ target_directory b
-same-directory (Directory d) (Directory e) is = same-number d e is
-same-directory (Directory d) (Name e name) is = cc
-same-directory (Name d name) (Directory e) is = cc
-same-directory (Name d name) (Name e other) is = same-number d e (and_parts _ _ is).0
 
 -- the directory that comes with a new entry
 abbrev pub if_new : Bool → ℕ → List ℕ
