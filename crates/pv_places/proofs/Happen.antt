@@ -9,7 +9,7 @@ use Rattle.pv_places.specs.Moves.{gives_any}
 use Rattle.pv_places.specs.Examples.{state_behind, shut, moving, linking, table_of, MovesHappen}
 use Rattle.std.proofs.Common.{◌≡◌, false}
 
-abbrev or_first : Option Process → Process
+abbrev pub or_first : Option Process → Process
 or_first None = first_process []
 or_first (Some p) = p
 

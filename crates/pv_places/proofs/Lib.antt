@@ -1,3 +1,5 @@
 pub mod Named
 pub mod Moved
+pub mod Next
 pub mod Happen
+pub mod Told

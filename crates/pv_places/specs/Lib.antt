@@ -1,2 +1,4 @@
 pub mod Moves
+pub mod Order
 pub mod Examples
+pub mod OrderExamples

@@ -1,10 +1,16 @@
-//! Worked runs with a table that gives nothing, and with a rename and a link that bring a letter.
+//! Worked runs with a table that gives nothing, with a rename and a link that bring a letter, and with names that are told.
 
 ghost use Rattle.pv_places.specs.Examples.{MovesHappen};
+ghost use Rattle.pv_places.specs.OrderExamples.{NamesAreTold};
 
 /// Behind three steps of a worked run the locked table of a process gives nothing of a file; in another a rename brings a file
 /// that no entry lets it read to where one does; and in a third a link gives a file that no entry lets it write a name where one
 /// does.
 pub fn moves_happen()
     ensures { MovesHappen }
+{}
+
+/// Of a directory in which `b` was made before `a`, a process is told `a`, then `b`, and then no more.
+pub fn names_are_told()
+    ensures { NamesAreTold }
 {}

@@ -1,10 +1,13 @@
-//! Laws of how far it goes that rights are of places, of the machine's definitions in `pv_model`.
+//! Laws of how far it goes that rights are of places, and of the order in which names are told, of the machine's definitions in
+//! `pv_model`.
 //!
 //! Each function has an empty body: its contract is the law, which the check proves. The statements stand in `specs/`:
 //!
 //! - `moves`: which calls give a node a name, and which letters a step brings to a node.
-//! - `examples`: a table that gives nothing, a rename that brings a letter, and a link that does.
+//! - `order`: which name a getdents tells.
+//! - `examples`: a table that gives nothing, a rename that brings a letter, a link that does, and names that are told.
 #![tactic(auto)]
 
 pub mod examples;
 pub mod moves;
+pub mod order;

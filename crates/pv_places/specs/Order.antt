@@ -1,0 +1,61 @@
+-- The order in which names are told: getdents(2).
+use Rattle.std.specs.Prelude.{◌≡◌, ◌⊎◌, ℕ, ℤ, ◌++◌, [], length, drop, IsTrue, Option, None, Some}
+use Rattle.std.specs.Cmp.Lexicographic.{slice_cmp}
+use Rattle.std.specs.Ordering.{nat_cmp}
+use Rattle.std.specs.declared.cmp.Ordering.TheVariants.{Less}
+use Rattle.pv_model.specs.declared.call.Call.TheVariants.{Getdents}
+use Rattle.pv_model.specs.declared.outcome.Outcome.TheVariants.{Text}
+use Rattle.pv_model.specs.Bytes.{Bytes}
+use Rattle.pv_model.specs.Effect.{open_file}
+use Rattle.pv_model.specs.Numbered.{at_number}
+use Rattle.pv_model.specs.State.{OpenFile, Program, Process, State, process_at}
+use Rattle.pv_model.specs.Step.{step}
+use Rattle.pv_model.specs.Tree.{Tree, is_directory_at, find_entry}
+use Rattle.pv_laws.specs.States.{IsWhole}
+use Rattle.pv_secrets.specs.Origins.{IsMade}
+
+-- a name is less than another, byte by byte
+abbrev pub IsLess : Bytes → Bytes → Type 0
+IsLess name other = slice_cmp nat_cmp name other ≡ Less
+
+-- a directory has an entry under a name
+abbrev pub HasEntry : Tree → ℕ → Bytes → Type 0
+HasEntry t d name = (n : ℕ) × (find_entry t d name ≡ Some n)
+
+-- ---- getdents
+
+-- a name is greater than the last one that was listed, if one was
+abbrev pub IsPast : Option Bytes → Bytes → Type 0
+IsPast None name = Unit {0}
+IsPast (Some last) name = IsLess last name
+
+-- of the directory's entries that are past the last one, this is the least
+pub record IsLeastPast (t : Tree) (d : ℕ) (last : Option Bytes) (name : Bytes) : Type 0 where
+  pub entry : HasEntry t d name
+  pub past : IsPast last name
+  pub least : (other : Bytes) → HasEntry t d other → IsPast last other → (other ≡ name) ⊎ IsLess name other
+
+-- no entry of the directory is past the last one
+abbrev pub NonePast : Tree → ℕ → Option Bytes → Type 0
+NonePast t d last = (name : Bytes) → HasEntry t d name → ¬ IsPast last name
+
+module _ (program_of : Bytes → Option Program) (s : State) (pid : ℕ) where
+  -- the step tells its process these bytes: it answers how many they are, and they stand at the front of the buffer
+  pub record IsTold (me : Process) (bytes : Bytes) : Type 0 where
+    pub outcome : (step program_of s pid).outcome ≡ Text (record { value = length bytes; len = length bytes })
+    pub told : Process
+    pub live : process_at (step program_of s pid).after pid ≡ Some told
+    pub buffer : told.buffer ≡ bytes ++ drop (length bytes) me.buffer
+
+  -- the step tells the next name, which the open file keeps as its last; or no byte, where there is none
+  pub data TellsTheNext (me : Process) (k : ℕ) (file : OpenFile) : Type 0 where
+    a_name : (name : Bytes) → IsLeastPast s.tree file.node file.listed name → IsTold me name
+        → at_number (step program_of s pid).after.files k ≡ Some (record file { listed = Some name }) → TellsTheNext me k file
+    none_left : NonePast s.tree file.node file.listed → IsTold me []
+        → at_number (step program_of s pid).after.files k ≡ Some file → TellsTheNext me k file
+
+-- of a directory a getdents tells the least entry that is past the last one listed, by the order of its bytes
+abbrev pub TellsTheNextName : Type 0
+TellsTheNextName =
+    (program_of : Bytes → Option Program) (s : State) (pid : ℕ) (me : Process) (d : ℤ) (k : ℕ) (file : OpenFile) → IsWhole s → IsMade s pid me (Getdents d)
+    → open_file s me d ≡ Some (k, file) → IsTrue (is_directory_at s.tree file.node) → TellsTheNext program_of s pid me k file
