@@ -1,5 +1,6 @@
 pub mod Named
 pub mod Moved
 pub mod Next
+pub mod Listed
 pub mod Happen
 pub mod Told

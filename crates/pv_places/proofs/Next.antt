@@ -2,9 +2,10 @@
 use Rattle.std.proofs.Common.{◌≡◌, ◌⊎◌, inl, inr, ℕ, ℤ, pos, negsuc, Bool, true, false, cond, not, [], ◌∷◌, length, Option, None, Some, option_map, refl, ap, sym, ◌∙◌}
 use Rattle.std.proofs.lemmas.Bool.{and_parts}
 use Rattle.std.specs.FinMap.Entries.{find, is_sorted, below_all}
-use Rattle.std.specs.Ordering.{is_lt}
+use Rattle.std.specs.Ordering.{is_lt, eq_by_cmp}
 use Rattle.std.specs.declared.cmp.Ordering.{Ordering}
 use Rattle.std.specs.declared.cmp.Ordering.TheVariants.{Less, Equal, Greater}
+use Rattle.pv_model.specs.declared.call.Call.{Call}
 use Rattle.pv_model.specs.declared.call.Call.TheVariants as TheCall
 use Rattle.pv_model.specs.declared.errno.Errno.TheVariants.{EBADF, EINVAL}
 use Rattle.pv_model.specs.Answer.{Answered, answer, answer_of, answer_where, answer_by_attempt, at_next_line, with_front, update, effect}
@@ -38,7 +39,7 @@ use Rattle.pv_places.specs.Order.{IsLess, IsPast, TellsTheNext, a_name, none_lef
 
 -- ---- the next name
 
-less-from : (o : Ordering) → is_lt o ≡ true → o ≡ Less
+pub less-from : (o : Ordering) → is_lt o ≡ true → o ≡ Less
 less-from Less is = refl
 less-from Equal is = cc is
 less-from Greater is = cc is
@@ -58,7 +59,7 @@ Among es name = (n : ℕ) × (find by_name name es ≡ Some n)
 -- it is the first one's, or behind that
 among-cases : (P : Type 0) (e : Bytes × ℕ) (es : Entries) (name : Bytes) → Among (e ∷ es) name → (name ≡ e.0 → P) → (Among es name → P) → P
 among-cases P e es name (n, is) here there =
-    elim (Rattle.std.specs.Ordering.eq_by_cmp by_name name e.0) as (λ b. Rattle.std.specs.Ordering.eq_by_cmp by_name name e.0 ≡ b → cond b (Some e.1) (find by_name name es) ≡ Some n → P) [
+    elim (eq_by_cmp by_name name e.0) as (λ b. eq_by_cmp by_name name e.0 ≡ b → cond b (Some e.1) (find by_name name es) ≡ Some n → P) [
       | true ↦ λ tied _. here (tied-same name e.0 tied)
       | false ↦ λ _ found. there (n, found)
     ] refl is
@@ -119,7 +120,7 @@ next-among last (e ∷ es) sorted =
 -- ---- the step
 
 -- what a call does whose promises are held
-answer-does : (program_of : Bytes → Option Program) (s : State) (pid : ℕ) (me : Process) (call : _) → process_at s pid ≡ Some me → missing_promise me.promises (needs call) ≡ None
+answer-does : (program_of : Bytes → Option Program) (s : State) (pid : ℕ) (me : Process) (call : Call) → process_at s pid ≡ Some me → missing_promise me.promises (needs call) ≡ None
     → answer program_of s pid call ≡ answer_by_attempt s (at_call s pid me) pid (at_next_line me) (effect program_of (at_call s pid me) pid (at_next_line me) call)
 unfolding answer
 answer-does program_of s pid me call at held =

@@ -1,16 +1,20 @@
--- The order in which names are told: getdents(2).
-use Rattle.std.specs.Prelude.{◌≡◌, ◌⊎◌, ℕ, ℤ, ◌++◌, [], length, drop, IsTrue, Option, None, Some}
+-- The order in which names are told: getdents(2), and listings and reports.
+use Rattle.std.specs.Prelude.{◌≡◌, ◌⊎◌, ℕ, ℤ, IsTrue, List, [], ◌∷◌, ◌++◌, length, drop, flat_map, codes, Option, None, Some, option_and_then}
 use Rattle.std.specs.Cmp.Lexicographic.{slice_cmp}
+use Rattle.std.specs.FinMap.Entries.{find, is_sorted}
 use Rattle.std.specs.Ordering.{nat_cmp}
+use Rattle.std.specs.declared.cmp.Ordering.{Ordering}
 use Rattle.std.specs.declared.cmp.Ordering.TheVariants.{Less}
 use Rattle.pv_model.specs.declared.call.Call.TheVariants.{Getdents}
 use Rattle.pv_model.specs.declared.outcome.Outcome.TheVariants.{Text}
 use Rattle.pv_model.specs.Bytes.{Bytes}
 use Rattle.pv_model.specs.Effect.{open_file}
+use Rattle.pv_model.specs.Listing.{node_line, found_line, lines_of_all, listing, report}
 use Rattle.pv_model.specs.Numbered.{at_number}
+use Rattle.pv_model.specs.Sealed.{audit_node}
 use Rattle.pv_model.specs.State.{OpenFile, Program, Process, State, process_at}
 use Rattle.pv_model.specs.Step.{step}
-use Rattle.pv_model.specs.Tree.{Tree, is_directory_at, find_entry}
+use Rattle.pv_model.specs.Tree.{Tree, root, node_at, is_directory_at, find_entry, IsWellFormed}
 use Rattle.pv_laws.specs.States.{IsWhole}
 use Rattle.pv_secrets.specs.Origins.{IsMade}
 
@@ -59,3 +63,38 @@ abbrev pub TellsTheNextName : Type 0
 TellsTheNextName =
     (program_of : Bytes → Option Program) (s : State) (pid : ℕ) (me : Process) (d : ℤ) (k : ℕ) (file : OpenFile) → IsWhole s → IsMade s pid me (Getdents d)
     → open_file s me d ≡ Some (k, file) → IsTrue (is_directory_at s.tree file.node) → TellsTheNext program_of s pid me k file
+
+-- ---- listings
+
+-- the node to which names lead from another, entry by entry
+abbrev pub led_to : Tree → ℕ → List Bytes → Option ℕ
+led_to t n [] = Some n
+led_to t n (name ∷ names) = option_and_then (λ m. led_to t m names) (find_entry t n name)
+
+-- the path of these names from the root, which is an empty path
+abbrev pub path_of : List Bytes → Bytes
+path_of names = flat_map (λ name. codes "/" ++ name) names
+
+-- lists of names in order, name by name: what is below a directory comes behind it, and before what comes behind the directory
+abbrev pub by_names : List Bytes → List Bytes → Ordering
+by_names = slice_cmp (slice_cmp nat_cmp)
+
+-- places of a tree: the names that lead to each, and its node
+abbrev pub Places : Type 0
+Places = List (List Bytes × ℕ)
+
+-- what is said of each place, one after the other
+abbrev pub lines_at : (Bytes → ℕ → Bytes) → Places → Bytes
+lines_at line places = flat_map (λ p. line (path_of p.0) p.1) places
+
+-- a tree is listed by these places: they ascend, they are those to which entries lead from the root, and what is written is what is said of them in order
+pub record IsListedBy (t : Tree) (places : Places) : Type 0 where
+  pub ascending : IsTrue (is_sorted by_names places)
+  pub reached : (names : List Bytes) → find by_names names places ≡ led_to t root names
+  pub lines : (line : Bytes → ℕ → Bytes) → lines_of_all t line ≡ lines_at line places
+  pub listed : listing t ≡ lines_at (λ path n. node_line path n (node_at t n)) places
+  pub reported : (s : State) → s.tree ≡ t → report s ≡ lines_at (λ path n. found_line path (audit_node s (Some n))) places
+
+-- listings and reports tell all places of a tree, each once, in ascending order
+abbrev pub ListingsAscend : Type 0
+ListingsAscend = (t : Tree) → IsWellFormed t → (places : Places) × IsListedBy t places

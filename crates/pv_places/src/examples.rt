@@ -10,7 +10,8 @@ pub fn moves_happen()
     ensures { MovesHappen }
 {}
 
-/// Of a directory in which `b` was made before `a`, a process is told `a`, then `b`, and then no more.
+/// Of a directory in which `b` was made before `a`, a process is told `a`, then `b`, and then no more; and a listing of the tree has
+/// the directory `d`, then these two, and then the file `d.x`.
 pub fn names_are_told()
     ensures { NamesAreTold }
 {}
