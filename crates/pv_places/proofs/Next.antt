@@ -35,7 +35,7 @@ use Rattle.pv_laws.proofs.Rests
 use Rattle.pv_laws.proofs.Trim.{files-trim}
 use Rattle.pv_rights.proofs.Ends.{step-is, process_at-trim, update-live}
 use Rattle.pv_secrets.specs.Origins.{IsMade}
-use Rattle.pv_places.specs.Order.{IsLess, IsPast, TellsTheNext, a_name, none_left}
+use Rattle.pv_places.specs.Order.{IsLess, IsPast, IsTold, TellsTheNext, a_name, none_left}
 
 -- ---- the next name
 
@@ -53,7 +53,7 @@ behind-past None name is = tt
 behind-past (Some l) name is = less-from (by_name l name) is
 
 -- a name among entries
-abbrev Among : Entries → Bytes → Type 0
+abbrev pub Among : Entries → Bytes → Type 0
 Among es name = (n : ℕ) × (find by_name name es ≡ Some n)
 
 -- it is the first one's, or behind that
@@ -78,12 +78,12 @@ above-less q (e ∷ es) name below has =
     let first : IsLess q e.0 = less-from (by_name q e.0) parts.0 in
     among-cases (IsLess q name) e es name has (λ same. ap (by_name q) same ∙ first) (λ there. above-less q es name parts.1 there)
 
-record IsLeastAmong (es : Entries) (last : Option Bytes) (name : Bytes) : Type 0 where
-  among_them : Among es name
-  past : IsPast last name
-  least : (other : Bytes) → Among es other → IsPast last other → (other ≡ name) ⊎ IsLess name other
+pub record IsLeastAmong (es : Entries) (last : Option Bytes) (name : Bytes) : Type 0 where
+  pub among_them : Among es name
+  pub past : IsPast last name
+  pub least : (other : Bytes) → Among es other → IsPast last other → (other ≡ name) ⊎ IsLess name other
 
-abbrev NextAmong : Entries → Option Bytes → Option Bytes → Type 0
+abbrev pub NextAmong : Entries → Option Bytes → Option Bytes → Type 0
 NextAmong es last None = (name : Bytes) → Among es name → ¬ IsPast last name
 NextAmong es last (Some name) = IsLeastAmong es last name
 
@@ -109,7 +109,7 @@ module _ (last : Option Bytes) (e : Bytes × ℕ) (es : Entries) (sorted : is_so
         among-cases _ e es other has (λ same. absurd (not-both (is_behind last e.0) not_behind (ap (is_behind last) (sym same) ∙ past-behind last other past))) (λ there. next.least other there past);
   }
 
-next-among : (last : Option Bytes) (es : Entries) → is_sorted by_name es ≡ true → NextAmong es last (next_name last es)
+pub next-among : (last : Option Bytes) (es : Entries) → is_sorted by_name es ≡ true → NextAmong es last (next_name last es)
 next-among last [] sorted = λ name (n, is) past. cc is
 next-among last (e ∷ es) sorted =
     elim (is_behind last e.0) as (λ b. is_behind last e.0 ≡ b → NextAmong (e ∷ es) last (cond b (Some e.0) (next_name last es))) [
@@ -151,7 +151,7 @@ same-open : (s : State) (pid : ℕ) (me : Process) (d : ℤ) → open_file (at_c
 same-open s pid me (pos d) = refl
 same-open s pid me (negsuc d) = refl
 
-module _ (program_of : Bytes → Option Program) (s : State) (pid : ℕ) (me : Process) (d : ℤ) (k : ℕ) (file : OpenFile) (whole : IsWhole s) (made : IsMade s pid me (TheCall.Getdents d))
+module _ (program_of : Bytes → Option Program) (s : State) (pid : ℕ) (me : Process) (d : ℤ) (k : ℕ) (file : OpenFile) (made : IsMade s pid me (TheCall.Getdents d))
     (open_is : open_file s me d ≡ Some (k, file)) (directory : is_directory_at s.tree file.node ≡ true) where
   abbrev x : State
   x = at_call s pid me
@@ -199,30 +199,39 @@ module _ (program_of : Bytes → Option Program) (s : State) (pid : ℕ) (me : P
         → of_step (step program_of s pid) ≡ part (told-of o)
     at-step part of_step same = ap of_step stepped ∙ same ∙ ap part is-answer
 
+  -- what is told where there is no next name, and where there is one
+  told-none : next_name file.listed (entries_at s.tree file.node) ≡ None → IsTold program_of s pid me []
+  told-none is = record {
+    outcome = at-step None is (λ a. a.outcome) (λ w. w.outcome) refl;
+    told = tell [] now;
+    live = at-step None is (λ a. process_at a.after pid) (λ w. process_at w.after pid) refl ∙ process_at-trim (update x pid (tell [])) pid ∙ update-live x pid (tell []) now (process_at-same s pid now);
+    buffer = refl;
+  }
+
+  abbrev listing_name : Bytes → State
+  listing_name name = with_file x k (record file { listed = Some name })
+
+  listing_at : (name : Bytes) → process_at (listing_name name) pid ≡ Some now
+  listing_at name = process_at-same s pid now
+
+  pub told-name : (name : Bytes) → next_name file.listed (entries_at s.tree file.node) ≡ Some name → IsTold program_of s pid me name
+  told-name name is = record {
+    outcome = at-step (Some name) is (λ a. a.outcome) (λ w. w.outcome) refl;
+    told = tell name now;
+    live = at-step (Some name) is (λ a. process_at a.after pid) (λ w. process_at w.after pid) refl ∙ process_at-trim (update (listing_name name) pid (tell name)) pid ∙ update-live (listing_name name) pid (tell name) now (listing_at name);
+    buffer = refl;
+  }
+
   tells : (o : Option Bytes) → next_name file.listed (entries_at s.tree file.node) ≡ o → NextAmong (entries_at s.tree file.node) file.listed o → TellsTheNext program_of s pid me k file
   tells None is next =
-      none_left next
-      (record {
-        outcome = at-step None is (λ a. a.outcome) (λ w. w.outcome) refl;
-        told = tell [] now;
-        live = at-step None is (λ a. process_at a.after pid) (λ w. process_at w.after pid) refl ∙ process_at-trim (update x pid (tell [])) pid ∙ update-live x pid (tell []) now (process_at-same s pid now);
-        buffer = refl;
-      })
+      none_left next (told-none is)
       (at-step None is (λ a. at_number a.after.files k) (λ w. at_number w.after.files k) refl ∙ file-stays x (tell []) (process_at-same s pid now) (λ p. refl) ∙ file-there)
   tells (Some name) is next =
-      let y : State = with_file x k (record file { listed = Some name }) in
-      let at : process_at y pid ≡ Some now = process_at-same s pid now in
-      a_name name (record { entry = next.among_them; past = next.past; least = next.least })
-      (record {
-        outcome = at-step (Some name) is (λ a. a.outcome) (λ w. w.outcome) refl;
-        told = tell name now;
-        live = at-step (Some name) is (λ a. process_at a.after pid) (λ w. process_at w.after pid) refl ∙ process_at-trim (update y pid (tell name)) pid ∙ update-live y pid (tell name) now at;
-        buffer = refl;
-      })
-      (at-step (Some name) is (λ a. at_number a.after.files k) (λ w. at_number w.after.files k) refl ∙ file-stays y (tell name) at (λ p. refl)
+      a_name name (record { entry = next.among_them; past = next.past; least = next.least }) (told-name name is)
+      (at-step (Some name) is (λ a. at_number a.after.files k) (λ w. at_number w.after.files k) refl ∙ file-stays (listing_name name) (tell name) (listing_at name) (λ p. refl)
       ∙ with_number-same s.files k (record file { listed = Some name }) (at_number-below s.files k file file-there))
 
-  pub tells-next : TellsTheNext program_of s pid me k file
-  tells-next =
+  pub tells-next : IsWhole s → TellsTheNext program_of s pid me k file
+  tells-next whole =
       tells (next_name file.listed (entries_at s.tree file.node)) refl
       (next-among file.listed (entries_at s.tree file.node) (entries-good s.tree file.node whole.tree.well_formed.each_node).0)

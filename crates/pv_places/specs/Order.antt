@@ -1,5 +1,5 @@
 -- The order in which names are told: getdents(2), and listings and reports.
-use Rattle.std.specs.Prelude.{◌≡◌, ◌⊎◌, ℕ, ℤ, IsTrue, List, [], ◌∷◌, ◌++◌, length, drop, flat_map, codes, Option, None, Some, option_and_then}
+use Rattle.std.specs.Prelude.{◌≡◌, ◌≢◌, ◌⊎◌, ℕ, ℤ, IsTrue, List, [], ◌∷◌, ◌++◌, length, drop, flat_map, codes, Option, None, Some, is_some, option_and_then}
 use Rattle.std.specs.Cmp.Lexicographic.{slice_cmp}
 use Rattle.std.specs.FinMap.Entries.{find, is_sorted}
 use Rattle.std.specs.Ordering.{nat_cmp}
@@ -13,9 +13,9 @@ use Rattle.pv_model.specs.Listing.{node_line, found_line, lines_of_all, listing,
 use Rattle.pv_model.specs.Numbered.{at_number}
 use Rattle.pv_model.specs.Sealed.{audit_node}
 use Rattle.pv_model.specs.State.{OpenFile, Program, Process, State, process_at}
-use Rattle.pv_model.specs.Step.{step}
+use Rattle.pv_model.specs.Step.{step, run}
 use Rattle.pv_model.specs.Tree.{Tree, root, node_at, is_directory_at, find_entry, IsWellFormed}
-use Rattle.pv_laws.specs.States.{IsWhole}
+use Rattle.pv_laws.specs.States.{SpellsPrograms, IsWhole}
 use Rattle.pv_secrets.specs.Origins.{IsMade}
 
 -- a name is less than another, byte by byte
@@ -64,6 +64,30 @@ TellsTheNextName =
     (program_of : Bytes → Option Program) (s : State) (pid : ℕ) (me : Process) (d : ℤ) (k : ℕ) (file : OpenFile) → IsWhole s → IsMade s pid me (Getdents d)
     → open_file s me d ≡ Some (k, file) → IsTrue (is_directory_at s.tree file.node) → TellsTheNext program_of s pid me k file
 
+module _ (program_of : Bytes → Option Program) where
+  -- the step is a getdents, by a descriptor of open file k on a directory, that tells this name
+  pub record TellsBy (s : State) (pid k : ℕ) (name : Bytes) : Type 0 where
+    pub me : Process
+    pub d : ℤ
+    pub file : OpenFile
+    pub made : IsMade s pid me (Getdents d)
+    pub opened : open_file s me d ≡ Some (k, file)
+    pub directory : IsTrue (is_directory_at s.tree file.node)
+    pub told : IsTold program_of s pid me name
+    pub some : name ≢ []
+
+  -- open file k stays along a run
+  abbrev pub StaysOpen : ℕ → List ℕ → State → Type 0
+  StaysOpen k [] s = IsTrue (is_some (at_number s.files k))
+  StaysOpen k (pid ∷ pids) s = IsTrue (is_some (at_number s.files k)) × StaysOpen k pids (step program_of s pid).after
+
+-- of two names that are told through one open file, by whichever processes and whatever steps are between, the later one is greater
+abbrev pub NamesToldAscend : Type 0
+NamesToldAscend =
+    (program_of : Bytes → Option Program) → SpellsPrograms program_of → (s : State) (pid k : ℕ) (name : Bytes) (pids : List ℕ) (last : ℕ) (other : Bytes) → IsWhole s
+    → TellsBy program_of s pid k name → StaysOpen program_of k pids (step program_of s pid).after
+    → TellsBy program_of (run program_of pids (step program_of s pid).after).final last k other → IsLess name other
+
 -- ---- listings
 
 -- the node to which names lead from another, entry by entry
@@ -71,7 +95,7 @@ abbrev pub led_to : Tree → ℕ → List Bytes → Option ℕ
 led_to t n [] = Some n
 led_to t n (name ∷ names) = option_and_then (λ m. led_to t m names) (find_entry t n name)
 
--- the path of these names from the root, which is an empty path
+-- the path of these names from the root; the root's own is empty
 abbrev pub path_of : List Bytes → Bytes
 path_of names = flat_map (λ name. codes "/" ++ name) names
 

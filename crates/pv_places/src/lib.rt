@@ -4,7 +4,8 @@
 //! Each function has an empty body: its contract is the law, which the check proves. The statements stand in `specs/`:
 //!
 //! - `moves`: which calls give a node a name, and which letters a step brings to a node.
-//! - `order`: which name a getdents tells, and in which order listings and reports tell places.
+//! - `order`: which name a getdents tells, that names told through one open file ascend, and in which order listings and reports go
+//!   over places.
 //! - `examples`: a table that gives nothing, a rename that brings a letter, a link that does, and names that are told.
 #![tactic(auto)]
 
