@@ -7,6 +7,7 @@
 #   make examples every bundle of examples/ and cases/, its trace compared, before any proof
 #   make refusals the proved program with each allocation, opening, read and write refused in turn
 #   make test     the gate: every proof from nothing, the wrong bodies, the tests, the program, the examples, the refusals
+#   make wrong    the further wrong bodies, which the gate does not try
 #   make check    every crate, over what earlier checks kept
 #   make bench    proves and runs the benchmark, and prints times
 #   make man      the manual pages, tried by mandoc(1)
@@ -15,7 +16,7 @@
 PREFIX ?= /usr/local
 MANDIR ?= $(PREFIX)/share/man
 
-.PHONY: all demo try examples refusals test check bench man install clean
+.PHONY: all demo try examples refusals test wrong check bench man install clean
 
 all: bin/pvsim
 
@@ -47,6 +48,9 @@ refusals: bin/pvsim
 
 test:
 	tools/gate
+
+wrong:
+	tools/wrong
 
 check:
 	rt all check
