@@ -45,14 +45,18 @@ fit-calls : (k : ℕ) (f : Process → Process) (s : State) (pid : ℕ) (me : Pr
 fit-calls k f s pid me other next_other fit =
     let own : (q : Process) → Fits k f (put nat_cmp pid (live q) s.processes) = λ q. fits-put k f pid (live q) s.processes (λ p is here. absurd (other here)) fit in
     record {
-      left = λ t fs. fit;
-      own = λ t fs q. own q;
-      forked = fits-put k f (suc s.last_process) (live (child s pid me)) s.processes (λ p is here. absurd (next_other here)) fit;
-      reaped = λ test. fits-filter k f (λ r. test r.0) s.processes fit;
-      room = λ t fs n. room-changed k f _ _ n (record { same = refl; fit = fit });
-      room_opened = λ t fs file close_on_exec n.
-          let q : Process = record me { descriptors = with_number me.descriptors (least_free me.descriptors) (record { file = file; close_on_exec = close_on_exec }) } in
-          room-changed k f _ _ n (record { same = ap (λ ps. record s { tree = t; files = fs; processes = ps }) (put-other k f pid (live q) s.processes other); fit = own q });
+      leave = record {
+        left = λ t fs. fit;
+        own = λ t fs q. own q;
+        forked = fits-put k f (suc s.last_process) (live (child s pid me)) s.processes (λ p is here. absurd (next_other here)) fit;
+        reaped = λ test. fits-filter k f (λ r. test r.0) s.processes fit;
+      };
+      rooms = record {
+        room = λ t fs n. room-changed k f _ _ n (record { same = refl; fit = fit });
+        room_opened = λ t fs file close_on_exec n.
+            let q : Process = record me { descriptors = with_number me.descriptors (least_free me.descriptors) (record { file = file; close_on_exec = close_on_exec }) } in
+            room-changed k f _ _ n (record { same = ap (λ ps. record s { tree = t; files = fs; processes = ps }) (put-other k f pid (live q) s.processes other); fit = own q });
+      };
     }
 
 step-changed : (k : ℕ) (f : Process → Process) → KeepsParent f → (pid : ℕ) → pid ≢ k → (program_of : Bytes → Option Program) (s : State) → Fits k f s.processes → suc s.last_process ≢ k

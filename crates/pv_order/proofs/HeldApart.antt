@@ -33,12 +33,12 @@ use Rattle.pv_laws.proofs.Trim.{files-trim, processes-trim, held_after, trim_onc
 use Rattle.pv_laws.proofs.Whole.{sorted-put_number}
 use Rattle.pv_rights.proofs.Ends.{whole-in_order, not_next, process_at-trim}
 use Rattle.pv_order.specs.Beside.{with_change}
-use Rattle.pv_order.proofs.Alongside.{Beside, moved, FitsIn, room-beside, step-beside_to, SteppedTo, FitsTrim}
+use Rattle.pv_order.proofs.Alongside.{Beside, moved, same-room, room-beside, step-beside_to, SteppedTo, FitsTrim}
 use Rattle.pv_order.proofs.BesideCalls.{changes, CallsFit, calls-fit}
 use Rattle.pv_order.proofs.Commuted.{put-changes}
 use Rattle.pv_order.proofs.Exchange.{KeepsParent, changed, put-other, process-changed, with-changed, end-changed}
 
-same-truth : (a b : Bool) → (a ≡ true → b ≡ true) → (b ≡ true → a ≡ true) → a ≡ b
+pub same-truth : (a b : Bool) → (a ≡ true → b ≡ true) → (b ≡ true → a ≡ true) → a ≡ b
 same-truth true b there back = sym (there refl)
 same-truth false true there back = back refl
 same-truth false false there back = refl
@@ -81,7 +81,7 @@ used-onward s u sorted_s sorted_u pid me more at_u keeps onward m is =
         (cases_eq there.0 pid)
 
 -- a new descriptor leaves the others
-more-with_number : (ds : Numbered Descriptor) (new : Descriptor) (d : ℕ) (x : Descriptor) → at_number ds d ≡ Some x
+pub more-with_number : (ds : Numbered Descriptor) (new : Descriptor) (d : ℕ) (x : Descriptor) → at_number ds d ≡ Some x
     → (e : ℕ) × (y : Descriptor) × (at_number (with_number ds (least_free ds) new) e ≡ Some y) × (y.file ≡ x.file)
 more-with_number ds new d x has =
     let other : d ≢ least_free ds = λ same. let none : None ≡ Some x = sym (least_free-free ds) ∙ ap (at_number ds) (sym same) ∙ has in cc none in
@@ -219,17 +219,6 @@ module _ (j : ℕ) (f : Process → Process) where
 
 -- ---- the step of another process
 
-forget : (change : State → State) (Fit : State → Type 0) (a b : Attempt Effect) → Beside change Fit a b → Beside change (λ x. Unit {0}) a b
-forget change Fit a b is = record { same = is.same ∙ by a; fit = of a }
-  where
-    by : (a : Attempt Effect) → moved change Fit a ≡ moved change (λ x. Unit {0}) a
-    by (done walks (x, r)) = refl
-    by (refused walks errno cause) = refl
-
-    of : (a : Attempt Effect) → FitsIn change (λ x. Unit {0}) a
-    of (done walks (x, r)) = tt
-    of (refused walks errno cause) = tt
-
 module _ (j : ℕ) (f : Process → Process) (keeps : KeepsParent f) (nodes : KeepsNodes f) where
   abbrev Any : State → Type 0
   Any x = Unit {0}
@@ -238,19 +227,18 @@ module _ (j : ℕ) (f : Process → Process) (keeps : KeepsParent f) (nodes : Ke
   roomy : (x y : State) (n : ℕ) → y ≡ with_change x j f → SameUse j f x
       → Beside (changes j f) Any (with_room x >>= (λ room. answers room n)) (with_room y >>= (λ room. answers room n))
   roomy x y n is uses =
-      forget (changes j f) (SameUse j f) _ _ (room-beside (changes j f) (SameUse j f) (λ z fit. trim-use j f nodes z fit) (λ z. refl) x y n (record { same = is; fit = uses }))
+      room-beside (changes j f) Any x y n (record { same = is; fit = tt }) (same-room (trim x).tree (trim (with_change x j f)).tree (ap (λ (z : State). z.tree) (trim-use j f nodes x uses)))
 
   use-calls : (x : State) → is_sorted nat_cmp x.processes ≡ true → (p : Process) → process_at x j ≡ Some p → (k : ℕ) → k ≢ j → (me : Process) → process_at x k ≡ Some me → SameUse j f x → CallsFit j f x k me Any
   use-calls x sorted p at k apart me at_k uses = record {
-    left = λ t fs. tt;
-    own = λ t fs q. tt;
-    forked = tt;
-    reaped = λ test. tt;
-    room = λ t fs n. roomy _ _ n refl (record { same = uses.same });
-    room_opened = λ t fs file close_on_exec n.
-        let q : Process = record me { descriptors = with_number me.descriptors (least_free me.descriptors) (record { file = file; close_on_exec = close_on_exec }) } in
-        let more = use-more j f x sorted p at k apart me at_k q (λ d v has. more-with_number me.descriptors (record { file = file; close_on_exec = close_on_exec }) d v has) uses in
-        roomy _ _ n (ap (λ ps. record x { tree = t; files = fs; processes = ps }) (put-other j f k (live q) x.processes apart)) (record { same = more.same });
+    leave = record { left = λ t fs. tt; own = λ t fs q. tt; forked = tt; reaped = λ test. tt };
+    rooms = record {
+      room = λ t fs n. roomy _ _ n refl (record { same = uses.same });
+      room_opened = λ t fs file close_on_exec n.
+          let q : Process = record me { descriptors = with_number me.descriptors (least_free me.descriptors) (record { file = file; close_on_exec = close_on_exec }) } in
+          let more = use-more j f x sorted p at k apart me at_k q (λ d v has. more-with_number me.descriptors (record { file = file; close_on_exec = close_on_exec }) d v has) uses in
+          roomy _ _ n (ap (λ ps. record x { tree = t; files = fs; processes = ps }) (put-other j f k (live q) x.processes apart)) (record { same = more.same });
+    };
   }
 
   -- what is used goes by the processes alone

@@ -20,6 +20,7 @@ pub mod OffsetSteps
 pub mod OtherBytes
 pub mod ContentSteps
 pub mod WriteSteps
+pub mod RoomRows
 pub mod RoomApart
 pub mod DirectorySteps
 pub mod UnveilSteps
