@@ -1,19 +1,16 @@
 -- Each call run beside itself, in two states that differ inside another process.
-use Rattle.std.proofs.Common.{◌≡◌, ◌≢◌, ℕ, zero, suc, ℤ, not, Bool, true, false, ◌||◌, ◌==◌, nat_le, nat_lt, cond, List, [], ◌∷◌, length, Option, None, Some, refl, ap, sym, subst}
+use Rattle.std.proofs.Common.{◌≡◌, ◌≢◌, ℕ, suc, not, Bool, true, false, ◌||◌, ◌==◌, nat_le, nat_lt, cond, List, [], ◌∷◌, length, Option, None, Some, refl, ap, sym, subst}
 use Rattle.std.specs.FinMap.Entries.{put, where_key}
 use Rattle.std.specs.Ordering.{nat_cmp}
 use Rattle.pv_model.specs.declared.call.Call.{Call}
 use Rattle.pv_model.specs.declared.call.Call.TheVariants as TheCall
-use Rattle.pv_model.specs.declared.call.Start.{Start}
-use Rattle.pv_model.specs.declared.call.Start.TheVariants.{WorkingDirectory}
 use Rattle.pv_model.specs.declared.errno.Errno.{Errno}
 use Rattle.pv_model.specs.declared.errno.Errno.TheVariants.{EAGAIN, ECHILD}
-use Rattle.pv_model.specs.declared.open_flags.OpenFlags.{OpenFlags}
 use Rattle.pv_model.specs.declared.outcome.Cause.{Cause}
 use Rattle.pv_model.specs.Answer.{effect}
 use Rattle.pv_model.specs.Attempt.{Attempt, done, refused, after_walks, ◌>>=◌, ◌>>◌, refuse_if}
 use Rattle.pv_model.specs.Bytes.{Bytes, is_empty}
-use Rattle.pv_model.specs.Calls.Descriptors.{with_descriptor, open_node, open_at, write, after_write, list_name}
+use Rattle.pv_model.specs.Calls.Descriptors.{list_name}
 use Rattle.pv_model.specs.Calls.Processes.{child, fork, children, statuses, reap, wait}
 use Rattle.pv_model.specs.Calls.Restraints.{unveil}
 use Rattle.pv_model.specs.Effect.{Effect, Reply, returns, answers, with_room}
@@ -21,7 +18,6 @@ use Rattle.pv_model.specs.Held.{trim}
 use Rattle.pv_model.specs.Numbered.{Numbered}
 use Rattle.pv_model.specs.State.{OpenFile, Program, Process, live, State, with_process}
 use Rattle.pv_model.specs.Tree.{Tree}
-use Rattle.pv_laws.proofs.Rests
 use Rattle.pv_order.specs.Beside.{with_change}
 use Rattle.pv_order.proofs.Alongside.{IsBeside, Beside, after-beside, bind-beside, then-beside, done-beside, refused-beside, same-room, room-beside}
 use Rattle.pv_order.proofs.Exchange.{KeepsParent, changed, Fits, put-other, length-changed, where-changed, children-changed, trim-changed}
@@ -63,14 +59,6 @@ pub record CallsAlong (k : ℕ) (f : Process → Process) (s : State) (pid : ℕ
   pub forked : S (record s { processes = put nat_cmp (suc s.last_process) (live (child s pid me)) s.processes; last_process = suc s.last_process })
       (record s { processes = put nat_cmp (suc s.last_process) (live (child s pid me)) (changed k f s.processes); last_process = suc s.last_process })
   pub reaped : (test : ℕ → Bool) → S (record s { processes = where_key nat_cmp test s.processes }) (record s { processes = where_key nat_cmp test (changed k f s.processes) })
-
--- and of what calls ask room for
-pub record RoomsAlong (k : ℕ) (f : Process → Process) (s : State) (pid : ℕ) (me : Process) (R : Attempt Effect → Attempt Effect → Type 0) : Type 0 where
-  pub room : (t : Tree) (fs : Numbered OpenFile) (n : ℕ)
-      → R (with_room (record s { tree = t; files = fs }) >>= (λ roomy. answers roomy n)) (with_room (record (with_change s k f) { tree = t; files = fs }) >>= (λ roomy. answers roomy n))
-  pub room_opened : (t : Tree) (fs : Numbered OpenFile) (file : ℕ) (close_on_exec : Bool) (n : ℕ)
-      → R (with_room (with_descriptor s pid me (record s { tree = t; files = fs }) file close_on_exec) >>= (λ roomy. answers roomy n))
-      (with_room (with_descriptor (with_change s k f) pid me (record (with_change s k f) { tree = t; files = fs }) file close_on_exec) >>= (λ roomy. answers roomy n))
 
 module _ (k : ℕ) (f : Process → Process) (keeps : KeepsParent f) (s : State) (pid : ℕ) (me : Process) (R : Attempt Effect → Attempt Effect → Type 0) (S : State → State → Type 0) (along : CallsAlong k f s pid me R S) where
   abbrev u : State
@@ -174,44 +162,6 @@ module _ (k : ℕ) (f : Process → Process) (keeps : KeepsParent f) (s : State)
   calls-along program_of (TheCall.Rmdir path) asks = search parts depth 20
   calls-along program_of (TheCall.Rename path new) asks = asks refl
 
-  -- and those do, where what they ask room for does
-  module _ (rooms : RoomsAlong k f s pid me R) where
-    room-along : (t : Tree) (fs : Numbered OpenFile) (n : ℕ) → R (with_room (record s { tree = t; files = fs }) >>= (λ roomy. answers roomy n)) (with_room (record u { tree = t; files = fs }) >>= (λ roomy. answers roomy n))
-    room-along t fs n = rooms.room t fs n
-
-    room-opened : (t : Tree) (fs : Numbered OpenFile) (file : ℕ) (close_on_exec : Bool) (n : ℕ)
-        → R (with_room (with_descriptor s pid me (record s { tree = t; files = fs }) file close_on_exec) >>= (λ roomy. answers roomy n))
-        (with_room (with_descriptor u pid me (record u { tree = t; files = fs }) file close_on_exec) >>= (λ roomy. answers roomy n))
-    room-opened t fs file close_on_exec n = rooms.room_opened t fs file close_on_exec n
-
-    node-beside : (flags : OpenFlags) (name : Option (ℕ × Bytes)) (node : Option ℕ)
-        → R (open_node s pid me flags name node >>= Rests.open_7 s pid me) (open_node u pid me flags name node >>= Rests.open_7 u pid me)
-    node-beside flags name (Some n) = search (parts, room-opened, walked-along) depth 20
-    node-beside flags (Some p) None = search (parts, room-opened, walked-along) depth 20
-    node-beside flags None None = search parts depth 20
-
-    open-beside : (start : Start) (path : Bytes) (flags : OpenFlags) → R (open_at s pid me start path flags) (open_at u pid me start path flags)
-    open-beside start path flags = search (bound-along, behind-along, node-beside) depth 40
-
-    written : (j : ℕ) (file : OpenFile) (count n : ℕ) → R (with_room (after_write s pid me j file count) >>= (λ roomy. answers roomy n)) (with_room (after_write u pid me j file count) >>= (λ roomy. answers roomy n))
-    written j file zero n = search (parts, room-along) depth 20
-    written j file (suc count) n = search (parts, room-along) depth 20
-
-    write-beside : (d n : ℤ) → R (write s pid me d n) (write u pid me d n)
-    write-beside d n = search (bound-along, behind-along, written) depth 20
-
-    pub rooms-along : (program_of : Bytes → Option Program) (call : Call) → asks_room call ≡ true → R (effect program_of s pid me call) (effect program_of u pid me call)
-    unfolding effect
-    rooms-along program_of (TheCall.Open path flags) is = open-beside WorkingDirectory path flags
-    rooms-along program_of (TheCall.OpenAt start path flags) is = open-beside start path flags
-    rooms-along program_of (TheCall.Write d n) is = write-beside d n
-    rooms-along program_of (TheCall.Ftruncate d n) is = search (parts, room-along) depth 20
-    rooms-along program_of (TheCall.Mkdir path) is = search (parts, room-along) depth 20
-    rooms-along program_of (TheCall.Symlink text path) is = search (parts, room-along) depth 20
-    rooms-along program_of (TheCall.Link path new) is = search (parts, room-along) depth 30
-    rooms-along program_of (TheCall.Rename path new) is = search (parts, room-along) depth 40
-    rooms-along program_of call is = cc is
-
 -- what calls of process `pid` leave is fit
 pub record CallsLeave (k : ℕ) (f : Process → Process) (s : State) (pid : ℕ) (me : Process) (Fit : State → Type 0) : Type 0 where
   pub left : (t : Tree) (fs : Numbered OpenFile) → Fit (record s { tree = t; files = fs })
@@ -219,12 +169,7 @@ pub record CallsLeave (k : ℕ) (f : Process → Process) (s : State) (pid : ℕ
   pub forked : Fit (record s { processes = put nat_cmp (suc s.last_process) (live (child s pid me)) s.processes; last_process = suc s.last_process })
   pub reaped : (test : ℕ → Bool) → Fit (record s { processes = where_key nat_cmp test s.processes })
 
--- and what they ask room for has it alike
-pub record CallsFit (k : ℕ) (f : Process → Process) (s : State) (pid : ℕ) (me : Process) (Fit : State → Type 0) : Type 0 where
-  pub leave : CallsLeave k f s pid me Fit
-  pub rooms : RoomsAlong k f s pid me (Beside (changes k f) Fit)
-
--- so both do the same, but for the change
+-- so what is left differs by the change
 module _ (k : ℕ) (f : Process → Process) (s : State) (pid : ℕ) (me : Process) (other : pid ≢ k) (next_other : suc s.last_process ≢ k) (Fit : State → Type 0) where
   pub leave-along : CallsLeave k f s pid me Fit → CallsAlong k f s pid me (Beside (changes k f) Fit) (IsBeside (changes k f) Fit)
   leave-along leave = record {
@@ -241,9 +186,3 @@ module _ (k : ℕ) (f : Process → Process) (s : State) (pid : ℕ) (me : Proce
     };
     reaped = λ test. record { same = ap (λ ps. record s { processes = ps }) (where-changed k f test s.processes); fit = leave.reaped test };
   }
-
-  pub calls-fit : CallsFit k f s pid me Fit → KeepsParent f → (program_of : Bytes → Option Program) (call : Call) → Beside (changes k f) Fit (effect program_of s pid me call) (effect program_of (with_change s k f) pid me call)
-  calls-fit fits keeps program_of call =
-      let along = leave-along fits.leave in
-      calls-along k f keeps s pid me (Beside (changes k f) Fit) (IsBeside (changes k f) Fit) along program_of call
-      (rooms-along k f keeps s pid me (Beside (changes k f) Fit) (IsBeside (changes k f) Fit) along fits.rooms program_of call)

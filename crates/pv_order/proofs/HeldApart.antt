@@ -34,9 +34,10 @@ use Rattle.pv_laws.proofs.Whole.{sorted-put_number}
 use Rattle.pv_rights.proofs.Ends.{whole-in_order, not_next, process_at-trim}
 use Rattle.pv_order.specs.Beside.{with_change}
 use Rattle.pv_order.proofs.Alongside.{Beside, moved, same-room, room-beside, step-beside_to, SteppedTo, FitsTrim}
-use Rattle.pv_order.proofs.BesideCalls.{changes, CallsFit, calls-fit}
+use Rattle.pv_order.proofs.BesideCalls.{changes}
 use Rattle.pv_order.proofs.Commuted.{put-changes}
 use Rattle.pv_order.proofs.Exchange.{KeepsParent, changed, put-other, process-changed, with-changed, end-changed}
+use Rattle.pv_order.proofs.RoomRows.{CallsFit, calls-fit}
 
 pub same-truth : (a b : Bool) → (a ≡ true → b ≡ true) → (b ≡ true → a ≡ true) → a ≡ b
 same-truth true b there back = sym (there refl)
@@ -233,11 +234,12 @@ module _ (j : ℕ) (f : Process → Process) (keeps : KeepsParent f) (nodes : Ke
   use-calls x sorted p at k apart me at_k uses = record {
     leave = record { left = λ t fs. tt; own = λ t fs q. tt; forked = tt; reaped = λ test. tt };
     rooms = record {
-      room = λ t fs n. roomy _ _ n refl (record { same = uses.same });
-      room_opened = λ t fs file close_on_exec n.
+      room = λ t fs n goes. roomy _ _ n refl (record { same = uses.same });
+      opened = λ t fs file close_on_exec n goes.
           let q : Process = record me { descriptors = with_number me.descriptors (least_free me.descriptors) (record { file = file; close_on_exec = close_on_exec }) } in
           let more = use-more j f x sorted p at k apart me at_k q (λ d v has. more-with_number me.descriptors (record { file = file; close_on_exec = close_on_exec }) d v has) uses in
           roomy _ _ n (ap (λ ps. record x { tree = t; files = fs; processes = ps }) (put-other j f k (live q) x.processes apart)) (record { same = more.same });
+      smaller = λ t n less. roomy _ _ n refl (record { same = uses.same });
     };
   }
 
@@ -321,8 +323,10 @@ step-held j f keeps nodes program_of spells s k p q whole apart at uses whole_t 
     (λ me at_k call comes held.
     let now : Process = at_next_line me in
     let x : State = at_call s k me in
+    let at_x : process_at x k ≡ Some now = process_at-same s k now in
     let uses_x : SameUse j f x = use-more j f s whole.processes.ascending p at k apart me at_k now (λ d v has. (d, v, has, refl)) uses in
-    (calls-fit j f x k now apart (λ same. not_next s (whole-in_order s whole) j p at (sym same)) (λ x. Unit {0})
-    (use-calls j f keeps nodes x (sorted-put_number k (live now) s.processes whole.processes.ascending) p (process_at-other s k now j (λ same. apart (sym same)) ∙ at) k apart now (process_at-same s k now) uses_x) keeps program_of call).same)
+    (calls-fit j f keeps x k now (whole-at_call s k me whole at_k) at_x apart (λ same. not_next s (whole-in_order s whole) j p at (sym same)) (λ x. Unit {0})
+    (use-calls j f keeps nodes x (sorted-put_number k (live now) s.processes whole.processes.ascending) p (process_at-other s k now j (λ same. apart (sym same)) ∙ at) k apart now at_x uses_x) program_of call
+    (subst (IsGoodNext me) comes (good-next me (whole.processes.running k me at_k)))).same)
     (λ x same is.
     no-more j f keeps nodes x (ap (is_sorted nat_cmp) same ∙ whole_t.processes.ascending) q (ap (λ ps. live_process (find nat_cmp j ps)) same ∙ at_t) fewer)

@@ -1,6 +1,7 @@
 pub mod Alongside
 pub mod Exchange
 pub mod BesideCalls
+pub mod RoomRows
 pub mod BesideSteps
 pub mod Shifts
 pub mod ShiftCalls
@@ -20,7 +21,6 @@ pub mod OffsetSteps
 pub mod OtherBytes
 pub mod ContentSteps
 pub mod WriteSteps
-pub mod RoomRows
 pub mod RoomApart
 pub mod DirectorySteps
 pub mod UnveilSteps

@@ -1,5 +1,5 @@
 -- Steps beside a change of another process that lets nothing go: also what they are refused for want of room is the same.
-use Rattle.std.proofs.Common.{◌≡◌, ◌≢◌, ℕ, suc, true, false, ◌==◌, ◌&&◌, List, [], ◌∷◌, Option, None, Some, is_some, refl, ap, ap₂, sym, subst, ◌∙◌, ⊎_elim}
+use Rattle.std.proofs.Common.{◌≡◌, ◌≢◌, ℕ, suc, true, false, ◌==◌, ◌&&◌, List, [], ◌∷◌, Option, Some, is_some, refl, ap, ap₂, sym, subst, ◌∙◌, ⊎_elim}
 use Rattle.std.specs.FinMap.Entries.{is_sorted, below_all}
 use Rattle.std.specs.Ordering.{nat_cmp, is_lt}
 use Rattle.std.proofs.lemmas.Bool.{cases_eq, cases_Bool, eqb-true, or_cases, or_left}
@@ -11,7 +11,7 @@ use Rattle.pv_model.specs.Numbered.{Numbered, with_number, least_free}
 use Rattle.pv_model.specs.Program.{calls_for, next}
 use Rattle.pv_model.specs.Room.{is_too_long, fits}
 use Rattle.pv_model.specs.State.{OpenFile, Descriptor, Program, Process, Record, live, State, process_at, with_process}
-use Rattle.pv_model.specs.Tree.{Node, Tree, root, node_at, named_numbers, is_directory, is_directory_at}
+use Rattle.pv_model.specs.Tree.{Tree, root, node_at, named_numbers, is_directory_at}
 use Rattle.pv_tree_laws.specs.Kept.{kept, wanted}
 use Rattle.pv_tree_laws.specs.Room.{IsNoLarger}
 use Rattle.pv_tree_laws.proofs.Keeping.{wanted-is, wanted-named, wanted-held}
@@ -29,11 +29,11 @@ use Rattle.pv_laws.proofs.Standing.{table-there}
 use Rattle.pv_laws.proofs.Trim.{held_after, tree-trim}
 use Rattle.pv_laws.proofs.Whole.{sorted-put_number}
 use Rattle.pv_order.specs.Beside.{with_change}
-use Rattle.pv_order.proofs.Alongside.{HaveRoomAlike, same-room, Beside, IsBeside, moved, room-beside}
-use Rattle.pv_order.proofs.BesideCalls.{changes, calls-along, leave-along}
+use Rattle.pv_order.proofs.Alongside.{HaveRoomAlike, same-room, Beside, moved, room-beside}
+use Rattle.pv_order.proofs.BesideCalls.{changes}
 use Rattle.pv_order.proofs.Exchange.{KeepsParent, changed, put-other, process-changed, with-changed}
 use Rattle.pv_order.proofs.HeldApart.{UsesNoMore, found-same, same-truth, more-with_number}
-use Rattle.pv_order.proofs.RoomRows.{GoesOn, RoomsKnown, rooms-known}
+use Rattle.pv_order.proofs.RoomRows.{directory-there, GoesOn, RoomsKnown, calls-fit}
 
 -- ---- what a process holds is there
 
@@ -41,10 +41,6 @@ pub held-there : (t : Tree) (fs : Numbered OpenFile) (p : Process) → IsPlaced 
 held-there t fs p placed m is =
     ⊎_elim (λ here. ap (is_directory_at t) (sym (eqb-true p.directory m here)) ∙ placed.directory) (λ entry. table-there t p.table placed.table m entry)
     (or_cases (p.directory == m) _ is)
-
-some_of : (o : Option Node) → is_directory o ≡ true → is_some o ≡ true
-some_of None is = cc is
-some_of (Some node) is = refl
 
 -- ---- what is held onward
 
@@ -118,7 +114,7 @@ module _ (a b : State) (whole_a : IsWhole a) (whole_b : IsWhole b) (tree : b.tre
       held_cases (among (wanted y.tree (held_after y)) n ≡ true) x on_x.stands.ascending n held
       (λ i q at has.
       let there = on_x.stands.back i q at in
-      there-on n (some_of (node_at a.tree n) (held-there a.tree a.files there.0 (whole_a.processes.placed i there.0 there.1) n (ap (λ ns. among ns n) (sym there.2) ∙ has))))
+      there-on n (directory-there a.tree n (held-there a.tree a.files there.0 (whole_a.processes.placed i there.0 there.1) n (ap (λ ns. among ns n) (sym there.2) ∙ has))))
       (λ m g at uses node.
       ⊎_elim (λ old. there-on n (ap (λ i. is_some (node_at a.tree i)) (sym node) ∙ old)) (λ named. has_name (ap (among (named_numbers x.tree)) (sym node) ∙ named)) (on_x.goes.there m g at)))
       (or_cases (among (named_numbers x.tree) n) (among (held_after x) n) rest))
@@ -220,7 +216,5 @@ module _ (program_of : Bytes → Option Program) (s : State) (whole : IsWhole s)
 
   pub goes-along : effect program_of y k now call ≡ moved (changes j f) Any (effect program_of x k now call)
   goes-along =
-      let along = leave-along j f x k now apart next_other Any (record { left = λ t fs. tt; own = λ t fs q. tt; forked = tt; reaped = λ test. tt }) in
       let good = subst (IsGoodNext me) comes (good-next me (whole.processes.running k me at)) in
-      (calls-along j f keeps x k now (Beside (changes j f) Any) (IsBeside (changes j f) Any) along program_of call
-      (rooms-known j f x k now whole_x at_x (Beside (changes j f) Any) (IsBeside (changes j f) Any) along rooms program_of call good)).same
+      (calls-fit j f keeps x k now whole_x at_x apart next_other Any (record { leave = record { left = λ t fs. tt; own = λ t fs q. tt; forked = tt; reaped = λ test. tt }; rooms = rooms }) program_of call good).same

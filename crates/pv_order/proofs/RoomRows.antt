@@ -1,7 +1,7 @@
--- Calls that ask for room, run beside themselves, by what is known of the tree that they ask it for.
+-- Each call run beside itself, in two states that differ inside another process: those that ask for room by what is known of the tree that they ask it for.
 use Rattle.std.proofs.Common.{◌≡◌, ◌≢◌, ℕ, zero, suc, ◌≤◌, ℤ, Bool, true, false, cond, not, ◌&&◌, ◌||◌, if◌then◌else◌, nat_le, nat_lt, ◌+◌, List, [], length, take, drop, Option, None, Some, is_some, is_none, Result, Ok, Err, refl, ap, ap₂, sym, subst, ◌∙◌, inl, inr, ◌⊎◌, ⊎_elim, arith}
 use Rattle.std.specs.FinMap.Entries.{find, put, is_sorted, length-put}
-use Rattle.std.proofs.lemmas.Bool.{and_parts, cases_eq, eq-eqb}
+use Rattle.std.proofs.lemmas.Bool.{and_parts, cases_eq, eq-eqb, or_right}
 use Rattle.std.proofs.lemmas.Cmp.{nat_list_cmp_total}
 use Rattle.pv_model.specs.declared.call.Call.{Call}
 use Rattle.pv_model.specs.declared.call.Call.TheVariants as TheCall
@@ -48,7 +48,9 @@ use Rattle.pv_laws.proofs.Standing.{IsFinePlace, resolve-fine, my-placed}
 use Rattle.pv_laws.proofs.Starts.{StartsWell, leads-start}
 use Rattle.pv_rights.proofs.Changed.{entries-content}
 use Rattle.pv_order.specs.Beside.{with_change}
-use Rattle.pv_order.proofs.BesideCalls.{asks_room, CallsAlong}
+use Rattle.pv_order.proofs.Alongside.{IsBeside, Beside}
+use Rattle.pv_order.proofs.BesideCalls.{changes, asks_room, CallsAlong, calls-along, CallsLeave, leave-along}
+use Rattle.pv_order.proofs.Exchange.{KeepsParent}
 
 -- ---- an entry for another node needs no more
 
@@ -117,6 +119,9 @@ pub record RoomsKnown (k : ℕ) (f : Process → Process) (s : State) (pid : ℕ
 some_of : (o : Option Node) → (is_file o || is_directory o) ≡ true → is_some o ≡ true
 some_of None is = cc is
 some_of (Some node) is = refl
+
+pub directory-there : (t : Tree) (n : ℕ) → is_directory_at t n ≡ true → is_some (node_at t n) ≡ true
+directory-there t n is = some_of (node_at t n) (or_right (is_file (node_at t n)) (is_directory_at t n) is)
 
 no_node : (o : Option ℕ) → is_some o ≡ false → o ≡ None
 no_node None is = refl
@@ -252,7 +257,7 @@ module _ (k : ℕ) (f : Process → Process) (s : State) (pid : ℕ) (me : Proce
     renamed = with_entry between q.0 q.1 n
 
     between-directory : (e : ℕ) → is_directory_at s.tree e ≡ true → is_directory_at between e ≡ true
-    between-directory e is = (carries-entries s.tree p.0 _ from.directory).directory e (some_of (node_at s.tree e) (Rattle.std.proofs.lemmas.Bool.or_right (is_file (node_at s.tree e)) _ is)) ∙ is
+    between-directory e is = (carries-entries s.tree p.0 _ from.directory).directory e (directory-there s.tree e is) ∙ is
 
     -- the new name was free: all others stay, and the node has it
     names-moved : FineName s.tree q None → Names renamed
@@ -376,7 +381,7 @@ module _ (k : ℕ) (f : Process → Process) (s : State) (pid : ℕ) (me : Proce
       (node-known g place (resolve-fine s.tree whole.tree (follow_of g) from path place (well (my-placed s pid me whole at).directory) text found) (name_of place) (node_of place) refl refl))))))))))
 
   -- each call that asks for room
-  pub rooms-known : (program_of : Bytes → Option Program) (call : Call) → is_call call ≡ true → asks_room call ≡ true → R (effect program_of s pid me call) (effect program_of u pid me call)
+  rooms-known : (program_of : Bytes → Option Program) (call : Call) → is_call call ≡ true → asks_room call ≡ true → R (effect program_of s pid me call) (effect program_of u pid me call)
   unfolding effect
   rooms-known program_of (TheCall.Open path flags) good is = open-known WorkingDirectory path flags good
   rooms-known program_of (TheCall.OpenAt start path flags) good is = open-known start path flags (and_parts _ (is_text path) good).1
@@ -390,3 +395,16 @@ module _ (k : ℕ) (f : Process → Process) (s : State) (pid : ℕ) (me : Proce
   rooms-known program_of (TheCall.Link path new) good is = link-known path new (and_parts (is_text path) (is_text new) good).1
   rooms-known program_of (TheCall.Rename path new) good is = let both = and_parts (is_text path) (is_text new) good in rename-known path new both.0 both.1
   rooms-known program_of call good is = cc is
+
+-- what a call leaves is fit, and what it asks room for has it alike
+pub record CallsFit (k : ℕ) (f : Process → Process) (s : State) (pid : ℕ) (me : Process) (Fit : State → Type 0) : Type 0 where
+  pub leave : CallsLeave k f s pid me Fit
+  pub rooms : RoomsKnown k f s pid me (Beside (changes k f) Fit)
+
+-- so both do the same, but for the change
+pub calls-fit : (k : ℕ) (f : Process → Process) → KeepsParent f → (s : State) (pid : ℕ) (me : Process) → IsWhole s → process_at s pid ≡ Some me → pid ≢ k → suc s.last_process ≢ k → (Fit : State → Type 0) → CallsFit k f s pid me Fit
+    → (program_of : Bytes → Option Program) (call : Call) → is_call call ≡ true → Beside (changes k f) Fit (effect program_of s pid me call) (effect program_of (with_change s k f) pid me call)
+calls-fit k f keeps s pid me whole at other next_other Fit fits program_of call good =
+    let along = leave-along k f s pid me other next_other Fit fits.leave in
+    calls-along k f keeps s pid me (Beside (changes k f) Fit) (IsBeside (changes k f) Fit) along program_of call
+    (rooms-known k f s pid me whole at (Beside (changes k f) Fit) (IsBeside (changes k f) Fit) along fits.rooms program_of call good)
