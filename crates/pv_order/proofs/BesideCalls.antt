@@ -64,9 +64,6 @@ module _ (k : ℕ) (f : Process → Process) (keeps : KeepsParent f) (s : State)
   abbrev u : State
   u = with_change s k f
 
-  walked-along : (n : ℕ) (a b : Attempt Effect) → R a b → R (after_walks n a) (after_walks n b)
-  walked-along n a b is = along.walked n a b is
-
   bound-along : {B : Type 0} (a : Attempt B) (g h : B → Attempt Effect) → ((v : B) → R (g v) (h v)) → R (a >>= g) (a >>= h)
   bound-along a g h is = along.bound a g h is
 
@@ -129,7 +126,8 @@ module _ (k : ℕ) (f : Process → Process) (keeps : KeepsParent f) (s : State)
   listed j file (Some name) = search parts depth 20
 
   -- each call goes along, where it does if it asks for room
-  pub calls-along : (program_of : Bytes → Option Program) (call : Call) → (asks_room call ≡ true → R (effect program_of s pid me call) (effect program_of u pid me call)) → R (effect program_of s pid me call) (effect program_of u pid me call)
+  pub calls-along : (program_of : Bytes → Option Program) (call : Call) → (asks_room call ≡ true → R (effect program_of s pid me call) (effect program_of u pid me call))
+      → R (effect program_of s pid me call) (effect program_of u pid me call)
   unfolding effect
   calls-along program_of (TheCall.Exit code) asks = search parts depth 20
   calls-along program_of TheCall.GetPid asks = search parts depth 20

@@ -93,7 +93,7 @@ module _ (program_of : Bytes → Option Program) (spells : SpellsPrograms progra
   execve-commutes held =
       become-commute program_of spells s j k p whole apart at call comes held (Begins s j now) (execve-becomes s t j n now way program_of path)
       (λ w q such one two.
-      own-commute program_of spells s j k p whole apart at call comes held (f such.0) (keeps such.0) (fewer such.0) w q (ap (λ r. with_result r (pos 0) 0) (sym such.1)) one two leaves files)
+      own-commute program_of spells s j k p whole apart at call comes held (f such.0) (keeps such.0) (fewer such.0) w 0 q (ap (λ r. with_result r (pos 0) 0) (sym such.1)) one two leaves files)
 
   pub execves-commute : ((a : Promise) → (step program_of s j).outcome ≢ Killed a) → Commute program_of s j k
   execves-commute alive = commute-where program_of spells s j k p call whole apart at comes alive execve-commutes

@@ -121,16 +121,16 @@ module _ (program_of : Bytes → Option Program) (spells : SpellsPrograms progra
       by (refused w e c) is both = refused-commute program_of spells s j k p whole apart at call comes held w e c is both.by
 
   -- by f, which may leave more of the process than the call tells
-  module _ (f : Process → Process) (keeps : KeepsParent f) (fewer : UsesNoMore p.descriptors (f p).descriptors) (w : ℕ) (q : Process) (is_given : f p ≡ with_result q (pos 0) 0)
-      (one_is : one ≡ done w (with_process s j q, returns 0)) (two_is : two ≡ done w (with_process t j (orphan n q), returns 0)) where
-    gives_s : Gives program_of s j p call f w 0
-    gives_s = gives program_of s whole j p at call comes held f w 0 q is_given one_is
+  module _ (f : Process → Process) (keeps : KeepsParent f) (fewer : UsesNoMore p.descriptors (f p).descriptors) (w value : ℕ) (q : Process) (is_given : f p ≡ with_result q (pos value) 0)
+      (one_is : one ≡ done w (with_process s j q, returns value)) (two_is : two ≡ done w (with_process t j (orphan n q), returns value)) where
+    gives_s : Gives program_of s j p call f w value
+    gives_s = gives program_of s whole j p at call comes held f w value q is_given one_is
 
-    gives_t : Gives program_of t j (orphan n p) call f w 0
+    gives_t : Gives program_of t j (orphan n p) call f w value
     gives_t =
-        gives program_of t whole_t j (orphan n p) at_t call (next-orphan n p ∙ ap (orphaned n) comes) held f w 0 (orphan n q) (keeps.whoever p n ∙ ap (orphan n) is_given) two_is
+        gives program_of t whole_t j (orphan n p) at_t call (next-orphan n p ∙ ap (orphaned n) comes) held f w value (orphan n q) (keeps.whoever p n ∙ ap (orphan n) is_given) two_is
 
-    after_s : (step program_of s j).after ≡ trim (with_change s j f)
+    pub after_s : (step program_of s j).after ≡ trim (with_change s j f)
     after_s = ap (λ (r : Stepped). r.after) gives_s.calls ∙ ap (λ (a : Answered). a.after) gives_s.answered
 
     after_t : (step program_of t j).after ≡ trim (with_change t j f)
@@ -223,7 +223,7 @@ module _ (program_of : Bytes → Option Program) (spells : SpellsPrograms progra
     pub own-commute : LeavesTree program_of s j → LeavesOpenFiles program_of s j → Commute program_of s j k
     own-commute tree files =
         let is : (step program_of s j).after ≡ with_change s j f = settled tree files in
-        given-commute program_of spells s j k p whole apart at call comes held f keeps w 0 gives_s gives_t is
+        given-commute program_of spells s j k p whole apart at call comes held f keeps w value gives_s gives_t is
         (step-to_trim program_of spells s whole j k other f keeps
         (λ me at_k made comes_k held_k.
         goes-along program_of s whole j k other f keeps (subst IsWhole is (step-keeps_whole program_of spells s j whole)) (λ same. not_next s (whole-in_order s whole) j p at (sym same)) me at_k made comes_k) less)

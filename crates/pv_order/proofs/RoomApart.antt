@@ -200,7 +200,7 @@ module _ (program_of : Bytes → Option Program) (s : State) (whole : IsWhole s)
     opened = λ t fs file close_on_exec n goes.
         let new : Descriptor = record { file = file; close_on_exec = close_on_exec } in
         let q : Process = record now { descriptors = with_number now.descriptors (least_free now.descriptors) new } in
-        let more : UsesNoMore q.descriptors now.descriptors = λ d v has. more-with_number now.descriptors new d v has in
+        let more : UsesNoMore q.descriptors now.descriptors = more-with_number now.descriptors new in
         let v : State = with_process (record x { tree = t; files = fs }) k q in
         let w : State = with_process (record y { tree = t; files = fs }) k q in
         let same : w ≡ with_change v j f = ap (λ ps. record x { tree = t; files = fs; processes = ps }) (put-other j f k (live q) x.processes apart) in

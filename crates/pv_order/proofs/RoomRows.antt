@@ -11,6 +11,7 @@ use Rattle.pv_model.specs.declared.errno.Errno.{Errno}
 use Rattle.pv_model.specs.declared.errno.Errno.TheVariants.{EFBIG, EPERM, EBADF, ENOENT, EBUSY, EEXIST, ENOTDIR, EISDIR, EINVAL, ENAMETOOLONG, ENOTEMPTY, ENFILE, EMFILE, ELOOP}
 use Rattle.pv_model.specs.declared.follow.Follow.{Follow}
 use Rattle.pv_model.specs.declared.follow.Follow.TheVariants.{Last, Keep, KeepTrimmed}
+use Rattle.pv_model.specs.declared.limits.TheConstants.{BUFFER, DESCRIPTORS, LINK_TEXT, OPEN_FILES}
 use Rattle.pv_model.specs.declared.open_flags.OpenFlags.{OpenFlags}
 use Rattle.pv_model.specs.declared.outcome.Cause.TheVariants.{Plain}
 use Rattle.pv_model.specs.declared.perms.Perms.{Perms}
@@ -100,7 +101,7 @@ module _ (t : Tree) (d : ℕ) (name : Bytes) (n m : ℕ) (dir : is_directory_at 
 
 -- ---- what is known of a tree that room is asked for, and of its open files
 
--- what has a name keeps one, and each open file is on the node that it was on, on another that was there, or on one with a name
+-- what has a name keeps one; each open file is still there, on its node; and each is on a node that was there, or has a name
 pub record GoesOn (t : Tree) (fs : Numbered OpenFile) (u : Tree) (gs : Numbered OpenFile) : Type 0 where
   pub named : (n : ℕ) → among (named_numbers t) n ≡ true → among (named_numbers u) n ≡ true
   pub opened : (m : ℕ) (file : OpenFile) → at_number fs m ≡ Some file → (g : OpenFile) × (at_number gs m ≡ Some g) × (g.node ≡ file.node)
@@ -336,7 +337,7 @@ module _ (k : ℕ) (f : Process → Process) (s : State) (pid : ℕ) (me : Proce
   write-known : (d n : ℤ) → R (write s pid me d n) (write u pid me d n)
   write-known d n =
       demanded EBADF (open_file_for s pid me writes d) (Rests.write_1 s pid me n) (Rests.write_1 u pid me n) (λ (m, file) is.
-      demanded EINVAL (within 4096 n) (Rests.write_2 s pid me m file) (Rests.write_2 u pid me m file) (λ count low.
+      demanded EINVAL (within BUFFER n) (Rests.write_2 s pid me m file) (Rests.write_2 u pid me m file) (λ count low.
       along.behind (refuse_if EFBIG (is_past_greatest s.tree (write_end s pid me file count))) (Rests.write_3 s pid me m file count) (Rests.write_3 u pid me m file count)
       (written-known m file count (open_file_for-at s pid me writes d m file is).0)))
 
@@ -370,8 +371,8 @@ module _ (k : ℕ) (f : Process → Process) (s : State) (pid : ℕ) (me : Proce
       let from : ℕ = start_directory s me start path in
       along.behind (refuse_if EINVAL (contradicts g)) (check_start s pid me start path >> Rests.open_a s pid me path g from) (check_start u pid me start path >> Rests.open_a u pid me path g from)
       (behind-known (StartsWell s pid me from) (check_start s pid me start path) (Rests.open_a s pid me path g from) (Rests.open_a u pid me path g from) (leads-start s pid me start path) (λ well.
-      along.behind (refuse_if EMFILE (nat_le 16 (least_free me.descriptors))) (Rests.open_b s pid me path g from) (Rests.open_b u pid me path g from)
-      (along.behind (refuse_if ENFILE (nat_le 128 (least_free s.files))) (Rests.open_c s pid me path g from) (Rests.open_c u pid me path g from)
+      along.behind (refuse_if EMFILE (nat_le DESCRIPTORS (least_free me.descriptors))) (Rests.open_b s pid me path g from) (Rests.open_b u pid me path g from)
+      (along.behind (refuse_if ENFILE (nat_le OPEN_FILES (least_free s.files))) (Rests.open_c s pid me path g from) (Rests.open_c u pid me path g from)
       (judged from (follow_of g) path (letters_of_open g) (Rests.open_1 s pid me g) (Rests.open_1 u pid me g) (λ place found.
       along.behind (refuse_if EEXIST (g.create && g.exclusive && is_some (Rests.node_there s pid me place))) (Rests.open_2 s pid me g place) (Rests.open_2 u pid me g place)
       (along.behind (refuse_if ENOENT (is_none (Rests.node_there s pid me place) && not g.create)) (Rests.open_3 s pid me g place) (Rests.open_3 u pid me g place)
@@ -390,7 +391,7 @@ module _ (k : ℕ) (f : Process → Process) (s : State) (pid : ℕ) (me : Proce
   rooms-known program_of (TheCall.Mkdir path) good is = make-known KeepTrimmed (directory_node []) path good refl
   rooms-known program_of (TheCall.Symlink text path) good is =
       along.behind (refuse_if ENOENT (is_empty text)) _ _
-      (along.behind (refuse_if ENAMETOOLONG (nat_lt 1023 (length text))) (make s pid me (from_here Keep path letter_c) (link_node text)) (make u pid me (from_here Keep path letter_c) (link_node text))
+      (along.behind (refuse_if ENAMETOOLONG (nat_lt LINK_TEXT (length text))) (make s pid me (from_here Keep path letter_c) (link_node text)) (make u pid me (from_here Keep path letter_c) (link_node text))
       (make-known Keep (link_node text) path (and_parts (is_text text) (is_text path) good).1 refl))
   rooms-known program_of (TheCall.Link path new) good is = link-known path new (and_parts (is_text path) (is_text new) good).1
   rooms-known program_of (TheCall.Rename path new) good is = let both = and_parts (is_text path) (is_text new) good in rename-known path new both.0 both.1
@@ -402,8 +403,9 @@ pub record CallsFit (k : ℕ) (f : Process → Process) (s : State) (pid : ℕ) 
   pub rooms : RoomsKnown k f s pid me (Beside (changes k f) Fit)
 
 -- so both do the same, but for the change
-pub calls-fit : (k : ℕ) (f : Process → Process) → KeepsParent f → (s : State) (pid : ℕ) (me : Process) → IsWhole s → process_at s pid ≡ Some me → pid ≢ k → suc s.last_process ≢ k → (Fit : State → Type 0) → CallsFit k f s pid me Fit
-    → (program_of : Bytes → Option Program) (call : Call) → is_call call ≡ true → Beside (changes k f) Fit (effect program_of s pid me call) (effect program_of (with_change s k f) pid me call)
+pub calls-fit : (k : ℕ) (f : Process → Process) → KeepsParent f → (s : State) (pid : ℕ) (me : Process) → IsWhole s → process_at s pid ≡ Some me → pid ≢ k → suc s.last_process ≢ k
+    → (Fit : State → Type 0) → CallsFit k f s pid me Fit → (program_of : Bytes → Option Program) (call : Call) → is_call call ≡ true
+    → Beside (changes k f) Fit (effect program_of s pid me call) (effect program_of (with_change s k f) pid me call)
 calls-fit k f keeps s pid me whole at other next_other Fit fits program_of call good =
     let along = leave-along k f s pid me other next_other Fit fits.leave in
     calls-along k f keeps s pid me (Beside (changes k f) Fit) (IsBeside (changes k f) Fit) along program_of call

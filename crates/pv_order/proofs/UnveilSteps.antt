@@ -262,9 +262,9 @@ module _ (program_of : Bytes → Option Program) (spells : SpellsPrograms progra
       (λ w q such one two.
       let table : Table = such.0 in
       let is_given : g table p ≡ with_result q (pos 0) 0 = ap (λ r. with_result r (pos 0) 0) (sym such.2) in
-      own-commute program_of spells s j k p whole apart at asked comes held (g table) (unveiled-keeps me table) (fewer table) w q is_given one two
+      own-commute program_of spells s j k p whole apart at asked comes held (g table) (unveiled-keeps me table) (fewer table) w 0 q is_given one two
       (table-leaves program_of s j p path text whole at comes held w q such one)
-      (files-stay program_of spells s j k p whole apart at asked comes held (g table) (unveiled-keeps me table) (fewer table) w q is_given one two (used-same j (g table) (λ r. refl) s)))
+      (files-stay program_of spells s j k p whole apart at asked comes held (g table) (unveiled-keeps me table) (fewer table) w 0 q is_given one two (used-same j (g table) (λ r. refl) s)))
 
   pub unveils-commute : ((a : Promise) → (step program_of s j).outcome ≢ Killed a) → Commute program_of s j k
   unveils-commute alive = commute-where program_of spells s j k p asked whole apart at comes alive unveil-commutes
