@@ -20,10 +20,19 @@ use Rattle.pv_model.specs.Promises.{missing_promise, is_lenient}
 use Rattle.pv_model.specs.Room.{is_too_long, fits}
 use Rattle.pv_model.specs.State.{Program, Process, State, process_at, with_process}
 use Rattle.pv_model.specs.Step.{Stepped, step, step_of, step_by}
+use Rattle.pv_model.specs.Tree.{Tree}
 use Rattle.pv_laws.proofs.Apart.{IsToldAlike, lines-alike}
 use Rattle.pv_laws.proofs.Outcomes.{at_call}
 
 -- ---- attempts
+
+-- what is asked of two trees for room is answered alike
+pub record HaveRoomAlike (t u : Tree) : Type 0 where
+  pub long : is_too_long u ≡ is_too_long t
+  pub fit : fits u ≡ fits t
+
+pub same-room : (t u : Tree) → u ≡ t → HaveRoomAlike t u
+same-room t u is = record { long = ap is_too_long is; fit = ap fits is }
 
 -- states are changed by `change` where they are fit for it
 module _ (change : State → State) (Fit : State → Type 0) where
@@ -78,18 +87,19 @@ module _ (change : State → State) (Fit : State → Type 0) where
   cond-state true x y v w is more = is
   cond-state false x y v w is more = more
 
-  module _ (trims : (x : State) → Fit x → trim (change x) ≡ change (trim x)) (tree : (x : State) → (change x).tree ≡ x.tree) where
-    pub room-beside : (x y : State) (n : ℕ) → IsBeside x y → Beside (with_room x >>= (λ roomy. answers roomy n)) (with_room y >>= (λ roomy. answers roomy n))
-    room-beside x y n is =
-        subst (λ z. Beside (with_room x >>= (λ roomy. answers roomy n)) (with_room z >>= (λ roomy. answers roomy n))) (sym is.same)
-        (subst (λ t. Beside (with_room x >>= (λ roomy. answers roomy n)) ((refuse_if EFBIG (is_too_long t) >> (refuse_if ENOSPC (not (fits t)) >> give (change x))) >>= (λ roomy. answers roomy n)))
-        (sym (ap (λ (z : State). z.tree) (trims x is.fit) ∙ tree (trim x))) (by (is_too_long (trim x).tree) (fits (trim x).tree)))
-      where
-        by : (long fit : Bool) → Beside ((refuse_if EFBIG long >> (refuse_if ENOSPC (not fit) >> give x)) >>= (λ roomy. answers roomy n))
-            ((refuse_if EFBIG long >> (refuse_if ENOSPC (not fit) >> give (change x))) >>= (λ roomy. answers roomy n))
-        by true fit = record { same = refl; fit = tt }
-        by false true = record { same = refl; fit = is.fit }
-        by false false = record { same = refl; fit = tt }
+  -- what asks for room, where there is room alike for both
+  pub room-beside : (x y : State) (n : ℕ) → IsBeside x y → HaveRoomAlike (trim x).tree (trim (change x)).tree → Beside (with_room x >>= (λ roomy. answers roomy n)) (with_room y >>= (λ roomy. answers roomy n))
+  room-beside x y n is alike =
+      subst (λ z. Beside (with_room x >>= (λ roomy. answers roomy n)) (with_room z >>= (λ roomy. answers roomy n))) (sym is.same)
+      (subst (λ l. Beside (with_room x >>= (λ roomy. answers roomy n)) ((refuse_if EFBIG l >> (refuse_if ENOSPC (not (fits (trim (change x)).tree)) >> give (change x))) >>= (λ roomy. answers roomy n))) (sym alike.long)
+      (subst (λ m. Beside (with_room x >>= (λ roomy. answers roomy n)) ((refuse_if EFBIG (is_too_long (trim x).tree) >> (refuse_if ENOSPC (not m) >> give (change x))) >>= (λ roomy. answers roomy n))) (sym alike.fit)
+      (by (is_too_long (trim x).tree) (fits (trim x).tree))))
+    where
+      by : (long fit : Bool) → Beside ((refuse_if EFBIG long >> (refuse_if ENOSPC (not fit) >> give x)) >>= (λ roomy. answers roomy n))
+          ((refuse_if EFBIG long >> (refuse_if ENOSPC (not fit) >> give (change x))) >>= (λ roomy. answers roomy n))
+      by true fit = record { same = refl; fit = tt }
+      by false true = record { same = refl; fit = is.fit }
+      by false false = record { same = refl; fit = tt }
 
 -- ---- answers and steps
 

@@ -1,28 +1,25 @@
 -- Each call run beside itself, in two states that differ inside another process.
-use Rattle.std.proofs.Common.{◌≢◌, ℕ, zero, suc, ℤ, not, Bool, true, false, ◌||◌, ◌==◌, nat_le, nat_lt, cond, List, [], ◌∷◌, length, Option, None, Some, refl, ap, sym, subst}
+use Rattle.std.proofs.Common.{◌≡◌, ◌≢◌, ℕ, suc, not, Bool, true, false, ◌||◌, ◌==◌, nat_le, nat_lt, cond, List, [], ◌∷◌, length, Option, None, Some, refl, ap, sym, subst}
 use Rattle.std.specs.FinMap.Entries.{put, where_key}
 use Rattle.std.specs.Ordering.{nat_cmp}
 use Rattle.pv_model.specs.declared.call.Call.{Call}
 use Rattle.pv_model.specs.declared.call.Call.TheVariants as TheCall
-use Rattle.pv_model.specs.declared.call.Start.{Start}
-use Rattle.pv_model.specs.declared.call.Start.TheVariants.{WorkingDirectory}
 use Rattle.pv_model.specs.declared.errno.Errno.{Errno}
 use Rattle.pv_model.specs.declared.errno.Errno.TheVariants.{EAGAIN, ECHILD}
-use Rattle.pv_model.specs.declared.open_flags.OpenFlags.{OpenFlags}
 use Rattle.pv_model.specs.declared.outcome.Cause.{Cause}
 use Rattle.pv_model.specs.Answer.{effect}
 use Rattle.pv_model.specs.Attempt.{Attempt, done, refused, after_walks, ◌>>=◌, ◌>>◌, refuse_if}
 use Rattle.pv_model.specs.Bytes.{Bytes, is_empty}
-use Rattle.pv_model.specs.Calls.Descriptors.{with_descriptor, open_node, open_at, write, after_write, list_name}
+use Rattle.pv_model.specs.Calls.Descriptors.{list_name}
 use Rattle.pv_model.specs.Calls.Processes.{child, fork, children, statuses, reap, wait}
 use Rattle.pv_model.specs.Calls.Restraints.{unveil}
 use Rattle.pv_model.specs.Effect.{Effect, Reply, returns, answers, with_room}
+use Rattle.pv_model.specs.Held.{trim}
 use Rattle.pv_model.specs.Numbered.{Numbered}
 use Rattle.pv_model.specs.State.{OpenFile, Program, Process, live, State, with_process}
 use Rattle.pv_model.specs.Tree.{Tree}
-use Rattle.pv_laws.proofs.Rests
 use Rattle.pv_order.specs.Beside.{with_change}
-use Rattle.pv_order.proofs.Alongside.{IsBeside, Beside, after-beside, bind-beside, then-beside, done-beside, refused-beside, room-beside}
+use Rattle.pv_order.proofs.Alongside.{IsBeside, Beside, after-beside, bind-beside, then-beside, done-beside, refused-beside, same-room, room-beside}
 use Rattle.pv_order.proofs.Exchange.{KeepsParent, changed, Fits, put-other, length-changed, where-changed, children-changed, trim-changed}
 
 -- the change of a process, and the states that are fit for it
@@ -34,7 +31,20 @@ AreFit k f x = Fits k f x.processes
 
 pub room-changed : (k : ℕ) (f : Process → Process) (x y : State) (n : ℕ) → IsBeside (changes k f) (AreFit k f) x y
     → Beside (changes k f) (AreFit k f) (with_room x >>= (λ roomy. answers roomy n)) (with_room y >>= (λ roomy. answers roomy n))
-room-changed k f x y n is = room-beside (changes k f) (AreFit k f) (λ z fit. trim-changed k f z fit) (λ z. refl) x y n is
+room-changed k f x y n is =
+    room-beside (changes k f) (AreFit k f) x y n is (same-room (trim x).tree (trim (with_change x k f)).tree (ap (λ (z : State). z.tree) (trim-changed k f x is.fit)))
+
+-- calls that ask for room
+abbrev pub asks_room : Call → Bool
+asks_room (TheCall.Open path flags) = true
+asks_room (TheCall.OpenAt start path flags) = true
+asks_room (TheCall.Write d n) = true
+asks_room (TheCall.Ftruncate d n) = true
+asks_room (TheCall.Mkdir path) = true
+asks_room (TheCall.Symlink text path) = true
+asks_room (TheCall.Link path new) = true
+asks_room (TheCall.Rename path new) = true
+asks_room call = false
 
 -- a relation of attempts in two states that differ inside another process: it goes through the parts of rows, and holds of what calls do there
 pub record CallsAlong (k : ℕ) (f : Process → Process) (s : State) (pid : ℕ) (me : Process) (R : Attempt Effect → Attempt Effect → Type 0) (S : State → State → Type 0) : Type 1 where
@@ -49,18 +59,10 @@ pub record CallsAlong (k : ℕ) (f : Process → Process) (s : State) (pid : ℕ
   pub forked : S (record s { processes = put nat_cmp (suc s.last_process) (live (child s pid me)) s.processes; last_process = suc s.last_process })
       (record s { processes = put nat_cmp (suc s.last_process) (live (child s pid me)) (changed k f s.processes); last_process = suc s.last_process })
   pub reaped : (test : ℕ → Bool) → S (record s { processes = where_key nat_cmp test s.processes }) (record s { processes = where_key nat_cmp test (changed k f s.processes) })
-  pub room : (t : Tree) (fs : Numbered OpenFile) (n : ℕ)
-      → R (with_room (record s { tree = t; files = fs }) >>= (λ roomy. answers roomy n)) (with_room (record (with_change s k f) { tree = t; files = fs }) >>= (λ roomy. answers roomy n))
-  pub room_opened : (t : Tree) (fs : Numbered OpenFile) (file : ℕ) (close_on_exec : Bool) (n : ℕ)
-      → R (with_room (with_descriptor s pid me (record s { tree = t; files = fs }) file close_on_exec) >>= (λ roomy. answers roomy n))
-      (with_room (with_descriptor (with_change s k f) pid me (record (with_change s k f) { tree = t; files = fs }) file close_on_exec) >>= (λ roomy. answers roomy n))
 
 module _ (k : ℕ) (f : Process → Process) (keeps : KeepsParent f) (s : State) (pid : ℕ) (me : Process) (R : Attempt Effect → Attempt Effect → Type 0) (S : State → State → Type 0) (along : CallsAlong k f s pid me R S) where
   abbrev u : State
   u = with_change s k f
-
-  walked-along : (n : ℕ) (a b : Attempt Effect) → R a b → R (after_walks n a) (after_walks n b)
-  walked-along n a b is = along.walked n a b is
 
   bound-along : {B : Type 0} (a : Attempt B) (g h : B → Attempt Effect) → ((v : B) → R (g v) (h v)) → R (a >>= g) (a >>= h)
   bound-along a g h is = along.bound a g h is
@@ -89,15 +91,7 @@ module _ (k : ℕ) (f : Process → Process) (keeps : KeepsParent f) (s : State)
       → S (record s { tree = t; files = fs; processes = put nat_cmp pid (live q) s.processes }) (record u { tree = t; files = fs; processes = put nat_cmp pid (live q) (changed k f s.processes) })
   own-along t fs q = along.own t fs q
 
-  room-along : (t : Tree) (fs : Numbered OpenFile) (n : ℕ) → R (with_room (record s { tree = t; files = fs }) >>= (λ roomy. answers roomy n)) (with_room (record u { tree = t; files = fs }) >>= (λ roomy. answers roomy n))
-  room-along t fs n = along.room t fs n
-
-  room-opened : (t : Tree) (fs : Numbered OpenFile) (file : ℕ) (close_on_exec : Bool) (n : ℕ)
-      → R (with_room (with_descriptor s pid me (record s { tree = t; files = fs }) file close_on_exec) >>= (λ roomy. answers roomy n))
-      (with_room (with_descriptor u pid me (record u { tree = t; files = fs }) file close_on_exec) >>= (λ roomy. answers roomy n))
-  room-opened t fs file close_on_exec n = along.room_opened t fs file close_on_exec n
-
-  ruleset parts = (bound-along, behind-along, cond-along, does-along, refuses-along, room-along, room-opened, tree-along, own-along, cond-along_state)
+  ruleset parts = (bound-along, behind-along, cond-along, does-along, refuses-along, tree-along, own-along, cond-along_state)
 
   abbrev number : ℕ
   number = suc s.last_process
@@ -127,90 +121,66 @@ module _ (k : ℕ) (f : Process → Process) (keeps : KeepsParent f) (s : State)
   unveil-beside (Some path) None = search parts depth 20
   unveil-beside (Some path) (Some text) = search parts depth 20
 
-  node-beside : (flags : OpenFlags) (name : Option (ℕ × Bytes)) (node : Option ℕ)
-      → R (open_node s pid me flags name node >>= Rests.open_7 s pid me) (open_node u pid me flags name node >>= Rests.open_7 u pid me)
-  node-beside flags name (Some n) = search (parts, walked-along) depth 20
-  node-beside flags (Some p) None = search (parts, walked-along) depth 20
-  node-beside flags None None = search parts depth 20
-
-  open-beside : (start : Start) (path : Bytes) (flags : OpenFlags) → R (open_at s pid me start path flags) (open_at u pid me start path flags)
-  open-beside start path flags = search (bound-along, behind-along, node-beside) depth 40
-
-  written : (j : ℕ) (file : OpenFile) (count n : ℕ) → R (with_room (after_write s pid me j file count) >>= (λ roomy. answers roomy n)) (with_room (after_write u pid me j file count) >>= (λ roomy. answers roomy n))
-  written j file zero n = search parts depth 20
-  written j file (suc count) n = search parts depth 20
-
-  write-beside : (d n : ℤ) → R (write s pid me d n) (write u pid me d n)
-  write-beside d n = search (bound-along, behind-along, written) depth 20
-
   listed : (j : ℕ) (file : OpenFile) (o : Option Bytes) → R (list_name s pid me j file o) (list_name u pid me j file o)
   listed j file None = search parts depth 20
   listed j file (Some name) = search parts depth 20
 
-  pub calls-along : (program_of : Bytes → Option Program) (call : Call) → R (effect program_of s pid me call) (effect program_of u pid me call)
+  -- each call goes along, where it does if it asks for room
+  pub calls-along : (program_of : Bytes → Option Program) (call : Call) → (asks_room call ≡ true → R (effect program_of s pid me call) (effect program_of u pid me call))
+      → R (effect program_of s pid me call) (effect program_of u pid me call)
   unfolding effect
-  calls-along program_of (TheCall.Exit code) = search parts depth 20
-  calls-along program_of TheCall.GetPid = search parts depth 20
-  calls-along program_of TheCall.GetPpid = search parts depth 20
-  calls-along program_of TheCall.Fork = fork-beside
-  calls-along program_of TheCall.Wait = wait-beside
-  calls-along program_of (TheCall.Pledge promises execpromises) = search parts depth 20
-  calls-along program_of (TheCall.Unveil path letters) = unveil-beside path letters
-  calls-along program_of (TheCall.Execve path) = search parts depth 20
-  calls-along program_of (TheCall.Open path flags) = open-beside WorkingDirectory path flags
-  calls-along program_of (TheCall.OpenAt start path flags) = open-beside start path flags
-  calls-along program_of (TheCall.Close d) = search parts depth 20
-  calls-along program_of (TheCall.Dup d) = search parts depth 20
-  calls-along program_of (TheCall.Dup2 d e) = search parts depth 20
-  calls-along program_of (TheCall.Read d n) = search parts depth 20
-  calls-along program_of (TheCall.Write d n) = write-beside d n
-  calls-along program_of (TheCall.Lseek d by whence) = search parts depth 20
-  calls-along program_of (TheCall.Fstat d) = search parts depth 20
-  calls-along program_of (TheCall.Ftruncate d n) = search parts depth 20
-  calls-along program_of (TheCall.Getdents d) = search (parts, listed) depth 20
-  calls-along program_of (TheCall.Fchdir d) = search parts depth 20
-  calls-along program_of (TheCall.Chdir path) = search parts depth 20
-  calls-along program_of (TheCall.Stat path) = search parts depth 20
-  calls-along program_of (TheCall.Lstat path) = search parts depth 20
-  calls-along program_of (TheCall.Readlink path) = search parts depth 20
-  calls-along program_of (TheCall.Mkdir path) = search parts depth 20
-  calls-along program_of (TheCall.Symlink text path) = search parts depth 20
-  calls-along program_of (TheCall.Link path new) = search parts depth 30
-  calls-along program_of (TheCall.Unlink path) = search parts depth 20
-  calls-along program_of (TheCall.Rmdir path) = search parts depth 20
-  calls-along program_of (TheCall.Rename path new) = search parts depth 40
+  calls-along program_of (TheCall.Exit code) asks = search parts depth 20
+  calls-along program_of TheCall.GetPid asks = search parts depth 20
+  calls-along program_of TheCall.GetPpid asks = search parts depth 20
+  calls-along program_of TheCall.Fork asks = fork-beside
+  calls-along program_of TheCall.Wait asks = wait-beside
+  calls-along program_of (TheCall.Pledge promises execpromises) asks = search parts depth 20
+  calls-along program_of (TheCall.Unveil path letters) asks = unveil-beside path letters
+  calls-along program_of (TheCall.Execve path) asks = search parts depth 20
+  calls-along program_of (TheCall.Open path flags) asks = asks refl
+  calls-along program_of (TheCall.OpenAt start path flags) asks = asks refl
+  calls-along program_of (TheCall.Close d) asks = search parts depth 20
+  calls-along program_of (TheCall.Dup d) asks = search parts depth 20
+  calls-along program_of (TheCall.Dup2 d e) asks = search parts depth 20
+  calls-along program_of (TheCall.Read d n) asks = search parts depth 20
+  calls-along program_of (TheCall.Write d n) asks = asks refl
+  calls-along program_of (TheCall.Lseek d by whence) asks = search parts depth 20
+  calls-along program_of (TheCall.Fstat d) asks = search parts depth 20
+  calls-along program_of (TheCall.Ftruncate d n) asks = asks refl
+  calls-along program_of (TheCall.Getdents d) asks = search (parts, listed) depth 20
+  calls-along program_of (TheCall.Fchdir d) asks = search parts depth 20
+  calls-along program_of (TheCall.Chdir path) asks = search parts depth 20
+  calls-along program_of (TheCall.Stat path) asks = search parts depth 20
+  calls-along program_of (TheCall.Lstat path) asks = search parts depth 20
+  calls-along program_of (TheCall.Readlink path) asks = search parts depth 20
+  calls-along program_of (TheCall.Mkdir path) asks = asks refl
+  calls-along program_of (TheCall.Symlink text path) asks = asks refl
+  calls-along program_of (TheCall.Link path new) asks = asks refl
+  calls-along program_of (TheCall.Unlink path) asks = search parts depth 20
+  calls-along program_of (TheCall.Rmdir path) asks = search parts depth 20
+  calls-along program_of (TheCall.Rename path new) asks = asks refl
 
--- what calls of process `pid` leave is fit, and the states for which they ask for room have it alike
-pub record CallsFit (k : ℕ) (f : Process → Process) (s : State) (pid : ℕ) (me : Process) (Fit : State → Type 0) : Type 0 where
+-- what calls of process `pid` leave is fit
+pub record CallsLeave (k : ℕ) (f : Process → Process) (s : State) (pid : ℕ) (me : Process) (Fit : State → Type 0) : Type 0 where
   pub left : (t : Tree) (fs : Numbered OpenFile) → Fit (record s { tree = t; files = fs })
   pub own : (t : Tree) (fs : Numbered OpenFile) (q : Process) → Fit (record s { tree = t; files = fs; processes = put nat_cmp pid (live q) s.processes })
   pub forked : Fit (record s { processes = put nat_cmp (suc s.last_process) (live (child s pid me)) s.processes; last_process = suc s.last_process })
   pub reaped : (test : ℕ → Bool) → Fit (record s { processes = where_key nat_cmp test s.processes })
-  pub room : (t : Tree) (fs : Numbered OpenFile) (n : ℕ)
-      → Beside (changes k f) Fit (with_room (record s { tree = t; files = fs }) >>= (λ roomy. answers roomy n)) (with_room (record (with_change s k f) { tree = t; files = fs }) >>= (λ roomy. answers roomy n))
-  pub room_opened : (t : Tree) (fs : Numbered OpenFile) (file : ℕ) (close_on_exec : Bool) (n : ℕ)
-      → Beside (changes k f) Fit (with_room (with_descriptor s pid me (record s { tree = t; files = fs }) file close_on_exec) >>= (λ roomy. answers roomy n))
-      (with_room (with_descriptor (with_change s k f) pid me (record (with_change s k f) { tree = t; files = fs }) file close_on_exec) >>= (λ roomy. answers roomy n))
 
--- so both do the same, but for the change
-module _ (k : ℕ) (f : Process → Process) (s : State) (pid : ℕ) (me : Process) (other : pid ≢ k) (next_other : suc s.last_process ≢ k) (Fit : State → Type 0) (fits : CallsFit k f s pid me Fit) where
-  fit-along : CallsAlong k f s pid me (Beside (changes k f) Fit) (IsBeside (changes k f) Fit)
-  fit-along = record {
+-- so what is left differs by the change
+module _ (k : ℕ) (f : Process → Process) (s : State) (pid : ℕ) (me : Process) (other : pid ≢ k) (next_other : suc s.last_process ≢ k) (Fit : State → Type 0) where
+  pub leave-along : CallsLeave k f s pid me Fit → CallsAlong k f s pid me (Beside (changes k f) Fit) (IsBeside (changes k f) Fit)
+  leave-along leave = record {
     walked = after-beside (changes k f) Fit;
     bound = λ a g h is. bind-beside (changes k f) Fit a g h is;
     behind = λ a g h is. then-beside (changes k f) Fit a g h is;
     refuses = refused-beside (changes k f) Fit;
     does = done-beside (changes k f) Fit;
-    left = λ t fs. record { same = refl; fit = fits.left t fs };
-    own = λ t fs q. record { same = ap (λ ps. record s { tree = t; files = fs; processes = ps }) (put-other k f pid (live q) s.processes other); fit = fits.own t fs q };
+    left = λ t fs. record { same = refl; fit = leave.left t fs };
+    own = λ t fs q. record { same = ap (λ ps. record s { tree = t; files = fs; processes = ps }) (put-other k f pid (live q) s.processes other); fit = leave.own t fs q };
     forked = record {
       same = ap (λ ps. record s { processes = ps; last_process = suc s.last_process }) (put-other k f (suc s.last_process) (live (child s pid me)) s.processes next_other);
-      fit = fits.forked;
+      fit = leave.forked;
     };
-    reaped = λ test. record { same = ap (λ ps. record s { processes = ps }) (where-changed k f test s.processes); fit = fits.reaped test };
-    room = fits.room;
-    room_opened = fits.room_opened;
+    reaped = λ test. record { same = ap (λ ps. record s { processes = ps }) (where-changed k f test s.processes); fit = leave.reaped test };
   }
-
-  pub calls-fit : KeepsParent f → (program_of : Bytes → Option Program) (call : Call) → Beside (changes k f) Fit (effect program_of s pid me call) (effect program_of (with_change s k f) pid me call)
-  calls-fit keeps program_of call = calls-along k f keeps s pid me (Beside (changes k f) Fit) (IsBeside (changes k f) Fit) fit-along program_of call

@@ -10,14 +10,17 @@ use Rattle.pv_model.specs.Numbered.{with_number, least_free}
 use Rattle.pv_model.specs.State.{Program, Process, Record, live, ended_record, State, process_at}
 use Rattle.pv_model.specs.Step.{step}
 use Rattle.pv_laws.specs.States.{IsWhole}
+use Rattle.pv_laws.proofs.BySteps.{IsGoodNext, good-next}
 use Rattle.pv_laws.proofs.Members.{find_number_behind, found-live}
 use Rattle.pv_laws.proofs.Outcomes.{at_call}
-use Rattle.pv_laws.proofs.Processes.{number-itself}
+use Rattle.pv_laws.proofs.Processes.{number-itself, process_at-same}
+use Rattle.pv_laws.proofs.Replies.{whole-at_call}
 use Rattle.pv_rights.proofs.Ends.{whole-in_order, not_next}
 use Rattle.pv_order.specs.Beside.{StandsAlike, with_change, become, StepsBeside}
 use Rattle.pv_order.proofs.Alongside.{SteppedBeside, IsApart, step-beside}
-use Rattle.pv_order.proofs.BesideCalls.{changes, AreFit, room-changed, CallsFit, calls-fit}
+use Rattle.pv_order.proofs.BesideCalls.{changes, AreFit, room-changed}
 use Rattle.pv_order.proofs.Exchange.{KeepsParent, Fits, put-other, trim-changed, fits-put, fits-filter, process-changed, with-changed, end-changed, fits-end}
+use Rattle.pv_order.proofs.RoomRows.{CallsFit, calls-fit}
 
 -- in a table that rises, what fits the process that is found fits
 pub fits-found : (k : ℕ) (f : Process → Process) (es : List (ℕ × Record)) → is_sorted nat_cmp es ≡ true → ((x : Process) → find nat_cmp k es ≡ Some (live x) → StandsAlike x (f x)) → Fits k f es
@@ -45,23 +48,29 @@ fit-calls : (k : ℕ) (f : Process → Process) (s : State) (pid : ℕ) (me : Pr
 fit-calls k f s pid me other next_other fit =
     let own : (q : Process) → Fits k f (put nat_cmp pid (live q) s.processes) = λ q. fits-put k f pid (live q) s.processes (λ p is here. absurd (other here)) fit in
     record {
-      left = λ t fs. fit;
-      own = λ t fs q. own q;
-      forked = fits-put k f (suc s.last_process) (live (child s pid me)) s.processes (λ p is here. absurd (next_other here)) fit;
-      reaped = λ test. fits-filter k f (λ r. test r.0) s.processes fit;
-      room = λ t fs n. room-changed k f _ _ n (record { same = refl; fit = fit });
-      room_opened = λ t fs file close_on_exec n.
-          let q : Process = record me { descriptors = with_number me.descriptors (least_free me.descriptors) (record { file = file; close_on_exec = close_on_exec }) } in
-          room-changed k f _ _ n (record { same = ap (λ ps. record s { tree = t; files = fs; processes = ps }) (put-other k f pid (live q) s.processes other); fit = own q });
+      leave = record {
+        left = λ t fs. fit;
+        own = λ t fs q. own q;
+        forked = fits-put k f (suc s.last_process) (live (child s pid me)) s.processes (λ p is here. absurd (next_other here)) fit;
+        reaped = λ test. fits-filter k f (λ r. test r.0) s.processes fit;
+      };
+      rooms = record {
+        room = λ t fs n goes. room-changed k f _ _ n (record { same = refl; fit = fit });
+        opened = λ t fs file close_on_exec n goes.
+            let q : Process = record me { descriptors = with_number me.descriptors (least_free me.descriptors) (record { file = file; close_on_exec = close_on_exec }) } in
+            room-changed k f _ _ n (record { same = ap (λ ps. record s { tree = t; files = fs; processes = ps }) (put-other k f pid (live q) s.processes other); fit = own q });
+        smaller = λ t n less. room-changed k f _ _ n (record { same = refl; fit = fit });
+      };
     }
 
-step-changed : (k : ℕ) (f : Process → Process) → KeepsParent f → (pid : ℕ) → pid ≢ k → (program_of : Bytes → Option Program) (s : State) → Fits k f s.processes → suc s.last_process ≢ k
+step-changed : (k : ℕ) (f : Process → Process) → KeepsParent f → (pid : ℕ) → pid ≢ k → (program_of : Bytes → Option Program) (s : State) → IsWhole s → Fits k f s.processes → suc s.last_process ≢ k
     → SteppedBeside (changes k f) (step program_of s pid) (step program_of (with_change s k f) pid)
-step-changed k f keeps pid other program_of s fit next_other =
+step-changed k f keeps pid other program_of s whole fit next_other =
     let apart = changes-apart k f keeps pid other in
     step-beside (changes k f) (AreFit k f) pid apart program_of s fit (λ p call at comes.
-    calls-fit k f (at_call s pid p) pid (at_next_line p) other next_other (AreFit k f)
-    (fit-calls k f (at_call s pid p) pid (at_next_line p) other next_other (apart.fit_put s (at_next_line p) fit)) keeps program_of call)
+    let now : Process = at_next_line p in
+    calls-fit k f keeps (at_call s pid p) pid now (whole-at_call s pid p whole at) (process_at-same s pid now) other next_other (AreFit k f)
+    (fit-calls k f (at_call s pid p) pid now other next_other (apart.fit_put s now fit)) program_of call (subst (IsGoodNext p) comes (good-next p (whole.processes.running pid p at))))
 
 pub become-keeps : (q : Process) → KeepsParent (become q)
 become-keeps q = record { same = λ p. refl; whoever = λ p n. refl }
@@ -76,5 +85,5 @@ fits-become s k p q whole at alike =
 pub others-alter-nothing : (program_of : Bytes → Option Program) (s : State) (pid k : ℕ) (p q : Process) → IsWhole s → k ≢ pid → process_at s k ≡ Some p → StandsAlike p q
     → StepsBeside k (become q) (step program_of s pid) (step program_of (with_change s k (become q)) pid)
 others-alter-nothing program_of s pid k p q whole apart at alike =
-    let beside = step-changed k (become q) (become-keeps q) pid (λ same. apart (sym same)) program_of s (fits-become s k p q whole at alike) (λ same. not_next s (whole-in_order s whole) k p at (sym same)) in
+    let beside = step-changed k (become q) (become-keeps q) pid (λ same. apart (sym same)) program_of s whole (fits-become s k p q whole at alike) (λ same. not_next s (whole-in_order s whole) k p at (sym same)) in
     record { outcome = beside.outcome; lines = beside.lines; after = beside.after }

@@ -33,13 +33,14 @@ use Rattle.pv_laws.proofs.Trim.{files-trim}
 use Rattle.pv_rights.proofs.Ends.{step-is}
 use Rattle.pv_order.specs.Beside.{with_change}
 use Rattle.pv_order.specs.Commuting.{Commute}
-use Rattle.pv_order.specs.Holding.{changes_descriptors, closes_number, HasOtherDescriptor, LeavesOpenFiles}
+use Rattle.pv_order.specs.Holding.{changes_descriptors, closes_number, HasOtherDescriptor, LeavesOpenFiles, LeavesTree}
 use Rattle.pv_order.proofs.Exchange.{KeepsParent, process-changed}
-use Rattle.pv_order.proofs.Given.{Gives, gives, refused-commute, given-commute}
-use Rattle.pv_order.proofs.HeldApart.{UsesNoMore, KeepsNodes, SameUse, trim-use, use-left, step-held, found-same, change-is}
+use Rattle.pv_order.proofs.Given.{gives, refused-commute}
+use Rattle.pv_order.proofs.HeldApart.{UsesNoMore, KeepsNodes, SameUse, trim-use, use-left, found-same, change-is}
 use Rattle.pv_order.proofs.Lone.{by-promise, commute-where}
-use Rattle.pv_order.proofs.Orphans.{orphan, orphaned, next-orphan}
-use Rattle.pv_order.proofs.Twice.{answer-held, answer-lacking, behind_k, whole-behind, at-behind, heir}
+use Rattle.pv_order.proofs.Orphans.{orphan}
+use Rattle.pv_order.proofs.OwnSteps.{after_s, own-commute}
+use Rattle.pv_order.proofs.Twice.{answer-held, answer-lacking, behind_k, heir}
 
 -- ---- descriptors
 
@@ -202,14 +203,8 @@ module _ (program_of : Bytes → Option Program) (spells : SpellsPrograms progra
   abbrev t : State
   t = behind_k program_of spells s j k p whole apart at
 
-  abbrev whole_t : IsWhole t
-  whole_t = whole-behind program_of spells s j k p whole apart at
-
   abbrev n : ℕ
   n = heir program_of spells s j k p whole apart at
-
-  abbrev at_t : process_at t j ≡ Some (orphan n p)
-  at_t = at-behind program_of spells s j k p whole apart at
 
   abbrev now : Process
   now = at_next_line p
@@ -224,33 +219,26 @@ module _ (program_of : Bytes → Option Program) (spells : SpellsPrograms progra
     abbrev f : Process → Process
     f = given now does.descriptors does.value
 
-    abbrev nodes : KeepsNodes f
-    nodes = given-nodes now does.descriptors does.value
+    abbrev keeps : KeepsParent f
+    keeps = given-keeps now does.descriptors does.value
 
     abbrev q : Process
     q = record now { descriptors = does.descriptors }
 
-    gives_s : Gives program_of s j p call f 0 does.value
-    gives_s = gives program_of s whole j p at call comes held f 0 does.value q refl does.one
+    after : (step program_of s j).after ≡ trim (with_change s j f)
+    after = after_s program_of spells s j k p whole apart at call comes held f keeps does.fewer 0 does.value q refl does.one does.other
 
-    gives_t : Gives program_of t j (orphan n p) call f 0 does.value
-    gives_t = gives program_of t whole_t j (orphan n p) at_t call (next-orphan n p ∙ ap (orphaned n) comes) held f 0 does.value (orphan n q) refl does.other
-
-    after_s : (step program_of s j).after ≡ trim (with_change s j f)
-    after_s = ap (λ (w : Stepped). w.after) gives_s.calls ∙ ap (λ (a : Answered). a.after) gives_s.answered
-
+    -- the same open files are used, so the same nodes are held
     uses : SameUse j f s
     uses =
         use-left j f s whole.processes.ascending p at (λ i r d x at_i has. (whole.processes.placed i r at_i).opens d x has) does.fewer
-        (ap (λ (z : State). z.files) (sym after_s) ∙ left)
+        (ap (λ (z : State). z.files) (sym after) ∙ left)
 
-    settled : (step program_of s j).after ≡ with_change s j f
-    settled = after_s ∙ trim-use j f nodes s uses ∙ ap (λ z. with_change z j f) whole.trimmed
+    tree-left : LeavesTree program_of s j
+    tree-left = ap (λ (z : State). z.tree) (after ∙ trim-use j f (given-nodes now does.descriptors does.value) s uses) ∙ ap (λ (z : State). z.tree) whole.trimmed
 
     held-commute : Commute program_of s j k
-    held-commute =
-        given-commute program_of spells s j k p whole apart at call comes held f (given-keeps now does.descriptors does.value) 0 does.value gives_s gives_t settled
-        (step-held j f (given-keeps now does.descriptors does.value) nodes program_of spells s k p (orphan n p) whole (λ same. apart (sym same)) at uses whole_t at_t does.fewer)
+    held-commute = own-commute program_of spells s j k p whole apart at call comes held f keeps does.fewer 0 does.value q refl does.one does.other tree-left left
 
   pub descriptors-commute_held : changes_descriptors call ≡ true → LeavesOpenFiles program_of s j → Commute program_of s j k
   descriptors-commute_held changes left =

@@ -23,13 +23,13 @@ use Rattle.pv_laws.proofs.Outcomes.{at_call}
 use Rattle.pv_rights.proofs.Ends.{whole-in_order}
 use Rattle.pv_rights.proofs.Frames.{others-files}
 use Rattle.pv_order.specs.Commuting.{Commute}
-use Rattle.pv_order.specs.Holding.{changes_directory, LeavesTree, LeavesWay, HasItsRoom}
+use Rattle.pv_order.specs.Holding.{changes_directory, LeavesTree, LeavesWay}
 use Rattle.pv_order.proofs.Exchange.{KeepsParent}
 use Rattle.pv_order.proofs.HeldApart.{UsesNoMore}
 use Rattle.pv_order.proofs.Lone.{commute-where}
 use Rattle.pv_order.proofs.Orphans.{orphan}
 use Rattle.pv_order.proofs.OwnSteps.{Becomes, becomes-bind, becomes-then, becomes, becomes-there, become-commute, used-same, files-stay, own-commute}
-use Rattle.pv_order.proofs.Twice.{behind_k, whole-behind, at-behind, heir}
+use Rattle.pv_order.proofs.Twice.{behind_k, heir}
 
 -- ---- what such a call does
 
@@ -87,20 +87,11 @@ module _ (program_of : Bytes → Option Program) (spells : SpellsPrograms progra
   abbrev t : State
   t = behind_k program_of spells s j k p whole apart at
 
-  abbrev whole_t : IsWhole t
-  whole_t = whole-behind program_of spells s j k p whole apart at
-
   abbrev n : ℕ
   n = heir program_of spells s j k p whole apart at
 
-  abbrev at_t : process_at t j ≡ Some (orphan n p)
-  at_t = at-behind program_of spells s j k p whole apart at
-
   abbrev now : Process
   now = at_next_line p
-
-  abbrev other : k ≢ j
-  other same = apart (sym same)
 
   -- the directory of a descriptor is the same behind the step of k
   abbrev by_file : Tree → Option (ℕ × OpenFile) → Attempt ℕ
@@ -140,17 +131,17 @@ module _ (program_of : Bytes → Option Program) (spells : SpellsPrograms progra
   fewer : (d : ℕ) → UsesNoMore p.descriptors (f d p).descriptors
   fewer d i v has = (i, v, has, refl)
 
-  directory-commutes : (call : Call) → next p ≡ calls_for call → changes_directory call ≡ true → LeavesTree program_of s j → LeavesWay program_of s p call k → HasItsRoom program_of s k → missing_promise p.promises (needs call) ≡ None
+  directory-commutes : (call : Call) → next p ≡ calls_for call → changes_directory call ≡ true → LeavesTree program_of s j → LeavesWay program_of s p call k → missing_promise p.promises (needs call) ≡ None
       → Commute program_of s j k
-  directory-commutes call comes changes leaves way room held =
+  directory-commutes call comes changes leaves way held =
       become-commute program_of spells s j k p whole apart at call comes held (HasOther now) (call-enters call changes way)
       (λ w q such one two.
       let d : ℕ = such.0 in
       let is_given : f d p ≡ with_result q (pos 0) 0 = ap (λ r. with_result r (pos 0) 0) (sym such.1) in
-      own-commute program_of spells s j k p whole apart at call comes held (f d) (keeps d) (fewer d) w q is_given one two leaves
-      (files-stay program_of spells s j k p whole apart at call comes held (f d) (keeps d) (fewer d) w q is_given one two (used-same j (f d) (λ r. refl) s)) room)
+      own-commute program_of spells s j k p whole apart at call comes held (f d) (keeps d) (fewer d) w 0 q is_given one two leaves
+      (files-stay program_of spells s j k p whole apart at call comes held (f d) (keeps d) (fewer d) w 0 q is_given one two (used-same j (f d) (λ r. refl) s)))
 
 pub directories-commute : (program_of : Bytes → Option Program) → SpellsPrograms program_of → (s : State) (j k : ℕ) (p : Process) (call : Call) → IsWhole s → j ≢ k → process_at s j ≡ Some p → next p ≡ calls_for call
-    → changes_directory call ≡ true → ((a : Promise) → (step program_of s j).outcome ≢ Killed a) → LeavesTree program_of s j → LeavesWay program_of s p call k → HasItsRoom program_of s k → Commute program_of s j k
-directories-commute program_of spells s j k p call whole apart at comes changes alive leaves way room =
-    commute-where program_of spells s j k p call whole apart at comes alive (directory-commutes program_of spells s j k p whole apart at call comes changes leaves way room)
+    → changes_directory call ≡ true → ((a : Promise) → (step program_of s j).outcome ≢ Killed a) → LeavesTree program_of s j → LeavesWay program_of s p call k → Commute program_of s j k
+directories-commute program_of spells s j k p call whole apart at comes changes alive leaves way =
+    commute-where program_of spells s j k p call whole apart at comes alive (directory-commutes program_of spells s j k p whole apart at call comes changes leaves way)

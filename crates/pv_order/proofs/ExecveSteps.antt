@@ -18,7 +18,7 @@ use Rattle.pv_laws.specs.States.{SpellsPrograms, IsWhole}
 use Rattle.pv_laws.proofs.ByProcess.{kept_descriptor}
 use Rattle.pv_order.specs.Beside.{become}
 use Rattle.pv_order.specs.Commuting.{Commute}
-use Rattle.pv_order.specs.Holding.{LeavesOpenFiles, LeavesTree, HasItsRoom}
+use Rattle.pv_order.specs.Holding.{LeavesOpenFiles, LeavesTree}
 use Rattle.pv_order.proofs.Exchange.{KeepsParent}
 use Rattle.pv_order.proofs.HeldApart.{UsesNoMore}
 use Rattle.pv_order.proofs.Lone.{commute-where}
@@ -66,7 +66,7 @@ module _ (s t : State) (j n : ℕ) (now : Process) (tree : t.tree ≡ s.tree) wh
 -- ---- the step
 
 module _ (program_of : Bytes → Option Program) (spells : SpellsPrograms program_of) (s : State) (j k : ℕ) (p : Process) (path : Bytes) (whole : IsWhole s) (apart : j ≢ k) (at : process_at s j ≡ Some p)
-    (comes : next p ≡ calls_for (TheCall.Execve path)) (leaves : LeavesTree program_of s j) (files : LeavesOpenFiles program_of s j) (way : LeavesTree program_of s k) (room : HasItsRoom program_of s k) where
+    (comes : next p ≡ calls_for (TheCall.Execve path)) (leaves : LeavesTree program_of s j) (files : LeavesOpenFiles program_of s j) (way : LeavesTree program_of s k) where
   abbrev t : State
   t = behind_k program_of spells s j k p whole apart at
 
@@ -93,7 +93,7 @@ module _ (program_of : Bytes → Option Program) (spells : SpellsPrograms progra
   execve-commutes held =
       become-commute program_of spells s j k p whole apart at call comes held (Begins s j now) (execve-becomes s t j n now way program_of path)
       (λ w q such one two.
-      own-commute program_of spells s j k p whole apart at call comes held (f such.0) (keeps such.0) (fewer such.0) w q (ap (λ r. with_result r (pos 0) 0) (sym such.1)) one two leaves files room)
+      own-commute program_of spells s j k p whole apart at call comes held (f such.0) (keeps such.0) (fewer such.0) w 0 q (ap (λ r. with_result r (pos 0) 0) (sym such.1)) one two leaves files)
 
   pub execves-commute : ((a : Promise) → (step program_of s j).outcome ≢ Killed a) → Commute program_of s j k
   execves-commute alive = commute-where program_of spells s j k p call whole apart at comes alive execve-commutes

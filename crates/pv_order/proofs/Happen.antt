@@ -17,12 +17,8 @@ use Rattle.std.specs.Prelude.{replicate}
 use Rattle.pv_model.specs.Numbered.{Numbered}
 use Rattle.pv_order.specs.Examples.{closing_both, entering_open, DescriptorsHappen, DirectoriesHappen}
 use Rattle.std.specs.Prelude.{true}
-use Rattle.pv_model.specs.declared.errno.Errno.{Errno}
-use Rattle.pv_model.specs.declared.outcome.Cause.{Cause}
-use Rattle.pv_model.specs.declared.outcome.Outcome.TheVariants.{Value, Failed}
 use Rattle.pv_model.specs.Tree.{directory_node, Tree, is_directory_at}
 use Rattle.pv_model.specs.declared.version.Version.TheVariants.{V1}
-use Rattle.pv_order.specs.Holding.{wants_room}
 use Rattle.pv_order.specs.Offsets.{GoesBy}
 use Rattle.pv_order.specs.Writes.{LeavesBytes}
 use Rattle.pv_order.proofs.NextCalls.{goes-by_none, leaves-bytes}
@@ -132,13 +128,6 @@ way-left m file opened =
     let same : entered_open ≡ file = ap or_none (sym enterer-opened ∙ opened) in
     subst (λ (f : OpenFile). is_directory_at (step no_programs entering_open 2).after.tree f.node ≡ is_directory_at entering_open.tree f.node) same (directory-behind ∙ sym directory-before)
 
-remover-removes : (step no_programs entering_open 2).outcome ≡ Value 0
-unfolding machine_on_literals
-remover-removes = refl
-
-remover-room : (errno : Errno) (cause : Cause) → (step no_programs entering_open 2).outcome ≡ Failed errno cause → wants_room errno ≡ false
-remover-room errno cause fails = let bad : Value 0 ≡ Failed errno cause = sym remover-removes ∙ fails in cc bad
-
 abbrev pub entered_tree : Tree
 entered_tree = record { nodes = None ∷ Some (directory_node ((codes "d", 2) ∷ [])) ∷ Some (directory_node []) ∷ replicate 14 None; blocks = 14; inodes = 16; version = V1 }
 
@@ -158,8 +147,7 @@ directories-happen = record {
   next_is = refl;
   leaves = tree-behind ∙ sym tree-before;
   way = way-left;
-  room = remover-room;
-  removes = remover-removes;
+  removes = refl;
   entered = refl;
   gone = refl;
   reused = refl;

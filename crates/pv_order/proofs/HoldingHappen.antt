@@ -1,11 +1,7 @@
--- The steps of worked runs with unveils and execves, by computing.
-use Rattle.std.proofs.Common.{◌≡◌, ℕ, true, false, [], ◌∷◌, None, Some, refl, sym, ◌∙◌}
+-- The steps of worked runs with unveils, execves and a full image, by computing.
+use Rattle.std.proofs.Common.{◌≡◌, true, false, [], ◌∷◌, None, Some, refl, sym, ◌∙◌}
 use Rattle.std.specs.Prelude.{codes, replicate}
-use Rattle.pv_model.specs.declared.errno.Errno.{Errno}
 use Rattle.pv_model.specs.declared.open_flags.Mode.TheVariants.{Read as Reading}
-use Rattle.pv_model.specs.declared.outcome.Cause.{Cause}
-use Rattle.pv_model.specs.declared.outcome.Outcome.{Outcome}
-use Rattle.pv_model.specs.declared.outcome.Outcome.TheVariants.{Value, Failed}
 use Rattle.pv_model.specs.declared.version.Version.TheVariants.{V1}
 use Rattle.pv_model.specs.Numbered.{Numbered}
 use Rattle.pv_model.specs.OnLiterals.{machine_on_literals}
@@ -13,20 +9,11 @@ use Rattle.pv_model.specs.State.{OpenFile, Process, process_at}
 use Rattle.pv_model.specs.Step.{step}
 use Rattle.pv_model.specs.Tree.{Tree, directory_node, file_node}
 use Rattle.pv_order.specs.Examples.{no_programs}
-use Rattle.pv_order.specs.Holding.{wants_room}
-use Rattle.pv_order.specs.HoldingExamples.{unveiling_open, executing_both, one_program, UnveilsHappen, ExecvesHappen}
+use Rattle.pv_order.specs.HoldingExamples.{unveiling_open, executing_both, one_program, leaving_full, UnveilsHappen, ExecvesHappen, FullImagesHappen}
 use Rattle.pv_order.proofs.Happen.{or_first, entered_tree}
-
--- who answers a number is not refused for want of room
-answers-room : (o : Outcome) (n : ℕ) → o ≡ Value n → (errno : Errno) (cause : Cause) → o ≡ Failed errno cause → wants_room errno ≡ false
-answers-room o n answers errno cause fails = let bad : Value n ≡ Failed errno cause = sym answers ∙ fails in cc bad
 
 abbrev unveiler : Process
 unveiler = or_first (process_at unveiling_open 1)
-
-opens : (step no_programs unveiling_open 2).outcome ≡ Value 0
-unfolding machine_on_literals
-opens = refl
 
 tree-before : unveiling_open.tree ≡ entered_tree
 unfolding machine_on_literals
@@ -43,9 +30,8 @@ unveils-happen = record {
   there = refl;
   next_is = refl;
   way = tree-behind ∙ sym tree-before;
-  room = answers-room (step no_programs unveiling_open 2).outcome 0 opens;
   unveils = refl;
-  opens = opens;
+  opens = refl;
   of_directory = refl;
   of_name = refl;
 }
@@ -58,10 +44,6 @@ program_tree = record { nodes = None ∷ Some (directory_node ((codes "p", 2) �
 
 abbrev program_files : Numbered OpenFile
 program_files = Some (record { node = 2; mode = Reading; append = false; offset = 0; listed = None }) ∷ replicate 127 None
-
-closes : (step one_program executing_both 2).outcome ≡ Value 0
-unfolding machine_on_literals
-closes = refl
 
 program-before : executing_both.tree ≡ program_tree
 unfolding machine_on_literals
@@ -92,9 +74,8 @@ execves-happen = record {
   leaves = program-executed ∙ sym program-before;
   files = files-executed ∙ sym files-before;
   way = program-closed ∙ sym program-before;
-  room = answers-room (step one_program executing_both 2).outcome 0 closes;
   executes = refl;
-  closes = closes;
+  closes = refl;
   ended = refl;
   executed = refl;
   gone = refl;
@@ -102,4 +83,35 @@ execves-happen = record {
   not_reused = refl;
   freed = refl;
   not_freed = refl;
+}
+
+abbrev full_tree : Tree
+full_tree = record { nodes = None ∷ Some (directory_node []) ∷ Some (directory_node []) ∷ []; blocks = 14; inodes = 2; version = V1 }
+
+full-before : leaving_full.tree ≡ full_tree
+unfolding machine_on_literals
+full-before = refl
+
+full-left : (step no_programs leaving_full 1).after.tree ≡ full_tree
+unfolding machine_on_literals
+full-left = refl
+
+full-refused : (step no_programs leaving_full 2).after.tree ≡ full_tree
+unfolding machine_on_literals
+full-refused = refl
+
+pub full_images-happen : FullImagesHappen
+unfolding machine_on_literals
+full_images-happen = record {
+  process = or_first (process_at leaving_full 1);
+  there = refl;
+  next_is = refl;
+  leaves = full-left ∙ sym full-before;
+  way = full-refused ∙ sym full-before;
+  enters = refl;
+  refused = refl;
+  refused_first = refl;
+  enters_behind = refl;
+  full = refl;
+  freed = refl;
 }

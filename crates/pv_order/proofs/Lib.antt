@@ -1,6 +1,7 @@
 pub mod Alongside
 pub mod Exchange
 pub mod BesideCalls
+pub mod RoomRows
 pub mod BesideSteps
 pub mod Shifts
 pub mod ShiftCalls

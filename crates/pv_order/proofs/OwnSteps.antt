@@ -1,6 +1,6 @@
 -- Steps that give their process other things to hold, before and behind a step of another process, whatever they are.
-use Rattle.std.proofs.Common.{◌≡◌, ◌≢◌, ℕ, pos, true, false, ◌==◌, Option, None, Some, refl, ap, sym, subst, ◌∙◌, ⊎_elim}
-use Rattle.std.proofs.lemmas.Bool.{cases_eq, eqb-true, or_cases}
+use Rattle.std.proofs.Common.{◌≡◌, ◌≢◌, ℕ, pos, true, false, Option, None, Some, refl, ap, sym, subst, ◌∙◌, ⊎_elim}
+use Rattle.std.proofs.lemmas.Bool.{cases_eq}
 use Rattle.std.specs.FinMap.Entries.{find, is_sorted}
 use Rattle.std.specs.Ordering.{nat_cmp}
 use Rattle.pv_model.specs.declared.call.Call.{Call}
@@ -9,7 +9,7 @@ use Rattle.pv_model.specs.Attempt.{Attempt, done, refused, after_walks, ◌>>=�
 use Rattle.pv_model.specs.Bytes.{Bytes}
 use Rattle.pv_model.specs.Calls.Processes.{with_result}
 use Rattle.pv_model.specs.Effect.{Effect, returns}
-use Rattle.pv_model.specs.Held.{among, used_files, held_by_process, held_by_table, trim}
+use Rattle.pv_model.specs.Held.{among, used_files, held_by_process, trim}
 use Rattle.pv_model.specs.Needs.{needs}
 use Rattle.pv_model.specs.Numbered.{at_number, keep}
 use Rattle.pv_model.specs.Program.{calls_for, next}
@@ -26,17 +26,16 @@ use Rattle.pv_laws.proofs.BySteps.{step-keeps_whole}
 use Rattle.pv_laws.proofs.Members.{among-held_by, among-held_file, held_cases}
 use Rattle.pv_laws.proofs.Outcomes.{at_call}
 use Rattle.pv_laws.proofs.Processes.{process_at-same, with_process-twice}
-use Rattle.pv_laws.proofs.Standing.{table-there}
 use Rattle.pv_laws.proofs.Trim.{held_after, tree-trim, files-trim}
 use Rattle.pv_rights.proofs.Ends.{whole-in_order, not_next, process_at-trim}
 use Rattle.pv_order.specs.Beside.{with_change}
 use Rattle.pv_order.specs.Commuting.{Commute}
-use Rattle.pv_order.specs.Holding.{LeavesOpenFiles, LeavesTree, HasItsRoom}
+use Rattle.pv_order.specs.Holding.{LeavesOpenFiles, LeavesTree}
 use Rattle.pv_order.proofs.Exchange.{KeepsParent, process-changed}
 use Rattle.pv_order.proofs.Given.{Gives, gives, refused-commute, given-commute}
 use Rattle.pv_order.proofs.HeldApart.{found-same, UsesNoMore, NoMore, all-changed, used-before, change-is, step-to_trim}
 use Rattle.pv_order.proofs.Orphans.{orphan, orphaned, next-orphan}
-use Rattle.pv_order.proofs.RoomApart.{in-order, goes-along}
+use Rattle.pv_order.proofs.RoomApart.{held-there, in-order, goes-along}
 use Rattle.pv_order.proofs.Twice.{behind_k, whole-behind, at-behind, heir}
 
 -- ---- what such a call does
@@ -122,16 +121,16 @@ module _ (program_of : Bytes → Option Program) (spells : SpellsPrograms progra
       by (refused w e c) is both = refused-commute program_of spells s j k p whole apart at call comes held w e c is both.by
 
   -- by f, which may leave more of the process than the call tells
-  module _ (f : Process → Process) (keeps : KeepsParent f) (fewer : UsesNoMore p.descriptors (f p).descriptors) (w : ℕ) (q : Process) (is_given : f p ≡ with_result q (pos 0) 0)
-      (one_is : one ≡ done w (with_process s j q, returns 0)) (two_is : two ≡ done w (with_process t j (orphan n q), returns 0)) where
-    gives_s : Gives program_of s j p call f w 0
-    gives_s = gives program_of s whole j p at call comes held f w 0 q is_given one_is
+  module _ (f : Process → Process) (keeps : KeepsParent f) (fewer : UsesNoMore p.descriptors (f p).descriptors) (w value : ℕ) (q : Process) (is_given : f p ≡ with_result q (pos value) 0)
+      (one_is : one ≡ done w (with_process s j q, returns value)) (two_is : two ≡ done w (with_process t j (orphan n q), returns value)) where
+    gives_s : Gives program_of s j p call f w value
+    gives_s = gives program_of s whole j p at call comes held f w value q is_given one_is
 
-    gives_t : Gives program_of t j (orphan n p) call f w 0
+    gives_t : Gives program_of t j (orphan n p) call f w value
     gives_t =
-        gives program_of t whole_t j (orphan n p) at_t call (next-orphan n p ∙ ap (orphaned n) comes) held f w 0 (orphan n q) (keeps.whoever p n ∙ ap (orphan n) is_given) two_is
+        gives program_of t whole_t j (orphan n p) at_t call (next-orphan n p ∙ ap (orphaned n) comes) held f w value (orphan n q) (keeps.whoever p n ∙ ap (orphan n) is_given) two_is
 
-    after_s : (step program_of s j).after ≡ trim (with_change s j f)
+    pub after_s : (step program_of s j).after ≡ trim (with_change s j f)
     after_s = ap (λ (r : Stepped). r.after) gives_s.calls ∙ ap (λ (a : Answered). a.after) gives_s.answered
 
     after_t : (step program_of t j).after ≡ trim (with_change t j f)
@@ -154,11 +153,7 @@ module _ (program_of : Bytes → Option Program) (spells : SpellsPrograms progra
       at_u = process_at-trim u j ∙ ap (λ z. process_at z j) (sym (change-is j f t whole_t.processes.ascending (orphan n p) at_t)) ∙ process_at-same t j (f (orphan n p))
 
       stands : is_directory_at (trim u).tree m ≡ true
-      stands =
-          let placed = whole_u.processes.placed j (f (orphan n p)) at_u in
-          ⊎_elim (λ here. ap (is_directory_at (trim u).tree) (sym (eqb-true (f (orphan n p)).directory m here)) ∙ placed.directory)
-          (λ entry. table-there (trim u).tree (f (orphan n p)).table placed.table m entry)
-          (or_cases ((f (orphan n p)).directory == m) (among (held_by_table (f (orphan n p)).table) m) is)
+      stands = held-there (trim u).tree (trim u).files (f (orphan n p)) (whole_u.processes.placed j (f (orphan n p)) at_u) m is
 
       node-there : (node : Node) × (node_at t.tree m ≡ Some node)
       node-there = by (node_at (trim u).tree m) refl stands
@@ -224,9 +219,11 @@ module _ (program_of : Bytes → Option Program) (spells : SpellsPrograms progra
         after_s ∙ trim-parts u ∙ ap (λ v. record u { tree = v; files = (trim u).files }) (sym (ap (λ (z : State). z.tree) after_s) ∙ tree)
         ∙ ap (λ fs. record u { files = fs }) (sym (ap (λ (z : State). z.files) after_s) ∙ files)
 
-    -- and the step of k goes along it where it is not refused for want of room
-    pub own-commute : LeavesTree program_of s j → LeavesOpenFiles program_of s j → HasItsRoom program_of s k → Commute program_of s j k
-    own-commute tree files room =
-        given-commute program_of spells s j k p whole apart at call comes held f keeps w 0 gives_s gives_t (settled tree files)
+    -- and the step of k goes along it
+    pub own-commute : LeavesTree program_of s j → LeavesOpenFiles program_of s j → Commute program_of s j k
+    own-commute tree files =
+        let is : (step program_of s j).after ≡ with_change s j f = settled tree files in
+        given-commute program_of spells s j k p whole apart at call comes held f keeps w value gives_s gives_t is
         (step-to_trim program_of spells s whole j k other f keeps
-        (λ me at_k made comes_k held_k. goes-along program_of spells s whole j k other f whole_t less room me at_k made comes_k held_k keeps (λ same. not_next s (whole-in_order s whole) j p at (sym same))) less)
+        (λ me at_k made comes_k held_k.
+        goes-along program_of s whole j k other f keeps (subst IsWhole is (step-keeps_whole program_of spells s j whole)) (λ same. not_next s (whole-in_order s whole) j p at (sym same)) me at_k made comes_k) less)

@@ -17,6 +17,7 @@ use Rattle.pv_model.specs.Calls.Descriptors.{contradicts, if_mode, check_start, 
 use Rattle.pv_model.specs.Calls.Processes.{reap}
 use Rattle.pv_model.specs.Calls.Restraints.{unveil}
 use Rattle.pv_model.specs.Effect.{Effect, answers, answers_bytes, status, with_file, with_room, open_file_of, open_file, start_directory, descriptor_at, directory_of_file}
+use Rattle.pv_model.specs.Held.{trim}
 use Rattle.pv_model.specs.Numbered.{at_number, with_number, least_free}
 use Rattle.pv_model.specs.Program.{calls_for, next}
 use Rattle.pv_model.specs.State.{OpenFile, Descriptor, Program, Process, Record, State, reads, writes, process_at, with_process, with_tree}
@@ -30,7 +31,7 @@ use Rattle.pv_laws.proofs.Rests
 use Rattle.pv_rights.specs.Growth.{IsSameFile}
 use Rattle.pv_rights.proofs.Does.{open_file_for-is}
 use Rattle.pv_order.specs.Offsets.{change_number, with_file_change, goes_by_offset, GoesBy, StepsBesideFile}
-use Rattle.pv_order.proofs.Alongside.{IsBeside, Beside, after-beside, bind-beside, then-beside, cond-beside, done-beside, refused-beside, cond-state, room-beside, SteppedBeside, step-beside}
+use Rattle.pv_order.proofs.Alongside.{IsBeside, Beside, after-beside, bind-beside, then-beside, cond-beside, done-beside, refused-beside, cond-state, same-room, room-beside, SteppedBeside, step-beside}
 use Rattle.pv_order.proofs.Shifts.{shifted-itself, shifted-other, put-shifted, there-put, least-shifted, trim-shifted, shift-apart}
 
 -- the change of an open file, and the states that have it
@@ -51,7 +52,7 @@ module _ (m : ℕ) (g : OpenFile → OpenFile) (same : (f : OpenFile) → IsSame
   At = IsBeside (shifts m g) (HasFile m)
 
   room-shifted : (x y : State) (n : ℕ) → At x y → B (with_room x >>= (λ roomy. answers roomy n)) (with_room y >>= (λ roomy. answers roomy n))
-  room-shifted x y n is = room-beside (shifts m g) (HasFile m) (λ z fit. trim-shifted g same z m) (λ z. refl) x y n is
+  room-shifted x y n is = room-beside (shifts m g) (HasFile m) x y n is (same-room (trim x).tree (trim (with_file_change x m g)).tree (ap (λ (z : State). z.tree) (trim-shifted g same x m)))
 
   -- what leaves the open files
   files-left : (t : Tree) (ps : List (ℕ × Record)) (last : ℕ) → At (record s { tree = t; processes = ps; last_process = last }) (record u { tree = t; processes = ps; last_process = last })

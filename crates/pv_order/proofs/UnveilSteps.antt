@@ -46,7 +46,7 @@ use Rattle.pv_laws.proofs.Trim.{held_after, tree-trim}
 use Rattle.pv_rights.proofs.Ends.{step-is}
 use Rattle.pv_order.specs.Beside.{with_change}
 use Rattle.pv_order.specs.Commuting.{Commute}
-use Rattle.pv_order.specs.Holding.{LeavesTree, HasItsRoom}
+use Rattle.pv_order.specs.Holding.{LeavesTree}
 use Rattle.pv_order.proofs.Exchange.{KeepsParent, process-changed}
 use Rattle.pv_order.proofs.Given.{gives}
 use Rattle.pv_order.proofs.HeldApart.{found-same, UsesNoMore, change-is}
@@ -237,7 +237,7 @@ module _ (program_of : Bytes → Option Program) (s : State) (j : ℕ) (p : Proc
       (λ a missing lenient. refused-leaves 0 ENOSYS (ByPromise a) (answer-lacking program_of s j p call a at missing lenient)) held-leaves
 
 module _ (program_of : Bytes → Option Program) (spells : SpellsPrograms program_of) (s : State) (j k : ℕ) (p : Process) (path text : Bytes) (whole : IsWhole s) (apart : j ≢ k) (at : process_at s j ≡ Some p)
-    (comes : next p ≡ calls_for (TheCall.Unveil (Some path) (Some text))) (way : LeavesTree program_of s k) (room : HasItsRoom program_of s k) where
+    (comes : next p ≡ calls_for (TheCall.Unveil (Some path) (Some text))) (way : LeavesTree program_of s k) where
   abbrev asked : Call
   asked = TheCall.Unveil (Some path) (Some text)
 
@@ -262,9 +262,9 @@ module _ (program_of : Bytes → Option Program) (spells : SpellsPrograms progra
       (λ w q such one two.
       let table : Table = such.0 in
       let is_given : g table p ≡ with_result q (pos 0) 0 = ap (λ r. with_result r (pos 0) 0) (sym such.2) in
-      own-commute program_of spells s j k p whole apart at asked comes held (g table) (unveiled-keeps me table) (fewer table) w q is_given one two
+      own-commute program_of spells s j k p whole apart at asked comes held (g table) (unveiled-keeps me table) (fewer table) w 0 q is_given one two
       (table-leaves program_of s j p path text whole at comes held w q such one)
-      (files-stay program_of spells s j k p whole apart at asked comes held (g table) (unveiled-keeps me table) (fewer table) w q is_given one two (used-same j (g table) (λ r. refl) s)) room)
+      (files-stay program_of spells s j k p whole apart at asked comes held (g table) (unveiled-keeps me table) (fewer table) w 0 q is_given one two (used-same j (g table) (λ r. refl) s)))
 
   pub unveils-commute : ((a : Promise) → (step program_of s j).outcome ≢ Killed a) → Commute program_of s j k
   unveils-commute alive = commute-where program_of spells s j k p asked whole apart at comes alive unveil-commutes

@@ -23,7 +23,7 @@ use Rattle.pv_model.specs.declared.instruction.Instruction.TheVariants.{Chdir, F
 use Rattle.pv_model.specs.declared.outcome.Cause.TheVariants.{Plain}
 use Rattle.pv_model.specs.declared.outcome.Outcome.TheVariants.{Failed}
 use Rattle.pv_model.specs.Tree.{root, find_entry}
-use Rattle.pv_order.specs.Holding.{LeavesOpenFiles, LeavesTree, LeavesWay, HasItsRoom}
+use Rattle.pv_order.specs.Holding.{LeavesOpenFiles, LeavesTree, LeavesWay}
 use Rattle.pv_order.specs.Offsets.{LeavesOpenFile}
 use Rattle.pv_order.specs.Writes.{LeavesWrite, StaysWithin}
 
@@ -151,7 +151,6 @@ pub record DirectoriesHappen : Type 0 where
   pub next_is : next process ≡ calls_for (TheCall.Fchdir (pos 0))
   pub leaves : LeavesTree no_programs entering_open 1
   pub way : LeavesWay no_programs entering_open process (TheCall.Fchdir (pos 0)) 2
-  pub room : HasItsRoom no_programs entering_open 2
   pub removes : (step no_programs entering_open 2).outcome ≡ Value 0
   -- a chdir beside it: behind it the name is gone
   pub entered : (step no_programs (state_behind (entering (Chdir (codes "/d"))) (replicate 4 1 ++ 2 ∷ [])) 1).outcome ≡ Value 0

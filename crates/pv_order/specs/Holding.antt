@@ -1,11 +1,8 @@
 -- Steps that change what their process holds, beside steps of other processes: its descriptors, close(2), dup(2), dup2(2); its directory, chdir(2), fchdir(2); its table, unveil(2); its program, table and descriptors, execve(2).
-use Rattle.std.specs.Prelude.{◌≡◌, ◌≢◌, ℕ, pos, Bool, true, false, if◌then◌else◌, ◌==◌, IsTrue, IsFalse, Option, None, Some}
+use Rattle.std.specs.Prelude.{◌≡◌, ◌≢◌, ℕ, pos, Bool, true, false, if◌then◌else◌, ◌==◌, IsTrue, Option, None, Some}
 use Rattle.pv_model.specs.declared.call.Call.{Call}
 use Rattle.pv_model.specs.declared.call.Call.TheVariants.{Unveil, Execve, Close, Dup, Dup2, Fchdir, Chdir}
-use Rattle.pv_model.specs.declared.errno.Errno.{Errno}
-use Rattle.pv_model.specs.declared.errno.Errno.TheVariants.{EFBIG, ENOSPC}
-use Rattle.pv_model.specs.declared.outcome.Cause.{Cause}
-use Rattle.pv_model.specs.declared.outcome.Outcome.TheVariants.{Failed, Killed}
+use Rattle.pv_model.specs.declared.outcome.Outcome.TheVariants.{Killed}
 use Rattle.pv_model.specs.declared.promise.Promise.{Promise}
 use Rattle.pv_model.specs.Bytes.{Bytes}
 use Rattle.pv_model.specs.Effect.{open_file}
@@ -76,21 +73,11 @@ abbrev pub LeavesWay : (Bytes → Option Program) → State → Process → Call
 LeavesWay program_of s p (Fchdir d) k = (m : ℕ) (file : OpenFile) → open_file s p d ≡ Some (m, file) → is_directory_at (step program_of s k).after.tree file.node ≡ is_directory_at s.tree file.node
 LeavesWay program_of s p call k = LeavesTree program_of s k
 
--- errors for want of room
-abbrev pub wants_room : Errno → Bool
-wants_room EFBIG = true
-wants_room ENOSPC = true
-wants_room errno = false
-
--- the step of a process is not refused for want of room
-abbrev pub HasItsRoom : (Bytes → Option Program) → State → ℕ → Type 0
-HasItsRoom program_of s pid = (errno : Errno) (cause : Cause) → (step program_of s pid).outcome ≡ Failed errno cause → IsFalse (wants_room errno)
-
--- such a call, where it does not kill and lets no node go, and a step of another process that leaves where it leads and is not refused for want of room, which may else make, free or end what it will, may be made in either order
+-- such a call, where it does not kill and lets no node go, and a step of another process that leaves where it leads, which may else make, free or end what it will, may be made in either order
 abbrev pub DirectoryStepsCommute : Type 0
 DirectoryStepsCommute =
     (program_of : Bytes → Option Program) → SpellsPrograms program_of → (s : State) (j k : ℕ) (p : Process) (call : Call) → IsWhole s → j ≢ k → process_at s j ≡ Some p → next p ≡ calls_for call
-    → IsTrue (changes_directory call) → ((a : Promise) → (step program_of s j).outcome ≢ Killed a) → LeavesTree program_of s j → LeavesWay program_of s p call k → HasItsRoom program_of s k
+    → IsTrue (changes_directory call) → ((a : Promise) → (step program_of s j).outcome ≢ Killed a) → LeavesTree program_of s j → LeavesWay program_of s p call k
     → Commute program_of s j k
 
 -- ---- the table: unveil(2)
@@ -101,18 +88,18 @@ UnveilsLeave =
     (program_of : Bytes → Option Program) (s : State) (pid : ℕ) (p : Process) (path letters : Bytes) → IsWhole s → process_at s pid ≡ Some p → next p ≡ calls_for (Unveil (Some path) (Some letters))
     → ((a : Promise) → (step program_of s pid).outcome ≢ Killed a) → LeavesTree program_of s pid
 
--- such a call, where it does not kill, and a step of another process that leaves the tree as it is and is not refused for want of room, which may else make, free or end what it will, may be made in either order
+-- such a call, where it does not kill, and a step of another process that leaves the tree as it is, which may else make, free or end what it will, may be made in either order
 abbrev pub UnveilsCommute : Type 0
 UnveilsCommute =
     (program_of : Bytes → Option Program) → SpellsPrograms program_of → (s : State) (j k : ℕ) (p : Process) (path letters : Bytes) → IsWhole s → j ≢ k → process_at s j ≡ Some p → next p ≡ calls_for (Unveil (Some path) (Some letters))
-    → ((a : Promise) → (step program_of s j).outcome ≢ Killed a) → LeavesTree program_of s k → HasItsRoom program_of s k
+    → ((a : Promise) → (step program_of s j).outcome ≢ Killed a) → LeavesTree program_of s k
     → Commute program_of s j k
 
 -- ---- the program: execve(2)
 
--- an execve, where it does not kill, lets no node go and ends no open file, and a step of another process that leaves the tree as it is and is not refused for want of room, which may else make, free or end what it will, may be made in either order
+-- an execve, where it does not kill, lets no node go and ends no open file, and a step of another process that leaves the tree as it is, which may else make, free or end what it will, may be made in either order
 abbrev pub ExecvesCommute : Type 0
 ExecvesCommute =
     (program_of : Bytes → Option Program) → SpellsPrograms program_of → (s : State) (j k : ℕ) (p : Process) (path : Bytes) → IsWhole s → j ≢ k → process_at s j ≡ Some p → next p ≡ calls_for (Execve path)
-    → ((a : Promise) → (step program_of s j).outcome ≢ Killed a) → LeavesTree program_of s j → LeavesOpenFiles program_of s j → LeavesTree program_of s k → HasItsRoom program_of s k
+    → ((a : Promise) → (step program_of s j).outcome ≢ Killed a) → LeavesTree program_of s j → LeavesOpenFiles program_of s j → LeavesTree program_of s k
     → Commute program_of s j k

@@ -1,9 +1,9 @@
--- Steps that unveil a path or execute a program beside steps of another process: such as may be made in either order, and such as may not.
+-- Steps that unveil a path, execute a program or change the directory in a full image, beside steps of another process: such as may be made in either order, and such as may not.
 use Rattle.std.specs.Prelude.{◌≡◌, ℕ, true, false, List, [], ◌∷◌, ◌++◌, replicate, codes, pos, Option, None, Some, is_some, option_and_then}
 use Rattle.pv_model.specs.declared.call.Call.TheVariants as TheCall
-use Rattle.pv_model.specs.declared.errno.Errno.TheVariants.{ENOENT}
+use Rattle.pv_model.specs.declared.errno.Errno.TheVariants.{ENOENT, ENOSPC}
 use Rattle.pv_model.specs.declared.instruction.Instruction.{Instruction}
-use Rattle.pv_model.specs.declared.instruction.Instruction.TheVariants.{JumpIfZero, Fork, GetPid, Exit, Unveil, Execve, Open, Close, Mkdir, Rmdir, Unlink, Rename}
+use Rattle.pv_model.specs.declared.instruction.Instruction.TheVariants.{JumpIfZero, Fork, GetPid, Exit, Unveil, Execve, Open, Close, Chdir, Mkdir, Rmdir, Unlink, Rename}
 use Rattle.pv_model.specs.declared.instruction.Operand.TheVariants.{Number}
 use Rattle.pv_model.specs.declared.open_flags.Mode.TheVariants.{Read as Reading}
 use Rattle.pv_model.specs.declared.open_flags.OpenFlags.{OpenFlags}
@@ -19,8 +19,8 @@ use Rattle.pv_model.specs.State.{Program, Process, State, first_state, process_a
 use Rattle.pv_model.specs.Step.{step, run}
 use Rattle.pv_model.specs.Tree.{file_node, root, find_entry}
 use Rattle.pv_model.specs.Unveil.{Table}
-use Rattle.pv_order.specs.Examples.{no_programs, state_behind, flags}
-use Rattle.pv_order.specs.Holding.{LeavesOpenFiles, LeavesTree, HasItsRoom}
+use Rattle.pv_order.specs.Examples.{no_programs, state_behind, flags, leaving}
+use Rattle.pv_order.specs.Holding.{LeavesOpenFiles, LeavesTree}
 
 -- ---- unveil(2)
 
@@ -52,7 +52,6 @@ pub record UnveilsHappen : Type 0 where
   pub there : process_at unveiling_open 1 ≡ Some process
   pub next_is : next process ≡ calls_for (TheCall.Unveil (Some (codes "/d")) (Some (codes "r")))
   pub way : LeavesTree no_programs unveiling_open 2
-  pub room : HasItsRoom no_programs unveiling_open 2
   pub unveils : (step no_programs unveiling_open 1).outcome ≡ Value 0
   pub opens : (step no_programs unveiling_open 2).outcome ≡ Value 0
   -- an unveil beside a rename of the directory: its entry is for the directory, or for the name that is free
@@ -121,7 +120,6 @@ pub record ExecvesHappen : Type 0 where
   pub leaves : LeavesTree one_program executing_both 1
   pub files : LeavesOpenFiles one_program executing_both 1
   pub way : LeavesTree one_program executing_both 2
-  pub room : HasItsRoom one_program executing_both 2
   pub executes : (step one_program executing_both 1).outcome ≡ Value 0
   pub closes : (step one_program executing_both 2).outcome ≡ Value 0
   pub ended : at_number (run one_program (1 ∷ 2 ∷ []) executing_both).final.files 0 ≡ None
@@ -134,3 +132,44 @@ pub record ExecvesHappen : Type 0 where
   -- an execve that lets a directory go with the table, beside a mkdir: that takes the number which is left free, or the next
   pub freed : find_entry (state_with_program leaving_by_execve (replicate 6 1 ++ 2 ∷ 1 ∷ 2 ∷ [])).tree root (codes "e") ≡ Some 3
   pub not_freed : find_entry (state_with_program leaving_by_execve (replicate 6 1 ++ 2 ∷ 2 ∷ 1 ∷ [])).tree root (codes "e") ≡ Some 4
+
+-- ---- chdir(2) in a full image
+
+-- the state behind steps in an image with two inodes, of which the root takes one
+abbrev pub state_of_two : Program → List ℕ → State
+state_of_two program pids = (run no_programs pids (first_state (manifest_tree 14 2 []) program)).final
+
+-- a process that stands in a directory without a name forks; then it leaves the directory, where the child stands still, and the child makes another
+abbrev pub leaving_both : Program
+leaving_both =
+    Mkdir (codes "/d")
+    ∷ Chdir (codes "/d")
+    ∷ Rmdir (codes "/d")
+    ∷ Fork
+    ∷ JumpIfZero 0 8
+    ∷ Chdir (codes "/")
+    ∷ Exit (Number (pos 0))
+    ∷ Mkdir (codes "/e")
+    ∷ []
+
+-- both stand before their calls
+abbrev pub at_calls : List ℕ
+at_calls = replicate 5 1 ++ 2 ∷ []
+
+abbrev pub leaving_full : State
+leaving_full = state_of_two leaving_both at_calls
+
+pub record FullImagesHappen : Type 0 where
+  -- a chdir that lets no node go, beside a mkdir for which there is no inode: the law's premises, and what both answer in either order
+  pub process : Process
+  pub there : process_at leaving_full 1 ≡ Some process
+  pub next_is : next process ≡ calls_for (TheCall.Chdir (codes "/"))
+  pub leaves : LeavesTree no_programs leaving_full 1
+  pub way : LeavesTree no_programs leaving_full 2
+  pub enters : (step no_programs leaving_full 1).outcome ≡ Value 0
+  pub refused : (step no_programs (state_of_two leaving_both (at_calls ++ 1 ∷ [])) 2).outcome ≡ Failed ENOSPC Plain
+  pub refused_first : (step no_programs leaving_full 2).outcome ≡ Failed ENOSPC Plain
+  pub enters_behind : (step no_programs (state_of_two leaving_both (at_calls ++ 2 ∷ [])) 1).outcome ≡ Value 0
+  -- a chdir that lets its old directory go, beside it: that leaves an inode free
+  pub full : (step no_programs (state_of_two leaving at_calls) 2).outcome ≡ Failed ENOSPC Plain
+  pub freed : (step no_programs (state_of_two leaving (at_calls ++ 1 ∷ [])) 2).outcome ≡ Value 0

@@ -2,7 +2,7 @@
 
 ghost use Rattle.pv_order.specs.Examples.{OrderHappens, OffsetsHappen, WritesHappen};
 ghost use Rattle.pv_order.specs.Examples.{DescriptorsHappen, DirectoriesHappen};
-ghost use Rattle.pv_order.specs.HoldingExamples.{UnveilsHappen, ExecvesHappen};
+ghost use Rattle.pv_order.specs.HoldingExamples.{UnveilsHappen, ExecvesHappen, FullImagesHappen};
 ghost use Rattle.pv_order.specs.GrowingExamples.{GrowingHappens, CutsHappen};
 ghost use Rattle.pv_order.specs.EntriesExamples.{EntriesHappen};
 
@@ -41,6 +41,12 @@ pub fn unveils_happen()
 /// lets a directory go does.
 pub fn execves_happen()
     ensures { ExecvesHappen }
+{}
+
+/// A chdir out of a directory without a name, in which another process stands still, and the mkdir of that other, for which there is
+/// no room, may be made in either order; but behind a chdir that lets its old directory go there is room.
+pub fn full_images_happen()
+    ensures { FullImagesHappen }
 {}
 
 /// A write that makes its file longer within its block and an unlink of the file may be made in either order; but a read, a step to

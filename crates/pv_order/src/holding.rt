@@ -17,8 +17,8 @@ pub fn descriptor_steps_commute()
 {}
 
 /// A chdir or an fchdir of one process, where it does not kill and lets no node go, and any step of another that leaves where it
-/// leads and is not refused for want of room, whatever else the other makes, frees or ends, may be made in either order: each answers
-/// the same and tells the same lines as it would first, and the state in the end is the same.
+/// leads, whatever else the other makes, frees or ends, may be made in either order: each answers the same and tells the same lines as
+/// it would first, and the state in the end is the same.
 pub fn directory_steps_commute()
     ensures { DirectoryStepsCommute }
 {}
@@ -28,16 +28,16 @@ pub fn unveils_leave()
     ensures { UnveilsLeave }
 {}
 
-/// An unveil of a path with letters, of one process, where it does not kill, and any step of another that leaves the tree as it is and
-/// is not refused for want of room, whatever else the other makes, frees or ends, may be made in either order: each answers the same
-/// and tells the same lines as it would first, and the state in the end is the same.
+/// An unveil of a path with letters, of one process, where it does not kill, and any step of another that leaves the tree as it is,
+/// whatever else the other makes, frees or ends, may be made in either order: each answers the same and tells the same lines as it
+/// would first, and the state in the end is the same.
 pub fn unveils_commute()
     ensures { UnveilsCommute }
 {}
 
 /// An execve of one process, where it does not kill, lets no node go and ends no open file, and any step of another that leaves the
-/// tree as it is and is not refused for want of room, whatever else the other makes, frees or ends, may be made in either order: each
-/// answers the same and tells the same lines as it would first, and the state in the end is the same.
+/// tree as it is, whatever else the other makes, frees or ends, may be made in either order: each answers the same and tells the same
+/// lines as it would first, and the state in the end is the same.
 pub fn execves_commute()
     ensures { ExecvesCommute }
 {}
