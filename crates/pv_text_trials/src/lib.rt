@@ -5,3 +5,5 @@
 
 #[cfg(test)]
 mod script;
+#[cfg(test)]
+mod text;
