@@ -1,4 +1,4 @@
-//! Texts and their readers tried: lines, words and arguments, programs, schedules and machines.
+//! Texts and their readers tried, and what writes traces and verdicts: programs, schedules and machines, lines and words.
 //!
 //! It has tests alone, a module for each crate that they try.
 #![tactic(auto)]
@@ -7,3 +7,7 @@
 mod script;
 #[cfg(test)]
 mod text;
+#[cfg(test)]
+mod trace;
+#[cfg(test)]
+mod verdicts;
