@@ -11,8 +11,6 @@ pub mod instruction;
 pub mod machine;
 pub mod program;
 pub mod schedule;
-#[cfg(test)]
-mod tests;
 
 pub use machine::{Machine, Next};
 pub use program::Program;

@@ -9,7 +9,5 @@
 pub mod arguments;
 pub mod lines;
 pub mod pieces;
-#[cfg(test)]
-mod tests;
 pub mod texts;
 pub mod words;

@@ -14,8 +14,6 @@ mod line;
 mod sheet;
 mod steps;
 mod stream;
-#[cfg(test)]
-mod tests;
 mod words;
 
 pub use buffered::{Buffered, PIECE};

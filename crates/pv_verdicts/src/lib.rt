@@ -4,7 +4,5 @@
 #![tactic(auto)]
 
 mod line;
-#[cfg(test)]
-mod tests;
 
 pub use line::write_verdict;

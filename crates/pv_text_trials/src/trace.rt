@@ -2,16 +2,15 @@
 ghost use Rattle.std.specs.Prelude.{None};
 ghost use Rattle.pv_trace.specs.Words.{HasFewBytes};
 
-use crate::{
-    Buffered, Line, PIECE, PromiseVerdict, Returned, Sheet, UnveilVerdict, Way, Word,
-    write_call_lines, write_gone_line, write_line, write_through, write_whole,
-};
 use pv_model::{
     Call, Cause, Errno, Failed, Mode, OpenFlags, Outcome, Perms, Promise, Sink, Start, Taken, Text,
     Whence,
 };
+use pv_trace::{
+    Buffered, Line, PIECE, PromiseVerdict, Returned, Sheet, UnveilVerdict, Way, Word,
+    write_call_lines, write_gone_line, write_line, write_through, write_whole,
+};
 use std::process::Abort;
-use std::test::Fail;
 
 const FOR_READING: OpenFlags = OpenFlags {
     mode: Mode::Read,
@@ -68,6 +67,11 @@ fn sink_of<R: AllocGlobal>(rt: &R, room: usize, width: usize) -> Narrow {
     }
 }
 
+// A text of these bytes.
+fn text<R: Abort>(rt: &R, bytes: &[u8]) -> Text {
+    Text::new(bytes).expect(rt, "a text")
+}
+
 // Checks that a word of process 1 is written so.
 fn expect_line<R: Abort + AllocGlobal>(rt: &R, word: Word, wanted: &[u8])
     requires { HasFewBytes word }
@@ -80,8 +84,8 @@ fn expect_line<R: Abort + AllocGlobal>(rt: &R, word: Word, wanted: &[u8])
 }
 
 #[test]
-fn each_word_has_its_text(rt: HostRuntime) -> Result<(), Fail> {
-    let path = Text::new(b"/a\"\x01\xff~").ok_or("text")?;
+fn each_word_has_its_text(rt: HostRuntime) {
+    let path = text(&rt, b"/a\"\x01\xff~");
     let call = Call::Close(3);
     expect_line(&rt, Word::Call(&call), b"    1 CALL  close(3)\n");
     expect_line(
@@ -114,30 +118,38 @@ fn each_word_has_its_text(rt: HostRuntime) -> Result<(), Fail> {
         Word::Unvl(UnveilVerdict::Locked),
         b"    1 UNVL  locked\n",
     );
+}
+
+// Checks that what a close returns is written so.
+fn expect_return<R: Abort + AllocGlobal>(rt: &R, returned: Returned, wanted: &[u8]) {
+    expect_line(rt, Word::Ret(&Call::Close(3), returned), wanted);
+}
+
+#[test]
+fn words_of_answers_have_their_texts(rt: HostRuntime) {
     expect_line(
         &rt,
         Word::Gio(Way::Gave, b"\x00k"),
         b"    1 GIO   read 2 006b\n",
     );
     expect_line(&rt, Word::Gio(Way::Took, b""), b"    1 GIO   wrote 0\n");
-    expect_line(
+    expect_return(
         &rt,
-        Word::Ret(&call, Returned::Value(4_294_967_295)),
+        Returned::Value(4_294_967_295),
         b"    1 RET   close 4294967295\n",
     );
-    expect_line(
+    expect_return(
         &rt,
-        Word::Ret(&call, Returned::Error(Errno::ENAMETOOLONG)),
+        Returned::Error(Errno::ENAMETOOLONG),
         b"    1 RET   close -1 errno 63 ENAMETOOLONG\n",
     );
     expect_line(&rt, Word::Psig, b"    1 PSIG  SIGABRT\n");
     expect_line(&rt, Word::Wait, b"    1 WAIT  blocked\n");
     expect_line(&rt, Word::Gone, b"    1 GONE  no such process\n");
-    Ok(())
 }
 
 #[test]
-fn calls_show_their_arguments(rt: HostRuntime) -> Result<(), Fail> {
+fn calls_show_their_arguments(rt: HostRuntime) {
     let all = OpenFlags {
         mode: Mode::ReadWrite,
         append: true,
@@ -148,7 +160,7 @@ fn calls_show_their_arguments(rt: HostRuntime) -> Result<(), Fail> {
         directory: true,
         close_on_exec: true,
     };
-    let open = Call::OpenAt(Start::Descriptor(-1), Text::new(b"f").ok_or("text")?, all);
+    let open = Call::OpenAt(Start::Descriptor(-1), text(&rt, b"f"), all);
     expect_line(
         &rt,
         Word::Call(&open),
@@ -160,22 +172,15 @@ fn calls_show_their_arguments(rt: HostRuntime) -> Result<(), Fail> {
         Word::Call(&seek),
         b"    1 CALL  lseek(0, -2147483648, cur)\n",
     );
-    let link = Call::Link(
-        Text::new(b"/a").ok_or("text")?,
-        Text::new(b"").ok_or("text")?,
-    );
+    let link = Call::Link(text(&rt, b"/a"), text(&rt, b""));
     expect_line(&rt, Word::Call(&link), b"    1 CALL  link(\"/a\", \"\")\n");
     expect_line(&rt, Word::Call(&Call::Fork), b"    1 CALL  fork()\n");
-    Ok(())
 }
 
 #[test]
-fn longest_lines_are_written_at_once(rt: HostRuntime) -> Result<(), Fail> {
+fn longest_lines_are_written_at_once(rt: HostRuntime) {
     let mut out = sink_of(&rt, 20_000, 20_000);
-    let call = Call::Rename(
-        Text::new(&[0; 1_100]).ok_or("text")?,
-        Text::new(&[255; 1_100]).ok_or("text")?,
-    );
+    let call = Call::Rename(text(&rt, &[0; 1_100]), text(&rt, &[255; 1_100]));
     let line = Line {
         pid: 4_294_967_295,
         word: Word::Call(&call),
@@ -183,6 +188,10 @@ fn longest_lines_are_written_at_once(rt: HostRuntime) -> Result<(), Fail> {
     assert!(rt; write_line(&mut out, &mut Sheet::new(), &line).is_ok());
     assert!(rt; out.writes == 1);
     assert!(rt; out.bytes.len() == 17 + 7 + 2 * 4_402 + 2 + 1 + 1);
+}
+
+#[test]
+fn longest_bytes_are_written_at_once(rt: HostRuntime) {
     let mut out = sink_of(&rt, 20_000, 20_000);
     let line = Line {
         pid: 1,
@@ -192,30 +201,34 @@ fn longest_lines_are_written_at_once(rt: HostRuntime) -> Result<(), Fail> {
     assert!(rt; out.writes == 1);
     assert!(rt; out.bytes.len() == 12 + 11 + 2 * 4_096 + 1);
     assert!(rt; out.bytes.ends_with(b"abab\n"));
-    Ok(())
 }
 
 const HIDDEN: &[u8] =
     b"    1 CALL  open(\"/a\\x22\\x01\", r)\n    1 NAMI  \"/a\\x22\\x01\"\n    1 UNVL  none, needs r\n    1 RET   open -1 errno 2 ENOENT\n";
 
 #[test]
-fn hidden_open_has_four_lines(rt: HostRuntime) -> Result<(), Fail> {
-    let call = Call::Open(Text::new(b"/a\"\x01").ok_or("text")?, FOR_READING);
+fn hidden_open_has_four_lines(rt: HostRuntime) {
+    let call = Call::Open(text(&rt, b"/a\"\x01"), FOR_READING);
     let outcome = Outcome::Failed(Errno::ENOENT, Cause::Unveil(None));
     let mut out = sink_of(&rt, 1_000, 1_000);
     let lines = write_call_lines(&mut out, &mut Sheet::new(), 1, b"", &call, outcome, 1);
     assert!(rt; matches!(lines, Ok(4)));
     assert!(rt; out.writes == 1);
     assert!(rt; out.bytes.as_slice() == HIDDEN);
-    let mut out = sink_of(&rt, 1_000, 1);
-    assert!(rt; write_call_lines(&mut out, &mut Sheet::new(), 1, b"", &call, outcome, 1).is_ok());
-    assert!(rt; out.bytes.as_slice() == HIDDEN);
-    Ok(())
 }
 
 #[test]
-fn full_sink_has_a_beginning_of_the_text(rt: HostRuntime) -> Result<(), Fail> {
-    let call = Call::Open(Text::new(b"/a\"\x01").ok_or("text")?, FOR_READING);
+fn hidden_open_is_written_byte_by_byte(rt: HostRuntime) {
+    let call = Call::Open(text(&rt, b"/a\"\x01"), FOR_READING);
+    let outcome = Outcome::Failed(Errno::ENOENT, Cause::Unveil(None));
+    let mut out = sink_of(&rt, 1_000, 1);
+    assert!(rt; write_call_lines(&mut out, &mut Sheet::new(), 1, b"", &call, outcome, 1).is_ok());
+    assert!(rt; out.bytes.as_slice() == HIDDEN);
+}
+
+#[test]
+fn full_sink_has_a_beginning_of_the_text(rt: HostRuntime) {
+    let call = Call::Open(text(&rt, b"/a\"\x01"), FOR_READING);
     let outcome = Outcome::Failed(Errno::ENOENT, Cause::Unveil(None));
     for room in 0..HIDDEN.len() {
         for width in [1, 7, 1_000] {
@@ -227,7 +240,6 @@ fn full_sink_has_a_beginning_of_the_text(rt: HostRuntime) -> Result<(), Fail> {
             assert!(rt; out.failures == 1);
         }
     }
-    Ok(())
 }
 
 #[test]
@@ -267,9 +279,9 @@ fn write_shows_the_bytes_it_took(rt: HostRuntime) {
 }
 
 #[test]
-fn killed_call_ends_with_its_signal(rt: HostRuntime) -> Result<(), Fail> {
+fn killed_call_ends_with_its_signal(rt: HostRuntime) {
     let mut out = sink_of(&rt, 1_000, 1_000);
-    let call = Call::Unveil(None, Some(Text::new(b"r").ok_or("text")?));
+    let call = Call::Unveil(None, Some(text(&rt, b"r")));
     let outcome = Outcome::Killed(Promise::Unveil);
     assert!(rt;
         matches!(
@@ -280,15 +292,11 @@ fn killed_call_ends_with_its_signal(rt: HostRuntime) -> Result<(), Fail> {
     let wanted =
         b"   12 CALL  unveil(null, \"r\")\n   12 PLDG  unveil, \"unveil\", killed\n   12 PSIG  SIGABRT\n";
     assert!(rt; out.bytes.as_slice() == wanted.as_slice());
-    Ok(())
 }
 
 #[test]
-fn rename_tells_the_walks_that_it_began(rt: HostRuntime) -> Result<(), Fail> {
-    let call = Call::Rename(
-        Text::new(b"/a").ok_or("text")?,
-        Text::new(b"/b").ok_or("text")?,
-    );
+fn rename_tells_the_walks_that_it_began(rt: HostRuntime) {
+    let call = Call::Rename(text(&rt, b"/a"), text(&rt, b"/b"));
     let refused = Outcome::Failed(Errno::EACCES, Cause::Unveil(Some(1)));
     let mut out = sink_of(&rt, 1_000, 1_000);
     assert!(rt;
@@ -300,6 +308,11 @@ fn rename_tells_the_walks_that_it_began(rt: HostRuntime) -> Result<(), Fail> {
     let wanted =
         b"    1 CALL  rename(\"/a\", \"/b\")\n    1 NAMI  \"/a\"\n    1 NAMI  \"/b\"\n    1 UNVL  entry 1, needs c\n    1 RET   rename -1 errno 13 EACCES\n";
     assert!(rt; out.bytes.as_slice() == wanted.as_slice());
+}
+
+#[test]
+fn rename_that_began_one_walk_tells_one(rt: HostRuntime) {
+    let call = Call::Rename(text(&rt, b"/a"), text(&rt, b"/b"));
     let mut out = sink_of(&rt, 1_000, 1_000);
     let empty = Outcome::Failed(Errno::ENOENT, Cause::Plain);
     assert!(rt;
@@ -308,7 +321,6 @@ fn rename_tells_the_walks_that_it_began(rt: HostRuntime) -> Result<(), Fail> {
             Ok(3)
         )
     );
-    Ok(())
 }
 
 #[test]
@@ -344,18 +356,30 @@ fn step_of_a_process_that_is_gone_has_one_line(rt: HostRuntime) {
 // How many bytes more than one piece.
 const MORE: usize = PIECE + 9;
 
-#[test]
-fn pieces_are_handed_on_when_they_are_full(rt: HostRuntime) {
-    let mut out = Buffered::new(sink_of(&rt, 2 * MORE, 2 * MORE));
+// A sink behind five bytes, with which nothing was handed on, and a whole piece.
+fn with_a_piece<R: Abort + AllocGlobal>(rt: &R) -> Buffered<Narrow> {
+    let mut out = Buffered::new(sink_of(rt, 2 * MORE, 2 * MORE));
     assert!(rt; write_whole(&mut out, b"abc").is_ok());
     assert!(rt; write_whole(&mut out, b"de").is_ok());
     assert!(rt; out.sink().writes == 0);
     assert!(rt; write_whole(&mut out, &[7; PIECE]).is_ok());
+    out
+}
+
+#[test]
+fn pieces_are_handed_on_when_they_are_full(rt: HostRuntime) {
+    let mut out = with_a_piece(&rt);
     assert!(rt; out.sink().writes == 1);
     assert!(rt; out.sink().bytes.as_slice() == b"abcde".as_slice());
     assert!(rt; out.flush().is_ok());
     assert!(rt; out.sink().writes == 2);
     assert!(rt; out.sink().bytes.len() == PIECE + 5);
+}
+
+#[test]
+fn more_than_a_piece_is_written_through(rt: HostRuntime) {
+    let mut out = with_a_piece(&rt);
+    assert!(rt; out.flush().is_ok());
     assert!(rt; write_through(&mut out, &[8; MORE]).is_ok());
     assert!(rt; out.sink().bytes.len() == PIECE + 5 + MORE);
     assert!(rt; out.sink().bytes.ends_with(b"\x08\x08"));

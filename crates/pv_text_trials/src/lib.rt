@@ -1,0 +1,13 @@
+//! Texts and their readers tried, and what writes traces and verdicts: programs, schedules and machines, lines and words.
+//!
+//! It has tests alone, a module for each crate that they try.
+#![tactic(auto)]
+
+#[cfg(test)]
+mod script;
+#[cfg(test)]
+mod text;
+#[cfg(test)]
+mod trace;
+#[cfg(test)]
+mod verdicts;
