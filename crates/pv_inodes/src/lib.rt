@@ -12,8 +12,6 @@ mod inodes;
 mod layout;
 mod space;
 mod table;
-#[cfg(test)]
-mod tests;
 
 pub use inodes::Inodes;
 pub use space::Space;
