@@ -12,9 +12,6 @@ ghost use Rattle.pv_model.specs.declared.version.Version.TheVariants.{V1};
 ghost use Rattle.pv_tree.specs.Changes.{new_node};
 ghost use Rattle.pv_tree_laws.specs.Tree.{Stands};
 
-#[cfg(test)]
-mod tests;
-
 use crate::entry::{Content, Entry};
 use crate::manifest::Manifest;
 use pv_model::limits::{BLOCK, ROOT};

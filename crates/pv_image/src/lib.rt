@@ -16,8 +16,6 @@ mod paths;
 mod reading;
 mod taken;
 mod taking;
-#[cfg(test)]
-mod tests;
 
 pub use building::build;
 pub use bundle::Bundle;

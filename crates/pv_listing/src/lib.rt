@@ -11,8 +11,6 @@ mod line;
 mod listing;
 mod path;
 mod remarks;
-#[cfg(test)]
-mod tests;
 
 pub use listing::{ListStop, write_lines, write_listing};
 pub use path::write_path;

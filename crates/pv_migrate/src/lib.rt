@@ -11,8 +11,6 @@ ghost use Rattle.pv_migrate.specs.Migrated.{ImagesAreJudgedFirst, MigratesImages
 mod first;
 mod migrating;
 mod room;
-#[cfg(test)]
-mod tests;
 
 pub use migrating::migrate;
 

@@ -21,8 +21,6 @@ mod places;
 mod reach;
 mod slots;
 mod targets;
-#[cfg(test)]
-mod tests;
 mod used_blocks;
 
 use crate::image::Image;

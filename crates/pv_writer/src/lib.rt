@@ -12,7 +12,5 @@ mod content;
 mod filling;
 mod image;
 mod inode;
-#[cfg(test)]
-mod tests;
 
 pub use image::{needed_blocks, to_bytes, write_as};

@@ -1,14 +1,9 @@
-use super::check;
+//! Images that are judged.
+use crate::bytes::put;
 use pv_model::{ImageFault, Version};
+use pv_mount::check;
 use std::alloc::Global;
 use std::process::Abort;
-
-// Writes bytes from a place on, if they go in.
-fn put(bytes: &mut [u8], at: usize, new: &[u8]) {
-    if at <= bytes.len() && new.len() <= bytes.len() - at {
-        bytes[at..at + new.len()].copy_from_slice(new);
-    }
-}
 
 // The smallest image: the root alone.
 fn smallest() -> [u8; 1_024] {

@@ -1,5 +1,5 @@
-use super::build;
-use crate::Manifest;
+//! Trees that manifests make.
+use pv_image::{Manifest, build};
 use pv_model::{ManifestFault, Sort};
 use pv_tree::Tree;
 use std::alloc::{AllocError, Global};

@@ -1,22 +1,10 @@
 //! Images of version 1, and what they become.
-use crate::migrate;
+use crate::bytes::{assert_bytes, put};
+use pv_migrate::migrate;
 use pv_model::{ImageFault, MigrateFault};
 use std::alloc::Global;
 use std::process::Abort;
 use std::test::Fail;
-
-// Writes bytes from a place on, if they go in.
-fn put(bytes: &mut [u8], at: usize, new: &[u8]) {
-    if at <= bytes.len() && new.len() <= bytes.len() - at {
-        bytes[at..at + new.len()].copy_from_slice(new);
-    }
-}
-
-// The bytes from a place on are these.
-fn assert_bytes(rt: &impl Abort, bytes: &[u8], at: usize, expected: &[u8]) {
-    assert!(rt; at <= bytes.len());
-    assert!(rt; bytes[at..].starts_with(expected));
-}
 
 // An image of 16 blocks and 16 inodes: `/etc` is node 2, `/etc/motd` 3, and the program `/init` 4.
 fn motd_image(alloc: Global) -> Result<Vec<u8>, Fail> {

@@ -1,32 +1,22 @@
 //! Images byte for byte.
-ghost use Rattle.std.specs.Prelude.{◌≤◌, IsTrue};
-ghost use Rattle.pv_model.specs.declared.version.Version.{Version};
-ghost use Rattle.pv_model.specs.Tree.{is_node};
-ghost use Rattle.pv_tree.specs.Changes.{new_node};
+ghost use Rattle.std.specs.Prelude.{◌≤◌};
 
-use crate::{needed_blocks, to_bytes, write_as};
-use pv_model::{Kind, Sort, Version, is_name};
+use crate::bytes::assert_bytes;
+use crate::trees::{make, small_tree, write};
+use pv_model::{Kind, Version};
 use pv_tree::{Store, Tree};
+use pv_writer::{needed_blocks, to_bytes, write_as};
 use std::alloc::{AllocError, Global};
 use std::process::Abort;
 use std::test::Fail;
 
-// A tree of the root alone, in an image of 16 inodes and so many data blocks.
-fn with_data_blocks(alloc: Global, count: u16, version: Version) -> Result<Tree, AllocError>
-    requires { count ≤ 8000 }
+// A tree of the root alone, in an image of one inode and so many blocks.
+fn tree_of_one_inode(alloc: Global, blocks: u16) -> Result<Tree, AllocError>
+    requires some { 2 ≤ blocks }
+    requires few { blocks ≤ 7000 }
 {
-    let zeros = vec![in alloc; 0; 512 * (count as usize + 3)]?;
-    Ok(Store::empty(zeros, count + 3, 16, version).into_tree())
-}
-
-fn make(rt: &impl Abort, tree: &mut Tree, directory: u16, name: &[u8], kind: Kind) -> u16
-    requires { (v : Version) → IsTrue (is_node v (new_node kind)) }
-{
-    assert!(rt; tree.is_directory(directory));
-    assert!(rt; tree.parent(directory).is_some());
-    assert!(rt; tree.find(directory, name).is_none());
-    assert!(rt; is_name(tree.sizes().version, name));
-    tree.make(directory, name, kind).expect(rt, "there is room")
+    let zeros = vec![in alloc; 0; 512 * blocks as usize]?;
+    Ok(Store::empty(zeros, blocks, 1, Version::V1).into_tree())
 }
 
 // Takes the name of a directory away.
@@ -38,26 +28,28 @@ fn unlink(rt: &impl Abort, tree: &mut Tree, directory: u16, name: &[u8]) {
     tree.unlink(directory, name);
 }
 
-fn write(rt: &impl Abort, tree: &mut Tree, node: u16, at: u32, bytes: &[u8]) {
-    assert!(rt; tree.is_used(node));
-    assert!(rt; tree.kind(node) == Sort::File);
-    tree.write_at(node, at, bytes).expect(rt, "there is room");
+// The bytes of an image of a tree of the first version, which needs so many blocks.
+fn written(rt: &impl Abort, alloc: Global, tree: &Tree, need: u32) -> Result<Vec<u8>, AllocError> {
+    assert!(rt; tree.sizes().version == Version::V1);
+    assert_eq!(rt; needed_blocks(tree, Version::V1), need);
+    to_bytes(alloc, tree)
 }
 
-// The bytes of an image of version 2 of 30 blocks and 17 inodes, of a tree of the first version.
-fn rewritten(rt: &impl Abort, alloc: Global, tree: &Tree) -> Result<Vec<u8>, AllocError> {
+// The bytes of an image of version 2 of 30 blocks and 17 inodes, of a tree of the first version, which needs so many
+// blocks in it.
+fn rewritten(
+    rt: &impl Abort,
+    alloc: Global,
+    tree: &Tree,
+    need: u32,
+) -> Result<Vec<u8>, AllocError> {
     let sizes = tree.sizes();
     assert!(rt; sizes.version == Version::V1);
     assert!(rt; sizes.inodes <= 17);
     let needed = needed_blocks(tree, Version::V2);
+    assert_eq!(rt; needed, need);
     assert!(rt; needed <= 26);
     write_as(alloc, tree, Version::V2, 30, 17)
-}
-
-// The bytes from a place on are these.
-fn assert_bytes(rt: &impl Abort, bytes: &[u8], at: usize, expected: &[u8]) {
-    assert!(rt; at <= bytes.len());
-    assert!(rt; bytes[at..].starts_with(expected));
 }
 
 // All bytes but those of these places are zero.
@@ -69,8 +61,7 @@ fn assert_zeros_but(rt: &impl Abort, bytes: &[u8], places: &[(usize, usize)]) {
 
 #[test]
 fn the_smallest_image_has_a_root(rt: HostRuntime) -> Result<(), Fail> {
-    let zeros = vec![in rt.alloc(); 0; 1_024]?;
-    let tree = Store::empty(zeros, 2, 1, Version::V1).into_tree();
+    let tree = tree_of_one_inode(rt.alloc(), 2)?;
     let bytes = to_bytes(rt.alloc(), &tree)?;
     assert_eq!(rt; bytes.len(), 1_024);
     assert_bytes(&rt, &bytes, 0, b"PVIMAGE1\x02\x00\x01\x00");
@@ -81,7 +72,7 @@ fn the_smallest_image_has_a_root(rt: HostRuntime) -> Result<(), Fail> {
 
 #[test]
 fn a_directory_and_a_file_stand_in_slots(rt: HostRuntime) -> Result<(), Fail> {
-    let mut tree = with_data_blocks(rt.alloc(), 5, Version::V1)?;
+    let mut tree = small_tree(rt.alloc(), 6)?;
     assert_eq!(rt; make(&rt, &mut tree, 1, b"d", Kind::Directory), 2);
     assert_eq!(rt; make(&rt, &mut tree, 1, b"file", Kind::File), 3);
     write(&rt, &mut tree, 3, 0, b"some bytes");
@@ -114,7 +105,7 @@ fn a_directory_and_a_file_stand_in_slots(rt: HostRuntime) -> Result<(), Fail> {
 
 #[test]
 fn a_held_node_without_a_name_is_not_written(rt: HostRuntime) -> Result<(), Fail> {
-    let mut tree = with_data_blocks(rt.alloc(), 5, Version::V1)?;
+    let mut tree = small_tree(rt.alloc(), 6)?;
     assert_eq!(rt; make(&rt, &mut tree, 1, b"d", Kind::Directory), 2);
     assert!(rt; tree.is_used(2));
     assert!(rt; tree.holds(2) == 0);
@@ -128,12 +119,10 @@ fn a_held_node_without_a_name_is_not_written(rt: HostRuntime) -> Result<(), Fail
 
 #[test]
 fn the_eleventh_block_has_its_number_in_another(rt: HostRuntime) -> Result<(), Fail> {
-    let mut tree = with_data_blocks(rt.alloc(), 20, Version::V1)?;
+    let mut tree = small_tree(rt.alloc(), 21)?;
     assert_eq!(rt; make(&rt, &mut tree, 1, b"f", Kind::File), 2);
     write(&rt, &mut tree, 2, 5_119, b"x");
-    assert!(rt; tree.sizes().version == Version::V1);
-    assert_eq!(rt; needed_blocks(&tree, Version::V1), 11);
-    let bytes = to_bytes(rt.alloc(), &tree)?;
+    let bytes = written(&rt, rt.alloc(), &tree, 11)?;
     assert_bytes(
         &rt,
         &bytes,
@@ -143,9 +132,7 @@ fn the_eleventh_block_has_its_number_in_another(rt: HostRuntime) -> Result<(), F
     assert_bytes(&rt, &bytes, 570, b"\x0c\x00\x00\x00\x00\x00");
     assert_bytes(&rt, &bytes, 512 * 13 - 1, b"x\x00");
     write(&rt, &mut tree, 2, 5_120, b"y");
-    assert!(rt; tree.sizes().version == Version::V1);
-    assert_eq!(rt; needed_blocks(&tree, Version::V1), 13);
-    let bytes = to_bytes(rt.alloc(), &tree)?;
+    let bytes = written(&rt, rt.alloc(), &tree, 13)?;
     assert_bytes(
         &rt,
         &bytes,
@@ -160,12 +147,10 @@ fn the_eleventh_block_has_its_number_in_another(rt: HostRuntime) -> Result<(), F
 
 #[test]
 fn the_second_version_has_longer_inodes_and_slots(rt: HostRuntime) -> Result<(), Fail> {
-    let mut tree = with_data_blocks(rt.alloc(), 20, Version::V1)?;
+    let mut tree = small_tree(rt.alloc(), 21)?;
     assert_eq!(rt; make(&rt, &mut tree, 1, b"f", Kind::File), 2);
     write(&rt, &mut tree, 2, 5_120, b"y");
-    assert!(rt; tree.sizes().version == Version::V1);
-    assert_eq!(rt; needed_blocks(&tree, Version::V2), 13);
-    let bytes = rewritten(&rt, rt.alloc(), &tree)?;
+    let bytes = rewritten(&rt, rt.alloc(), &tree, 13)?;
     assert_eq!(rt; bytes.len(), 512 * 30);
     assert_bytes(&rt, &bytes, 0, b"PVIMAGE2\x1e\x00\x11\x00");
     assert_bytes(

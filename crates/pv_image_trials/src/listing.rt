@@ -1,11 +1,9 @@
 //! Listings and other remarks, and sinks that take little.
-ghost use Rattle.std.specs.Prelude.{◌≤◌, [], ◌∷◌, IsTrue, None};
-ghost use Rattle.pv_model.specs.declared.version.Version.{Version};
-ghost use Rattle.pv_model.specs.Tree.{is_node};
-ghost use Rattle.pv_tree.specs.Changes.{new_node};
+ghost use Rattle.std.specs.Prelude.{◌≤◌, [], ◌∷◌, None};
 
-use crate::{ListStop, Remarks, write_lines, write_listing, write_path};
-use pv_model::{Failed, Kind, Sink, Sort, Version, is_name};
+use crate::trees::{make, small_tree, write};
+use pv_listing::{ListStop, Remarks, write_lines, write_listing, write_path};
+use pv_model::{Failed, Kind, Sink, Version, is_name};
 use pv_trace::write_whole;
 use pv_tree::{Store, Tree};
 use std::alloc::{AllocError, Global};
@@ -52,31 +50,12 @@ fn sink_of<R: AllocGlobal>(rt: &R, room: usize, width: usize) -> Narrow {
     }
 }
 
-// A tree of the root alone, in an image of 16 inodes and so many data blocks.
-fn small_tree(alloc: Global, count: u16) -> Result<Tree, AllocError>
-    requires { count ≤ 7000 }
-{
-    let zeros = vec![in alloc; 0; 512 * (count as usize + 2)]?;
-    Ok(Store::empty(zeros, count + 2, 16, Version::V1).into_tree())
-}
-
 // A tree of the root alone, in an image of 4,096 inodes and so many data blocks.
 fn great_tree(alloc: Global, count: u16) -> Result<Tree, AllocError>
     requires { count ≤ 7000 }
 {
     let zeros = vec![in alloc; 0; 512 * (count as usize + 257)]?;
     Ok(Store::empty(zeros, count + 257, 4_096, Version::V1).into_tree())
-}
-
-// Puts a new node under a name of a directory.
-fn make(rt: &impl Abort, tree: &mut Tree, directory: u16, name: &[u8], kind: Kind) -> u16
-    requires { (v : Version) → IsTrue (is_node v (new_node kind)) }
-{
-    assert!(rt; tree.is_directory(directory));
-    assert!(rt; tree.parent(directory).is_some());
-    assert!(rt; tree.find(directory, name).is_none());
-    assert!(rt; is_name(tree.sizes().version, name));
-    tree.make(directory, name, kind).expect(rt, "there is room")
 }
 
 // Puts a node that is no directory under one more name.
@@ -88,12 +67,6 @@ fn link(rt: &impl Abort, tree: &mut Tree, directory: u16, name: &[u8], node: u16
     assert!(rt; !tree.is_directory(node));
     assert!(rt; is_name(tree.sizes().version, name));
     assert!(rt; tree.link(directory, name, node).is_ok());
-}
-
-fn write(rt: &impl Abort, tree: &mut Tree, node: u16, bytes: &[u8]) {
-    assert!(rt; tree.is_used(node));
-    assert!(rt; tree.kind(node) == Sort::File);
-    assert!(rt; tree.write_at(node, 0, bytes).is_ok());
 }
 
 // A chain of so many directories below the root, each with this name.
@@ -112,19 +85,50 @@ fn make_some(rt: &impl Abort, tree: &mut Tree) {
     assert!(rt; make(rt, tree, 1, b"l", Kind::Symlink(b"d/f")) == 5);
     assert!(rt; make(rt, tree, 2, b"e", Kind::Directory) == 6);
     assert!(rt; make(rt, tree, 6, b"g", Kind::File) == 7);
-    write(rt, tree, 3, b"bytes");
+    write(rt, tree, 3, 0, b"bytes");
     link(rt, tree, 1, b"d.", 3);
 }
 
 const SOME: &[u8] =
     b"d 1 4 \"/\"\nd 2 2 \"/d\"\nd 6 1 \"/d/e\"\nf 7 0 \"/d/e/g\"\nf 3 5 \"/d/f\"\nf 3 5 \"/d.\"\nl 5 3 \"/l\"\nx 4 0 \"/x\"\n";
 
+// The listing of a tree is this, written at most so many bytes at a time.
+fn assert_listing(rt: &(impl Abort + AllocGlobal), tree: &Tree, width: usize, wanted: &[u8]) {
+    let mut out = sink_of(rt, 1_000, width);
+    assert_eq!(rt; write_listing(rt.alloc(), tree, &mut out), Ok(()));
+    assert!(rt; out.bytes.as_slice() == wanted);
+}
+
+// The listing of a tree, all of it.
+fn listing_of(rt: &(impl Abort + AllocGlobal), tree: &Tree) -> Vec<u8> {
+    let mut out = sink_of(rt, 100_000_000, 100_000_000);
+    assert_eq!(rt; write_listing(rt.alloc(), tree, &mut out), Ok(()));
+    let Narrow { bytes, .. } = out;
+    bytes
+}
+
+// A sink of less room than a listing wants has just the beginning of it, and failed once.
+fn assert_beginning(
+    rt: &(impl Abort + AllocGlobal),
+    tree: &Tree,
+    room: usize,
+    width: usize,
+    listing: &[u8],
+) {
+    let mut out = sink_of(rt, room, width);
+    assert_eq!(rt;
+        write_listing(rt.alloc(), tree, &mut out),
+        Err(ListStop::Write)
+    );
+    assert!(rt; listing.starts_with(out.bytes.as_slice()));
+    assert!(rt; out.bytes.len() == room);
+    assert!(rt; out.failures == 1);
+}
+
 #[test]
 fn the_root_alone_has_one_line(rt: HostRuntime) -> Result<(), Fail> {
     let tree = small_tree(rt.alloc(), 30)?;
-    let mut out = sink_of(&rt, 1_000, 1_000);
-    assert_eq!(rt; write_listing(rt.alloc(), &tree, &mut out), Ok(()));
-    assert!(rt; out.bytes.as_slice() == b"d 1 0 \"/\"\n".as_slice());
+    assert_listing(&rt, &tree, 1_000, b"d 1 0 \"/\"\n");
     Ok(())
 }
 
@@ -133,9 +137,7 @@ fn a_directory_is_followed_by_all_that_is_in_it(rt: HostRuntime) -> Result<(), F
     let mut tree = small_tree(rt.alloc(), 30)?;
     make_some(&rt, &mut tree);
     for width in [1, 7, 1_000] {
-        let mut out = sink_of(&rt, 1_000, width);
-        assert_eq!(rt; write_listing(rt.alloc(), &tree, &mut out), Ok(()));
-        assert!(rt; out.bytes.as_slice() == SOME);
+        assert_listing(&rt, &tree, width, SOME);
     }
     Ok(())
 }
@@ -144,10 +146,8 @@ fn a_directory_is_followed_by_all_that_is_in_it(rt: HostRuntime) -> Result<(), F
 fn names_are_quoted(rt: HostRuntime) -> Result<(), Fail> {
     let mut tree = small_tree(rt.alloc(), 30)?;
     make(&rt, &mut tree, 1, b"\"\\ ~\x01\x7f\xff", Kind::File);
-    let mut out = sink_of(&rt, 1_000, 1_000);
-    assert_eq!(rt; write_listing(rt.alloc(), &tree, &mut out), Ok(()));
     let wanted = b"d 1 1 \"/\"\nf 2 0 \"/\\x22\\x5c ~\\x01\\x7f\\xff\"\n";
-    assert!(rt; out.bytes.as_slice() == wanted.as_slice());
+    assert_listing(&rt, &tree, 1_000, wanted);
     Ok(())
 }
 
@@ -157,13 +157,7 @@ fn a_full_sink_has_a_beginning_of_the_listing(rt: HostRuntime) -> Result<(), Fai
     make_some(&rt, &mut tree);
     for room in 0..SOME.len() {
         for width in [1, 7, 1_000] {
-            let mut out = sink_of(&rt, room, width);
-            assert_eq!(rt;
-                write_listing(rt.alloc(), &tree, &mut out),
-                Err(ListStop::Write)
-            );
-            assert!(rt; out.bytes.as_slice() == &SOME[..room]);
-            assert!(rt; out.failures == 1);
+            assert_beginning(&rt, &tree, room, width, SOME);
         }
     }
     Ok(())
@@ -180,19 +174,25 @@ impl Remarks for Dots {
     }
 }
 
+// A sink of so much room is told this of the names, with this answer.
+fn assert_dots(
+    rt: &(impl Abort + AllocGlobal),
+    tree: &Tree,
+    room: usize,
+    answer: Result<(), ListStop>,
+    wanted: &[u8],
+) {
+    let mut out = sink_of(rt, room, 1_000);
+    assert_eq!(rt; write_lines(rt.alloc(), tree, &Dots, &mut out), answer);
+    assert!(rt; out.bytes.as_slice() == wanted);
+}
+
 #[test]
 fn each_name_is_told_as_the_remarks_say(rt: HostRuntime) -> Result<(), Fail> {
     let mut tree = small_tree(rt.alloc(), 30)?;
     make_some(&rt, &mut tree);
-    let mut out = sink_of(&rt, 1_000, 1_000);
-    assert_eq!(rt; write_lines(rt.alloc(), &tree, &Dots, &mut out), Ok(()));
-    assert!(rt; out.bytes.as_slice() == b"........".as_slice());
-    let mut full = sink_of(&rt, 3, 1_000);
-    assert_eq!(rt;
-        write_lines(rt.alloc(), &tree, &Dots, &mut full),
-        Err(ListStop::Write)
-    );
-    assert!(rt; full.bytes.as_slice() == b"...".as_slice());
+    assert_dots(&rt, &tree, 1_000, Ok(()), b"........");
+    assert_dots(&rt, &tree, 3, Err(ListStop::Write), b"...");
     Ok(())
 }
 
@@ -222,46 +222,61 @@ fn a_path_of_any_length_is_quoted(rt: HostRuntime) -> Result<(), Fail> {
     Ok(())
 }
 
+// A chain of 20 directories, whose names have 60 bytes of which each is written as four.
+fn long_chain(rt: &(impl Abort + AllocGlobal)) -> Result<Tree, AllocError> {
+    let mut tree = great_tree(rt.alloc(), 1_100)?;
+    make_chain(rt, &mut tree, 20, &[255; 60]);
+    Ok(tree)
+}
+
 #[test]
 fn a_path_may_be_longer_than_one_that_is_walked(rt: HostRuntime) -> Result<(), Fail> {
-    let mut tree = great_tree(rt.alloc(), 1_100)?;
-    make_chain(&rt, &mut tree, 20, &[255; 60]);
+    let tree = long_chain(&rt)?;
     let mut piece = Vec::from_slice(rt.alloc(), b"/")?;
     for _byte in 0..60 {
         piece.extend_from_slice(b"\\xff")?;
     }
     let path = chain_path(rt.alloc(), 20, piece.as_slice())?;
-    let mut whole = sink_of(&rt, 1_000_000, 1_000_000);
-    assert_eq!(rt; write_listing(rt.alloc(), &tree, &mut whole), Ok(()));
-    assert!(rt; whole.bytes.ends_with(path.as_slice()));
+    let whole = listing_of(&rt, &tree);
+    assert!(rt; whole.ends_with(path.as_slice()));
     assert!(rt; path.len() == 4_823);
-    for room in [0, 4_095, 4_096, 4_097, 20_000] {
-        let mut out = sink_of(&rt, room, 1_000_000);
-        assert_eq!(rt;
-            write_listing(rt.alloc(), &tree, &mut out),
-            Err(ListStop::Write)
-        );
-        assert!(rt; whole.bytes.starts_with(out.bytes.as_slice()));
-        assert!(rt; out.bytes.len() == room);
-    }
     Ok(())
 }
 
 #[test]
+fn a_full_sink_may_end_within_a_long_path(rt: HostRuntime) -> Result<(), Fail> {
+    let tree = long_chain(&rt)?;
+    let whole = listing_of(&rt, &tree);
+    for room in [0, 4_095, 4_096, 4_097, 20_000] {
+        assert_beginning(&rt, &tree, room, 1_000_000, whole.as_slice());
+    }
+    Ok(())
+}
+
+// What a sink has where memory may have been refused is a beginning of the whole listing, and all of it with `Ok`.
+fn assert_want_of_memory(
+    rt: &impl Abort,
+    listed: Result<(), ListStop>,
+    first: &Narrow,
+    whole: &Narrow,
+) {
+    assert!(rt; listed != Err(ListStop::Write));
+    assert!(rt; first.failures == 0);
+    assert!(rt; whole.bytes.starts_with(first.bytes.as_slice()));
+    assert!(rt; listed.is_err() == (first.bytes.len() < whole.bytes.len()));
+}
+
+#[test]
 fn want_of_memory_leaves_a_beginning(rt: HostRuntime) -> Result<(), Fail> {
-    let mut tree = great_tree(rt.alloc(), 1_100)?;
-    make_chain(&rt, &mut tree, 20, &[255; 60]);
+    let tree = long_chain(&rt)?;
     let mut first = sink_of(&rt, 1_000_000, 1_000_000);
     let mut whole = sink_of(&rt, 1_000_000, 1_000_000);
     first.bytes.reserve(100_000)?;
     whole.bytes.reserve(100_000)?;
     // An allocation that is refused from here on, if any, is one for the first path.
     let listed = write_listing(rt.alloc(), &tree, &mut first);
-    assert!(rt; listed != Err(ListStop::Write));
-    assert!(rt; first.failures == 0);
     assert_eq!(rt; write_listing(rt.alloc(), &tree, &mut whole), Ok(()));
-    assert!(rt; whole.bytes.starts_with(first.bytes.as_slice()));
-    assert!(rt; listed.is_err() == (first.bytes.len() < whole.bytes.len()));
+    assert_want_of_memory(&rt, listed, &first, &whole);
     Ok(())
 }
 
@@ -270,13 +285,9 @@ fn a_deep_tree_is_listed(rt: HostRuntime) -> Result<(), Fail> {
     let mut tree = great_tree(rt.alloc(), 1_100)?;
     make_chain(&rt, &mut tree, 1_000, b"d");
     let path = chain_path(rt.alloc(), 1_000, b"/d")?;
-    let mut out = sink_of(&rt, 100_000_000, 100_000_000);
-    assert_eq!(rt; write_listing(rt.alloc(), &tree, &mut out), Ok(()));
-    assert!(rt;
-        out.bytes
-            .starts_with(b"d 1 1 \"/\"\nd 2 1 \"/d\"\nd 3 1 \"/d/d\"\n")
-    );
-    assert!(rt; out.bytes.ends_with(path.as_slice()));
-    assert!(rt; out.bytes.iter().filter(|byte| **byte == b'\n').count() == 1_001);
+    let whole = listing_of(&rt, &tree);
+    assert!(rt; whole.starts_with(b"d 1 1 \"/\"\nd 2 1 \"/d\"\nd 3 1 \"/d/d\"\n"));
+    assert!(rt; whole.ends_with(path.as_slice()));
+    assert!(rt; whole.iter().filter(|byte| **byte == b'\n').count() == 1_001);
     Ok(())
 }
