@@ -12,8 +12,6 @@ mod place;
 pub mod processes;
 pub mod record;
 mod shared;
-#[cfg(test)]
-mod tests;
 
 pub use processes::{Processes, Reap};
 pub use record::Record;

@@ -9,8 +9,6 @@ mod missing;
 mod order;
 pub mod pledge;
 pub mod read;
-#[cfg(test)]
-mod tests;
 
 pub use pledge::{Decision, Pledge};
 pub use read::read_promises;

@@ -4,17 +4,15 @@ use pv_model::{
     Whence,
 };
 use pv_script::{Machine, Next, Program, Schedule};
-use std::alloc::{AllocError, Global};
 use std::process::Abort;
-use std::test::Fail;
 
 // The same bytes over and over.
-fn repeated(alloc: Global, bytes: &[u8], count: u32) -> Result<Vec<u8>, AllocError> {
-    let mut all = Vec::new(alloc);
+fn repeated<R: Abort + AllocGlobal>(rt: &R, bytes: &[u8], count: u32) -> Vec<u8> {
+    let mut all = Vec::new(rt.alloc());
     for _ in 0..count {
-        all.extend_from_slice(bytes)?;
+        assert!(rt; all.extend_from_slice(bytes).is_ok());
     }
-    Ok(all)
+    all
 }
 
 // The program of these bytes.
@@ -68,66 +66,60 @@ fn lines_that_are_no_instructions(rt: HostRuntime) {
 }
 
 #[test]
-fn more_lines_than_a_program_has(rt: HostRuntime) -> Result<(), Fail> {
-    let full = repeated(rt.alloc(), b"wait\n", 256)?;
-    expect_length(&rt, &full, 256);
-    let many = repeated(rt.alloc(), b"wait\n", 257)?;
+fn more_lines_than_a_program_has(rt: HostRuntime) {
+    expect_length(&rt, &repeated(&rt, b"wait\n", 256), 256);
+    let many = repeated(&rt, b"wait\n", 257);
     expect_fault(&rt, &many, 257, What::TooMany);
-    Ok(())
 }
 
 // A jump leads to one of the first 256 lines, also where there are more.
 #[test]
-fn jumps_past_the_last_line_that_a_program_has(rt: HostRuntime) -> Result<(), Fail> {
-    let alloc = rt.alloc();
-    let mut jump = repeated(alloc, b"wait\n", 8)?;
-    jump.extend_from_slice(b"jmp 257\n")?;
-    jump.extend_from_slice(repeated(alloc, b"wait\n", 248)?.as_slice())?;
+fn jumps_past_the_last_line_that_a_program_has(rt: HostRuntime) {
+    let mut jump = repeated(&rt, b"wait\n", 8);
+    assert!(rt; jump.extend_from_slice(b"jmp 257\n").is_ok());
+    let behind = repeated(&rt, b"wait\n", 248);
+    assert!(rt; jump.extend_from_slice(&behind).is_ok());
     expect_fault(&rt, &jump, 9, What::Target);
-    Ok(())
 }
 
 #[test]
-fn a_jump_to_the_last_line_that_a_program_has(rt: HostRuntime) -> Result<(), Fail> {
-    let mut last = repeated(rt.alloc(), b"wait\n", 255)?;
-    last.extend_from_slice(b"jmp 256")?;
+fn a_jump_to_the_last_line_that_a_program_has(rt: HostRuntime) {
+    let mut last = repeated(&rt, b"wait\n", 255);
+    assert!(rt; last.extend_from_slice(b"jmp 256").is_ok());
     expect_length(&rt, &last, 256);
-    Ok(())
 }
 
 const REGISTERS: &[u8] =
     b"set r0 -2147483648\nadd r7 2147483647\nput \"a\\xff \\x22\"\npeek r3 4095\njmp 8\njz r1 1\njnz r2 2\njneg r4 3";
 
 #[test]
-fn instructions_on_registers(rt: HostRuntime) -> Result<(), Fail> {
+fn instructions_on_registers(rt: HostRuntime) {
     let program = read(&rt, REGISTERS);
     assert_eq!(rt; program.len(), 8);
     assert!(rt; !program.is_empty());
     match program.at(1) {
         Some(Instruction::Set(register, -2_147_483_648)) => assert_eq!(rt; register.number(), 0),
-        _ => return Err("set".into()),
+        _ => panic!(rt; "no set"),
     }
     match program.at(2) {
         Some(Instruction::Add(register, 2_147_483_647)) => assert_eq!(rt; register.number(), 7),
-        _ => return Err("add".into()),
+        _ => panic!(rt; "no add"),
     }
-    Ok(())
 }
 
 #[test]
-fn instructions_on_the_buffer(rt: HostRuntime) -> Result<(), Fail> {
+fn instructions_on_the_buffer(rt: HostRuntime) {
     let program = read(&rt, REGISTERS);
     match program.at(3) {
         Some(Instruction::Put(text)) => {
             assert_eq!(rt; text.as_slice(), b"a\xff \"".as_slice());
         }
-        _ => return Err("put".into()),
+        _ => panic!(rt; "no put"),
     }
     match program.at(4) {
         Some(Instruction::Peek(register, 4_095)) => assert_eq!(rt; register.number(), 3),
-        _ => return Err("peek".into()),
+        _ => panic!(rt; "no peek"),
     }
-    Ok(())
 }
 
 #[test]
@@ -154,39 +146,37 @@ fn calls_on_processes(rt: HostRuntime) {
 }
 
 #[test]
-fn ends_of_programs(rt: HostRuntime) -> Result<(), Fail> {
+fn ends_of_programs(rt: HostRuntime) {
     let program = read(&rt, PROCESSES);
     match program.at(5) {
         Some(Instruction::Exit(Operand::Register(register))) => {
             assert_eq!(rt; register.number(), 7);
         }
-        _ => return Err("exit".into()),
+        _ => panic!(rt; "no exit"),
     }
     match program.at(8) {
         Some(Instruction::Execve(path)) => {
             assert_eq!(rt; path.as_slice(), b"/bin".as_slice());
         }
-        _ => return Err("execve".into()),
+        _ => panic!(rt; "no execve"),
     }
-    Ok(())
 }
 
 #[test]
-fn calls_that_restrain(rt: HostRuntime) -> Result<(), Fail> {
+fn calls_that_restrain(rt: HostRuntime) {
     let program = read(&rt, PROCESSES);
     match program.at(6) {
         Some(Instruction::Pledge(Some(promises), None)) => {
             assert_eq!(rt; promises.as_slice(), b"stdio".as_slice());
         }
-        _ => return Err("pledge".into()),
+        _ => panic!(rt; "no pledge"),
     }
     match program.at(7) {
         Some(Instruction::Unveil(None, Some(letters))) => {
             assert_eq!(rt; letters.as_slice(), b"r".as_slice());
         }
-        _ => return Err("unveil".into()),
+        _ => panic!(rt; "no unveil"),
     }
-    Ok(())
 }
 
 const DESCRIPTORS: &[u8] =
@@ -316,7 +306,7 @@ const STARTS: &[u8] =
     b"openat cwd \"a\" r\nopenat 3 \"b\" w+create\nset r2 -7\nopenat r2 \"c\" rw\n";
 
 #[test]
-fn starts_of_an_openat(rt: HostRuntime) -> Result<(), Fail> {
+fn starts_of_an_openat(rt: HostRuntime) {
     let program = read(&rt, STARTS);
     assert_eq!(rt; program.len(), 4);
     match program.at(1) {
@@ -324,23 +314,22 @@ fn starts_of_an_openat(rt: HostRuntime) -> Result<(), Fail> {
             assert_eq!(rt; path.as_slice(), b"a".as_slice());
             assert_eq!(rt; flags.mode, Mode::Read);
         }
-        _ => return Err("from the working directory".into()),
+        _ => panic!(rt; "not from the working directory"),
     }
     match program.at(2) {
         Some(Instruction::OpenAt(Origin::Descriptor(Operand::Number(3)), path, flags)) => {
             assert_eq!(rt; path.as_slice(), b"b".as_slice());
             assert!(rt; flags.create);
         }
-        _ => return Err("from a descriptor".into()),
+        _ => panic!(rt; "not from a descriptor"),
     }
     assert_eq!(rt; program.into_lines().len(), 4);
-    Ok(())
 }
 
 #[test]
-fn starts_that_a_machine_gives(rt: HostRuntime) -> Result<(), Fail> {
+fn starts_that_a_machine_gives(rt: HostRuntime) {
     let program = read(&rt, STARTS);
-    let mut machine = Machine::new(rt.alloc())?;
+    let mut machine = Machine::new(rt.alloc()).expect(&rt, "memory");
     assert!(rt;
         matches!(
             machine.next(&program),
@@ -355,7 +344,6 @@ fn starts_that_a_machine_gives(rt: HostRuntime) -> Result<(), Fail> {
             Some(Call::OpenAt(Start::Descriptor(-7), _, _))
         )
     );
-    Ok(())
 }
 
 const PATHS: &[u8] =
@@ -380,7 +368,7 @@ fn calls_that_change_names(rt: HostRuntime) {
 }
 
 #[test]
-fn calls_on_two_paths(rt: HostRuntime) -> Result<(), Fail> {
+fn calls_on_two_paths(rt: HostRuntime) {
     let program = read(&rt, PATHS);
     assert!(rt; matches!(program.at(8), Some(Instruction::Rename(_, _))));
     assert!(rt; matches!(program.at(9), Some(Instruction::Link(_, _))));
@@ -389,9 +377,8 @@ fn calls_on_two_paths(rt: HostRuntime) -> Result<(), Fail> {
             assert_eq!(rt; text.as_slice(), b"k".as_slice());
             assert_eq!(rt; path.as_slice(), b"l".as_slice());
         }
-        _ => return Err("symlink".into()),
+        _ => panic!(rt; "no symlink"),
     }
-    Ok(())
 }
 
 // Makes the instructions on registers that come next, at most a hundred, up to a call.
@@ -454,12 +441,12 @@ fn jumps_of_a_machine(rt: HostRuntime) {
 const ANSWERED: &[u8] = b"getpid\nread r0 r1\nexit 0";
 
 // A machine at the second line of the program, told -1 with error 9 and given some bytes.
-fn told(alloc: Global, program: &Program) -> Result<Machine, AllocError> {
-    let mut machine = Machine::new(alloc)?;
+fn told<R: Abort + AllocGlobal>(rt: &R, program: &Program) -> Machine {
+    let mut machine = Machine::new(rt.alloc()).expect(rt, "memory");
     machine.advance(program);
     machine.tell(-1, 9);
     machine.put_front(b"hello");
-    Ok(machine)
+    machine
 }
 
 // The machine makes this read next, and its buffer begins with these bytes.
@@ -478,54 +465,60 @@ fn expect_read<R: Abort>(
 }
 
 #[test]
-fn answers_that_a_machine_is_told(rt: HostRuntime) -> Result<(), Fail> {
+fn answers_that_a_machine_is_told(rt: HostRuntime) {
     let program = read(&rt, ANSWERED);
-    let machine = Machine::new(rt.alloc())?;
+    let machine = Machine::new(rt.alloc()).expect(&rt, "memory");
     assert!(rt; matches!(machine.next(&program), Next::Call(Call::GetPid)));
-    let machine = told(rt.alloc(), &program)?;
+    let machine = told(&rt, &program);
     expect_read(&rt, &machine, &program, (-1, 9), b"hello\0");
     let mut call = Call::Wait;
     assert!(rt; !machine.is_register_next(&program));
     machine.put_next_call(&program, &mut call);
     assert!(rt; matches!(call, Call::Read(-1, 9)));
-    Ok(())
 }
 
 #[test]
-fn a_copy_of_a_machine(rt: HostRuntime) -> Result<(), Fail> {
+fn a_copy_of_a_machine(rt: HostRuntime) {
     let program = read(&rt, ANSWERED);
-    let machine = told(rt.alloc(), &program)?;
-    let mut child = Machine::new(rt.alloc())?;
+    let machine = told(&rt, &program);
+    let mut child = Machine::new(rt.alloc()).expect(&rt, "memory");
     child.copy_from(&machine);
     child.tell(0, 0);
     expect_read(&rt, &child, &program, (0, 0), b"hello\0");
     expect_read(&rt, &machine, &program, (-1, 9), b"hello\0");
-    Ok(())
 }
 
 #[test]
-fn a_machine_that_begins_again(rt: HostRuntime) -> Result<(), Fail> {
+fn a_machine_that_begins_again(rt: HostRuntime) {
     let program = read(&rt, ANSWERED);
-    let mut machine = told(rt.alloc(), &program)?;
+    let mut machine = told(&rt, &program);
     machine.reset();
     assert!(rt; matches!(machine.next(&program), Next::Call(Call::GetPid)));
     assert!(rt; machine.buffer().starts_with(b"\0\0\0\0\0"));
-    Ok(())
 }
 
 // Past the last line stands an exit, and nothing behind it.
 #[test]
-fn a_machine_past_the_last_line(rt: HostRuntime) -> Result<(), Fail> {
+fn a_machine_past_the_last_line(rt: HostRuntime) {
     let program = read(&rt, ANSWERED);
     let short = Program::empty(rt.alloc());
     assert!(rt; short.is_empty());
-    let mut machine = told(rt.alloc(), &program)?;
+    let mut machine = told(&rt, &program);
     machine.reset();
     machine.advance(&short);
     machine.advance(&short);
     assert!(rt; matches!(machine.next(&short), Next::Call(Call::Exit(0))));
     assert!(rt; matches!(machine.next(&program), Next::Call(Call::GetPid)));
-    Ok(())
+}
+
+// The schedule of these bytes.
+fn schedule<R: Abort + AllocGlobal>(rt: &R, bytes: &[u8]) -> Schedule {
+    Schedule::parse(rt.alloc(), bytes).expect(rt, "a schedule")
+}
+
+// Bytes are a schedule of these turns.
+fn expect_turns<R: Abort + AllocGlobal>(rt: &R, bytes: &[u8], turns: &[(u32, u32)]) {
+    assert_eq!(rt; schedule(rt, bytes).turns(), turns);
 }
 
 // Bytes are refused as a schedule, for this line.
@@ -535,26 +528,20 @@ fn expect_turn_fault<R: Abort + AllocGlobal>(rt: &R, bytes: &[u8], line: u32) {
 }
 
 #[test]
-fn turns_of_a_schedule(rt: HostRuntime) -> Result<(), Fail> {
-    let alloc = rt.alloc();
-    assert_eq!(rt;
-        Schedule::parse(alloc, b"1\n99999 99999")?.turns(),
-        [(1, 1), (99_999, 99_999)].as_slice()
-    );
-    let schedule = Schedule::parse(alloc, b"1 2\n3\n")?;
+fn turns_of_a_schedule(rt: HostRuntime) {
+    expect_turns(&rt, b"1\n99999 99999", &[(1, 1), (99_999, 99_999)]);
+    let schedule = schedule(&rt, b"1 2\n3\n");
     assert_eq!(rt; schedule.len(), 2);
     if schedule.len() > 1 {
         assert_eq!(rt; schedule.at(0), (1, 2));
         assert_eq!(rt; schedule.at(1), (3, 1));
     }
-    Ok(())
 }
 
 #[test]
-fn schedules_of_no_lines(rt: HostRuntime) -> Result<(), Fail> {
-    assert!(rt; !Schedule::parse(rt.alloc(), b"1 2\n3\n")?.is_empty());
-    assert!(rt; Schedule::parse(rt.alloc(), b"")?.is_empty());
-    Ok(())
+fn schedules_of_no_lines(rt: HostRuntime) {
+    assert!(rt; !schedule(&rt, b"1 2\n3\n").is_empty());
+    assert!(rt; schedule(&rt, b"").is_empty());
 }
 
 #[test]
@@ -569,11 +556,9 @@ fn lines_that_are_no_turns(rt: HostRuntime) {
 }
 
 #[test]
-fn more_lines_than_a_schedule_has(rt: HostRuntime) -> Result<(), Fail> {
-    let alloc = rt.alloc();
-    let full = repeated(alloc, b"1\n", 65_536)?;
-    assert_eq!(rt; Schedule::parse(alloc, full.as_slice())?.len(), 65_536);
-    let many = repeated(alloc, b"1\n", 65_537)?;
-    expect_turn_fault(&rt, many.as_slice(), 65_537);
-    Ok(())
+fn more_lines_than_a_schedule_has(rt: HostRuntime) {
+    let full = repeated(&rt, b"1\n", 65_536);
+    assert_eq!(rt; schedule(&rt, &full).len(), 65_536);
+    let many = repeated(&rt, b"1\n", 65_537);
+    expect_turn_fault(&rt, &many, 65_537);
 }

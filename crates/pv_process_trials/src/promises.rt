@@ -1,9 +1,24 @@
 //! Texts of promises, and what becomes of them.
 
-use crate::{Pledge, read_promises};
 use bitflags::Flags;
 use pv_model::{Errno, Promise, Promises};
-use std::test::Fail;
+use pv_promises::{Pledge, read_promises};
+use std::process::Abort;
+
+// The promises that a text names.
+fn read<R: Abort>(rt: &R, text: &str) -> Promises {
+    read_promises(text.as_bytes()).expect(rt, "promises")
+}
+
+// A narrowing is taken.
+fn narrow<R: Abort>(
+    rt: &R,
+    pledge: &mut Pledge,
+    promises: Option<Promises>,
+    execpromises: Option<Promises>,
+) {
+    assert_eq!(rt; pledge.narrow(promises, execpromises), Ok(()));
+}
 
 #[test]
 fn reads_keywords(rt: HostRuntime) {
@@ -66,44 +81,41 @@ fn reads_each_keyword(rt: HostRuntime) {
 }
 
 #[test]
-fn narrows_under_error(rt: HostRuntime) -> Result<(), Fail> {
+fn narrows_under_error(rt: HostRuntime) {
     let mut pledge = Pledge::new();
-    let first = read_promises("stdio error".as_bytes())?;
-    assert_eq!(rt; pledge.narrow(Some(first), None), Ok(()));
-    let second = read_promises("stdio rpath".as_bytes())?;
-    assert_eq!(rt; pledge.narrow(Some(second), Some(second)), Ok(()));
+    let first = read(&rt, "stdio error");
+    narrow(&rt, &mut pledge, Some(first), None);
+    let second = read(&rt, "stdio rpath");
+    narrow(&rt, &mut pledge, Some(second), Some(second));
     assert_eq!(rt; pledge.promises(), Some(Promises::STDIO));
     assert_eq!(rt; pledge.execpromises(), Some(second));
-    Ok(())
 }
 
 #[test]
-fn refuses_an_increase(rt: HostRuntime) -> Result<(), Fail> {
+fn refuses_an_increase(rt: HostRuntime) {
     let mut pledge = Pledge::new();
-    let held = read_promises("stdio".as_bytes())?;
-    assert_eq!(rt; pledge.narrow(Some(held), Some(held)), Ok(()));
-    let asked = read_promises("stdio wpath rpath".as_bytes())?;
+    let held = read(&rt, "stdio");
+    narrow(&rt, &mut pledge, Some(held), Some(held));
+    let asked = read(&rt, "stdio wpath rpath");
     assert_eq!(rt; pledge.narrow(Some(asked), None), Err(Promise::Rpath));
     assert_eq!(rt; pledge.narrow(None, Some(asked)), Err(Promise::Rpath));
     assert_eq!(rt; pledge.promises(), Some(held));
-    Ok(())
 }
 
 #[test]
-fn changes_by_execve(rt: HostRuntime) -> Result<(), Fail> {
+fn changes_by_execve(rt: HostRuntime) {
     let mut pledge = Pledge::new();
-    let promises = read_promises("stdio exec".as_bytes())?;
-    let execpromises = read_promises("stdio rpath".as_bytes())?;
-    assert_eq!(rt; pledge.narrow(Some(promises), None), Ok(()));
+    let promises = read(&rt, "stdio exec");
+    let execpromises = read(&rt, "stdio rpath");
+    narrow(&rt, &mut pledge, Some(promises), None);
     let mut without = pledge;
     without.after_exec();
     assert_eq!(rt; without.promises(), None);
     assert_eq!(rt; without.execpromises(), None);
-    assert_eq!(rt; pledge.narrow(None, Some(execpromises)), Ok(()));
+    narrow(&rt, &mut pledge, None, Some(execpromises));
     for _execve in 0..2 {
         pledge.after_exec();
         assert_eq!(rt; pledge.promises(), Some(execpromises));
         assert_eq!(rt; pledge.execpromises(), Some(execpromises));
     }
-    Ok(())
 }

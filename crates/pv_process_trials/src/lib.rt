@@ -1,0 +1,9 @@
+//! Processes and their promises tried: families, what fork copies and execve leaves, and texts of promises.
+//!
+//! It has tests alone, a module for each crate that they try.
+#![tactic(auto)]
+
+#[cfg(test)]
+mod procs;
+#[cfg(test)]
+mod promises;
