@@ -5,7 +5,5 @@
 #![tactic(auto)]
 
 mod cached;
-#[cfg(test)]
-mod tests;
 
 pub use cached::CachedLookup;

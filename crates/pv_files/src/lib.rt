@@ -11,8 +11,6 @@ pub mod descriptors;
 pub mod open_files;
 mod opened;
 mod places;
-#[cfg(test)]
-mod tests;
 
 pub use descriptors::Descriptors;
 pub use open_files::OpenFiles;

@@ -16,8 +16,6 @@ mod joined;
 mod lookup;
 mod piece;
 mod stop;
-#[cfg(test)]
-mod tests;
 mod walk;
 
 pub use lookup::{Lookup, PlainLookup};

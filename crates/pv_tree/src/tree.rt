@@ -19,8 +19,6 @@ mod holding;
 mod image;
 mod making;
 mod names;
-#[cfg(test)]
-mod tests;
 
 use pv_dirs::Directories;
 use pv_model::limits::{INODES, ROOT};

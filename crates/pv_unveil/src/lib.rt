@@ -11,8 +11,6 @@ mod entries;
 pub mod law;
 mod rights;
 pub mod table;
-#[cfg(test)]
-mod tests;
 
 pub use rights::above;
 pub use table::{AddFault, Table};

@@ -1,6 +1,6 @@
 use Rattle.pv_model.specs.Tree.{find_entry}
 use Rattle.pv_cache.specs.Cached.{FitsMap}
-use Rattle.pv_cache.proofs.tests.look_for_absent.Given as goal
+use Rattle.pv_tree_trials.proofs.cache.look_for_absent.Given as goal
 
 -- what is kept is the tree's
 abbrev pub invariant-loop-number : goal.invariant-loop-number

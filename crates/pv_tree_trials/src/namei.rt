@@ -1,13 +1,12 @@
 //! Walks in small trees.
-ghost use Rattle.std.specs.Prelude.{◌≡◌, ◌≤◌, ◌==◌, not, nat_lt, length, vec_len, IsTrue, IfOk, None};
+ghost use Rattle.std.specs.Prelude.{◌≡◌, ◌==◌, not, nat_lt, length, vec_len, IsTrue, IfOk};
 ghost use Rattle.std.specs.List.{list_all};
-ghost use Rattle.pv_model.specs.Tree.{greatest_name, is_name, is_name_byte, is_link_text, find_entry};
-ghost use Rattle.pv_tree_laws.specs.Tree.{Stands};
+ghost use Rattle.pv_model.specs.Tree.{is_link_text};
 
-use crate::ahead::{is_dot, is_dot_dot};
-use crate::{Lookup, PlainLookup, resolve};
-use pv_model::{Errno, Follow, Kind, Place, Version, is_name};
-use pv_tree::{Store, Tree};
+use crate::trees::{expect_new, hold, make_file, remove_directory, with_64_inodes};
+use pv_model::{Errno, Follow, Kind, Place};
+use pv_namei::{Lookup, PlainLookup, resolve};
+use pv_tree::Tree;
 use std::alloc::{AllocError, Global};
 use std::process::Abort;
 use std::test::Fail;
@@ -49,15 +48,6 @@ fn is_link_text(text: &[u8]) -> bool
     has_text_bytes(text)
 }
 
-// A tree with the root alone, in an image of so many blocks.
-fn empty_tree(alloc: Global, blocks: u16) -> Result<Tree, AllocError>
-    requires some { 8 ≤ blocks }
-    requires few { blocks ≤ 100 }
-{
-    let zeros = vec![in alloc; 0; 512 * blocks as usize]?;
-    Ok(Store::empty(zeros, blocks, 64, Version::V1).into_tree())
-}
-
 // So many equal bytes.
 fn repeated(alloc: Global, byte: u8, length: usize) -> Result<Vec<u8>, AllocError>
     ensures { IfOk result (λ bytes. vec_len bytes ≡ length) }
@@ -65,29 +55,9 @@ fn repeated(alloc: Global, byte: u8, length: usize) -> Result<Vec<u8>, AllocErro
     vec![in alloc; byte; length]
 }
 
-// A name that a directory has not.
-fn expect_new(rt: &impl Abort, tree: &Tree, directory: u16, name: &[u8])
-    ensures directory { Stands tree.now.tree directory }
-    ensures name { IsTrue (is_name tree.now.tree.version name.now) }
-    ensures absent { find_entry tree.now.tree directory name.now ≡ None }
-{
-    assert!(rt; tree.is_directory(directory));
-    assert!(rt; tree.parent(directory).is_some());
-    assert!(rt; is_name(tree.sizes().version, name));
-    assert!(rt; tree.find(directory, name).is_none());
-}
-
 fn make_directory(rt: &impl Abort, tree: &mut Tree, directory: u16, name: &[u8]) -> u16 {
     expect_new(rt, tree, directory, name);
     match tree.make(directory, name, Kind::Directory) {
-        Ok(node) => node,
-        Err(_) => panic!(rt; "the image has no room"),
-    }
-}
-
-fn make_file(rt: &impl Abort, tree: &mut Tree, directory: u16, name: &[u8]) -> u16 {
-    expect_new(rt, tree, directory, name);
-    match tree.make(directory, name, Kind::File) {
         Ok(node) => node,
         Err(_) => panic!(rt; "the image has no room"),
     }
@@ -100,26 +70,6 @@ fn make_link(rt: &impl Abort, tree: &mut Tree, directory: u16, name: &[u8], text
         Ok(node) => node,
         Err(_) => panic!(rt; "the image has no room"),
     }
-}
-
-// Takes the name of a directory without entries away.
-fn remove_directory(rt: &impl Abort, tree: &mut Tree, directory: u16, name: &[u8]) {
-    assert!(rt; tree.is_directory(directory));
-    match tree.find(directory, name) {
-        Some(node) => {
-            assert!(rt; tree.is_directory(node));
-            assert!(rt; tree.is_empty(node));
-            tree.unlink(directory, name);
-        }
-        None => panic!(rt; "there is no such name"),
-    }
-}
-
-// Holds a node that nothing has held.
-fn hold(rt: &impl Abort, tree: &mut Tree, node: u16) {
-    assert!(rt; tree.is_used(node));
-    assert!(rt; tree.holds(node) == 0);
-    tree.hold(node);
 }
 
 // Walks a path, and compares.
@@ -148,7 +98,7 @@ fn expect_walk(
 
 #[test]
 fn ends_of_paths(rt: HostRuntime) -> Result<(), Fail> {
-    let mut tree = empty_tree(rt.alloc(), 64)?;
+    let mut tree = with_64_inodes(rt.alloc(), 64)?;
     let f = make_file(&rt, &mut tree, 1, b"f");
     let d = make_directory(&rt, &mut tree, 1, b"d");
     let l = make_link(&rt, &mut tree, 1, b"l", b"d");
@@ -175,7 +125,7 @@ fn ends_of_paths(rt: HostRuntime) -> Result<(), Fail> {
 
 #[test]
 fn a_link_leaves_1024_bytes_to_walk(rt: HostRuntime) -> Result<(), Fail> {
-    let mut tree = empty_tree(rt.alloc(), 64)?;
+    let mut tree = with_64_inodes(rt.alloc(), 64)?;
     let mut text = repeated(rt.alloc(), b'n', 975)?;
     for k in 0..15 {
         text[61 * k + 60] = b'/';
@@ -197,7 +147,7 @@ fn a_link_leaves_1024_bytes_to_walk(rt: HostRuntime) -> Result<(), Fail> {
 
 #[test]
 fn pieces_behind_a_link_weigh_at_most_1024(rt: HostRuntime) -> Result<(), Fail> {
-    let mut tree = empty_tree(rt.alloc(), 64)?;
+    let mut tree = with_64_inodes(rt.alloc(), 64)?;
     let mut text = repeated(rt.alloc(), b'.', 978)?;
     for k in 0..489 {
         text[2 * k + 1] = b'/';
@@ -227,7 +177,7 @@ fn pieces_behind_a_link_weigh_at_most_1024(rt: HostRuntime) -> Result<(), Fail> 
 
 #[test]
 fn dots_and_links_lead_through_the_tree(rt: HostRuntime) -> Result<(), Fail> {
-    let mut tree = empty_tree(rt.alloc(), 64)?;
+    let mut tree = with_64_inodes(rt.alloc(), 64)?;
     let tmp = make_directory(&rt, &mut tree, 1, b"tmp");
     let etc = make_directory(&rt, &mut tree, 1, b"etc");
     let motd = make_file(&rt, &mut tree, etc, b"motd");
@@ -250,7 +200,7 @@ fn dots_and_links_lead_through_the_tree(rt: HostRuntime) -> Result<(), Fail> {
 
 #[test]
 fn a_walk_follows_32_links(rt: HostRuntime) -> Result<(), Fail> {
-    let mut tree = empty_tree(rt.alloc(), 64)?;
+    let mut tree = with_64_inodes(rt.alloc(), 64)?;
     let f = make_file(&rt, &mut tree, 1, b"f");
     make_link(&rt, &mut tree, 1, b"l32", b"f");
     let digit = |k: u8| b'0' + k % 10;
@@ -281,7 +231,7 @@ fn a_walk_follows_32_links(rt: HostRuntime) -> Result<(), Fail> {
 
 #[test]
 fn a_path_has_32_links(rt: HostRuntime) -> Result<(), Fail> {
-    let mut tree = empty_tree(rt.alloc(), 64)?;
+    let mut tree = with_64_inodes(rt.alloc(), 64)?;
     let d = make_directory(&rt, &mut tree, 1, b"d");
     let u = make_link(&rt, &mut tree, 1, b"u", b"//d//");
     make_link(&rt, &mut tree, d, b"v", b"./../d/..");
@@ -300,7 +250,7 @@ fn a_path_has_32_links(rt: HostRuntime) -> Result<(), Fail> {
 
 #[test]
 fn links_stand_between_slashes(rt: HostRuntime) -> Result<(), Fail> {
-    let mut tree = empty_tree(rt.alloc(), 64)?;
+    let mut tree = with_64_inodes(rt.alloc(), 64)?;
     let d = make_directory(&rt, &mut tree, 1, b"d");
     let x = make_file(&rt, &mut tree, d, b"x");
     let l = make_link(&rt, &mut tree, 1, b"l", b"//d//");
@@ -325,7 +275,7 @@ fn links_stand_between_slashes(rt: HostRuntime) -> Result<(), Fail> {
 
 #[test]
 fn links_lead_from_the_root(rt: HostRuntime) -> Result<(), Fail> {
-    let mut tree = empty_tree(rt.alloc(), 64)?;
+    let mut tree = with_64_inodes(rt.alloc(), 64)?;
     let f = make_file(&rt, &mut tree, 1, b"f");
     let d = make_directory(&rt, &mut tree, 1, b"d");
     let inner = make_file(&rt, &mut tree, d, b"f");
@@ -348,7 +298,7 @@ fn links_lead_from_the_root(rt: HostRuntime) -> Result<(), Fail> {
 
 #[test]
 fn paths_have_1023_bytes(rt: HostRuntime) -> Result<(), Fail> {
-    let tree = empty_tree(rt.alloc(), 64)?;
+    let tree = with_64_inodes(rt.alloc(), 64)?;
     let slashes = repeated(rt.alloc(), b'/', 1_024)?;
     let (fewer, _) = slashes.split_at(1_023);
     expect_walk(&rt, &tree, 1, fewer, Follow::Last, Node(1));
@@ -376,7 +326,7 @@ fn paths_have_1023_bytes(rt: HostRuntime) -> Result<(), Fail> {
 
 #[test]
 fn a_removed_directory_has_no_names(rt: HostRuntime) -> Result<(), Fail> {
-    let mut tree = empty_tree(rt.alloc(), 64)?;
+    let mut tree = with_64_inodes(rt.alloc(), 64)?;
     let d = make_directory(&rt, &mut tree, 1, b"d");
     hold(&rt, &mut tree, d);
     remove_directory(&rt, &mut tree, 1, b"d");
@@ -394,7 +344,7 @@ fn a_removed_directory_has_no_names(rt: HostRuntime) -> Result<(), Fail> {
 
 #[test]
 fn a_plain_lookup_asks_the_tree(rt: HostRuntime) -> Result<(), Fail> {
-    let mut tree = empty_tree(rt.alloc(), 64)?;
+    let mut tree = with_64_inodes(rt.alloc(), 64)?;
     let mut lookup = PlainLookup;
     assert!(rt; tree.is_directory(1));
     assert_eq!(rt; lookup.look(&tree, 1, b"f"), None);
