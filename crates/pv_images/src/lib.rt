@@ -7,15 +7,9 @@
 #![tactic(auto)]
 
 pub mod auditing;
-#[cfg(test)]
-mod damaged;
-#[cfg(test)]
-mod failing;
 pub mod listing;
 pub mod making;
 pub mod migrating;
-#[cfg(test)]
-mod tests;
 
 pub use auditing::{AuditStop, audit_image};
 pub use listing::list;

@@ -5,8 +5,6 @@ pub mod bundle;
 pub mod image;
 pub mod machine;
 pub mod stream;
-#[cfg(test)]
-mod tests;
 pub mod turns;
 
 pub use bundle::run_tree;

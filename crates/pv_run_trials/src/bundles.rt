@@ -1,18 +1,16 @@
 //! Runs of whole bundles.
 ghost use Rattle.std.specs.Prelude.{None};
 
-use crate::stream::{Bytes, Gathered};
-use crate::{Summary, run_tree};
+use crate::images::MOTD_TRACE;
 use pv_model::{Failed, ManifestFault, RunFault, Sink, Source};
+use pv_run::stream::{Bytes, Gathered};
+use pv_run::{Summary, run_tree};
 use std::alloc::Global;
 use std::process::Abort;
 use std::test::Fail;
 
 const MOTD: &[u8] =
     b"image 16 16\ndir \"/etc\"\nbytes \"/etc/motd\" \"hello\"\nexec \"/init\" 5\npledge \"stdio rpath\" null\nopen \"/etc/motd\" r\nread r0 100\nclose 0\nexit 0\nschedule\n1 5\n";
-
-const MOTD_TRACE: &[u8] =
-    b"    1 CALL  pledge(\"stdio rpath\", null)\n    1 RET   pledge 0\n    1 CALL  open(\"/etc/motd\", r)\n    1 NAMI  \"/etc/motd\"\n    1 RET   open 0\n    1 CALL  read(0, 100)\n    1 GIO   read 5 68656c6c6f\n    1 RET   read 5\n    1 CALL  close(0)\n    1 RET   close 0\n    1 CALL  exit(0)\n";
 
 // A source that gives some bytes, one at a time, and then fails.
 #[derive(Drop)]

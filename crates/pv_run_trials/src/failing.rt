@@ -1,6 +1,6 @@
 //! Sources that fail after each count of bytes, or never end, and sinks that take only so many.
-use crate::tests::{MOTD, MOTD_LISTING, MOTD_TRACE, made};
-use crate::{AuditStop, MigrateStop, audit_image, list, make_image, migrate_image};
+use crate::images::{MOTD, MOTD_LISTING, MOTD_TRACE, made};
+use pv_images::{AuditStop, MigrateStop, audit_image, list, make_image, migrate_image};
 use pv_model::{Failed, ListFault, RunFault, Sink, Source};
 use pv_run::run;
 use pv_run::stream::{Bytes, Gathered};
@@ -117,33 +117,48 @@ fn manifests_that_break_off_make_nothing(rt: HostRuntime) {
     }
 }
 
+// A run of sources, one of which breaks off, gives nothing.
+fn expect_no_run(rt: &(impl Abort + AllocGlobal), mut image: Cut<'_>, mut schedule: Cut<'_>) {
+    let mut out = Gathered::new(rt.alloc());
+    let mut left = Gathered::new(rt.alloc());
+    let ran = run(rt.alloc(), &mut image, &mut schedule, &mut out, &mut left);
+    assert_eq!(rt; ran.err(), Some(RunFault::Read));
+    assert!(rt; out.bytes.is_empty() && left.bytes.is_empty());
+}
+
+// A listing of an image that breaks off gives nothing.
+fn expect_no_listing(rt: &(impl Abort + AllocGlobal), mut image: Cut<'_>) {
+    let mut out = Gathered::new(rt.alloc());
+    let listed = list(rt.alloc(), &mut image, &mut out);
+    assert_eq!(rt; listed.err(), Some(ListFault::Read));
+    assert!(rt; out.bytes.is_empty());
+}
+
+// A migration of an image that breaks off gives nothing.
+fn expect_no_migration(rt: &(impl Abort + AllocGlobal), mut image: Cut<'_>) {
+    let mut out = Gathered::new(rt.alloc());
+    let new = migrate_image(rt.alloc(), &mut image, 16, 16, &mut out);
+    assert_eq!(rt; new.err(), Some(MigrateStop::Read));
+    assert!(rt; out.bytes.is_empty());
+}
+
+// An audit after a schedule that breaks off gives nothing.
+fn expect_no_audit(rt: &(impl Abort + AllocGlobal), mut image: Cut<'_>, mut schedule: Cut<'_>) {
+    let mut out = Gathered::new(rt.alloc());
+    let told = audit_image(rt.alloc(), &mut image, &mut schedule, None, &mut out);
+    assert_eq!(rt; told.err(), Some(AuditStop::Machine(RunFault::Read)));
+    assert!(rt; out.bytes.is_empty());
+}
+
 #[test]
 fn images_that_break_off_give_nothing(rt: HostRuntime) {
     let whole = made(&rt, MOTD);
     for block in 0..17 {
         let at = 512 * block;
-        let mut out = Gathered::new(rt.alloc());
-        let mut left = Gathered::new(rt.alloc());
-        let listed = list(rt.alloc(), &mut front_of(&whole.bytes, at), &mut out);
-        assert_eq!(rt; listed.err(), Some(ListFault::Read));
-        let new = migrate_image(
-            rt.alloc(),
-            &mut front_of(&whole.bytes, at),
-            16,
-            16,
-            &mut out,
-        );
-        assert_eq!(rt; new.err(), Some(MigrateStop::Read));
-        let mut turns = front_of(SCHEDULE, SCHEDULE.len());
-        let ran = run(
-            rt.alloc(),
-            &mut front_of(&whole.bytes, at),
-            &mut turns,
-            &mut out,
-            &mut left,
-        );
-        assert_eq!(rt; ran.err(), Some(RunFault::Read));
-        assert!(rt; out.bytes.is_empty() && left.bytes.is_empty());
+        expect_no_listing(&rt, front_of(&whole.bytes, at));
+        expect_no_migration(&rt, front_of(&whole.bytes, at));
+        let turns = front_of(SCHEDULE, SCHEDULE.len());
+        expect_no_run(&rt, front_of(&whole.bytes, at), turns);
     }
 }
 
@@ -151,27 +166,10 @@ fn images_that_break_off_give_nothing(rt: HostRuntime) {
 fn schedules_that_break_off_give_nothing(rt: HostRuntime) {
     let whole = made(&rt, MOTD);
     for at in 0..SCHEDULE.len() + 1 {
-        let mut out = Gathered::new(rt.alloc());
-        let mut left = Gathered::new(rt.alloc());
-        let mut image = front_of(&whole.bytes, whole.bytes.len());
-        let ran = run(
-            rt.alloc(),
-            &mut image,
-            &mut front_of(SCHEDULE, at),
-            &mut out,
-            &mut left,
-        );
-        assert_eq!(rt; ran.err(), Some(RunFault::Read));
-        let mut image = front_of(&whole.bytes, whole.bytes.len());
-        let told = audit_image(
-            rt.alloc(),
-            &mut image,
-            &mut front_of(SCHEDULE, at),
-            None,
-            &mut out,
-        );
-        assert_eq!(rt; told.err(), Some(AuditStop::Machine(RunFault::Read)));
-        assert!(rt; out.bytes.is_empty() && left.bytes.is_empty());
+        let image = front_of(&whole.bytes, whole.bytes.len());
+        expect_no_run(&rt, image, front_of(SCHEDULE, at));
+        let image = front_of(&whole.bytes, whole.bytes.len());
+        expect_no_audit(&rt, image, front_of(SCHEDULE, at));
     }
 }
 
@@ -194,6 +192,11 @@ fn sinks_have_a_beginning_of_what_is_told(rt: HostRuntime) {
         assert_eq!(rt; listed.err(), Some(ListFault::Write));
         expect_front(&rt, &out, MOTD_LISTING, room);
     }
+}
+
+#[test]
+fn sinks_have_a_beginning_of_what_is_audited(rt: HostRuntime) {
+    let whole = made(&rt, MOTD);
     let line = b"exposed: process 1, reads descriptor 0\n";
     for room in 0..line.len() {
         let mut out = sink_of(&rt, room);
@@ -209,36 +212,41 @@ fn sinks_have_a_beginning_of_what_is_told(rt: HostRuntime) {
     }
 }
 
+// A run of an image over these sinks ends so.
+fn expect_run<T: Sink, L: Sink>(
+    rt: &(impl Abort + AllocGlobal),
+    image: &[u8],
+    trace: &mut T,
+    left: &mut L,
+    fault: RunFault,
+) {
+    let mut image = Bytes::new(image);
+    let mut turns = Bytes::new(SCHEDULE);
+    let ran = run(rt.alloc(), &mut image, &mut turns, trace, left);
+    assert_eq!(rt; ran.err(), Some(fault));
+}
+
 #[test]
 fn images_are_written_after_whole_traces(rt: HostRuntime) {
     let whole = made(&rt, MOTD);
     for room in 0..MOTD_TRACE.len() {
         let mut trace = sink_of(&rt, room);
         let mut left = Gathered::new(rt.alloc());
-        let mut turns = Bytes::new(SCHEDULE);
-        let ran = run(
-            rt.alloc(),
-            &mut Bytes::new(&whole.bytes),
-            &mut turns,
-            &mut trace,
-            &mut left,
-        );
-        assert_eq!(rt; ran.err(), Some(RunFault::WriteTrace));
+        let fault = RunFault::WriteTrace;
+        expect_run(&rt, &whole.bytes, &mut trace, &mut left, fault);
         expect_front(&rt, &trace, MOTD_TRACE, room);
         assert!(rt; left.bytes.is_empty());
     }
+}
+
+#[test]
+fn images_are_written_up_to_the_failure(rt: HostRuntime) {
+    let whole = made(&rt, MOTD);
     for block in 0..16 {
         let mut trace = Gathered::new(rt.alloc());
         let mut left = sink_of(&rt, 512 * block);
-        let mut turns = Bytes::new(SCHEDULE);
-        let ran = run(
-            rt.alloc(),
-            &mut Bytes::new(&whole.bytes),
-            &mut turns,
-            &mut trace,
-            &mut left,
-        );
-        assert_eq!(rt; ran.err(), Some(RunFault::WriteImage));
+        let fault = RunFault::WriteImage;
+        expect_run(&rt, &whole.bytes, &mut trace, &mut left, fault);
         assert!(rt; trace.bytes.as_slice() == MOTD_TRACE);
         // Nothing of the tree has changed but what no image keeps.
         expect_front(&rt, &left, &whole.bytes, 512 * block);
@@ -253,6 +261,13 @@ fn new_images_are_written_up_to_the_failure(rt: HostRuntime) {
         let answer = make_image(rt.alloc(), &mut Bytes::new(MOTD), &mut out);
         assert_eq!(rt; answer.err(), Some(RunFault::WriteImage));
         expect_front(&rt, &out, &whole.bytes, 512 * block);
+    }
+}
+
+#[test]
+fn migrated_images_are_written_up_to_the_failure(rt: HostRuntime) {
+    let whole = made(&rt, MOTD);
+    for block in 0..16 {
         let mut out = sink_of(&rt, 512 * block);
         let new = migrate_image(rt.alloc(), &mut Bytes::new(&whole.bytes), 16, 16, &mut out);
         assert_eq!(rt; new.err(), Some(MigrateStop::Write));

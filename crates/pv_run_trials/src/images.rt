@@ -1,5 +1,5 @@
 //! Images that are made, migrated and run.
-use crate::{MigrateStop, list, make_image, migrate_image};
+use pv_images::{MigrateStop, list, make_image, migrate_image};
 use pv_model::{Failed, ImageFault, MigrateFault, Sink, Source};
 use pv_run::run;
 use pv_run::stream::{Bytes, Gathered};
@@ -189,19 +189,19 @@ fn eight_longest_names_take_five_blocks(rt: HostRuntime) -> Result<(), Fail> {
     Ok(())
 }
 
+// A migration of bytes is refused for this, and writes nothing.
+fn expect_refused(rt: &(impl Abort + AllocGlobal), image: &[u8], fault: MigrateFault) {
+    let mut out = Gathered::new(rt.alloc());
+    let answer = migrate_image(rt.alloc(), &mut Bytes::new(image), 7, 16, &mut out);
+    assert_eq!(rt; answer.err(), Some(MigrateStop::Refused(fault)));
+    assert!(rt; out.bytes.is_empty());
+}
+
 #[test]
 fn a_refused_migration_writes_nothing(rt: HostRuntime) {
     let old = made(&rt, MOTD);
-    let mut out = Gathered::new(rt.alloc());
-    let mut image = Bytes::new(&old.bytes);
-    let small = migrate_image(rt.alloc(), &mut image, 7, 16, &mut out);
-    let refused = MigrateStop::Refused(MigrateFault::Small);
-    assert_eq!(rt; small.err(), Some(refused));
-    let mut none = Bytes::new(b"");
-    let short = migrate_image(rt.alloc(), &mut none, 7, 16, &mut out);
-    let refused = MigrateStop::Refused(MigrateFault::Image(ImageFault::Short));
-    assert_eq!(rt; short.err(), Some(refused));
-    assert!(rt; out.bytes.is_empty());
+    expect_refused(&rt, &old.bytes, MigrateFault::Small);
+    expect_refused(&rt, b"", MigrateFault::Image(ImageFault::Short));
 }
 
 #[test]
@@ -211,6 +211,10 @@ fn broken_streams_are_told(rt: HostRuntime) {
     let read = migrate_image(rt.alloc(), &mut broken, 8, 16, &mut out);
     assert_eq!(rt; read.err(), Some(MigrateStop::Read));
     assert!(rt; out.bytes.is_empty());
+}
+
+#[test]
+fn a_broken_sink_is_told(rt: HostRuntime) {
     let old = made(&rt, MOTD);
     let mut image = Bytes::new(&old.bytes);
     let mut full = Full { failures: 0 };

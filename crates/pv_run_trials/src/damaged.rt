@@ -1,6 +1,6 @@
 //! Images of which one byte is another, or whose end is cut off: what they are refused for, counted, as another program
 //! counted it.
-use crate::tests::{MOTD, made, migrated};
+use crate::images::{MOTD, made, migrated};
 use pv_model::ImageFault;
 use pv_mount::mount;
 use pv_run::stream::Gathered;
@@ -86,6 +86,18 @@ fn turned(
     Ok(tally)
 }
 
+// What became of an image with each of its bytes turned by a mask is this.
+fn expect_turned(
+    rt: &(impl Abort + AllocGlobal),
+    image: &Gathered,
+    mask: u8,
+    wanted: Tally,
+) -> Result<(), AllocError> {
+    let tally = turned(rt, image, mask)?;
+    assert_eq!(rt; tally, wanted);
+    Ok(())
+}
+
 fn faults(count: u32, sum: u32) -> Refused {
     Refused { count, sum }
 }
@@ -103,7 +115,7 @@ fn a_turned_byte_of_the_first_layout_is_judged(rt: HostRuntime) -> Result<(), Fa
         tree: faults(23, 151),
         ..EMPTY
     };
-    assert_eq!(rt; turned(&rt, &image, 1)?, lowest);
+    expect_turned(&rt, &image, 1, lowest)?;
     let highest = Tally {
         held: 8_125,
         magic: 8,
@@ -114,7 +126,7 @@ fn a_turned_byte_of_the_first_layout_is_judged(rt: HostRuntime) -> Result<(), Fa
         tree: faults(9, 22),
         ..EMPTY
     };
-    assert_eq!(rt; turned(&rt, &image, 128)?, highest);
+    expect_turned(&rt, &image, 128, highest)?;
     Ok(())
 }
 
@@ -131,7 +143,7 @@ fn a_turned_byte_of_the_second_layout_is_judged(rt: HostRuntime) -> Result<(), F
         tree: faults(31, 171),
         ..EMPTY
     };
-    assert_eq!(rt; turned(&rt, &image, 1)?, lowest);
+    expect_turned(&rt, &image, 1, lowest)?;
     let highest = Tally {
         held: 8_115,
         magic: 8,
@@ -142,7 +154,7 @@ fn a_turned_byte_of_the_second_layout_is_judged(rt: HostRuntime) -> Result<(), F
         tree: faults(16, 40),
         ..EMPTY
     };
-    assert_eq!(rt; turned(&rt, &image, 128)?, highest);
+    expect_turned(&rt, &image, 128, highest)?;
     Ok(())
 }
 
