@@ -15,8 +15,6 @@ pub mod migrating;
 pub mod performing;
 pub mod running;
 pub mod system;
-#[cfg(test)]
-mod tests;
 
 pub use command::Command;
 pub use fault::Fault;

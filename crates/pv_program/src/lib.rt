@@ -6,8 +6,6 @@ pub mod command;
 pub mod fault;
 mod parser;
 pub mod program;
-#[cfg(test)]
-mod tests;
 
 pub use command::{LineFault, command_of};
 pub use fault::Fault;

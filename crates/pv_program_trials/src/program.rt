@@ -2,25 +2,16 @@
 ghost use Rattle.std.specs.Prelude.{[], None, Some, if◌then◌else◌};
 ghost use Rattle.std.specs.Str.{bytes_eq};
 
-use crate::{Fault, LineFault, command_of, run};
+use crate::streams::Broken;
+use crate::texts::{BUNDLE, MOTD_TRACE, SMALL, SMALL_TRACE};
 use pv_commands::{Command, Fault as CommandFault, Files, System};
 use pv_model::{Failed, RunFault, Sink};
+use pv_program::{Fault, LineFault, command_of, run};
 use pv_run::stream::{Bytes, Gathered};
 use pv_trace::Buffered;
 use std::alloc::{AllocError, Global};
 use std::process::Abort;
 use std::test::Fail;
-
-const MOTD: &[u8] =
-    b"image 16 16\ndir \"/etc\"\nbytes \"/etc/motd\" \"hello\"\nexec \"/init\" 5\npledge \"stdio rpath\" null\nopen \"/etc/motd\" r\nread r0 100\nclose 0\nexit 0\nschedule\n1 5\n";
-
-const MOTD_TRACE: &[u8] =
-    b"    1 CALL  pledge(\"stdio rpath\", null)\n    1 RET   pledge 0\n    1 CALL  open(\"/etc/motd\", r)\n    1 NAMI  \"/etc/motd\"\n    1 RET   open 0\n    1 CALL  read(0, 100)\n    1 GIO   read 5 68656c6c6f\n    1 RET   read 5\n    1 CALL  close(0)\n    1 RET   close 0\n    1 CALL  exit(0)\n";
-
-// A bundle of the smallest image, whose process 1 ends at once.
-const SMALL: &[u8] = b"image 2 1\nschedule\n1\n";
-
-const SMALL_TRACE: &[u8] = b"    1 CALL  exit(0)\n";
 
 // One file in memory that can be read. None can be written.
 #[derive(Drop)]
@@ -32,7 +23,7 @@ struct OneFile {
 impl Files for OneFile {
     type Reader = Bytes<'static>;
 
-    type Writer = Full;
+    type Writer = Broken;
 
     ghost bytes = { λ file name. if bytes_eq file.name.now name then Some file.bytes.now else None };
 
@@ -46,31 +37,8 @@ impl Files for OneFile {
         }
     }
 
-    fn create(&self, _alloc: Global, _name: &str) -> Result<Full, AllocError> {
+    fn create(&self, _alloc: Global, _name: &str) -> Result<Broken, AllocError> {
         Err(AllocError)
-    }
-}
-
-// A sink that takes nothing.
-#[derive(Drop)]
-struct Full {
-    failures: u64,
-}
-
-impl Sink for Full {
-    ghost told = { λ _. None };
-
-    ghost waits = { λ _. 0 };
-
-    ghost failures = { λ sink. sink.failures };
-
-    fn write(&mut self, _buffer: &[u8]) -> Result<usize, Failed> {
-        self.failures = self.failures.saturating_add(1);
-        Err(Failed)
-    }
-
-    fn flush(&mut self) -> Result<(), Failed> {
-        Ok(())
     }
 }
 
@@ -82,7 +50,7 @@ fn system_with<O: Sink + Drop>(
     System {
         files: OneFile {
             name: "motd",
-            bytes: MOTD,
+            bytes: BUNDLE,
         },
         input: Bytes::new(SMALL),
         output,
@@ -127,16 +95,35 @@ fn expect_refused_words(rt: &(impl Abort + AllocGlobal), words: &[&str]) {
     assert!(rt; system.errors.bytes.starts_with(b"error: "));
 }
 
+// Runs words over a standard output that takes nothing in the end.
+fn expect_failed_write_to<O: Sink + Drop>(
+    rt: &(impl Abort + AllocGlobal),
+    words: &[&str],
+    output: O,
+    errors: &[u8],
+) {
+    let mut system = system_with(rt.alloc(), output);
+    let ended = run(rt.alloc(), words, &mut system);
+    assert!(rt; ended == 4);
+    assert!(rt; system.errors.bytes.as_slice() == errors);
+}
+
 // Runs words over a standard output that takes nothing, also where it gathers what it is given first.
 fn expect_failed_write(rt: &(impl Abort + AllocGlobal), words: &[&str], errors: &[u8]) {
-    let mut system = system_with(rt.alloc(), Full { failures: 0 });
-    let ended = run(rt.alloc(), words, &mut system);
-    assert!(rt; ended == 4);
-    assert!(rt; system.errors.bytes.as_slice() == errors);
-    let mut system = system_with(rt.alloc(), Buffered::new(Full { failures: 0 }));
-    let ended = run(rt.alloc(), words, &mut system);
-    assert!(rt; ended == 4);
-    assert!(rt; system.errors.bytes.as_slice() == errors);
+    expect_failed_write_to(rt, words, Broken { failures: 0 }, errors);
+    let gathering = Buffered::new(Broken { failures: 0 });
+    expect_failed_write_to(rt, words, gathering, errors);
+}
+
+// The words ask for this command.
+fn expect_command(
+    rt: &(impl Abort + AllocGlobal),
+    words: &[&str],
+    wanted: Command<'_>,
+) -> Result<(), Fail> {
+    let command = command_of(rt.alloc(), words)?;
+    assert!(rt; command == wanted);
+    Ok(())
 }
 
 // A fault has this text and this status.
@@ -193,38 +180,39 @@ fn an_output_that_takes_nothing_is_a_failed_write(rt: HostRuntime) {
 
 #[test]
 fn a_command_has_its_texts(rt: HostRuntime) -> Result<(), Fail> {
-    let command = command_of(rt.alloc(), &["pvsim", "run-tree", "a b"])?;
-    assert!(rt; command == Command::RunTree("a b"));
-    let command = command_of(rt.alloc(), &["pvsim", "run-tree", "--", "-x"])?;
-    assert!(rt; command == Command::RunTree("-x"));
-    let command = command_of(rt.alloc(), &["pvsim", "mkimg", "m", "i"])?;
+    let words = ["pvsim", "run-tree", "a b"];
+    expect_command(&rt, &words, Command::RunTree("a b"))?;
+    let words = ["pvsim", "run-tree", "--", "-x"];
+    expect_command(&rt, &words, Command::RunTree("-x"))?;
+    let words = ["pvsim", "mkimg", "m", "i"];
     let (manifest, image) = ("m", "i");
-    assert!(rt; command == Command::MakeImage { manifest, image });
-    let command = command_of(rt.alloc(), &["pvsim", "ls", "i"])?;
-    assert!(rt; command == Command::ListImage("i"));
-    let command = command_of(rt.alloc(), &["pvsim", "run", "i", "s", "o"])?;
-    let (schedule, out) = ("s", "o");
-    assert!(rt;
-        command
-            == Command::RunImage {
-                image,
-                schedule,
-                out
-            }
-    );
+    expect_command(&rt, &words, Command::MakeImage { manifest, image })?;
+    expect_command(&rt, &["pvsim", "ls", "i"], Command::ListImage("i"))
+}
+
+#[test]
+fn a_run_of_an_image_has_its_texts(rt: HostRuntime) -> Result<(), Fail> {
+    let words = ["pvsim", "run", "i", "s", "o"];
+    let (image, schedule, out) = ("i", "s", "o");
+    let command = Command::RunImage {
+        image,
+        schedule,
+        out,
+    };
+    expect_command(&rt, &words, command)
+}
+
+#[test]
+fn a_migration_has_its_texts_and_numbers(rt: HostRuntime) -> Result<(), Fail> {
     let words = ["pvsim", "migrate", "i", "o", "0", "4294967295"];
-    let command = command_of(rt.alloc(), &words)?;
-    let (blocks, inodes) = (0, 4_294_967_295);
-    assert!(rt;
-        command
-            == Command::MigrateImage {
-                image,
-                out,
-                blocks,
-                inodes
-            }
-    );
-    Ok(())
+    let (image, out, blocks, inodes) = ("i", "o", 0, 4_294_967_295);
+    let command = Command::MigrateImage {
+        image,
+        out,
+        blocks,
+        inodes,
+    };
+    expect_command(&rt, &words, command)
 }
 
 #[test]
@@ -234,15 +222,12 @@ fn an_audit_may_lack_its_path(rt: HostRuntime) -> Result<(), Fail> {
         (["pvsim", "audit", "i", "s"].as_slice(), None),
         (["pvsim", "audit", "i", "s", "/p"].as_slice(), Some("/p")),
     ] {
-        let command = command_of(rt.alloc(), words)?;
-        assert!(rt;
-            command
-                == Command::AuditImage {
-                    image,
-                    schedule,
-                    path
-                }
-        );
+        let command = Command::AuditImage {
+            image,
+            schedule,
+            path,
+        };
+        expect_command(&rt, words, command)?;
     }
     Ok(())
 }

@@ -3,11 +3,12 @@ ghost use Rattle.std.specs.Prelude.{None, Some, if◌then◌else◌};
 ghost use Rattle.std.specs.Str.{bytes_eq};
 ghost use Rattle.std.specs.String.{string_bytes};
 
-use crate::{Command, Fault, Files, System, perform};
+use crate::streams::Broken;
+use crate::texts::{BUNDLE, MOTD, MOTD_LISTING, MOTD_TRACE, SMALL, SMALL_TRACE};
+use pv_commands::{Command, Fault, Files, System, perform};
 use pv_images::{AuditStop, MigrateStop};
 use pv_model::{
     AuditFault, Errno, Failed, ImageFault, ListFault, ManifestFault, MigrateFault, RunFault, Sink,
-    Source,
 };
 use pv_run::stream::{Bytes, Gathered};
 use pv_trace::Buffered;
@@ -15,23 +16,6 @@ use std::alloc::{AllocError, Global};
 use std::cell::RefCell;
 use std::process::Abort;
 use std::test::Fail;
-
-const MOTD: &[u8] =
-    b"image 16 16\ndir \"/etc\"\nbytes \"/etc/motd\" \"hello\"\nexec \"/init\" 5\npledge \"stdio rpath\" null\nopen \"/etc/motd\" r\nread r0 100\nclose 0\nexit 0\n";
-
-// The same as a bundle.
-const BUNDLE: &[u8] =
-    b"image 16 16\ndir \"/etc\"\nbytes \"/etc/motd\" \"hello\"\nexec \"/init\" 5\npledge \"stdio rpath\" null\nopen \"/etc/motd\" r\nread r0 100\nclose 0\nexit 0\nschedule\n1 5\n";
-
-const MOTD_LISTING: &[u8] = b"d 1 2 \"/\"\nd 2 1 \"/etc\"\nf 3 5 \"/etc/motd\"\nx 4 72 \"/init\"\n";
-
-const MOTD_TRACE: &[u8] =
-    b"    1 CALL  pledge(\"stdio rpath\", null)\n    1 RET   pledge 0\n    1 CALL  open(\"/etc/motd\", r)\n    1 NAMI  \"/etc/motd\"\n    1 RET   open 0\n    1 CALL  read(0, 100)\n    1 GIO   read 5 68656c6c6f\n    1 RET   read 5\n    1 CALL  close(0)\n    1 RET   close 0\n    1 CALL  exit(0)\n";
-
-// A bundle of the smallest image, whose process 1 ends at once.
-const SMALL: &[u8] = b"image 2 1\nschedule\n1\n";
-
-const SMALL_TRACE: &[u8] = b"    1 CALL  exit(0)\n";
 
 // A file that a process can't reach once its table is locked.
 const SECRET: &[u8] =
@@ -116,40 +100,6 @@ impl<'a> Files for Disk<'a> {
             bytes: self.written,
             failures: 0,
         })
-    }
-}
-
-// A source and a sink that fail.
-#[derive(Drop)]
-struct Broken {
-    failures: u64,
-}
-
-impl Source for Broken {
-    ghost remaining = { λ _. None };
-
-    ghost failures = { λ source. source.failures };
-
-    fn read(&mut self, _buffer: &mut [u8]) -> Result<usize, Failed> {
-        self.failures = self.failures.saturating_add(1);
-        Err(Failed)
-    }
-}
-
-impl Sink for Broken {
-    ghost told = { λ _. None };
-
-    ghost waits = { λ _. 0 };
-
-    ghost failures = { λ sink. sink.failures };
-
-    fn write(&mut self, _buffer: &[u8]) -> Result<usize, Failed> {
-        self.failures = self.failures.saturating_add(1);
-        Err(Failed)
-    }
-
-    fn flush(&mut self) -> Result<(), Failed> {
-        Ok(())
     }
 }
 
