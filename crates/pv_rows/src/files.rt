@@ -22,6 +22,9 @@ use pv_model::{Errno, Mode, Name, Whence};
 use pv_parts::Parts;
 use pv_tree::Tree;
 
+// How many bytes a short read takes at most.
+const SHORT: usize = 256;
+
 // A number from 0 to a limit.
 fn within(limit: usize, n: i32) -> Option<usize>
     ensures { result ≡ within limit n }
@@ -73,13 +76,14 @@ fn read_bytes(
 ) -> Result<usize, Errno>
     requires whole { IsWhole parts.old }
     requires live { IsSome (process_at parts.old pid) }
-    requires size { length buffer.old ≡ BUFFER }
+    requires room { (count : ℕ) → within BUFFER n ≡ Some count → count ≤ length buffer.old }
     ensures row { (me : Process) → process_at parts.old pid ≡ Some me → MatchResult result
         (λ count. read parts.old pid me d n ≡ done 0 (parts.new, returns_bytes count (take count buffer.new)))
         (λ errno. read parts.old pid me d n ≡ refused 0 errno Plain) }
     ensures processes { parts.new.processes ≡ parts.old.processes }
     ensures unchanged { OnErr result (parts.new ≡ parts.old) }
     ensures within { IfOk result (λ count. count ≤ BUFFER) }
+    ensures fits { IfOk result (λ count. count ≤ length buffer.new) }
 {
     let Some(file) = open_file(parts, pid, d) else {
         return Err(Errno::EBADF);
@@ -100,18 +104,14 @@ fn read_bytes(
     Ok(taken)
 }
 
-/// Reads at most so many bytes from the offset on to the front of the process's buffer, read(2): the answer is how
-/// many, and the offset goes behind them.
-///
-/// A descriptor that is not open for reading is refused with `EBADF`, a count outside 0 to 4,096 with `EINVAL`, and a
-/// directory with `EISDIR`.
-pub fn read(parts: &mut Parts, pid: u32, d: i32, n: i32) -> Answer
+// Reads by way of a buffer that has room for so many bytes, and tells the process.
+fn read_by(parts: &mut Parts, pid: u32, d: i32, n: i32, buffer: &mut [u8]) -> Answer
     requires whole { IsWhole parts.old }
     requires live { IsSome (process_at parts.old pid) }
+    requires room { (count : ℕ) → within BUFFER n ≡ Some count → count ≤ length buffer.old }
     ensures row { IsAnswered (λ s me. read s pid me d n) parts.old pid parts.new result }
 {
-    let mut buffer = [0; BUFFER];
-    match read_bytes(parts, pid, d, n, &mut buffer) {
+    match read_bytes(parts, pid, d, n, buffer) {
         Ok(count) => {
             parts.facts();
             let told = Done {
@@ -122,6 +122,23 @@ pub fn read(parts: &mut Parts, pid: u32, d: i32, n: i32) -> Answer
         }
         Err(errno) => tell(parts, pid, Err(refusal(0, errno))),
     }
+}
+
+/// Reads at most so many bytes from the offset on to the front of the process's buffer, read(2): the answer is how
+/// many, and the offset goes behind them.
+///
+/// A descriptor that is not open for reading is refused with `EBADF`, a count outside 0 to 4,096 with `EINVAL`, and a
+/// directory with `EISDIR`.
+pub fn read(parts: &mut Parts, pid: u32, d: i32, n: i32) -> Answer
+    requires whole { IsWhole parts.old }
+    requires live { IsSome (process_at parts.old pid) }
+    ensures row { IsAnswered (λ s me. read s pid me d n) parts.old pid parts.new result }
+{
+    // A buffer is zeroed when it is made, so a short read takes a short one.
+    if n <= SHORT as i32 {
+        return read_by(parts, pid, d, n, &mut [0; SHORT]);
+    }
+    read_by(parts, pid, d, n, &mut [0; BUFFER])
 }
 
 // Where a write through an open file begins: at the end where it is open for appending.

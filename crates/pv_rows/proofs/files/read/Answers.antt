@@ -4,11 +4,20 @@ use Rattle.pv_model.specs.Answer.{answer_by_attempt}
 use Rattle.pv_model.specs.Calls.Descriptors.{read}
 use Rattle.pv_rows.proofs.files.read.Goals as goal
 
-pub returns-in-Ok : goal.returns-in-Ok
-returns-in-Ok c = record {
+pub returns-then-n : goal.returns-then-n
+returns-then-n c = record {
   row = λ before me at.
       let s = c.args.parts.now in
       ap (answer_by_attempt before s c.args.pid me)
-      (ap₂ (λ d n. read s c.args.pid me d n) (sym (to_z-of_z w32 c.args.d c.ranges.d)) (sym (to_z-of_z w32 c.args.n c.ranges.n)) ∙ c.in-Ok.ensures.row me at)
-      ∙ c.tell_bytes.ensures before s c.read_bytes.new.parts me c.facts.ensures.trimmed;
+      (ap₂ (λ d n. read s c.args.pid me d n) (sym (to_z-of_z w32 c.args.d c.ranges.d)) (sym (to_z-of_z w32 c.args.n c.ranges.n)))
+      ∙ c.read_by.ensures.row before me at;
+}
+
+pub returns : goal.returns
+returns c = record {
+  row = λ before me at.
+      let s = c.args.parts.now in
+      ap (answer_by_attempt before s c.args.pid me)
+      (ap₂ (λ d n. read s c.args.pid me d n) (sym (to_z-of_z w32 c.args.d c.ranges.d)) (sym (to_z-of_z w32 c.args.n c.ranges.n)))
+      ∙ c.read_by-2.ensures.row before me at;
 }

@@ -25,7 +25,9 @@ overflow_add-offset c =
     let f = file.0 in
     let offset = file-part (λ (f : OpenFile). f.offset) c.files-3.result.now.files s.files c.in-Some.file f c.offset-offset.result c.files-3.ensures c.offset-offset.ensures file.1 in
     let low = (c.requires.whole.files.each c.in-Some.file f file.1).offset in
-    omega (arith, offset, low, c.read_at-taken.ensures.count, length-take c.in-Some-within.count c.args.buffer.now, c.requires.size)
+    let count = c.in-Some-within.count in
+    let few = within-limit BUFFER c.args.n count (ap (within BUFFER) (sym (to_z-of_z w32 c.args.n c.ranges.n)) ∙ sym c.within.ensures ∙ c.in-Some-within.is) in
+    omega (arith, offset, low, c.read_at-taken.ensures.count, length-take count c.args.buffer.now, few)
 
 pub returns-clause-row : goal.returns-clause-row
 returns-clause-row c = λ me at.
@@ -42,13 +44,14 @@ returns-clause-row c = λ me at.
     let offset = file-part (λ (f : OpenFile). f.offset) c.files-3.result.now.files s.files k f c.offset-offset.result c.files-3.ensures c.offset-offset.ensures on.there in
     let may = ap reads (sym mode) ∙ sym c.reads.ensures ∙ c.if-not-reads.false in
     let low = ap (within BUFFER) (sym (to_z-of_z w32 c.args.n c.ranges.n)) ∙ sym c.within.ensures ∙ c.in-Some-within.is in
+    let room = c.requires.room count low in
     let plain = ap₂ is_directory_at (sym c.tree.ensures) (sym node) ∙ sym c.is_directory.ensures ∙ c.if-is_directory.false in
     let all = bytes_of (node_at s.tree f.node) in
     let bytes = bytes-are s c.requires.whole k f on.there c.tree-2.result.now.tree c.node-node.result c.tree-2.ensures node plain in
     let rest = drop taken (take count buffer) in
     let number = c.read_at-taken.ensures.count ∙ ap₂ (λ xs o. min (length (take count buffer)) (length xs - o)) bytes offset in
     let same : taken ≡ length (take count (drop f.offset all)) =
-    omega (arith, number, length-take count (drop f.offset all), length-drop f.offset all, length-take count buffer, within-limit BUFFER c.args.n count low, c.requires.size) in
+    omega (arith, number, length-take count (drop f.offset all), length-drop f.offset all, length-take count buffer, room) in
     let front = c.read_at-taken.ensures.bytes ∙ ap₂ (λ xs o. take taken (drop o xs) ++ rest) bytes offset ∙ ap (λ ys. ys ++ rest) (take-length count taken (drop f.offset all) same) in
     let told = ap (λ bs. take taken (bs ++ drop count buffer)) front ∙ take-front taken (take count (drop f.offset all)) rest (drop count buffer) same in
     let kept = part-is (λ (f : OpenFile). with_file s k (record f { offset = c.offset-offset.result + taken })) (at_number s.files k) f new c.set_offset.ensures on.there
