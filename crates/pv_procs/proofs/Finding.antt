@@ -2,13 +2,15 @@
 use Rattle.std.proofs.Common.{◌≡◌, ℕ, zero, suc, ◌+◌, ◌<◌, ◌≤◌, Bool, true, false, cond, not, ◌==◌, nat_lt, List, [], ◌∷◌, length, Option, None, Some, is_some, position, IsSome, refl, sym, ap, ap₂, subst, ◌∙◌, arith}
 use Rattle.std.specs.Cmp.{tied_itself, unsigned_ties}
 use Rattle.std.specs.FinMap.Entries.{by_order, find, put}
-use Rattle.std.specs.List.{list_all, position_or_len, prefix_len}
-use Rattle.std.specs.Ordering.{nat_cmp}
+use Rattle.std.specs.List.{list_all, position_or_len, prefix_len, AllWithin, HoldsAt}
+use Rattle.std.specs.List.Sorted.{IsBinarySearchResult, IsNonDecreasingBy}
+use Rattle.std.specs.Ordering.{is_eq, nat_cmp, ordering_index}
 use Rattle.std.specs.declared.cmp.Ordering.TheVariants.{Less, Equal, Greater}
 use Rattle.std.proofs.Math.ListN.{get_or, set}
-use Rattle.std.proofs.lemmas.Bool.{and_parts, ltb-true, le-ltb, eqb-true, eqb-false, eq-eqb, ne_eqb}
+use Rattle.std.proofs.lemmas.Bool.{and_parts, ltb-true, ltb-false, lt-ltb, le-ltb, eqb-true, eqb-false, eq-eqb, ne_eqb}
 use Rattle.std.proofs.lemmas.Bool.Decides.{nat_tests}
 use Rattle.std.proofs.lemmas.Cmp.{nat_cmp_total}
+use Rattle.std.proofs.lemmas.List.{get_or_default}
 use Rattle.std.proofs.lemmas.List.Quantifiers.{position-Some}
 use Rattle.std.proofs.lemmas.List.Sums.{prefix_len-le-length}
 use Rattle.pv_model.specs.State.{Program, Process, live, live_process}
@@ -104,6 +106,71 @@ pub found-at : (places : List Place) (pid k : ℕ) (place : Place) → position 
 found-at places pid k place found is =
     let at = position-Some (λ (p : Place). p.number == pid) places k place found in
     record { within = at.0; is = is; number = eqb-true place.number pid (ap (λ (q : Place). q.number == pid) is ∙ at.1) }
+
+-- ---- where a search by halves stops
+
+onward : (n k : ℕ) → n ≡ k → 1 + n ≡ suc k
+onward n k is = omega (arith, is)
+
+first-at : (places : List Place) (pid k : ℕ) (place : Place) → ascends places ≡ true → IsAt places pid k place → position_or_len (λ (p : Place). p.number == pid) places ≡ k
+first-at [] pid k place asc at = let within = at.within in absurd (omega arith)
+first-at (p ∷ ps) pid zero place asc at =
+    ap (λ b. cond (not b) (1 + prefix_len (λ (q : Place). not (q.number == pid)) ps) 0) (eq-eqb p.number pid (sym (first-number p ps pid place at)))
+first-at (p ∷ ps) pid (suc k) place asc at =
+    let more = behind-more p ps pid k place asc at in
+    ap (λ b. cond (not b) (1 + prefix_len (λ (q : Place). not (q.number == pid)) ps) 0) (ne_eqb p.number pid (λ same. absurd (omega arith)))
+    ∙ onward (position_or_len (λ (q : Place). q.number == pid) ps) k (first-at ps pid k place (and_parts (list_all (is_above p.number) ps) (ascends ps) asc).1 (behind p ps pid k place at))
+
+-- the numbers rise
+rises : (places : List Place) (i j : ℕ) (d : Place) → ascends places ≡ true → i ≤ j → j < length places → (get_or places i d).number ≤ (get_or places j d).number
+rises [] i j d asc le within = absurd (omega arith)
+rises (p ∷ ps) zero zero d asc le within = omega arith
+rises (p ∷ ps) zero (suc j) d asc le within =
+    let inside : j < length ps = omega (arith, within) in
+    let more = above_at p.number ps j (get_or ps j d) (and_parts (list_all (is_above p.number) ps) (ascends ps) asc).0 inside (get_or_default ps j d (get_or ps j d) inside) in
+    omega (arith, more)
+rises (p ∷ ps) (suc i) zero d asc le within = absurd (omega arith)
+rises (p ∷ ps) (suc i) (suc j) d asc le within = rises ps i j d (and_parts (list_all (is_above p.number) ps) (ascends ps) asc).1 (omega (arith, le)) (omega (arith, within))
+
+higher : (a b n : ℕ) → a ≤ b → ordering_index (nat_cmp a n) ≤ ordering_index (nat_cmp b n)
+higher a b n le = grind (arith, nat_tests)
+
+-- what no search finds
+first-none : (places : List Place) (pid : ℕ) → ((k : ℕ) (d : Place) → k < length places → nat_cmp (get_or places k d).number pid ≡ Equal → ⊥) → position_or_len (λ (p : Place). p.number == pid) places ≡ length places
+first-none [] pid none = refl
+first-none (p ∷ ps) pid none =
+    ap (λ b. cond (not b) (1 + prefix_len (λ (q : Place). not (q.number == pid)) ps) 0) (ne_eqb p.number pid (λ same. none 0 p (omega arith) (equal p.number pid same)))
+    ∙ onward (position_or_len (λ (q : Place). q.number == pid) ps) (length ps) (first-none ps pid (λ k d within. none (suc k) d (omega (arith, within))))
+
+same-number : (q n : ℕ) → nat_cmp q n ≡ Equal → q ≡ n
+same-number q n tied = eqb-true q n (unsigned_ties q n ∙ ap is_eq tied)
+
+module _ (places : List Place) (pid : ℕ) (asc : ascends places ≡ true) where
+  -- an index at which a search by halves stops is the first with the number
+  pub half-found : (k : ℕ) → k < length places → HoldsAt (λ (p : Place). nat_cmp p.number pid ≡ Equal) places k → Some k ≡ position (λ (p : Place). p.number == pid) places
+  half-found k within tied = by places refl within
+    where
+      by : (xs : List Place) → xs ≡ places → k < length xs → Some k ≡ position (λ (p : Place). p.number == pid) places
+      by [] is inside = absurd (omega arith)
+      by (p ∷ ps) is inside =
+          let place = get_or places k p in
+          let number = same-number place.number pid (tied p) in
+          let at : IsAt places pid k place = record { within = within; is = get_or_default places k p place within; number = number } in
+          let first = first-at places pid k place asc at in
+          sym (ap (λ n. cond (nat_lt n (length places)) (Some n) None) first ∙ ap (λ b. cond b (Some k) None) (lt-ltb k (length places) within))
+
+  -- and where it finds none, no place has it
+  pub half-none : (i : ℕ) → (IsNonDecreasingBy (λ (p : Place). ordering_index (nat_cmp p.number pid)) places
+      → AllWithin (λ (p : Place). nat_cmp p.number pid ≡ Less) places 0 i × AllWithin (λ (p : Place). nat_cmp p.number pid ≡ Greater) places i (length places))
+      → None ≡ position (λ (p : Place). p.number == pid) places
+  half-none i parted =
+      let halves = parted (λ a b d le within. higher (get_or places a d).number (get_or places b d).number pid (rises places a b d asc le within)) in
+      let none = first-none places pid (λ k d within tied.
+      elim (nat_lt k i) as (λ b. nat_lt k i ≡ b → ⊥) [
+        | true ↦ λ low. let less = halves.0 k d (omega arith) (ltb-true k i low) in cc
+        | false ↦ λ high. let more = halves.1 k d (ltb-false k i high) within in cc
+      ] refl) in
+      sym (ap (λ n. cond (nat_lt n (length places)) (Some n) None) none ∙ ap (λ b. cond b (Some (length places)) None) (le-ltb (length places) (length places) (omega arith)))
 
 -- ---- live processes
 

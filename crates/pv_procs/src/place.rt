@@ -66,16 +66,21 @@ pub(crate) fn make_child(place: &mut Place, number: u32, parent: &Place)
     owned.machine.tell(0, 0);
 }
 
-// The index of a process's place.
+// The index of a process's place: the places stand in the order of their numbers.
 pub(crate) fn index_of(places: &[Place], pid: u32) -> Option<usize>
+    requires { ascends places.now ≡ true }
     ensures { result ≡ position (λ place. place.number == pid) places.now }
 {
-    places.iter().position(|place| place.number == pid)
+    match places.binary_search_by_key(&pid, |place| place.number) {
+        Ok(k) => Some(k),
+        Err(_) => None,
+    }
 }
 
 // The index of the place of a process that has one.
 pub(crate) fn live_index(places: &[Place], pid: u32) -> usize
-    requires { IsSome (position (λ place. place.number == pid) places.now) }
+    requires ascends { ascends places.now ≡ true }
+    requires there { IsSome (position (λ place. place.number == pid) places.now) }
     ensures { position (λ place. place.number == pid) places.now ≡ Some result }
 {
     match index_of(places, pid) {

@@ -249,13 +249,13 @@ impl Machine {
         };
     }
 
-    // The call of an instruction without a text.
+    // Makes the call of an instruction without a text.
     #[tactic(auto, unfolding(pv_model::specs::Program::perform))]
-    fn plain_call(&self, instruction: &Instruction) -> Call
+    fn put_plain(&self, instruction: &Instruction, call: &mut Call)
         requires { is_plain instruction.now ≡ true }
-        ensures { (p : Process) (program : Instructions) → perform (in_context p program self.now) instruction.now ≡ calls_for result }
+        ensures { (p : Process) (program : Instructions) → perform (in_context p program self.now) instruction.now ≡ calls_for call.new }
     {
-        match instruction {
+        *call = match instruction {
             Instruction::Fork => Call::Fork,
             Instruction::Wait => Call::Wait,
             Instruction::GetPid => Call::GetPid,
@@ -274,7 +274,7 @@ impl Machine {
                 Call::Lseek(self.operand(*d), self.operand(*by), *whence)
             }
             _ => unreachable!(),
-        }
+        };
     }
 
     // Makes the call of an instruction.
@@ -298,7 +298,7 @@ impl Machine {
             | Instruction::Rmdir(path)
             | Instruction::Open(path, _)
             | Instruction::OpenAt(_, path, _) => self.put_path(instruction, path, call),
-            _ => *call = self.plain_call(instruction),
+            _ => self.put_plain(instruction, call),
         }
     }
 

@@ -12,8 +12,11 @@ use Rattle.pv_procs.proofs.Forks.{mine-is}
 use Rattle.pv_procs.proofs.Turning.{program-read, machine-put}
 use Rattle.pv_procs.proofs.processes.Processes.register.Goals as goal
 
-pub live_index-k-requires : goal.live_index-k-requires
-live_index-k-requires c =
+pub live_index-k-requires-clause-ascends : goal.live_index-k-requires-clause-ascends
+live_index-k-requires-clause-ascends c = rw c.deref.ensures.value c.self.invariant.0.ascending
+
+pub live_index-k-requires-clause-there : goal.live_index-k-requires-clause-there
+live_index-k-requires-clause-there c =
     let i = c.self.inside in
     rw c.deref.ensures.value (live-place i.places.items i.programs.items i.last c.args.self.now c.self.view_is c.args.pid c.requires.live)
 

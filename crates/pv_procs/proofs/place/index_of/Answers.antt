@@ -1,0 +1,15 @@
+use Rattle.std.proofs.Common.{rules, sym}
+use Rattle.std.proofs.lemmas.List.Sorted.{answers_always}
+use Rattle.pv_procs.specs.declared.place.Place.{Place}
+use Rattle.pv_procs.proofs.Finding.{half-found, half-none}
+use Rattle.pv_procs.proofs.place.index_of.Goals as goal
+
+pub returns-in-Ok : goal.returns-in-Ok
+returns-in-Ok c =
+    half-found c.args.places.now c.args.pid c.requires c.in-Ok.k c.in-Ok.ensures.bound
+    (c.in-Ok.ensures.position (λ (place : Place). place.number) (answers_always _ _ _ (λ f a r g called. search rules)))
+
+pub returns-in-Err : goal.returns-in-Err
+returns-in-Err c =
+    half-none c.args.places.now c.args.pid c.requires c.in-Err.field-0
+    (c.in-Err.ensures.position (λ (place : Place). place.number) (answers_always _ _ _ (λ f a r g called. search rules)))
