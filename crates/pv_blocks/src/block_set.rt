@@ -1,5 +1,5 @@
 //! Sets of block numbers.
-ghost use Rattle.std.specs.Prelude.{◌≡◌, ℕ, ◌<◌, ◌≤◌, true, false, not, ◌==◌, ◌&&◌, ◌||◌, IfNone, IfSome};
+ghost use Rattle.std.specs.Prelude.{◌≡◌, ℕ, ◌+◌, ◌*◌, ◌<◌, ◌≤◌, true, false, not, ◌==◌, ◌&&◌, ◌||◌, IfNone, IfSome, IsTrue};
 ghost use Rattle.pv_blocks.specs.BlockSet.{is_member, AllMembers};
 
 /// A set of block numbers, from 0 to 65,535. It has one size, and takes no memory from an allocator.
@@ -47,11 +47,24 @@ impl BlockSet {
         ensures end { IfSome result (λ k. k < end) }
         ensures least { IfSome result (λ k. AllMembers self.now from k) }
     {
-        for k in from..end {
-            if !self.contains(k) {
-                return Some(k);
+        let mut k = u32::from(from);
+        while k < u32::from(end) {
+            if self.is_full(k / 64) {
+                k = 64 * (k / 64 + 1);
+            } else if self.contains(k as u16) {
+                k += 1;
+            } else {
+                return Some(k as u16);
             }
         }
         None
+    }
+
+    // Whether all 64 numbers of a word are in the set.
+    fn is_full(&self, word: u32) -> bool
+        requires { word < 1024 }
+        ensures { IsTrue result → AllMembers self.now (64 * word) (64 * word + 64) }
+    {
+        self.words[word as usize] == u64::MAX
     }
 }
