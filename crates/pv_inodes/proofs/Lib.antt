@@ -9,6 +9,7 @@ pub mod Heads
 pub mod Images
 pub mod InUse
 pub mod Layouts
+pub mod Least
 pub mod Leaving
 pub mod Making
 pub mod Mounting

@@ -1,11 +1,11 @@
 -- What the blocks of a store of files keep, and the files that they hold.
-use Rattle.std.specs.Prelude.{◌≡◌, ℕ, ◌+◌, ◌-◌, ◌<◌, ◌≤◌, false, true, length, slice_index_or, slice_set}
+use Rattle.std.specs.Prelude.{◌≡◌, ℕ, suc, ◌+◌, ◌-◌, ◌<◌, ◌≤◌, false, true, length, slice_index_or, slice_set}
 use Rattle.pv_model.specs.Room.{greatest_length}
 use Rattle.pv_model.specs.Image.{inode_blocks}
 use Rattle.pv_model.specs.declared.version.Version.{Version}
 use Rattle.pv_model.specs.Bytes.{Bytes}
 use Rattle.pv_blocks.specs.BlockStore.{BlockStore}
-use Rattle.pv_inodes.specs.Files.{Files}
+use Rattle.pv_inodes.specs.Files.{Files, IsUsed}
 use Rattle.pv_inodes.specs.Layout.{block_at, kind_at, size_at, owned_at, owned_count, most_owned, nodes_in, splice, with_kind, with_owned, with_size, zeros}
 use Rattle.pv_inodes.specs.Owning.{IsOwning}
 
@@ -31,6 +31,10 @@ pub record IsSound (version : Version) (st : BlockStore) (inodes : ℕ) : Type 0
 -- the files that the blocks hold
 unfoldable pub files_of : Version → BlockStore → ℕ → Files
 files_of version st inodes = record { version = version; nodes = nodes_in version st.blocks inodes; blocks = length st.blocks - st.first }
+
+-- each inode below one, counted from 0, is in use
+abbrev pub AllUsed : Files → ℕ → Type 0
+AllUsed f least = (s : ℕ) → s < least → IsUsed f (suc s)
 
 -- the store after inode s took block k, cleared, as its i-th
 unfoldable pub pushed : Version → BlockStore → ℕ → ℕ → ℕ → BlockStore

@@ -23,20 +23,24 @@ pub struct Inodes {
     blocks: Blocks,
     inodes: u16,
     version: Version,
+    // No inode below this one, counted from 0, is free.
+    least: u16,
 }
 
 impl Model for Inodes {
     ghost use Rattle.pv_inodes.specs.Files.{Files};
-    ghost use Rattle.pv_inodes.specs.Sound.{IsSound, files_of};
+    ghost use Rattle.pv_inodes.specs.Sound.{AllUsed, IsSound, files_of};
 
     ghost Value = { Files };
 
     ghost view = { λ f. files_of f.version f.blocks f.inodes };
 
-    ghost invariant = { λ f. IsSound f.version f.blocks f.inodes };
+    ghost invariant = { λ f. IsSound f.version f.blocks f.inodes × AllUsed (files_of f.version f.blocks f.inodes) f.least };
 }
 
 impl Inodes {
+    ghost use Rattle.pv_inodes.specs.Sound.{AllUsed};
+
     /// The inodes of an image of so many blocks and inodes over zeros: no inode is in use.
     pub fn empty(zeros: Vec<u8>, blocks: u16, inodes: u16, version: Version) -> Inodes
         requires whole { vec_len zeros ≡ 512 * blocks }
@@ -55,6 +59,7 @@ impl Inodes {
             blocks: Blocks::of_bytes(zeros, first, &BlockSet::new()),
             inodes,
             version,
+            least: 0,
         }
     }
 
@@ -238,6 +243,7 @@ impl Inodes {
         ensures after { IfSome result (λ n. self.new ≡ with_new self.old n sort) }
     {
         let slot = self.free_slot()?;
+        self.least = slot;
         set_size(&mut self.blocks, self.version, slot, 0);
         set_kind(&mut self.blocks, self.version, slot, number_of(sort));
         Some(slot + 1)
@@ -251,6 +257,7 @@ impl Inodes {
         self.shrink(inode, 0);
         let slot = self.slot(inode);
         set_kind(&mut self.blocks, self.version, slot, 0);
+        self.least = self.least.min(slot);
     }
 
     // The least inode that is free, counted from 0.
@@ -259,8 +266,9 @@ impl Inodes {
         ensures least { IfSome result (λ slot. slot + 1 ≡ new_number self.now) }
         ensures free { IfSome result (λ slot. held self.now (slot + 1) ≡ None) }
         ensures within { IfSome result (λ slot. slot + 1 < length self.now.nodes) }
+        ensures used { IfSome result (AllUsed self.now) }
     {
-        for slot in 0..self.inodes {
+        for slot in self.least..self.inodes {
             if kind_of(&self.blocks, self.version, slot) == 0 {
                 return Some(slot);
             }

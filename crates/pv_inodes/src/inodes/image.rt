@@ -33,6 +33,7 @@ impl Inodes {
             blocks,
             inodes,
             version,
+            least: 0,
         }
     }
 }

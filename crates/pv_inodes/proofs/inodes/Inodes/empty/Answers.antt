@@ -23,7 +23,7 @@ over_zeros c =
     }
 
 pub invariant_of-result : goal.invariant_of-result
-invariant_of-result c = sound_empty c.args.version _ _ _ _ _ (over_zeros c)
+invariant_of-result c = (sound_empty c.args.version _ _ _ _ _ (over_zeros c), λ s below. absurd (omega (arith, below)))
 
 pub returns-clause-version : goal.returns-clause-version
 returns-clause-version c = ap (λ (f : Files). f.version) (files_of-empty c.args.version _ _ _ _ _ (over_zeros c))

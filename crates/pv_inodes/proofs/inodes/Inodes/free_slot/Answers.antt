@@ -1,16 +1,18 @@
-use Rattle.std.proofs.Common.{◌≡◌, ◌+◌, suc, length, refl, sym, ap, ◌∙◌, arith}
+use Rattle.std.proofs.Common.{◌≡◌, ◌+◌, suc, length, refl, sym, ap, subst, ◌∙◌, arith}
 use Rattle.std.proofs.lemmas.Bool.{true≢false}
 use Rattle.pv_inodes.specs.Files.{Files, held, new_number}
 use Rattle.pv_inodes.specs.Layout.{kind_at}
+use Rattle.pv_inodes.specs.Sound.{AllUsed}
 use Rattle.pv_inodes.proofs.Becoming.{held-files_of}
 use Rattle.pv_inodes.proofs.Contents.{node_at-free}
+use Rattle.pv_inodes.proofs.Least.{all_used-kinds, all_used-within, kinds-all_used}
 use Rattle.pv_inodes.proofs.Making.{home_within}
 use Rattle.pv_inodes.proofs.Reading.{new_number-found, new_number-none, length-files_of}
 use Rattle.pv_inodes.proofs.inodes.Inodes.free_slot.Goals as goal
 use Rattle.pv_inodes.proofs.inodes.Inodes.free_slot.Goals.{Then-kind_of-eq0}
 
 pub kind_of-requires : goal.kind_of-requires
-kind_of-requires c = home_within c.self.inside.version _ _ _ c.self.invariant c.loop-slot-test.true
+kind_of-requires c = home_within c.self.inside.version _ _ _ c.self.invariant.0 c.loop-slot-test.true
 
 -- the inode is the least that is free
 found : (c : Then-kind_of-eq0) → new_number c.args.self.now ≡ suc c.loop-slot.slot
@@ -20,6 +22,14 @@ found c =
 
 long : (c : Then-kind_of-eq0) → length c.args.self.now.nodes ≡ suc c.self.inside.inodes
 long c = ap (λ (f : Files). length f.nodes) (sym c.self.view_is) ∙ length-files_of c.self.inside.version c.self.inside.blocks c.self.inside.inodes
+
+pub loop-slot-init : goal.loop-slot-init
+loop-slot-init c = all_used-kinds c.self.inside.version c.self.inside.blocks c.self.inside.inodes c.self.inside.least c.self.invariant.1
+
+pub returns-then-kind_of-eq0-clause-used : goal.returns-then-kind_of-eq0-clause-used
+returns-then-kind_of-eq0-clause-used c =
+    let used = kinds-all_used c.self.inside.version c.self.inside.blocks c.self.inside.inodes c.loop-slot.slot (omega (arith, c.loop-slot-test.true)) c.loop-slot.invariant in
+    subst (λ (f : Files). AllUsed f c.loop-slot.slot) c.self.view_is used
 
 pub returns-then-kind_of-eq0-clause-least : goal.returns-then-kind_of-eq0-clause-least
 returns-then-kind_of-eq0-clause-least c = omega (arith, found c)
@@ -39,6 +49,7 @@ returns-then-kind_of-eq0-clause-full c =
 
 pub returns-clause-full : goal.returns-clause-full
 returns-clause-full c =
-    let at_end : c.loop-slot.slot ≡ c.self.inside.inodes = omega arith in
+    let within = all_used-within c.self.inside.version c.self.inside.blocks c.self.inside.inodes c.self.inside.least c.self.invariant.1 in
+    let at_end : c.loop-slot.slot ≡ c.self.inside.inodes = omega (arith, within) in
     let all = new_number-none c.self.inside.version c.self.inside.blocks c.self.inside.inodes (rw at_end at c.loop-slot.invariant) in
     (λ _. ap new_number (sym c.self.view_is) ∙ all ∙ ap (λ (f : Files). length f.nodes) c.self.view_is, λ _. refl)

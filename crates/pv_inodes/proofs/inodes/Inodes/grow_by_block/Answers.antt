@@ -4,12 +4,13 @@ use Rattle.pv_inodes.specs.Files.{bytes_at}
 use Rattle.pv_inodes.specs.Layout.{owned_count, wanted}
 use Rattle.pv_inodes.proofs.InUse.{InUse, in_use}
 use Rattle.pv_inodes.proofs.Layouts.{greatest_length-most, wanted-most}
+use Rattle.pv_inodes.proofs.Least.{all_used-with_bytes}
 use Rattle.pv_inodes.proofs.Leaving.{Leaves, leaves_by_block, length-pushed, length-resize, wanted_next, room_enough}
 use Rattle.pv_inodes.proofs.inodes.Inodes.grow_by_block.Goals as goal
 use Rattle.pv_inodes.proofs.inodes.Inodes.grow_by_block.Goals.{After-slot-slot, After-room-owned, After-set_size}
 
 known : (c : After-slot-slot) → InUse c.self.inside.version c.self.inside.blocks c.self.inside.inodes c.args.self.now c.args.inode c.slot-slot.result
-known c = in_use c.self.inside.version _ _ _ _ _ c.self.invariant c.self.view_is c.requires.used c.slot-slot.ensures
+known c = in_use c.self.inside.version _ _ _ _ _ c.self.invariant.0 c.self.view_is c.requires.used c.slot-slot.ensures
 
 pub size_of-requires : goal.size_of-requires
 size_of-requires c = (known (goal.at.size_of-requires c).After-slot-slot).home_within
@@ -29,7 +30,7 @@ push_block-block-requires-clause-free c none =
     let k = known (goal.at.push_block-block-requires-clause-free c).After-slot-slot in
     let long = length-resize (bytes_at c.args.self.now c.args.inode) c.args.size in
     let allowed = rw k.same_version at c.requires.allowed in
-    let enough = room_enough c.self.inside.version _ _ _ _ _ _ c.self.invariant c.self.view_is c.requires.used k (rw long allowed) c.requires.room in
+    let enough = room_enough c.self.inside.version _ _ _ _ _ _ c.self.invariant.0 c.self.view_is c.requires.used k (rw long allowed) c.requires.room in
     omega (arith, rw long at enough, more (goal.at.push_block-block-requires-clause-free c).After-slot-slot)
 
 pub push_block-block-requires-clause-home : goal.push_block-block-requires-clause-home
@@ -56,11 +57,11 @@ set_size-requires c =
 left : (c : After-set_size) → Leaves c.self.inside.version c.set_size.new.blocks c.self.inside.inodes c.args.self.now c.args.inode (resize (bytes_at c.args.self.now c.args.inode) c.args.size)
 left c =
     let k = known (goal.at.After-set_size c).After-slot-slot in
-    leaves_by_block c.self.inside.version _ _ _ _ _ _ c.slot-slot.result _ _ c.push_block-block.result c.self.invariant k (rw k.same_version at c.requires.allowed) c.requires.longer c.requires.full c.requires.within c.requires.next
+    leaves_by_block c.self.inside.version _ _ _ _ _ _ c.slot-slot.result _ _ c.push_block-block.result c.self.invariant.0 k (rw k.same_version at c.requires.allowed) c.requires.longer c.requires.full c.requires.within c.requires.next
     (owned_is (goal.at.After-set_size c).After-room-owned) c.push_block-block.type_inv c.push_block-block.ensures.free c.push_block-block.ensures.after c.set_size.ensures
 
 pub invariant_of-self : goal.invariant_of-self
-invariant_of-self c = (left c).sound
+invariant_of-self c = ((left c).sound, all_used-with_bytes _ _ _ _ _ _ c.self.invariant.1 c.self.view_is (left c).files)
 
 pub returns : goal.returns
 returns c = (left c).files

@@ -5,12 +5,13 @@ use Rattle.pv_inodes.specs.Files.{bytes_at}
 use Rattle.pv_inodes.specs.Layout.{most_owned, wanted}
 use Rattle.pv_inodes.proofs.InUse.{InUse, in_use}
 use Rattle.pv_inodes.proofs.Layouts.{greatest_length-most, index_pointers-few, wanted-most}
+use Rattle.pv_inodes.proofs.Least.{all_used-with_bytes}
 use Rattle.pv_inodes.proofs.Leaving.{Leaves, TakesIndex, takes_index, leaves_by_index, length-pushed, free_count-pushed, length-resize, wanted_next, room_enough}
 use Rattle.pv_inodes.proofs.inodes.Inodes.grow_by_index.Goals as goal
 use Rattle.pv_inodes.proofs.inodes.Inodes.grow_by_index.Goals.{After-slot-slot, After-room-owned, After-push_block-index, After-set_size}
 
 known : (c : After-slot-slot) → InUse c.self.inside.version c.self.inside.blocks c.self.inside.inodes c.args.self.now c.args.inode c.slot-slot.result
-known c = in_use c.self.inside.version _ _ _ _ _ c.self.invariant c.self.view_is c.requires.used c.slot-slot.ensures
+known c = in_use c.self.inside.version _ _ _ _ _ c.self.invariant.0 c.self.view_is c.requires.used c.slot-slot.ensures
 
 pub size_of-requires : goal.size_of-requires
 size_of-requires c = (known (goal.at.size_of-requires c).After-slot-slot).home_within
@@ -30,7 +31,7 @@ enough c =
     let k = known (goal.at.After-room-owned c).After-slot-slot in
     let long = length-resize (bytes_at c.args.self.now c.args.inode) c.args.size in
     let allowed = rw k.same_version at c.requires.allowed in
-    let room = room_enough c.self.inside.version _ _ _ _ _ _ c.self.invariant c.self.view_is c.requires.used k (rw long allowed) c.requires.room in
+    let room = room_enough c.self.inside.version _ _ _ _ _ _ c.self.invariant.0 c.self.view_is c.requires.used k (rw long allowed) c.requires.room in
     omega (arith, rw long at room, more c, owned_is c)
 
 within_row : (c : After-room-owned) → c.room-owned.result + 2 ≤ most_owned c.self.inside.version
@@ -42,7 +43,7 @@ index : (c : After-push_block-index) → TakesIndex c.self.inside.version c.self
 index c =
     let before = (goal.at.After-push_block-index c).After-room-owned in
     let k = known (goal.at.After-push_block-index c).After-slot-slot in
-    takes_index c.self.inside.version _ _ _ _ _ _ _ c.push_block-index.result c.self.invariant k (owned_is before) (omega (arith, within_row before)) c.push_block-index.type_inv c.push_block-index.ensures.free c.push_block-index.ensures.after
+    takes_index c.self.inside.version _ _ _ _ _ _ _ c.push_block-index.result c.self.invariant.0 k (owned_is before) (omega (arith, within_row before)) c.push_block-index.type_inv c.push_block-index.ensures.free c.push_block-index.ensures.after
 
 pub push_block-index-requires-clause-free : goal.push_block-index-requires-clause-free
 push_block-index-requires-clause-free c none = omega (arith, enough (goal.at.push_block-index-requires-clause-free c).After-room-owned)
@@ -94,13 +95,13 @@ left : (c : After-set_size) → Leaves c.self.inside.version c.set_size.new.bloc
 left c =
     let k = known (goal.at.After-set_size c).After-slot-slot in
     let next : c.room-owned.result + 1 ≡ suc c.room-owned.result = omega arith in
-    leaves_by_index c.self.inside.version _ _ _ _ _ _ _ c.slot-slot.result _ c.room-owned.result c.push_block-index.result c.push_block-block.result c.self.invariant k (rw k.same_version at c.requires.allowed) c.requires.longer c.requires.full c.requires.within c.requires.next
+    leaves_by_index c.self.inside.version _ _ _ _ _ _ _ c.slot-slot.result _ c.room-owned.result c.push_block-index.result c.push_block-block.result c.self.invariant.0 k (rw k.same_version at c.requires.allowed) c.requires.longer c.requires.full c.requires.within c.requires.next
     (owned_is (goal.at.After-set_size c).After-room-owned)
     c.push_block-index.type_inv c.push_block-index.ensures.free c.push_block-index.ensures.after
     c.push_block-block.type_inv c.push_block-block.ensures.free (rw next at c.push_block-block.ensures.after) c.set_size.ensures
 
 pub invariant_of-self : goal.invariant_of-self
-invariant_of-self c = (left c).sound
+invariant_of-self c = ((left c).sound, all_used-with_bytes _ _ _ _ _ _ c.self.invariant.1 c.self.view_is (left c).files)
 
 pub returns : goal.returns
 returns c = (left c).files

@@ -5,13 +5,14 @@ use Rattle.pv_inodes.specs.Files.{bytes_at}
 use Rattle.pv_inodes.specs.Layout.{size_at, owned_at, owned_count, place_of}
 use Rattle.pv_inodes.proofs.InUse.{InUse, in_use, end_in_use}
 use Rattle.pv_inodes.proofs.Layouts.{greatest_length-most}
+use Rattle.pv_inodes.proofs.Least.{all_used-with_bytes}
 use Rattle.pv_inodes.proofs.Leaving.{Leaves, leaves_within}
 use Rattle.pv_inodes.proofs.Splices.{length-splice}
 use Rattle.pv_inodes.proofs.inodes.Inodes.grow_within.Goals as goal
 use Rattle.pv_inodes.proofs.inodes.Inodes.grow_within.Goals.{After-slot-slot, After-size_of-old, After-set_size}
 
 known : (c : After-slot-slot) → InUse c.self.inside.version c.self.inside.blocks c.self.inside.inodes c.args.self.now c.args.inode c.slot-slot.result
-known c = in_use c.self.inside.version _ _ _ _ _ c.self.invariant c.self.view_is c.requires.used c.slot-slot.ensures
+known c = in_use c.self.inside.version _ _ _ _ _ c.self.invariant.0 c.self.view_is c.requires.used c.slot-slot.ensures
 
 pub size_of-old-requires : goal.size_of-old-requires
 size_of-old-requires c = (known (goal.at.size_of-old-requires c).After-slot-slot).home_within
@@ -62,14 +63,14 @@ left : (c : After-set_size) → Leaves c.self.inside.version c.set_size.new.bloc
 left c =
     let k = known (goal.at.After-set_size c).After-slot-slot in
     let place = place_is (goal.at.After-set_size c).After-size_of-old in
-    leaves_within c.self.inside.version _ _ _ _ _ _ c.slot-slot.result _ c.content_block-last.result _ c.self.invariant k (rw k.same_version at c.requires.allowed) c.requires.longer c.requires.partly c.requires.within
+    leaves_within c.self.inside.version _ _ _ _ _ _ c.slot-slot.result _ c.content_block-last.result _ c.self.invariant.0 k (rw k.same_version at c.requires.allowed) c.requires.longer c.requires.partly c.requires.within
     refl
     (c.content_block-last.ensures ∙ ap (owned_at c.self.inside.version c.self.inside.blocks.blocks c.slot-slot.result) place)
     (rw c.size_of-old.ensures at c.put_zeros.ensures)
     c.set_size.ensures
 
 pub invariant_of-self : goal.invariant_of-self
-invariant_of-self c = (left c).sound
+invariant_of-self c = ((left c).sound, all_used-with_bytes _ _ _ _ _ _ c.self.invariant.1 c.self.view_is (left c).files)
 
 pub returns : goal.returns
 returns c = (left c).files

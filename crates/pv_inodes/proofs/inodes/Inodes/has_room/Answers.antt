@@ -9,7 +9,7 @@ use Rattle.pv_inodes.proofs.inodes.Inodes.has_room.Goals as goal
 use Rattle.pv_inodes.proofs.inodes.Inodes.has_room.Goals.{After-self, After-room-owned}
 
 known : (c : After-self) → InUse c.self.inside.version c.self.inside.blocks c.self.inside.inodes c.args.self.now c.args.inode c.slot-slot.result
-known c = in_use c.self.inside.version _ _ _ _ _ c.self.invariant c.self.view_is c.requires.used c.slot-slot.ensures
+known c = in_use c.self.inside.version _ _ _ _ _ c.self.invariant.0 c.self.view_is c.requires.used c.slot-slot.ensures
 
 pub size_of-requires : goal.size_of-requires
 size_of-requires c = (known (goal.at.size_of-requires c).After-self).home_within
@@ -27,12 +27,12 @@ pub returns-clause-enough : goal.returns-clause-enough
 returns-clause-enough c enough =
     let k = known (goal.at.returns-clause-enough c).After-self in
     let owned = owned_is (goal.at.returns-clause-enough c).After-room-owned in
-    has_room_if c.self.inside.version _ _ _ _ c.slot-slot.result _ c.self.invariant c.self.view_is c.requires.used k (rw k.same_version at c.requires.allowed)
+    has_room_if c.self.inside.version _ _ _ _ c.slot-slot.result _ c.self.invariant.0 c.self.view_is c.requires.used k (rw k.same_version at c.requires.allowed)
     (omega (arith, leb-true _ _ enough, owned, c.room.ensures, c.saturating_sub.ensures, c.free.ensures))
 
 pub returns-clause-wanting : goal.returns-clause-wanting
 returns-clause-wanting c wanting =
     let k = known (goal.at.returns-clause-wanting c).After-self in
     let owned = owned_is (goal.at.returns-clause-wanting c).After-room-owned in
-    lacks_room_if c.self.inside.version _ _ _ _ c.slot-slot.result _ c.self.invariant c.self.view_is c.requires.used k (rw k.same_version at c.requires.allowed)
+    lacks_room_if c.self.inside.version _ _ _ _ c.slot-slot.result _ c.self.invariant.0 c.self.view_is c.requires.used k (rw k.same_version at c.requires.allowed)
     (omega (arith, leb-false _ _ wanting, owned, c.room.ensures, c.saturating_sub.ensures, c.free.ensures))

@@ -8,7 +8,7 @@ use Rattle.pv_inodes.proofs.inodes.Inodes.is_used.Goals as goal
 use Rattle.pv_inodes.proofs.inodes.Inodes.is_used.Goals.{then-inode-eq0-via-then-inode-eq0, then-inode-eq0-via-else-inode-eq0+then-inode-self}
 
 pub kind_of-requires : goal.kind_of-requires
-kind_of-requires c = home_within c.self.inside.version _ _ _ c.self.invariant (omega arith)
+kind_of-requires c = home_within c.self.inside.version _ _ _ c.self.invariant.0 (omega arith)
 
 pub returns-then-inode-eq0 : goal.returns-then-inode-eq0
 returns-then-inode-eq0 c = (

@@ -11,7 +11,7 @@ use Rattle.pv_inodes.proofs.inodes.Inodes.lend.Goals as goal
 use Rattle.pv_inodes.proofs.inodes.Inodes.lend.Goals.{After-self}
 
 known : (c : After-self) → InUse c.self.inside.version c.self.inside.blocks c.self.inside.inodes c.args.self.now c.args.inode c.slot-slot.result
-known c = in_use c.self.inside.version _ _ _ _ _ c.self.invariant c.self.view_is c.requires.used c.slot-slot.ensures
+known c = in_use c.self.inside.version _ _ _ _ _ c.self.invariant.0 c.self.view_is c.requires.used c.slot-slot.ensures
 
 pub size_of-requires : goal.size_of-requires
 size_of-requires c = (known (goal.at.size_of-requires c).After-self).home_within
@@ -54,7 +54,7 @@ returns c =
     let block : c.lend.result.now ≡ block_at c.self.inside.blocks.blocks c.content_block-block.result = sym (get_or_from_slice_get c.self.inside.blocks.blocks c.content_block-block.result c.lend.result.now [] c.lend.ensures.bytes) in
     ap (λ n. take n (drop (c.args.at % 512) c.lend.result.now)) span
     ∙ ap (λ (xs : Bytes). take c.min-count.result (drop (c.args.at % 512) xs)) block
-    ∙ part_read c.self.inside.version _ _ _ _ c.slot-slot.result c.content_block-block.result c.args.at c.min-count.result c.self.invariant k c.content_block-block.ensures
+    ∙ part_read c.self.inside.version _ _ _ _ c.slot-slot.result c.content_block-block.result c.args.at c.min-count.result c.self.invariant.0 k c.content_block-block.ensures
     (omega (arith, count, length-drop c.args.at bytes, c.requires.within)) (omega (arith, count)) (omega (arith, count, length-drop c.args.at bytes))
     ∙ ap (λ n. take n (drop c.args.at bytes)) count
     ∙ take_min (512 - c.args.at % 512) (drop c.args.at bytes)

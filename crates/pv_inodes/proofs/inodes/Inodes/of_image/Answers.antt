@@ -54,7 +54,7 @@ loop-slot-preserved c =
     rw next (over_next _ _ _ _ _ _ _ c.loop-i.invariant c.loop-slot-test.true (omega (arith, c.owned_count-i-end.ensures, same, c.loop-i-test.false)))
 
 pub invariant_of-result : goal.invariant_of-result
-invariant_of-result c = let at_end : c.loop-slot.slot ≡ c.args.inodes = omega arith in sound_over _ _ _ _ _ (rw at_end at c.loop-slot.invariant)
+invariant_of-result c = let at_end : c.loop-slot.slot ≡ c.args.inodes = omega arith in (sound_over _ _ _ _ _ (rw at_end at c.loop-slot.invariant), λ s below. absurd (omega (arith, below)))
 
 pub returns : goal.returns
 returns c = let at_end : c.loop-slot.slot ≡ c.args.inodes = omega arith in files_of-over _ _ _ _ _ (rw at_end at c.loop-slot.invariant)

@@ -6,12 +6,13 @@ use Rattle.pv_inodes.specs.Layout.{owned_at, owned_count, wanted}
 use Rattle.pv_inodes.proofs.Growth.{Reduced, reduced_none, reduced_more, MayGiveBack, may_give_back, reduced-index}
 use Rattle.pv_inodes.proofs.InUse.{InUse, in_use}
 use Rattle.pv_inodes.proofs.Layouts.{greatest_length-most, wanted-mono}
+use Rattle.pv_inodes.proofs.Least.{all_used-with_bytes}
 use Rattle.pv_inodes.proofs.Leaving.{Leaves, leaves_reduced}
 use Rattle.pv_inodes.proofs.inodes.Inodes.shrink.Goals as goal
 use Rattle.pv_inodes.proofs.inodes.Inodes.shrink.Goals.{After-slot-slot, After-room-owned, In-loop-owned, After-owned_by-block, After-set_size}
 
 known : (c : After-slot-slot) → InUse c.self.inside.version c.self.inside.blocks c.self.inside.inodes c.args.self.now c.args.inode c.slot-slot.result
-known c = in_use c.self.inside.version _ _ _ _ _ c.self.invariant c.self.view_is c.requires.used c.slot-slot.ensures
+known c = in_use c.self.inside.version _ _ _ _ _ c.self.invariant.0 c.self.view_is c.requires.used c.slot-slot.ensures
 
 pub size_of-requires : goal.size_of-requires
 size_of-requires c = (known (goal.at.size_of-requires c).After-slot-slot).home_within
@@ -39,7 +40,8 @@ loop-owned-init c =
       most = omega (arith, owned, k.few);
       inodes = refl;
       version = refl;
-      reduced = rw owned at (reduced_none c.self.inside.version c.self.inside.blocks c.self.inside.inodes c.slot-slot.result c.self.invariant);
+      start = refl;
+      reduced = rw owned at (reduced_none c.self.inside.version c.self.inside.blocks c.self.inside.inodes c.slot-slot.result c.self.invariant.0);
     }
 
 -- one block more is left than will be
@@ -80,6 +82,7 @@ loop-owned-preserved c =
       most = omega (arith, c.loop-owned.invariant.most);
       inodes = c.loop-owned.invariant.inodes;
       version = c.loop-owned.invariant.version;
+      start = c.loop-owned.invariant.start;
       reduced = rw (c.give_back.ensures, block_is (goal.at.loop-owned-preserved c).After-owned_by-block) given;
     }
 
@@ -90,10 +93,11 @@ left : (c : After-set_size) → Leaves c.self.inside.version c.set_size.new.bloc
 left c =
     let k = known (goal.at.After-set_size c).After-slot-slot in
     let all : c.loop-owned.owned ≡ wanted c.args.size = omega (arith, c.room-kept.ensures, c.loop-owned.invariant.least) in
-    leaves_reduced c.self.inside.version _ _ _ _ _ _ c.slot-slot.result _ c.self.invariant k c.requires.shorter (rw all at c.loop-owned.invariant.reduced) (rw c.loop-owned.invariant.version at c.set_size.ensures)
+    leaves_reduced c.self.inside.version _ _ _ _ _ _ c.slot-slot.result _ c.self.invariant.0 k c.requires.shorter (rw all at c.loop-owned.invariant.reduced) (rw c.loop-owned.invariant.version at c.set_size.ensures)
 
 pub invariant_of-self : goal.invariant_of-self
-invariant_of-self c = rw (c.loop-owned.invariant.inodes, c.loop-owned.invariant.version) (left c).sound
+invariant_of-self c =
+    rw (c.loop-owned.invariant.inodes, c.loop-owned.invariant.version, c.loop-owned.invariant.start) ((left c).sound, all_used-with_bytes _ _ _ _ _ _ c.self.invariant.1 c.self.view_is (left c).files)
 
 pub returns : goal.returns
 returns c = rw (c.loop-owned.invariant.inodes, c.loop-owned.invariant.version) (left c).files

@@ -10,6 +10,7 @@ invariant-loop-owned l = record {
   most : l.owned ≤ most_owned l.initial.self-inside.version;
   inodes : l.self-inside.inodes ≡ l.initial.self-inside.inodes;
   version : l.self-inside.version ≡ l.initial.self-inside.version;
+  start : l.self-inside.least ≡ l.initial.self-inside.least;
   reduced : Reduced l.initial.self-inside.version l.initial.self-inside.blocks l.self-inside.blocks l.initial.self-inside.inodes l.slot l.owned;
 }
 

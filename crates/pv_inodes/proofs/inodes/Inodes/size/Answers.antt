@@ -4,7 +4,7 @@ use Rattle.pv_inodes.proofs.inodes.Inodes.size.Goals as goal
 use Rattle.pv_inodes.proofs.inodes.Inodes.size.Goals.{After-self}
 
 known : (c : After-self) → InUse c.self.inside.version c.self.inside.blocks c.self.inside.inodes c.args.self.now c.args.inode c.slot-slot.result
-known c = in_use c.self.inside.version _ _ _ _ _ c.self.invariant c.self.view_is c.requires c.slot-slot.ensures
+known c = in_use c.self.inside.version _ _ _ _ _ c.self.invariant.0 c.self.view_is c.requires c.slot-slot.ensures
 
 pub size_of-requires : goal.size_of-requires
 size_of-requires c = (known (goal.at.size_of-requires c).After-self).home_within

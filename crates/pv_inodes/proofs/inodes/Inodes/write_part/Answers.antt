@@ -4,12 +4,13 @@ use Rattle.pv_inodes.specs.Files.{bytes_at}
 use Rattle.pv_inodes.specs.Layout.{owned_count, place_of}
 use Rattle.pv_inodes.proofs.InUse.{InUse, in_use, place_in_use}
 use Rattle.pv_inodes.proofs.Layouts.{greatest_length-most}
+use Rattle.pv_inodes.proofs.Least.{all_used-with_bytes}
 use Rattle.pv_inodes.proofs.Leaving.{Leaves, leaves_written}
 use Rattle.pv_inodes.proofs.inodes.Inodes.write_part.Goals as goal
 use Rattle.pv_inodes.proofs.inodes.Inodes.write_part.Goals.{After-slot-slot, After-put}
 
 known : (c : After-slot-slot) → InUse c.self.inside.version c.self.inside.blocks c.self.inside.inodes c.args.self.now c.args.inode c.slot-slot.result
-known c = in_use c.self.inside.version _ _ _ _ _ c.self.invariant c.self.view_is c.requires.used c.slot-slot.ensures
+known c = in_use c.self.inside.version _ _ _ _ _ c.self.invariant.0 c.self.view_is c.requires.used c.slot-slot.ensures
 
 pub overflow_cast-at : goal.overflow_cast-at
 overflow_cast-at c = let k = known (goal.at.overflow_cast-at c).After-slot-slot in omega (arith, c.requires.some, c.requires.within, k.allowed, k.size, greatest_length-most c.self.inside.version)
@@ -39,12 +40,12 @@ put-requires-clause-block c =
 left : (c : After-put) → Leaves c.self.inside.version c.put.new.blocks c.self.inside.inodes c.args.self.now c.args.inode (overwrite (bytes_at c.args.self.now c.args.inode) c.args.at c.args.part.now)
 left c =
     let k = known (goal.at.After-put c).After-slot-slot in
-    leaves_written c.self.inside.version _ _ _ _ _ c.slot-slot.result c.content_block-block.result _ _ c.self.invariant k
+    leaves_written c.self.inside.version _ _ _ _ _ c.slot-slot.result c.content_block-block.result _ _ c.self.invariant.0 k
     c.content_block-block.ensures
     c.requires.some c.requires.block c.requires.within c.put.ensures
 
 pub invariant_of-self : goal.invariant_of-self
-invariant_of-self c = (left c).sound
+invariant_of-self c = ((left c).sound, all_used-with_bytes _ _ _ _ _ _ c.self.invariant.1 c.self.view_is (left c).files)
 
 pub returns : goal.returns
 returns c = (left c).files
