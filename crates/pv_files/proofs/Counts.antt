@@ -1,10 +1,8 @@
 -- Open files with the counts of their users.
-use Rattle.std.proofs.Common.{◌≡◌, ℕ, zero, suc, ◌+◌, ◌-◌, ◌<◌, true, false, nat_lt, cond, List, [], ◌∷◌, map, length, replicate, get_or, Option, None, Some, IfNone, IsSome, is_some, option_map, slice_index, slice_set, refl, sym, ap, ap₂, ◌∙◌, arith}
+use Rattle.std.proofs.Common.{◌≡◌, ℕ, zero, suc, ◌+◌, ◌-◌, ◌<◌, true, cond, List, [], ◌∷◌, map, length, replicate, get_or, Option, None, Some, IfNone, IsSome, is_some, option_map, slice_index, slice_set, refl, sym, ap, ap₂, ◌∙◌, arith}
 use Rattle.std.specs.Prelude.{◌↔◌}
 use Rattle.std.proofs.Math.ListN.{set, length-map}
-use Rattle.std.proofs.lemmas.Bool.{ltb-true, ltb-false}
 use Rattle.std.proofs.lemmas.List.{map-set}
-use Rattle.pv_model.proofs.Numbers.{at_number_past}
 use Rattle.pv_model.specs.State.{OpenFile}
 use Rattle.pv_model.specs.Numbered.{Numbered, at_number, with_number, without_number, least_free}
 use Rattle.pv_files.specs.declared.opened.Opened.{Opened}
@@ -82,18 +80,6 @@ module _ (places : Places) (c : Counted) (seen : counted_of places ≡ c) (k : �
 pub place_opened : (places : Places) (k : ℕ) (place : Option Opened) → IsPlace places k place → IsSome (at_number (counted_of places).files k) → is_some place ≡ true
 place_opened places k None is there = let none = is.file in cc
 place_opened places k (Some o) is there = refl
-
--- whether a file is open, as it is read
-pub open_read : (places : Places) (k : ℕ) (place : Option Opened) → true ≡ nat_lt k (length places) → place ≡ get_or places k place → is_some place ≡ is_some (at_number (counted_of places).files k)
-open_read places k place below is =
-    let within = ltb-true k (length places) (sym below) in
-    elim place as (λ p. at_number (counted_of places).files k ≡ option_map file_of p → is_some p ≡ is_some (at_number (counted_of places).files k)) [
-      | None ↦ λ at. ap is_some (sym at)
-      | Some o ↦ λ at. ap is_some (sym at)
-    ] (file_read places k place within is)
-
-pub open_past : (places : Places) (k : ℕ) → false ≡ nat_lt k (length places) → false ≡ is_some (at_number (counted_of places).files k)
-open_past places k past = sym (ap is_some (at_number_past file_of places k (ltb-false k (length places) (sym past))))
 
 -- ---- after a change of a place
 

@@ -1,5 +1,8 @@
 -- The places of open files, as the definitions have them.
-use Rattle.std.specs.Prelude.{ℕ, List, map, Option, None, Some, option_map}
+use Rattle.std.specs.Prelude.{◌≡◌, ℕ, ◌<◌, List, length, map, Option, None, Some, option_map, slice_index}
+use Rattle.std.specs.Option.{option_flatten}
+use Rattle.slab.specs.Slab.{Slab, get, ContainsKey}
+use Rattle.pv_model.specs.declared.limits.TheConstants.{OPEN_FILES}
 use Rattle.pv_model.specs.State.{OpenFile}
 use Rattle.pv_files.specs.declared.opened.Opened.{Opened}
 use Rattle.pv_files.specs.Counted.{Counted}
@@ -14,3 +17,17 @@ users_of (Some o) = o.users
 
 abbrev pub counted_of : List (Option Opened) → Counted
 counted_of places = record { files = map (option_map file_of) places; users = map users_of places }
+
+-- what is open in the record under a key
+abbrev pub record_at : Slab (Option Opened) → ℕ → Option Opened
+record_at records key = option_flatten (get records key)
+
+-- the places of the numbers whose records stand under these keys
+abbrev pub places_under : Slab (Option Opened) → List ℕ → List (Option Opened)
+places_under records keys = map (record_at records) keys
+
+-- what holds of the keys of all numbers: each is of a record, and no two of the same
+pub record AreKeys (records : Slab (Option Opened)) (keys : List ℕ) : Type 0 where
+  pub count : length keys ≡ OPEN_FILES
+  pub recorded : (k : ℕ) → k < OPEN_FILES → ContainsKey records (slice_index keys k)
+  pub own : (j k : ℕ) → j < OPEN_FILES → k < OPEN_FILES → slice_index keys j ≡ slice_index keys k → j ≡ k

@@ -1,8 +1,9 @@
 //! Open files, and the descriptors by which a process uses them: open(2), dup(2), close(2).
 //!
-//! `OpenFiles` has 128 places for open files, each with a count of the descriptors that use it, and gives the
-//! least free one. `Descriptors` has the 16 places of one process. Both are of fixed size: memory is asked for
-//! once, by `OpenFiles::new`. Clauses see open files as the record `Counted` of `specs/Counted.antt`, which is the
+//! `OpenFiles` has a slab of 128 records for open files, each with a count of the descriptors that use it, and a
+//! fixed row with the key of each number's record; it gives the least free number. `Descriptors` has the 16 places
+//! of one process. Both are of fixed size: all records are made by `OpenFiles::new`, which alone asks for memory,
+//! and none is removed. Clauses see open files as the record `Counted` of `specs/Counted.antt`, which is the
 //! definitions' map of open files beside the counts, and descriptors as the definitions' map of descriptors.
 //! `opened` has one open file, `open_files` all of them, and `descriptors` the descriptors.
 #![tactic(auto)]

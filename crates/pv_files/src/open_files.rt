@@ -1,37 +1,39 @@
 //! The open files of the system.
-ghost use Rattle.std.specs.Prelude.{◌≡◌, ◌+◌, ◌-◌, ◌<◌, ◌↔◌, ◌==◌, if◌then◌else◌, is_some, length, None, Some, OnSome, IfSome, IfNone, IfOk, OnOk, OnErr, IfErr, IsOk, IsSome, IsTrue, option_map, slice_index, slice_set};
+ghost use Rattle.std.specs.Prelude.{◌≡◌, ◌+◌, ◌-◌, ◌<◌, ◌↔◌, ◌==◌, if◌then◌else◌, is_some, length, None, Some, OnSome, IfSome, IfNone, IfOk, OnOk, OnErr, IfErr, IsOk, IsSome, IsTrue, MatchOption, option_map, slice_index, slice_set, position, is_none};
 ghost use Rattle.std.specs.Option.{option_copied};
 ghost use Rattle.pv_model.specs.Numbered.{at_number, without_number, least_free};
 ghost use Rattle.pv_files.specs.Counted.{IsCounted, no_files, with_file, with_users, with_opened};
-ghost use Rattle.pv_files.specs.Places.{file_of, users_of};
+ghost use Rattle.pv_files.specs.Places.{file_of, users_of, record_at, places_under};
 
 use crate::opened::Opened;
-use crate::places::first_free;
 use pv_model::limits::OPEN_FILES;
 use pv_model::{Errno, Mode, Name};
+use slab::Slab;
 use std::alloc::{AllocError, Global};
 use std::marker::Model;
 
 /// The open files of the system, by their numbers from 0 to 127, each with the count of its users.
 ///
-/// A number is free where it has no user.
+/// A number is free where it has no user. The records of all 128 are made at the start and stay: in that of a free
+/// number nothing is open.
 #[derive(Drop)]
 pub struct OpenFiles {
-    places: Vec<Option<Opened>>,
+    // A record for each number, with nothing in it where the number is free. None is removed.
+    records: Slab<Option<Opened>>,
+    // The key of each number's record: the slab chooses them.
+    keys: [usize; OPEN_FILES],
 }
 
 impl Model for OpenFiles {
-    ghost use Rattle.pv_model.specs.declared.limits.TheConstants.{OPEN_FILES};
     ghost use Rattle.pv_files.specs.Counted.{Counted};
 
     ghost Value = { Counted };
 
-    ghost use Rattle.std.specs.Prelude.{◌≡◌, length};
-    ghost use Rattle.pv_files.specs.Places.{counted_of};
+    ghost use Rattle.pv_files.specs.Places.{counted_of, places_under, AreKeys};
 
-    ghost view = { λ t. counted_of t.places.items };
+    ghost view = { λ t. counted_of (places_under t.records t.keys) };
 
-    ghost invariant = { λ t. length t.places.items ≡ OPEN_FILES };
+    ghost invariant = { λ t. AreKeys t.records t.keys };
 }
 
 // One user more of what is kept at a place.
@@ -89,34 +91,58 @@ fn put_last_name(place: &mut Option<Opened>, name: Name)
     }
 }
 
+// What is open in the record under a key.
+fn opened_at(records: &Slab<Option<Opened>>, key: usize) -> Option<&Opened>
+    ensures { option_copied result ≡ record_at records.now key }
+{
+    records.get(key)?.as_ref()
+}
+
+// The index of the first key whose record is free.
+fn first_free_index(records: &Slab<Option<Opened>>, keys: &[usize]) -> Option<usize>
+    ensures { result ≡ position (λ key. is_none (record_at records.now key)) keys.now }
+{
+    keys.iter()
+        .position(|key| opened_at(records, *key).is_none())
+}
+
+// The least number whose record is free, where there is one.
+fn first_free_number(records: &Slab<Option<Opened>>, keys: &[usize]) -> Option<usize>
+    ensures { MatchOption result (least_free (places_under records.now keys.now) ≡ length keys.now)
+        (λ k. (least_free (places_under records.now keys.now) ≡ k) × (k < length keys.now)) }
+{
+    first_free_index(records, keys)
+}
+
 impl OpenFiles {
     /// No open files.
     ///
     /// # Errors
     ///
-    /// Where there is no memory for the places. No other call of `OpenFiles` asks for any.
+    /// Where there is no memory for the records. No other call of `OpenFiles` asks for any.
     pub fn new(alloc: Global) -> Result<OpenFiles, AllocError>
         ensures { IfOk result (λ files. files ≡ no_files) }
     {
-        let mut places = Vec::with_capacity(alloc, OPEN_FILES)?;
-        for _number in 0..OPEN_FILES {
-            places.push(None)?;
+        let mut records = Slab::with_capacity(alloc, OPEN_FILES)?;
+        let mut keys = [0; OPEN_FILES];
+        for number in 0..OPEN_FILES {
+            keys[number] = records.insert_reserved(None);
         }
-        Ok(OpenFiles { places })
+        Ok(OpenFiles { records, keys })
     }
 
     /// Does nothing: its contract tells what holds of the open files at any time.
     pub fn facts(&self)
         ensures { IsCounted self.now }
     {
-        let _ = &self.places;
+        let _ = &self.records;
     }
 
     /// Whether a number is free.
     pub fn has_room(&self) -> bool
         ensures { IsTrue result ↔ (least_free self.now.files < OPEN_FILES) }
     {
-        first_free(&self.places).is_some()
+        first_free_number(&self.records, &self.keys).is_some()
     }
 
     /// Opens a node, with one user, at offset 0 and with no name listed. The answer is the least free number.
@@ -133,10 +159,10 @@ impl OpenFiles {
         ensures full { OnErr result (least_free self.old.files ≡ OPEN_FILES) }
         ensures unchanged { OnErr result (self.new ≡ self.old) }
     {
-        let Some(file) = first_free(&self.places) else {
+        let Some(file) = first_free_number(&self.records, &self.keys) else {
             return Err(Errno::ENFILE);
         };
-        self.places[file] = Some(Opened {
+        self.records[self.keys[file]] = Some(Opened {
             node,
             mode,
             append,
@@ -147,23 +173,28 @@ impl OpenFiles {
         Ok(file)
     }
 
+    // What is open under a number.
+    fn lookup(&self, file: usize) -> Option<&Opened>
+        ensures file { option_map file_of (option_copied result) ≡ at_number self.now.files file }
+        ensures users { users_of (option_copied result) ≡ slice_index self.now.users file }
+    {
+        opened_at(&self.records, *self.keys.get(file)?)
+    }
+
     /// Whether a file is open under a number.
     pub fn is_open(&self, file: usize) -> bool
         ensures { result ≡ is_some (at_number self.now.files file) }
     {
-        match self.places.get(file) {
-            Some(place) => place.is_some(),
-            None => false,
-        }
+        self.lookup(file).is_some()
     }
 
     /// How many users an open file has: 0 of a free number.
     pub fn users(&self, file: usize) -> u16
         ensures { result ≡ slice_index self.now.users file }
     {
-        match self.places.get(file) {
-            Some(Some(opened)) => opened.users,
-            _ => 0,
+        match self.lookup(file) {
+            Some(opened) => opened.users,
+            None => 0,
         }
     }
 
@@ -173,7 +204,7 @@ impl OpenFiles {
         requires room { slice_index self.old.users file < 65535 }
         ensures { self.new ≡ with_users self.old file (slice_index self.old.users file + 1) }
     {
-        add_user(&mut self.places[file]);
+        add_user(&mut self.records[self.keys[file]]);
     }
 
     /// Takes a user of an open file away. Where none is left the number is free, and the answer is the number of
@@ -188,7 +219,7 @@ impl OpenFiles {
         ensures closed { OnSome result (self.new.files ≡ without_number self.old.files file) }
         ensures stays { IfNone result (self.new.files ≡ self.old.files) }
     {
-        take_user(&mut self.places[file])
+        take_user(&mut self.records[self.keys[file]])
     }
 
     // What is kept of an open file.
@@ -196,10 +227,7 @@ impl OpenFiles {
         requires { IsSome (at_number self.now.files file) }
         ensures { at_number self.now.files file ≡ Some (file_of result.now) }
     {
-        match &self.places[file] {
-            Some(opened) => opened,
-            None => unreachable!(),
-        }
+        self.lookup(file).unwrap()
     }
 
     /// The number of the node of an open file.
@@ -240,7 +268,7 @@ impl OpenFiles {
         ensures { option_map (λ f. with_file self.old file (record f { offset = offset }))
             (at_number self.old.files file) ≡ Some self.new }
     {
-        put_offset(&mut self.places[file], offset);
+        put_offset(&mut self.records[self.keys[file]], offset);
     }
 
     /// The name that getdents(2) gave last through an open file, where it gave one.
@@ -258,6 +286,6 @@ impl OpenFiles {
         ensures { option_map (λ f. with_file self.old file (record f { listed = Some name }))
             (at_number self.old.files file) ≡ Some self.new }
     {
-        put_last_name(&mut self.places[file], name);
+        put_last_name(&mut self.records[self.keys[file]], name);
     }
 }

@@ -1,8 +1,10 @@
-use Rattle.pv_files.specs.Places.{file_of}
+use Rattle.std.proofs.Common.{◌∙◌}
+use Rattle.std.proofs.Math.ListN.{length-map}
+use Rattle.pv_files.specs.Places.{file_of, record_at, places_under}
 use Rattle.pv_files.proofs.Seen.{room_found}
 use Rattle.pv_files.proofs.open_files.OpenFiles.has_room.Goals as goal
 
 pub returns : goal.returns
 returns c =
-    let found = rw c.deref.ensures.value at c.first_free.ensures in
-    rw (c.is_some.ensures, ← c.self.view_is) (room_found file_of c.self.inside.places.items 128 c.first_free.result c.self.invariant found)
+    let all = length-map c.self.inside.keys (record_at c.self.inside.records) in
+    rw (c.is_some.ensures, ← c.self.view_is) (room_found file_of (places_under c.self.inside.records c.self.inside.keys) 128 c.first_free_number.result (all ∙ c.self.invariant.count) (rw (← all) at c.first_free_number.ensures))
