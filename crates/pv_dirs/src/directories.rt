@@ -179,15 +179,16 @@ impl Directories {
         added
     }
 
-    /// Takes away the entry of a directory that has this name.
-    pub fn remove(&mut self, directory: u16, name: &[u8])
-        requires directory { IsTrue (is_directory_at self.old directory) }
-        requires present { IsSome (find_entry self.old directory name.now) }
-        ensures { self.new ≡ without_entry self.old directory name.now }
+    /// Takes away the entry of a directory that has this name, and answers the number of its node; None
+    /// where no entry has it, and then nothing has changed.
+    pub fn remove(&mut self, directory: u16, name: &[u8]) -> Option<u16>
+        requires { IsTrue (is_directory_at self.old directory) }
+        ensures gone { result ≡ find_entry self.old directory name.now }
+        ensures left { IfSome result (λ _. self.new ≡ without_entry self.old directory name.now) }
+        ensures none { IfNone result (self.new ≡ self.old) }
     {
-        let Some(hole) = find(&self.inodes, &self.index, directory, name) else {
-            unreachable!()
-        };
+        let hole = find(&self.inodes, &self.index, directory, name)?;
+        let gone = number(&self.inodes, directory, hole);
         let last = count(&self.inodes, directory) - 1;
         let moved = slot(&self.inodes, directory, last);
         let at = start(&self.inodes, hole);
@@ -197,6 +198,7 @@ impl Directories {
         self.index.remove(directory, name, hole as u16);
         self.index
             .change(directory, moved.name(), last as u16, hole as u16);
+        Some(gone)
     }
 
     /// Copies the bytes of a file or a link, from `at` on, to the front of the buffer. The result is how

@@ -40,8 +40,9 @@ fn expect_add(
 
 fn remove(rt: &impl Abort, files: &mut Directories, name: &[u8]) {
     assert!(rt; files.is_directory(1));
-    assert!(rt; files.find(1, name).is_some());
-    files.remove(1, name);
+    let node = files.find(1, name);
+    assert!(rt; node.is_some());
+    assert_eq!(rt; files.remove(1, name), node);
 }
 
 // The names of the directory are these, in this order, and all of them.

@@ -42,6 +42,16 @@ put_over name n es sorted =
     (λ other. find-put_other q name n less other ∙ find-without_other q name es other ∙ sym (find-put_other q name n es other))
     (cases_name q name))
 
+-- where no entry has a name, none is taken away
+pub none_taken : (name : Bytes) (es : Entries) → is_sorted by_name es ≡ true → find by_name name es ≡ None → where_key by_name (is_other name) es ≡ es
+none_taken name es sorted none =
+    let less = where_key by_name (is_other name) es in
+    same_found less es (sorted_without name es sorted) sorted (λ q.
+    ⊎_elim
+    (λ same. ap (λ k. find by_name k less) same ∙ find-without_same name es ∙ sym none ∙ ap (λ k. find by_name k es) (sym same))
+    (λ other. find-without_other q name es other)
+    (cases_name q name))
+
 -- how many entries there are with one more, and with one less
 pub length_more : (name : Bytes) (n : ℕ) (es : Entries) → is_sorted by_name es ≡ true → find by_name name es ≡ None → length (put by_name name n es) ≡ suc (length es)
 length_more name n es sorted none =

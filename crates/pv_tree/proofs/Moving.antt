@@ -1,6 +1,6 @@
 -- What becomes of a tree when a node gets another name.
 use Rattle.std.proofs.Common.{◌≡◌, ◌≢◌, ℕ, suc, ◌+◌, ◌-◌, ◌<◌, ◌≤◌, true, false, cond, List, [], length, Option, None, Some, is_some, Result, Ok, Err, refl, ap, ap₂, sym, subst, ◌∙◌, arith, ⊎_elim}
-use Rattle.std.specs.Prelude.{slice_index, slice_set, OnOk, IfErr, IfSome}
+use Rattle.std.specs.Prelude.{slice_index, slice_set, OnOk, IfErr, IfSome, IfNone}
 use Rattle.std.specs.FinMap.Entries.{put, where_key, is_sorted, length-put}
 use Rattle.std.proofs.lemmas.Bool.{cases_eq}
 use Rattle.std.proofs.lemmas.Cmp.{nat_list_cmp_total}
@@ -26,7 +26,7 @@ use Rattle.pv_tree.specs.Rooms.{refusal}
 use Rattle.pv_tree.specs.Standing.{stored, IsShaped, IsCounted, IsTied}
 use Rattle.pv_tree.proofs.Carrying.{carried}
 use Rattle.pv_tree.proofs.Counting.{below, read-same, read-other, kept-more, settled-is}
-use Rattle.pv_tree.proofs.Entries.{one_if, put_back, put_over}
+use Rattle.pv_tree.proofs.Entries.{one_if, put_back, put_over, none_taken}
 use Rattle.pv_tree.proofs.Keeping.{is_kept, trimmed-all, all-kept}
 use Rattle.pv_tree.proofs.Linking.{one_if-same, one_if-other}
 use Rattle.pv_tree.proofs.Making.{with_node-twice, filled}
@@ -63,6 +63,12 @@ module _ (t : Tree) (d : ℕ) (name : Bytes) (is : is_directory_at t d ≡ true)
   -- an entry that takes another's place
   pub entered-over : (n : ℕ) → with_entry (without_entry t d name) d name n ≡ with_entry t d name n
   entered-over n = entered n ∙ ap (λ es. with_node t d (directory_node es)) (put_over name n (entries_at t d) sorted)
+
+  -- no entry is taken away where none has the name
+  pub without-nothing : find_entry t d name ≡ None → without_entry t d name ≡ t
+  without-nothing none =
+      ap (λ es. with_node t d (directory_node es)) (none_taken name (entries_at t d) sorted none)
+      ∙ sym (filled t d (directory_node (entries_at t d)) (directory-node t d is))
 
 -- ---- room
 
@@ -119,7 +125,7 @@ done t (Err why) allowed refused p = cc (sym allowed ∙ refused)
 
 -- ---- the steps
 
-value-of : (o : Option ℕ) → is_some o ≡ true → (m : ℕ) × (o ≡ Some m)
+pub value-of : (o : Option ℕ) → is_some o ≡ true → (m : ℕ) × (o ≡ Some m)
 value-of None is = cc
 value-of (Some m) is = (m, refl)
 
@@ -161,45 +167,68 @@ module _ (t : Tree) (wf : IsWellFormed t) (sh : IsShaped t) (fit : fits t ≡ tr
   pub back-is : with_entry between d name n ≡ t
   back-is = entered-back t d name at-from (sh.ordered d) n has
 
-  pub back-allowed : refusal (with_entry between d name n) ≡ None
-  back-allowed = ap refusal back-is ∙ refusal-fits t sh.short fit
+  -- the other name is that of the same node in between
+  pub found-between : find_entry t e other ≢ Some n → find_entry between e other ≡ find_entry t e other
+  found-between apart = by (find_entry t e other) refl
+    where
+      by : (o : Option ℕ) → find_entry t e other ≡ o → find_entry between e other ≡ find_entry t e other
+      by None is = between-free is ∙ sym is
+      by (Some m) is = without_entry-stays t d name at-from e other m is (λ here same. apart (ap₂ (find_entry t) here same ∙ has)) ∙ sym is
 
-  module _ (taken : is_some (find_entry t e other) ≡ true) (apart : find_entry t e other ≢ Some n) where
-    m : ℕ
-    m = (value-of (find_entry t e other) taken).0
+  -- ---- without both entries
+  abbrev bared : Tree
+  bared = without_entry between e other
 
-    had : find_entry t e other ≡ Some m
-    unfolding m
-    had = (value-of (find_entry t e other) taken).1
+  shape-bared : SameShape between bared
+  shape-bared = shape-without_entry between e other between-directory shape-between.each_node
 
-    still-had : find_entry between e other ≡ Some m
-    still-had = without_entry-stays t d name at-from e other m had
-        (λ here same. apart (ap₂ (find_entry t) here same ∙ has))
+  pub bared-by : (r : Option ℕ) (u : Tree) → r ≡ find_entry between e other → IfSome r (λ _. u ≡ bared) → IfNone r (u ≡ between) → u ≡ bared
+  bared-by None u is some none = none ∙ sym (without-nothing between e other between-directory (between-shaped.ordered e) (sym is))
+  bared-by (Some m) u is some none = some
 
-    pub between-taken : is_some (find_entry between e other) ≡ true
-    between-taken = ap is_some still-had
+  pub bared-shaped : IsShaped bared
+  bared-shaped = shaped-less between between-shaped shape-between.each_node e other between-directory
 
-    abbrev bared : Tree
-    bared = without_entry between e other
+  pub bared-directory : is_directory_at bared e ≡ true
+  bared-directory = shape-bared.directory e ∙ between-directory
 
-    pub bared-shaped : IsShaped bared
-    bared-shaped = shaped-less between between-shaped shape-between.each_node e other between-directory
+  pub bared-from : is_directory_at bared d ≡ true
+  bared-from = shape-bared.directory d ∙ between-from
 
-    pub bared-directory : is_directory_at bared e ≡ true
-    bared-directory = (shape-without_entry between e other between-directory shape-between.each_node).directory e ∙ between-directory
+  pub bared-absent : find_entry bared e other ≡ None
+  bared-absent = found-without between e other between-directory
 
-    pub bared-absent : find_entry bared e other ≡ None
-    bared-absent = found-without between e other between-directory
+  pub bared-first : find_entry bared d name ≡ None
+  bared-first = by (find_entry bared d name) refl
+    where
+      by : (o : Option ℕ) → find_entry bared d name ≡ o → o ≡ None
+      by None is = refl
+      by (Some x) is = sym (without_entry-was between e other between-directory d name x is).1 ∙ between-absent
 
-    pub replaced-is : with_entry bared e other n ≡ with_entry between e other n
-    replaced-is = entered-over between e other between-directory (between-shaped.ordered e) n
+  pub replaced-is : with_entry bared e other n ≡ with_entry between e other n
+  replaced-is = entered-over between e other between-directory (between-shaped.ordered e) n
 
-    pub replaced-allowed : refusal (with_entry bared e other n) ≡ None
-    replaced-allowed =
-        let fewer = no_larger-over between e other n m between-directory (between-shaped.ordered e) still-had in
-        let room = refusal-none between (smaller-allowed t between (no_larger-without t d name at-from) sh.short fit) in
-        ap refusal replaced-is
-        ∙ smaller-allowed between (with_entry between e other n) fewer room.0 room.1
+  replaced-allowed : (m : ℕ) → find_entry between e other ≡ Some m → refusal (with_entry bared e other n) ≡ None
+  replaced-allowed m had =
+      let fewer = no_larger-over between e other n m between-directory (between-shaped.ordered e) had in
+      let room = refusal-none between (smaller-allowed t between (no_larger-without t d name at-from) sh.short fit) in
+      ap refusal replaced-is
+      ∙ smaller-allowed between (with_entry between e other n) fewer room.0 room.1
+
+  -- only where no node had the other name is there no room
+  pub refused-free : (why : Space) → find_entry t e other ≢ Some n → refusal (with_entry bared e other n) ≡ Some why → find_entry t e other ≡ None
+  refused-free why apart refused = by (find_entry t e other) refl
+    where
+      by : (o : Option ℕ) → find_entry t e other ≡ o → o ≡ None
+      by None is = refl
+      by (Some m) is = let allowed = replaced-allowed m (found-between apart ∙ is) in cc (sym allowed ∙ refused)
+
+  pub bared-back : find_entry t e other ≡ None → with_entry bared d name n ≡ t
+  bared-back free =
+      ap (λ (u : Tree). with_entry u d name n) (without-nothing between e other between-directory (between-shaped.ordered e) (between-free free)) ∙ back-is
+
+  pub bared-allowed : find_entry t e other ≡ None → refusal (with_entry bared d name n) ≡ None
+  bared-allowed free = ap refusal (bared-back free) ∙ refusal-fits t sh.short fit
 
 -- ---- the node under the other name
 

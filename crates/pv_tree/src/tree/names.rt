@@ -1,5 +1,5 @@
 //! Names that nodes get and lose.
-ghost use Rattle.std.specs.Prelude.{◌≡◌, ◌≢◌, [], IsTrue, IsFalse, false, None, Some, IsSome, IfSome, IfErr, OnOk, OnErr};
+ghost use Rattle.std.specs.Prelude.{◌≡◌, ◌≢◌, [], IsTrue, IsFalse, false, None, Some, IsSome, IfSome, IfOk, IfErr, OnOk, OnErr};
 ghost use Rattle.pv_model.specs.Calls.Paths.{contains_directory, entries_there};
 ghost use Rattle.pv_model.specs.Room.{fits};
 ghost use Rattle.pv_model.specs.Tree.{node_at, find_entry, is_directory_at, is_name, with_entry, without_entry, IsWellFormed};
@@ -16,57 +16,49 @@ use super::making::enter;
 use pv_dirs::Directories;
 use pv_inodes::Space;
 
-// Moves an entry to a name that another node had, which loses it.
-fn move_over(
-    directories: &mut Directories,
-    from: u16,
-    name: &[u8],
-    to: u16,
-    other: &[u8],
+/// An entry that was moved.
+#[derive(Clone, Copy)]
+struct Moved {
+    // The node that it is for.
     node: u16,
-)
-    requires well_formed { IsWellFormed directories.old }
-    requires shaped { IsShaped directories.old }
-    requires fits { IsTrue (fits directories.old) }
-    requires present { find_entry directories.old from name.now ≡ Some node }
-    requires to { IsTrue (is_directory_at directories.old to) }
-    requires name { IsTrue (is_name directories.old.version other.now) }
-    requires taken { IsSome (find_entry directories.old to other.now) }
-    requires apart { find_entry directories.old to other.now ≢ Some node }
-    ensures { directories.new ≡ with_entry (without_entry directories.old from name.now) to other.now node }
-{
-    directories.remove(from, name);
-    directories.remove(to, other);
-    let _ = enter(directories, to, other, node);
+    // The node that had the new name, if one had.
+    gone: Option<u16>,
 }
 
-// Moves an entry to a name that no node had. An `Err` changes nothing: the entry is put back where it was.
-fn move_to(
+// Moves an entry to another name, which a node that had it loses. An `Err` changes nothing: the entry is put back
+// where it was. It comes only where no node had the name, since another entry leaves room for this one.
+fn move_entry(
     directories: &mut Directories,
     from: u16,
     name: &[u8],
     to: u16,
     other: &[u8],
-    node: u16,
-) -> Result<(), Space>
+) -> Result<Moved, Space>
     requires well_formed { IsWellFormed directories.old }
     requires shaped { IsShaped directories.old }
     requires fits { IsTrue (fits directories.old) }
-    requires present { find_entry directories.old from name.now ≡ Some node }
+    requires from { IsTrue (is_directory_at directories.old from) }
+    requires present { IsSome (find_entry directories.old from name.now) }
     requires to { IsTrue (is_directory_at directories.old to) }
     requires name { IsTrue (is_name directories.old.version other.now) }
-    requires free { find_entry directories.old to other.now ≡ None }
-    ensures ok { OnOk result (directories.new ≡ with_entry (without_entry directories.old from name.now) to other.now node) }
+    requires apart { find_entry directories.old to other.now ≢ find_entry directories.old from name.now }
+    ensures node { IfOk result (λ m. find_entry directories.old from name.now ≡ Some m.node) }
+    ensures gone { IfOk result (λ m. m.gone ≡ find_entry directories.old to other.now) }
+    ensures ok { IfOk result (λ m. directories.new ≡ with_entry (without_entry directories.old from name.now) to other.now m.node) }
+    ensures allowed { IfOk result (λ m. refusal (with_entry (without_entry directories.old from name.now) to other.now m.node) ≡ None) }
     ensures err { OnErr result (directories.new ≡ directories.old) }
-    ensures allowed { OnOk result (refusal (with_entry (without_entry directories.old from name.now) to other.now node) ≡ None) }
-    ensures refused { IfErr result (λ why. refusal (with_entry (without_entry directories.old from name.now) to other.now node) ≡ Some why) }
+    ensures free { OnErr result (find_entry directories.old to other.now ≡ None) }
+    ensures refused { IfErr result (λ why. IfSome (find_entry directories.old from name.now) (λ n. refusal (with_entry (without_entry directories.old from name.now) to other.now n) ≡ Some why)) }
 {
-    directories.remove(from, name);
+    let Some(node) = directories.remove(from, name) else {
+        unreachable!()
+    };
+    let gone = directories.remove(to, other);
     if let Err(why) = enter(directories, to, other, node) {
         let _ = enter(directories, from, name, node);
         return Err(why);
     }
-    Ok(())
+    Ok(Moved { node, gone })
 }
 
 impl Tree {
@@ -99,10 +91,9 @@ impl Tree {
         ensures tree { self.new ≡ after self.old (without_entry self.old.tree directory name.now) }
         ensures elsewhere { AlikeBut directory name.now (find_entry self.old.tree) (find_entry self.new.tree) }
     {
-        let Some(node) = self.directories.find(directory, name) else {
+        let Some(node) = self.directories.remove(directory, name) else {
             unreachable!()
         };
-        self.directories.remove(directory, name);
         let at = node as usize;
         self.names[at] -= 1;
         self.parents[at] = 0;
@@ -127,17 +118,12 @@ impl Tree {
         ensures refused { IfErr result (λ why. refusal (trimmed (moved self.old.tree from name.now to other.now) self.old.holds) ≡ Some why) }
         ensures elsewhere { AlikeButTwo from name.now to other.now (find_entry self.old.tree) (find_entry self.new.tree) }
     {
-        let Some(node) = self.directories.find(from, name) else {
-            unreachable!()
-        };
-        let Some(gone) = self.directories.find(to, other) else {
-            move_to(&mut self.directories, from, name, to, other, node)?;
-            self.parents[node as usize] = to;
+        let moved = move_entry(&mut self.directories, from, name, to, other)?;
+        self.parents[moved.node as usize] = to;
+        let Some(gone) = moved.gone else {
             return Ok(());
         };
-        move_over(&mut self.directories, from, name, to, other, node);
         let at = gone as usize;
-        self.parents[node as usize] = to;
         self.parents[at] = 0;
         self.names[at] -= 1;
         settle(&mut self.directories, gone, self.names[at], self.holds[at]);

@@ -1,5 +1,5 @@
-use Rattle.std.proofs.Common.{◌≡◌, ◌+◌, ◌-◌, ◌*◌, ◌/◌, ◌≤◌, suc, mul-le-mul_left, is_some, length, sym, ap, subst, ◌∙◌, arith}
-use Rattle.std.proofs.lemmas.Bool.{false≢true}
+use Rattle.std.proofs.Common.{◌≡◌, ◌+◌, ◌-◌, ◌*◌, ◌/◌, ◌≤◌, suc, mul-le-mul_left, Some, None, length, sym, ap, subst, ◌∙◌, arith}
+use Rattle.std.specs.FinMap.Entries.{find}
 use Rattle.pv_model.specs.Bytes.{Bytes}
 use Rattle.pv_model.specs.Effect.{overwrite, resize}
 use Rattle.pv_model.specs.Room.{entry_length}
@@ -7,48 +7,48 @@ use Rattle.pv_model.specs.Tree.{Tree, find_entry, without_entry}
 use Rattle.pv_inodes.specs.Files.{Files, bytes_at, with_bytes}
 use Rattle.pv_inodes.proofs.Edits.{used-with_bytes}
 use Rattle.pv_dirs.specs.Index.{Leads}
-use Rattle.pv_dirs.specs.Slots.{slot_at, slot_name}
+use Rattle.pv_dirs.specs.Slots.{slot_at, slot_name, slot_entries}
 use Rattle.pv_dirs.specs.Trees.{tree_of}
+use Rattle.pv_dirs.proofs.Entries.{by_name}
 use Rattle.pv_dirs.proofs.Indexed.{directory_led, indexed-removed}
 use Rattle.pv_dirs.proofs.Removing.{shortened_from, shortened, holding-removed, tree_of-removed, length-filled}
 use Rattle.pv_dirs.proofs.Strides.{slot_some, whole_is}
-use Rattle.pv_dirs.proofs.SlotBytes.{length-slot_at}
+use Rattle.pv_dirs.proofs.SlotBytes.{length-slot_at, find-slot_entries}
 use Rattle.pv_dirs.proofs.TreeOf.{directory_slotted, find_entry-tree_of}
 use Rattle.pv_dirs.proofs.Viewed.{viewed_directory, viewed_directory_used}
 use Rattle.pv_dirs.proofs.directories.Directories.remove.Goals as goal
-use Rattle.pv_dirs.proofs.directories.Directories.remove.Goals.{After-slot-moved, After-as_bytes, After-shrink}
+use Rattle.pv_dirs.proofs.directories.Directories.remove.Goals.{After-self, After-slot-moved, After-as_bytes, After-shrink}
 
 pub find-requires-clause-led : goal.find-requires-clause-led
 find-requires-clause-led c =
     directory_led c.self.inside.inodes c.args.directory c.self.inside.index c.self.invariant.indexed
-    (viewed_directory c.self.inside.inodes c.args.self.now c.args.directory c.self.view_is c.requires.directory)
+    (viewed_directory c.self.inside.inodes c.args.self.now c.args.directory c.self.view_is c.requires)
 
 pub find-requires-clause-used : goal.find-requires-clause-used
-find-requires-clause-used c = viewed_directory_used c.self.inside.inodes c.args.self.now c.args.directory c.self.view_is c.requires.directory
+find-requires-clause-used c = viewed_directory_used c.self.inside.inodes c.args.self.now c.args.directory c.self.view_is c.requires
 
-pub unreachable-requires : goal.unreachable-requires
-unreachable-requires c =
-    let is = viewed_directory c.self.inside.inodes c.args.self.now c.args.directory c.self.view_is c.requires.directory in
-    let none = ap (λ (t : Tree). find_entry t c.args.directory c.args.name.now) (sym c.self.view_is) ∙ find_entry-tree_of c.self.inside.inodes c.args.directory c.args.name.now is ∙ c.in_default.ensures.absent in
-    absurd (false≢true (sym (ap is_some none) ∙ c.requires.present))
+found : (c : After-self) → find_entry c.args.self.now c.args.directory c.args.name.now ≡ find by_name c.args.name.now (slot_entries c.self.inside.inodes.version (bytes_at c.self.inside.inodes c.args.directory))
+found c =
+    ap (λ (t : Tree). find_entry t c.args.directory c.args.name.now) (sym c.self.view_is)
+    ∙ find_entry-tree_of c.self.inside.inodes c.args.directory c.args.name.now (viewed_directory c.self.inside.inodes c.args.self.now c.args.directory c.self.view_is c.requires)
 
 -- the slots are those up to the last
 long : (c : After-slot-moved) → length (bytes_at c.self.inside.inodes c.args.directory) ≡ entry_length c.self.inside.inodes.version * suc (c.count-last.result - 1)
 long c =
-    let is = viewed_directory c.self.inside.inodes c.args.self.now c.args.directory c.self.view_is c.requires.directory in
+    let is = viewed_directory c.self.inside.inodes c.args.self.now c.args.directory c.self.view_is c.requires in
     let slotted = directory_slotted c.self.inside.inodes c.self.inside.block_count c.args.directory c.self.invariant.holding is in
-    let count : length (bytes_at c.self.inside.inodes c.args.directory) / entry_length c.self.inside.inodes.version ≡ suc (c.count-last.result - 1) = omega (arith, c.count-last.ensures.value, c.in-Some.ensures.within) in
+    let count : length (bytes_at c.self.inside.inodes c.args.directory) / entry_length c.self.inside.inodes.version ≡ suc (c.count-last.result - 1) = omega (arith, c.count-last.ensures.value, c.in_ok-hole.ensures.within) in
     whole_is (entry_length c.self.inside.inodes.version) (slot_some c.self.inside.inodes.version) (length (bytes_at c.self.inside.inodes c.args.directory)) slotted.whole
     ∙ ap (λ n. entry_length c.self.inside.inodes.version * n) count
 
-within : (c : After-slot-moved) → c.in-Some.hole ≤ c.count-last.result - 1
-within c = omega (arith, c.count-last.ensures.value, c.in-Some.ensures.within)
+within : (c : After-slot-moved) → c.in_ok-hole.hole ≤ c.count-last.result - 1
+within c = omega (arith, c.count-last.ensures.value, c.in_ok-hole.ensures.within)
 
 -- the slot that is moved
 moved : (c : After-as_bytes) → c.as_bytes.result.now ≡ slot_at c.self.inside.inodes.version (bytes_at c.self.inside.inodes c.args.directory) (c.count-last.result - 1)
 moved c = c.as_bytes.ensures.value ∙ c.slot-moved.ensures
 
-fits : (c : After-as_bytes) → entry_length c.self.inside.inodes.version * c.in-Some.hole + length c.as_bytes.result.now ≤ length (bytes_at c.self.inside.inodes c.args.directory)
+fits : (c : After-as_bytes) → entry_length c.self.inside.inodes.version * c.in_ok-hole.hole + length c.as_bytes.result.now ≤ length (bytes_at c.self.inside.inodes c.args.directory)
 fits c =
     let start = (goal.at.After-as_bytes c).After-slot-moved in
     let before = mul-le-mul_left (entry_length c.self.inside.inodes.version) (within start) in
@@ -65,44 +65,57 @@ pub shrink-requires-clause-used : goal.shrink-requires-clause-used
 shrink-requires-clause-used c =
     rw c.overwrite.ensures
     (used-with_bytes c.self.inside.inodes c.args.directory (overwrite (bytes_at c.self.inside.inodes c.args.directory) c.start-at.result c.as_bytes.result.now)
-    (viewed_directory_used c.self.inside.inodes c.args.self.now c.args.directory c.self.view_is c.requires.directory))
+    (viewed_directory_used c.self.inside.inodes c.args.self.now c.args.directory c.self.view_is c.requires))
 
 pub shrink-requires-clause-shorter : goal.shrink-requires-clause-shorter
 shrink-requires-clause-shorter c =
     let start = (goal.at.shrink-requires-clause-shorter c).After-slot-moved in
-    let is = viewed_directory c.self.inside.inodes c.args.self.now c.args.directory c.self.view_is c.requires.directory in
+    let is = viewed_directory c.self.inside.inodes c.args.self.now c.args.directory c.self.view_is c.requires in
     let kept = ap (λ (f : Files). length (bytes_at f c.args.directory))
     (c.overwrite.ensures ∙ ap (λ n. with_bytes c.self.inside.inodes c.args.directory (overwrite (bytes_at c.self.inside.inodes c.args.directory) n c.as_bytes.result.now)) c.start-at.ensures)
-    ∙ length-filled c.self.inside.inodes c.args.directory c.in-Some.hole c.as_bytes.result.now is (fits (goal.at.shrink-requires-clause-shorter c).After-as_bytes) in
+    ∙ length-filled c.self.inside.inodes c.args.directory c.in_ok-hole.hole c.as_bytes.result.now is (fits (goal.at.shrink-requires-clause-shorter c).After-as_bytes) in
     omega (arith, kept, c.start-end.ensures, long start)
 
-shortened_is : (c : After-shrink) → c.shrink.new.self ≡ shortened c.self.inside.inodes c.args.directory c.in-Some.hole (slot_at c.self.inside.inodes.version (bytes_at c.self.inside.inodes c.args.directory) (c.count-last.result - 1)) (c.count-last.result - 1)
+shortened_is : (c : After-shrink) → c.shrink.new.self ≡ shortened c.self.inside.inodes c.args.directory c.in_ok-hole.hole (slot_at c.self.inside.inodes.version (bytes_at c.self.inside.inodes c.args.directory) (c.count-last.result - 1)) (c.count-last.result - 1)
 shortened_is c =
     c.shrink.ensures
     ∙ ap (λ n. with_bytes c.overwrite.new.self c.args.directory (resize (bytes_at c.overwrite.new.self c.args.directory) n)) c.start-end.ensures
     ∙ ap (λ (f : Files). with_bytes f c.args.directory (resize (bytes_at f c.args.directory) (entry_length c.self.inside.inodes.version * (c.count-last.result - 1)))) c.overwrite.ensures
     ∙ ap (λ n. shortened_from c.self.inside.inodes c.args.directory n c.as_bytes.result.now (c.count-last.result - 1)) c.start-at.ensures
-    ∙ ap (λ (slot : Bytes). shortened c.self.inside.inodes c.args.directory c.in-Some.hole slot (c.count-last.result - 1)) (c.as_bytes.ensures.value ∙ c.slot-moved.ensures)
+    ∙ ap (λ (slot : Bytes). shortened c.self.inside.inodes c.args.directory c.in_ok-hole.hole slot (c.count-last.result - 1)) (c.as_bytes.ensures.value ∙ c.slot-moved.ensures)
 
 pub invariant_of-self : goal.invariant_of-self
 invariant_of-self c =
     let start = (goal.at.invariant_of-self c).After-slot-moved in
     let done = (goal.at.invariant_of-self c).After-shrink in
-    let is = viewed_directory c.self.inside.inodes c.args.self.now c.args.directory c.self.view_is c.requires.directory in
+    let is = viewed_directory c.self.inside.inodes c.args.self.now c.args.directory c.self.view_is c.requires in
     let named : c.name.result.now ≡ slot_name (slot_at c.self.inside.inodes.version (bytes_at c.self.inside.inodes c.args.directory) (c.count-last.result - 1)) = c.name.ensures.value ∙ ap slot_name c.slot-moved.ensures in
     record {
-      holding = rw (shortened_is done) (holding-removed c.self.inside.inodes c.self.inside.block_count c.args.directory c.self.invariant.holding is c.in-Some.hole (c.count-last.result - 1) (long start) (within start));
+      holding = rw (shortened_is done) (holding-removed c.self.inside.inodes c.self.inside.block_count c.args.directory c.self.invariant.holding is c.in_ok-hole.hole (c.count-last.result - 1) (long start) (within start));
       indexed = rw (shortened_is done)
-          (indexed-removed c.self.inside.inodes c.self.inside.block_count c.args.directory c.self.invariant.holding is c.self.inside.index c.self.invariant.indexed c.in-Some.hole (c.count-last.result - 1) (long start) (within start)
+          (indexed-removed c.self.inside.inodes c.self.inside.block_count c.args.directory c.self.invariant.holding is c.self.inside.index c.self.invariant.indexed c.in_ok-hole.hole (c.count-last.result - 1) (long start) (within start)
           c.remove.new.self c.change.new.self c.remove.ensures
-          (subst (λ (q : Bytes). Leads c.remove.new.self c.args.directory q (c.count-last.result - 1) → Leads c.change.new.self c.args.directory q c.in-Some.hole) named c.change.ensures.this)
+          (subst (λ (q : Bytes). Leads c.remove.new.self c.args.directory q (c.count-last.result - 1) → Leads c.change.new.self c.args.directory q c.in_ok-hole.hole) named c.change.ensures.this)
           c.change.ensures.others);
     }
 
-pub returns : goal.returns
-returns c =
-    let start = (goal.at.returns c).After-slot-moved in
-    let is = viewed_directory c.self.inside.inodes c.args.self.now c.args.directory c.self.view_is c.requires.directory in
-    ap tree_of (shortened_is (goal.at.returns c).After-shrink)
-    ∙ tree_of-removed c.self.inside.inodes c.self.inside.block_count c.args.directory c.self.invariant.holding is c.in-Some.hole (c.count-last.result - 1) (long start) (within start) c.args.name.now c.in-Some.ensures.named
+pub returns-in_err-hole-clause-gone : goal.returns-in_err-hole-clause-gone
+returns-in_err-hole-clause-gone c =
+    let none : find by_name c.args.name.now (slot_entries c.self.inside.inodes.version (bytes_at c.self.inside.inodes c.args.directory)) ≡ None = c.in_err-hole.ensures.absent in
+    c.from_residual.ensures ∙ sym (found (goal.at.returns-in_err-hole-clause-gone c).After-self ∙ none)
+
+pub returns-clause-gone : goal.returns-clause-gone
+returns-clause-gone c =
+    let start = (goal.at.returns-clause-gone c).After-self in
+    let is = viewed_directory c.self.inside.inodes c.args.self.now c.args.directory c.self.view_is c.requires in
+    ap Some c.number-gone.ensures
+    ∙ sym (found start ∙ find-slot_entries c.self.inside.inodes.version (bytes_at c.self.inside.inodes c.args.directory) c.in_ok-hole.hole c.args.name.now
+    (directory_slotted c.self.inside.inodes c.self.inside.block_count c.args.directory c.self.invariant.holding is).distinct c.in_ok-hole.ensures.within c.in_ok-hole.ensures.named)
+
+pub returns-clause-left : goal.returns-clause-left
+returns-clause-left c =
+    let start = (goal.at.returns-clause-left c).After-slot-moved in
+    let is = viewed_directory c.self.inside.inodes c.args.self.now c.args.directory c.self.view_is c.requires in
+    ap tree_of (shortened_is (goal.at.returns-clause-left c).After-shrink)
+    ∙ tree_of-removed c.self.inside.inodes c.self.inside.block_count c.args.directory c.self.invariant.holding is c.in_ok-hole.hole (c.count-last.result - 1) (long start) (within start) c.args.name.now c.in_ok-hole.ensures.named
     ∙ ap (λ (t : Tree). without_entry t c.args.directory c.args.name.now) c.self.view_is
