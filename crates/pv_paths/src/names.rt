@@ -194,6 +194,7 @@ pub fn unlink<L: Lookup>(
         return Err(refusal(1, Errno::EPERM));
     };
     parts.unlink(directory, name);
+    // What the lookup keeps of this name is no longer so.
     lookup.changed(directory, name);
     answer_of(1, 0)
 }
