@@ -1,4 +1,5 @@
 pub mod Adding
+pub mod Between
 pub mod Closing
 pub mod Contents
 pub mod Counts

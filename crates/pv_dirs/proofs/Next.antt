@@ -16,7 +16,7 @@ use Rattle.pv_dirs.proofs.SlotBytes.{length-slot_entries, get_or-slot_entries}
 use Rattle.pv_dirs.proofs.Closing.{distinct_before}
 use Rattle.pv_dirs.proofs.Entries.{distinct_front, sorted-in_order, in_order-append, by_name, total, same_name, tied, tied-same, tied_itself}
 
-less_from : (o : Ordering) → is_lt o ≡ true → o ≡ Less
+pub less_from : (o : Ordering) → is_lt o ≡ true → o ≡ Less
 less_from Less is = refl
 less_from Equal is = cc
 less_from Greater is = cc

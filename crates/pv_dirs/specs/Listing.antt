@@ -1,5 +1,5 @@
 -- The names of a directory in byte order, one after the other.
-use Rattle.std.specs.Prelude.{◌≢◌, ◌&&◌, if◌then◌else◌, Bool, true, IsTrue, Option, None, Some, IsSome, MatchOption}
+use Rattle.std.specs.Prelude.{ℕ, ◌≡◌, ◌<◌, length, slice_index, ◌≢◌, ◌&&◌, if◌then◌else◌, Bool, true, IsTrue, Option, None, Some, IsSome, MatchOption}
 use Rattle.std.specs.Cmp.Lexicographic.{slice_cmp}
 use Rattle.std.specs.FinMap.Entries.{find}
 use Rattle.std.specs.Ordering.{nat_cmp, is_lt}
@@ -21,6 +21,10 @@ is_before name (Some other) = is_lt (slice_cmp nat_cmp name other)
 -- the better of a name and the best one so far: the name, where it comes before the best and behind the last
 abbrev pub better_of : Option Bytes → Bytes → Option Bytes → Option Bytes
 better_of last name best = if is_before name best && is_behind last name then Some name else best
+
+-- each name that comes before the best and behind the last has this byte at this place
+abbrev pub IsShared : Option Bytes → Option Bytes → ℕ → ℕ → Type 0
+IsShared last best at byte = (name : Bytes) → IsTrue (is_before name best) → IsTrue (is_behind last name) → (at < length name) × (slice_index name at ≡ byte)
 
 -- a name of an entry of the list
 abbrev pub IsListed : Entries → Bytes → Type 0

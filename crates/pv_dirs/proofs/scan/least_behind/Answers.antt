@@ -16,7 +16,7 @@ use Rattle.pv_dirs.proofs.scan.least_behind.Goals.{then-run-length, else-run-len
 
 pub loop-k-init : goal.loop-k-init
 unfolding in_order
-loop-k-init c = record { best = c.none-best.ensures; run = refl }
+loop-k-init c = record { best = c.none-best.ensures; shared = tt; run = refl }
 
 pub loop-k-preserved : goal.loop-k-preserved
 loop-k-preserved c =
@@ -28,11 +28,15 @@ loop-k-preserved c =
     let next = next_name-slot v last bytes c.loop-k.k c.loop-k.best c.requires.distinct less c.loop-k.invariant.best in
     record {
       best = elim c.if-run-length.branch [
-        | then-run-length w ↦ w.best-is ∙ w.improve_across.ensures ∙ next
+        | then-run-length w ↦ w.best-is ∙ w.improve_across.ensures.best ∙ next
         | else-run-length w ↦
             let name = w.name_in.ensures.value ∙ ap (λ n. slot_name (take n c.run_at-run.result.now)) whole
             ∙ ap slot_name (run_slot v bytes c.run_at-run.result.now c.loop-k.k c.run_at-run.ensures (omega (arith, whole, w.if-run-length.false))) in
-            w.best-is ∙ w.improve.ensures ∙ ap (λ (n : Bytes). better_of last n c.loop-k.best) name ∙ next
+            w.best-is ∙ w.improve.ensures.best ∙ ap (λ (n : Bytes). better_of last n c.loop-k.best) name ∙ next
+      ];
+      shared = elim c.if-run-length.branch [
+        | then-run-length w ↦ rw (w.mark-is, w.best-is) w.improve_across.ensures.shared
+        | else-run-length w ↦ rw (w.mark-is, w.best-is) w.improve.ensures.shared
       ];
       run = rw c.behind-left.ensures (run_behind v bytes c.run_at-run.result.now c.loop-k.k c.layout-length.result.slot_length whole c.run_at-run.ensures);
     }

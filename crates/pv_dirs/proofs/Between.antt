@@ -1,0 +1,36 @@
+-- What the names between two names share with them.
+use Rattle.std.proofs.Common.{◌≡◌, ℕ, zero, suc, ◌<◌, length, take, drop, get_or, [], ◌∷◌, refl, ap, sym, ◌∙◌, arith}
+use Rattle.std.specs.FinMap.{nat_cmp-IsAntisymmetric}
+use Rattle.std.specs.Ordering.{nat_cmp, ordering_then, ordering_reverse}
+use Rattle.std.specs.declared.cmp.Ordering.TheVariants.{Less, Equal, Greater}
+use Rattle.std.proofs.lemmas.Cmp.{nat_cmp_total}
+use Rattle.pv_model.specs.Bytes.{Bytes}
+use Rattle.pv_dirs.proofs.Entries.{by_name}
+
+-- what lies between two names that begin with the same bytes begins with them too: here the last of these
+pub between : (l x b : Bytes) (p : ℕ) → p < length l → p < length b → take (suc p) l ≡ take (suc p) b → by_name l x ≡ Less → by_name x b ≡ Less
+    → (p < length x) × (get_or x p 0 ≡ get_or b p 0)
+between [] x b p in_l in_b same above below = omega arith
+between (a ∷ l) x [] p in_l in_b same above below = omega arith
+between (a ∷ l) [] (c ∷ b) p in_l in_b same above below = cc
+between (a ∷ l) (y ∷ x) (c ∷ b) p in_l in_b same above below =
+    let first : a ≡ c = ap (λ (q : Bytes). get_or q 0 0) same in
+    elim (nat_cmp a y) as (λ o. nat_cmp a y ≡ o → ordering_then o (by_name l x) ≡ Less → (p < length (y ∷ x)) × (get_or (y ∷ x) p 0 ≡ get_or (c ∷ b) p 0)) [
+      | Less ↦ λ is _.
+          let turned : nat_cmp y c ≡ Greater = ap (nat_cmp y) (sym first) ∙ nat_cmp_total.antisymm y a ∙ ap ordering_reverse is in
+          let wrong : Greater ≡ Less = ap (λ o. ordering_then o (by_name x b)) (sym turned) ∙ below in cc
+      | Equal ↦ λ is rest.
+          let same_first : a ≡ y = nat_cmp-IsAntisymmetric a y is in
+          let turned : nat_cmp y c ≡ Equal = ap (nat_cmp y) (sym first) ∙ nat_cmp_total.antisymm y a ∙ ap ordering_reverse is in
+          let rest_below : by_name x b ≡ Less = ap (λ o. ordering_then o (by_name x b)) (sym turned) ∙ below in
+          later p in_l in_b same (sym same_first ∙ first) (λ q at_l at_b alike. between l x b q at_l at_b alike rest rest_below)
+      | Greater ↦ λ is wrong. cc
+    ] refl above
+  where
+    later : (p : ℕ) → p < length (a ∷ l) → p < length (c ∷ b) → take (suc p) (a ∷ l) ≡ take (suc p) (c ∷ b) → y ≡ c
+        → ((q : ℕ) → q < length l → q < length b → take (suc q) l ≡ take (suc q) b → (q < length x) × (get_or x q 0 ≡ get_or b q 0))
+        → (p < length (y ∷ x)) × (get_or (y ∷ x) p 0 ≡ get_or (c ∷ b) p 0)
+    later zero in_l in_b same is more = (omega arith, is)
+    later (suc q) in_l in_b same is more =
+        let rest = more q (omega arith) (omega arith) (ap (λ (q : Bytes). drop 1 q) same) in
+        (omega (arith, rest.0), rest.1)
