@@ -11,6 +11,7 @@ pub mod Leading
 pub mod Mapped
 pub mod Next
 pub mod Outcomes
+pub mod Passes
 pub mod Permuted
 pub mod Removing
 pub mod Runs

@@ -1,18 +1,16 @@
 -- The next name of entries in order, behind the last one.
-use Rattle.std.proofs.Common.{◌≡◌, ℕ, ◌+◌, ◌<◌, ◌++◌, length, take, get_or, Bool, true, false, cond, ◌&&◌, [], ◌∷◌, Option, None, Some, is_some, T, refl, ap, sym, subst, ◌∙◌, arith}
+use Rattle.std.proofs.Common.{◌≡◌, ℕ, ◌+◌, ◌<◌, ◌++◌, length, take, get_or, Bool, true, false, cond, ◌&&◌, [], ◌∷◌, Option, None, Some, is_some, T, refl, ap, sym, subst, ◌∙◌}
 use Rattle.std.proofs.lemmas.List.{take_more}
 use Rattle.std.specs.Ordering.{is_lt, is_some_and, nat_cmp, ordering_reverse}
 use Rattle.std.specs.Cmp.Lexicographic.{slice_cmp, slice_partial_cmp, lists_agrees}
 use Rattle.std.specs.FinMap.Entries.{find, put, is_sorted, below_all, by_order}
 use Rattle.std.specs.declared.cmp.Ordering.{Ordering}
 use Rattle.std.specs.declared.cmp.Ordering.TheVariants.{Less, Equal, Greater}
-use Rattle.pv_model.specs.declared.version.Version.{Version}
 use Rattle.pv_model.specs.Bytes.{Bytes}
 use Rattle.pv_model.specs.Calls.Descriptors.{is_behind, next_name}
 use Rattle.pv_model.specs.Tree.{Entries}
-use Rattle.pv_dirs.specs.Slots.{slot_at, slot_count, slot_name, slot_entry, slot_entries, in_order, IsDistinct}
-use Rattle.pv_dirs.specs.Listing.{is_before, better_of, IsListed, IsLeastBehind, IsNextName}
-use Rattle.pv_dirs.proofs.SlotBytes.{length-slot_entries, get_or-slot_entries}
+use Rattle.pv_dirs.specs.Slots.{in_order, IsDistinct}
+use Rattle.pv_dirs.specs.Listing.{is_before, IsListed, IsLeastBehind, IsNextName}
 use Rattle.pv_dirs.proofs.Closing.{distinct_before}
 use Rattle.pv_dirs.proofs.Entries.{distinct_front, sorted-in_order, in_order-append, by_name, total, same_name, tied, tied-same, tied_itself}
 
@@ -40,7 +38,7 @@ better-is false k best = elim (is_before k best) as (λ before. best ≡ cond (b
 better-is true k None = refl
 better-is true k (Some b) = elim (is_lt (by_name k b)) as (λ less. cond less (Some k) (Some b) ≡ cond (less && true) (Some k) (Some b)) [ true ↦ refl | false ↦ refl ]
 
-better_least : (b : Bool) (k e : Bytes) → is_lt (by_name k e) ≡ false → Some e ≡ better b k (Some e)
+pub better_least : (b : Bool) (k e : Bytes) → is_lt (by_name k e) ≡ false → Some e ≡ better b k (Some e)
 better_least true k e not_less = rw not_less
 better_least false k e not_less = refl
 
@@ -157,11 +155,3 @@ next_name_in_order last es = next_name_is last (in_order es) (from_T (is_sorted 
 
 pub bytes_less : (xs ys : Bytes) → is_some_and is_lt (slice_partial_cmp (λ x y. Some (nat_cmp x y)) xs ys) ≡ is_lt (slice_cmp nat_cmp xs ys)
 bytes_less xs ys = ap (λ (o : Option Ordering). is_some_and is_lt o) (lists_agrees (λ x y. refl) xs ys)
-
-module _ (v : Version) (last : Option Bytes) (bytes : Bytes) (k : ℕ) (best : Option Bytes) (d : IsDistinct (slot_entries v bytes)) (within : k < slot_count v bytes) (best_is : best ≡ next_name last (in_order (take k (slot_entries v bytes)))) where
-  -- the next name of one slot more
-  pub next_name-slot : better_of last (slot_name (slot_at v bytes k)) best ≡ next_name last (in_order (take (k + 1) (slot_entries v bytes)))
-  next_name-slot =
-      sym (next_name-more last (slot_entries v bytes) k (slot_entry v bytes k) d (omega (arith, length-slot_entries v bytes)) (get_or-slot_entries v bytes k (slot_entry v bytes k) within)
-      ∙ ap (better (is_behind last (slot_name (slot_at v bytes k))) (slot_name (slot_at v bytes k))) (sym best_is)
-      ∙ better-is (is_behind last (slot_name (slot_at v bytes k))) (slot_name (slot_at v bytes k)) best)

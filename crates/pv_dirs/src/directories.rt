@@ -147,7 +147,7 @@ impl Directories {
         ensures value { result ≡ next_name (option_copied last.entry) (entries_at self.now directory) }
         ensures least { IsNextName (option_copied last.entry) (entries_at self.now directory) result }
     {
-        least_behind(&self.inodes, directory, last)
+        least_behind(&self.inodes, &self.index, directory, last)
     }
 
     /// Whether a directory has no entry.

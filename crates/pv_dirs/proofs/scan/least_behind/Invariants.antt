@@ -5,12 +5,13 @@ use Rattle.pv_model.specs.Calls.Descriptors.{next_name}
 use Rattle.pv_inodes.specs.Files.{bytes_at}
 use Rattle.pv_dirs.specs.Listing.{IsShared}
 use Rattle.pv_dirs.specs.Slots.{IsRun, slot_entries, in_order}
+use Rattle.pv_dirs.proofs.Passes.{lesser}
 use Rattle.pv_dirs.proofs.scan.least_behind.Given as goal
 
--- the best is the next name of the slots so far, and the mark is one of the names between it and the last
+-- the best is the next name of the slots so far, or the name that the pass began with, and the mark is one of the names between it and the last
 abbrev pub invariant-loop-k : goal.invariant-loop-k
 invariant-loop-k l = record {
-  best : l.best ≡ next_name (option_copied l.last) (in_order (take l.k (slot_entries l.inodes.version (bytes_at l.inodes l.directory))));
+  best : l.best ≡ lesser l.initial.best (next_name (option_copied l.last) (in_order (take l.k (slot_entries l.inodes.version (bytes_at l.inodes l.directory)))));
   shared : IfSome l.mark (λ m. IsShared (option_copied l.last) l.best m.at m.byte);
   run : IsRun l.inodes.version (bytes_at l.inodes l.directory) l.k l.left;
 }

@@ -5,6 +5,7 @@ use Rattle.pv_model.specs.Tree.{Entries}
 use Rattle.pv_inodes.specs.Files.{bytes_at}
 use Rattle.pv_dirs.specs.Listing.{IsNextName}
 use Rattle.pv_dirs.specs.Slots.{slot_entries, in_order}
+use Rattle.pv_dirs.proofs.Indexed.{directory_led}
 use Rattle.pv_dirs.proofs.Next.{next_name_in_order}
 use Rattle.pv_dirs.proofs.TreeOf.{directory_slotted}
 use Rattle.pv_dirs.proofs.Viewed.{viewed_directory, viewed_directory_used, viewed_entries}
@@ -12,6 +13,10 @@ use Rattle.pv_dirs.proofs.directories.Directories.next_after.Goals as goal
 
 pub least_behind-requires-clause-used : goal.least_behind-requires-clause-used
 least_behind-requires-clause-used c = viewed_directory_used c.self.inside.inodes c.args.self.now c.args.directory c.self.view_is c.requires
+
+pub least_behind-requires-clause-led : goal.least_behind-requires-clause-led
+least_behind-requires-clause-led c =
+    directory_led c.self.inside.inodes c.args.directory c.self.inside.index c.self.invariant.indexed (viewed_directory c.self.inside.inodes c.args.self.now c.args.directory c.self.view_is c.requires)
 
 pub least_behind-requires-clause-distinct : goal.least_behind-requires-clause-distinct
 least_behind-requires-clause-distinct c =
