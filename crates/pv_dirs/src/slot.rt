@@ -1,5 +1,5 @@
 //! The bytes of a slot.
-ghost use Rattle.std.specs.Prelude.{◌≡◌, ◌≤◌, length, slice_index};
+ghost use Rattle.std.specs.Prelude.{◌≡◌, ◌≤◌, length, drop, slice_index};
 ghost use Rattle.pv_model.specs.declared.limits.TheConstants.{NAME_V2};
 ghost use Rattle.pv_model.specs.Room.{entry_length};
 ghost use Rattle.pv_model.specs.Tree.{greatest_name};
@@ -37,6 +37,15 @@ impl Model for Slot {
     ghost view = { λ s. take s.length s.bytes };
 
     ghost invariant = { λ s. (4 ≤ s.length) × (s.length ≤ 260) };
+}
+
+/// The room for a name in the bytes of a slot: the name, and what it leaves.
+#[inline]
+pub(crate) fn room_in(slot: &[u8]) -> &[u8]
+    requires { 4 ≤ length slot.now }
+    ensures { result.now ≡ drop 4 slot.now }
+{
+    &slot[NAME..]
 }
 
 /// The name in the bytes of a slot.

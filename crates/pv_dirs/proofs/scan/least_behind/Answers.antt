@@ -37,7 +37,7 @@ loop-k-preserved c =
       best = elim c.if-run-length.branch [
         | then-run-length w ↦ w.best-is ∙ w.improve_by_copy-then-run-length.ensures.best ∙ next
         | else-run-length w ↦
-            let name = w.name_in.ensures.value ∙ ap (λ n. slot_name (take n c.run_at-run.result.now)) whole
+            let name = ap (λ n. slot_name (take n c.run_at-run.result.now)) whole
             ∙ ap slot_name (run_slot v bytes c.run_at-run.result.now c.loop-k.k c.run_at-run.ensures (omega (arith, whole, w.if-run-length.false))) in
             w.best-is ∙ w.improve.ensures.best ∙ ap (λ (n : Bytes). better_of last n c.loop-k.best) name ∙ next
       ];
