@@ -37,7 +37,7 @@ loop-k-preserved c =
       best = elim c.if-run-length.branch [
         | then-run-length w ↦ w.best-is ∙ w.improve_by_copy-then-run-length.ensures.best ∙ next
         | else-run-length w ↦
-            let name = ap (λ n. slot_name (take n c.run_at-run.result.now)) whole
+            let name = ap slot_name w.split_at.ensures.front ∙ ap (λ n. slot_name (take n c.run_at-run.result.now)) whole
             ∙ ap slot_name (run_slot v bytes c.run_at-run.result.now c.loop-k.k c.run_at-run.ensures (omega (arith, whole, w.if-run-length.false))) in
             w.best-is ∙ w.improve.ensures.best ∙ ap (λ (n : Bytes). better_of last n c.loop-k.best) name ∙ next
       ];
@@ -45,7 +45,10 @@ loop-k-preserved c =
         | then-run-length w ↦ rw (w.mark-is, w.best-is) w.improve_by_copy-then-run-length.ensures.shared
         | else-run-length w ↦ rw (w.mark-is, w.best-is) w.improve.ensures.shared
       ];
-      run = rw c.behind-left.ensures (run_behind v bytes c.run_at-run.result.now c.loop-k.k c.layout-length.result.slot_length whole c.run_at-run.ensures);
+      run = elim c.if-run-length.branch [
+        | then-run-length w ↦ rw w.left-is refl
+        | else-run-length w ↦ rw (w.left-is, w.split_at.ensures.back) (run_behind v bytes c.run_at-run.result.now c.loop-k.k c.layout-length.result.slot_length whole c.run_at-run.ensures)
+      ];
     }
 
 pub returns : goal.returns
