@@ -7,7 +7,7 @@
 #   make examples every bundle of examples/ and cases/, its trace compared, before any proof
 #   make refusals the proved program with each allocation, opening, read and write refused in turn
 #   make test     the gate: every proof from nothing, the tests, the program, the wrong bodies, the examples, the refusals
-#   make wrong    the wrong bodies alone, of every crate, or make wrong CRATE=pv_tree of one
+#   make wrong    the wrong bodies alone, with further ones that the gate leaves out, of every crate, or make wrong CRATE=pv_tree of one
 #   make check    every crate, over what earlier checks kept
 #   make bench    proves and runs the benchmark, and prints times
 #   make man      the manual pages, tried by mandoc(1)
@@ -50,7 +50,7 @@ test:
 	tools/gate
 
 wrong:
-	tools/wrong $(CRATE)
+	tools/wrong --all $(CRATE)
 
 check:
 	rt all check
