@@ -1,9 +1,15 @@
 -- A process lives on after a call on paths.
-use Rattle.std.proofs.Common.{◌≡◌, ℕ, Bool, true, false, cond, Option, None, Some, refl, subst, sym}
+use Rattle.std.proofs.Common.{◌≡◌, ℕ, ℤ, Bool, true, false, cond, Option, None, Some, refl, subst, sym}
 use Rattle.std.specs.Prelude.{IsSome, if◌then◌else◌, []}
+use Rattle.pv_model.specs.declared.call_ref.CallRef.{CallRef}
+use Rattle.pv_model.specs.declared.call_ref.CallRef.TheVariants.{Exit as ExitRef, GetPid as GetPidRef, GetPpid as GetPpidRef, Fork as ForkRef, Wait as WaitRef, Pledge as PledgeRef, Close as CloseRef, Dup as DupRef, Dup2 as Dup2Ref, Read as ReadRef, Write as WriteRef, Lseek as LseekRef, Fstat as FstatRef, Ftruncate as FtruncateRef, Getdents as GetdentsRef, Fchdir as FchdirRef, Execve as ExecveRef, Unveil as UnveilRef, Open as OpenRef, OpenAt as OpenAtRef, Chdir as ChdirRef, Stat as StatRef, Lstat as LstatRef, Readlink as ReadlinkRef, Mkdir as MkdirRef, Symlink as SymlinkRef, Link as LinkRef, Unlink as UnlinkRef, Rmdir as RmdirRef, Rename as RenameRef}
+use Rattle.pv_model.specs.declared.text.Text.{Text}
+use Rattle.pv_model.specs.CallRef.{call_of}
+use Rattle.std.specs.Borrow.{Bor}
 use Rattle.pv_model.specs.declared.call.Call.{Call}
 use Rattle.pv_model.specs.declared.call.Call.TheVariants.{Unveil, Open, OpenAt, Chdir, Stat, Lstat, Readlink, Mkdir, Symlink, Link, Unlink, Rmdir, Rename}
 use Rattle.pv_model.specs.declared.call.Start.{Start}
+use Rattle.pv_model.specs.declared.call.Whence.{Whence}
 use Rattle.pv_model.specs.declared.call.Start.TheVariants.{WorkingDirectory}
 use Rattle.pv_model.specs.declared.errno.Errno.TheVariants.{EPERM, ENOENT, EBUSY, EEXIST, ENOTDIR, EISDIR, EINVAL, ENAMETOOLONG, ENOTEMPTY, EMFILE, ENFILE, ELOOP, EACCES, ENOEXEC}
 use Rattle.pv_model.specs.declared.open_flags.OpenFlags.{OpenFlags}
@@ -24,7 +30,7 @@ use Rattle.pv_model.specs.Unveil.{target_of}
 use Rattle.pv_model.specs.Walks.{Walk, execve_walk, open_walk, chdir_walk, mkdir_walk, symlink_walk, linked_walk, new_link_walk, unlink_walk, rmdir_walk, rename_walk, unveil_walk}
 use Rattle.pv_laws.proofs.Attempts.{Leads, leads-bind, leads-then, leads-refuse_if, leads-demand, leads-walk, leads-place, leads-room, leads-any}
 use Rattle.pv_laws.proofs.Processes.{process_at-same}
-use Rattle.pv_calls.specs.Calls.{is_path_row, is_on_paths}
+use Rattle.pv_calls.specs.Calls.{is_execve, is_path_row, is_on_paths}
 
 abbrev Lives : ℕ → Effect → Type 0
 Lives pid e = IsSome (process_at e.0 pid)
@@ -161,9 +167,59 @@ module _ (s : State) (pid : ℕ) (me : Process) (at : process_at s pid ≡ Some 
   lives-path call is = cc is
 
 -- a call on paths that tells of no node has a row
-pub path-rest : (call : Call) → is_on_paths call ≡ true → ((path : Bytes) → call ≡ Stat path → ⊥) → ((path : Bytes) → call ≡ Lstat path → ⊥) → ((path : Bytes) → call ≡ Readlink path → ⊥)
-    → is_path_row call ≡ true
-path-rest (Stat path) is no-stat no-lstat no-readlink = absurd (no-stat path refl)
-path-rest (Lstat path) is no-stat no-lstat no-readlink = absurd (no-lstat path refl)
-path-rest (Readlink path) is no-stat no-lstat no-readlink = absurd (no-readlink path refl)
+pub path-rest : (call : CallRef) → is_on_paths (call_of call) ≡ true → ((path : Bor Text) → call ≡ StatRef path → ⊥) → ((path : Bor Text) → call ≡ LstatRef path → ⊥) → ((path : Bor Text) → call ≡ ReadlinkRef path → ⊥)
+    → is_path_row (call_of call) ≡ true
+path-rest (StatRef path) is no-stat no-lstat no-readlink = absurd (no-stat path refl)
+path-rest (LstatRef path) is no-stat no-lstat no-readlink = absurd (no-lstat path refl)
+path-rest (ReadlinkRef path) is no-stat no-lstat no-readlink = absurd (no-readlink path refl)
 path-rest call is no-stat no-lstat no-readlink = is
+
+-- a call that is no execve, and on no process and no descriptor, is on paths
+pub only-paths : (call : CallRef) → is_execve (call_of call) ≡ false
+    → ((x : ℤ) → call ≡ ExitRef x → ⊥)
+    → (call ≡ GetPidRef → ⊥)
+    → (call ≡ GetPpidRef → ⊥)
+    → (call ≡ ForkRef → ⊥)
+    → (call ≡ WaitRef → ⊥)
+    → ((x : Option (Bor Text)) (y : Option (Bor Text)) → call ≡ PledgeRef x y → ⊥)
+    → ((x : ℤ) → call ≡ CloseRef x → ⊥)
+    → ((x : ℤ) → call ≡ DupRef x → ⊥)
+    → ((x : ℤ) (y : ℤ) → call ≡ Dup2Ref x y → ⊥)
+    → ((x : ℤ) (y : ℤ) → call ≡ ReadRef x y → ⊥)
+    → ((x : ℤ) (y : ℤ) → call ≡ WriteRef x y → ⊥)
+    → ((x : ℤ) (y : ℤ) (z : Whence) → call ≡ LseekRef x y z → ⊥)
+    → ((x : ℤ) → call ≡ FstatRef x → ⊥)
+    → ((x : ℤ) (y : ℤ) → call ≡ FtruncateRef x y → ⊥)
+    → ((x : ℤ) → call ≡ GetdentsRef x → ⊥)
+    → ((x : ℤ) → call ≡ FchdirRef x → ⊥)
+    → is_on_paths (call_of call) ≡ true
+only-paths (ExitRef x) is n0 n1 n2 n3 n4 n5 n6 n7 n8 n9 n10 n11 n12 n13 n14 n15 = absurd (n0 x refl)
+only-paths GetPidRef is n0 n1 n2 n3 n4 n5 n6 n7 n8 n9 n10 n11 n12 n13 n14 n15 = absurd (n1 refl)
+only-paths GetPpidRef is n0 n1 n2 n3 n4 n5 n6 n7 n8 n9 n10 n11 n12 n13 n14 n15 = absurd (n2 refl)
+only-paths ForkRef is n0 n1 n2 n3 n4 n5 n6 n7 n8 n9 n10 n11 n12 n13 n14 n15 = absurd (n3 refl)
+only-paths WaitRef is n0 n1 n2 n3 n4 n5 n6 n7 n8 n9 n10 n11 n12 n13 n14 n15 = absurd (n4 refl)
+only-paths (PledgeRef x y) is n0 n1 n2 n3 n4 n5 n6 n7 n8 n9 n10 n11 n12 n13 n14 n15 = absurd (n5 x y refl)
+only-paths (CloseRef x) is n0 n1 n2 n3 n4 n5 n6 n7 n8 n9 n10 n11 n12 n13 n14 n15 = absurd (n6 x refl)
+only-paths (DupRef x) is n0 n1 n2 n3 n4 n5 n6 n7 n8 n9 n10 n11 n12 n13 n14 n15 = absurd (n7 x refl)
+only-paths (Dup2Ref x y) is n0 n1 n2 n3 n4 n5 n6 n7 n8 n9 n10 n11 n12 n13 n14 n15 = absurd (n8 x y refl)
+only-paths (ReadRef x y) is n0 n1 n2 n3 n4 n5 n6 n7 n8 n9 n10 n11 n12 n13 n14 n15 = absurd (n9 x y refl)
+only-paths (WriteRef x y) is n0 n1 n2 n3 n4 n5 n6 n7 n8 n9 n10 n11 n12 n13 n14 n15 = absurd (n10 x y refl)
+only-paths (LseekRef x y z) is n0 n1 n2 n3 n4 n5 n6 n7 n8 n9 n10 n11 n12 n13 n14 n15 = absurd (n11 x y z refl)
+only-paths (FstatRef x) is n0 n1 n2 n3 n4 n5 n6 n7 n8 n9 n10 n11 n12 n13 n14 n15 = absurd (n12 x refl)
+only-paths (FtruncateRef x y) is n0 n1 n2 n3 n4 n5 n6 n7 n8 n9 n10 n11 n12 n13 n14 n15 = absurd (n13 x y refl)
+only-paths (GetdentsRef x) is n0 n1 n2 n3 n4 n5 n6 n7 n8 n9 n10 n11 n12 n13 n14 n15 = absurd (n14 x refl)
+only-paths (FchdirRef x) is n0 n1 n2 n3 n4 n5 n6 n7 n8 n9 n10 n11 n12 n13 n14 n15 = absurd (n15 x refl)
+only-paths (ExecveRef path) is n0 n1 n2 n3 n4 n5 n6 n7 n8 n9 n10 n11 n12 n13 n14 n15 = cc is
+only-paths (UnveilRef p q) is n0 n1 n2 n3 n4 n5 n6 n7 n8 n9 n10 n11 n12 n13 n14 n15 = refl
+only-paths (OpenRef p f) is n0 n1 n2 n3 n4 n5 n6 n7 n8 n9 n10 n11 n12 n13 n14 n15 = refl
+only-paths (OpenAtRef s p f) is n0 n1 n2 n3 n4 n5 n6 n7 n8 n9 n10 n11 n12 n13 n14 n15 = refl
+only-paths (ChdirRef p) is n0 n1 n2 n3 n4 n5 n6 n7 n8 n9 n10 n11 n12 n13 n14 n15 = refl
+only-paths (StatRef p) is n0 n1 n2 n3 n4 n5 n6 n7 n8 n9 n10 n11 n12 n13 n14 n15 = refl
+only-paths (LstatRef p) is n0 n1 n2 n3 n4 n5 n6 n7 n8 n9 n10 n11 n12 n13 n14 n15 = refl
+only-paths (ReadlinkRef p) is n0 n1 n2 n3 n4 n5 n6 n7 n8 n9 n10 n11 n12 n13 n14 n15 = refl
+only-paths (MkdirRef p) is n0 n1 n2 n3 n4 n5 n6 n7 n8 n9 n10 n11 n12 n13 n14 n15 = refl
+only-paths (SymlinkRef p q) is n0 n1 n2 n3 n4 n5 n6 n7 n8 n9 n10 n11 n12 n13 n14 n15 = refl
+only-paths (LinkRef p q) is n0 n1 n2 n3 n4 n5 n6 n7 n8 n9 n10 n11 n12 n13 n14 n15 = refl
+only-paths (UnlinkRef p) is n0 n1 n2 n3 n4 n5 n6 n7 n8 n9 n10 n11 n12 n13 n14 n15 = refl
+only-paths (RmdirRef p) is n0 n1 n2 n3 n4 n5 n6 n7 n8 n9 n10 n11 n12 n13 n14 n15 = refl
+only-paths (RenameRef p q) is n0 n1 n2 n3 n4 n5 n6 n7 n8 n9 n10 n11 n12 n13 n14 n15 = refl

@@ -22,12 +22,15 @@ use Rattle.pv_laws.proofs.Whole.{still-live}
 use Rattle.pv_model.specs.declared.call.Call.{Call}
 use Rattle.pv_model.specs.declared.call.Call.TheVariants.{Exit, GetPid, GetPpid, Fork, Wait, Pledge, Close, Dup, Dup2, Read, Write, Lseek, Fstat, Ftruncate, Getdents, Fchdir}
 use Rattle.pv_model.specs.declared.call.Whence.{Whence}
+use Rattle.pv_model.specs.declared.call_ref.CallRef.{CallRef}
+use Rattle.pv_model.specs.declared.call_ref.CallRef.TheVariants.{Exit as ExitRef, Wait as WaitRef, Read as ReadRef, Fstat as FstatRef, Getdents as GetdentsRef}
 use Rattle.pv_model.specs.declared.errno.Errno.TheVariants.{EAGAIN, EBADF, ECHILD, EFBIG, EINVAL, EISDIR, EMFILE}
 use Rattle.pv_model.specs.declared.limits.TheConstants.{BUFFER, DESCRIPTORS, LAST_PROCESS, OFFSET, PROCESSES}
 use Rattle.pv_model.specs.declared.outcome.Outcome.TheVariants.{Exited}
 use Rattle.pv_model.specs.Answer.{Answered, answer_by_attempt, effect, update, with_front}
 use Rattle.pv_model.specs.Attempt.{Attempt, done, refused, ◌>>=◌, ◌>>◌, refuse_if, demand}
 use Rattle.pv_model.specs.Bytes.{Bytes, is_empty}
+use Rattle.pv_model.specs.CallRef.{call_of}
 use Rattle.pv_model.specs.Calls.Descriptors.{close, directory_of, dup, dup2, fchdir, fstat, ftruncate, getdents, list_name, lseek, next_name, open_file_for, read, seek_base, write, after_write, is_number, is_past_greatest, natural, with_content, with_descriptor, with_duplicate, within, without_descriptor, write_end, write_place}
 use Rattle.pv_model.specs.Calls.Processes.{child, children, end_process, exit_status, fork, reap, statuses, wait, with_result}
 use Rattle.pv_model.specs.Calls.Restraints.{asked_promises, pledge, unless_refused}
@@ -64,16 +67,16 @@ exited s new pid code n is left before me at =
     ∙ ap (λ x. let a : Answered = record { after = x; outcome = Exited; walks = 0 } in a) (sym (left me at))
 
 -- a call on processes that is neither an end nor a wait has a row
-pub process-rest : (call : Call) → is_on_processes call ≡ true → ((code : ℤ) → call ≡ Exit code → ⊥) → (call ≡ Wait → ⊥) → is_process_row call ≡ true
-process-rest (Exit code) is no_exit no_wait = absurd (no_exit code refl)
-process-rest Wait is no_exit no_wait = absurd (no_wait refl)
+pub process-rest : (call : CallRef) → is_on_processes (call_of call) ≡ true → ((code : ℤ) → call ≡ ExitRef code → ⊥) → (call ≡ WaitRef → ⊥) → is_process_row (call_of call) ≡ true
+process-rest (ExitRef code) is no_exit no_wait = absurd (no_exit code refl)
+process-rest WaitRef is no_exit no_wait = absurd (no_wait refl)
 process-rest call is no_exit no_wait = is
 
-pub descriptor-rest : (call : Call) → is_on_descriptors call ≡ true → ((d n : ℤ) → call ≡ Read d n → ⊥) → ((d : ℤ) → call ≡ Fstat d → ⊥) → ((d : ℤ) → call ≡ Getdents d → ⊥)
-    → is_descriptor_row call ≡ true
-descriptor-rest (Read d n) is no_read no_fstat no_getdents = absurd (no_read d n refl)
-descriptor-rest (Fstat d) is no_read no_fstat no_getdents = absurd (no_fstat d refl)
-descriptor-rest (Getdents d) is no_read no_fstat no_getdents = absurd (no_getdents d refl)
+pub descriptor-rest : (call : CallRef) → is_on_descriptors (call_of call) ≡ true → ((d n : ℤ) → call ≡ ReadRef d n → ⊥) → ((d : ℤ) → call ≡ FstatRef d → ⊥) → ((d : ℤ) → call ≡ GetdentsRef d → ⊥)
+    → is_descriptor_row (call_of call) ≡ true
+descriptor-rest (ReadRef d n) is no_read no_fstat no_getdents = absurd (no_read d n refl)
+descriptor-rest (FstatRef d) is no_read no_fstat no_getdents = absurd (no_fstat d refl)
+descriptor-rest (GetdentsRef d) is no_read no_fstat no_getdents = absurd (no_getdents d refl)
 descriptor-rest call is no_read no_fstat no_getdents = is
 
 -- a word is read back as it was written

@@ -1,9 +1,10 @@
 //! The kernel: the parts of the system, and the calls on them.
 ghost use Rattle.std.specs.Prelude.{◌≡◌, ◌⊎◌, ◌≤◌, ℕ, IfOk, IfErr, OnErr, IsOk, IsSome, IsTrue, Ok, Err, Some, length, List, Option};
-ghost use Rattle.pv_calls.specs.Kernel.{Fetches, IsAhead, IsCallable};
+ghost use Rattle.pv_calls.specs.Kernel.{Fetches, IsCallable};
 ghost use Rattle.pv_laws.specs.States.{IsFirstTree, IsWhole, is_call};
 ghost use Rattle.pv_model.specs.declared.limits.TheConstants.{BUFFER};
 ghost use Rattle.pv_model.specs.Answer.{answer};
+ghost use Rattle.pv_model.specs.CallRef.{call_of};
 ghost use Rattle.pv_model.specs.Grammar.Programs.{program_of};
 ghost use Rattle.pv_model.specs.Start.{booted};
 ghost use Rattle.pv_model.specs.State.{Process, process_at};
@@ -13,7 +14,7 @@ ghost use Rattle.pv_parts.specs.Changes.{StepsInside};
 
 use crate::carry::carry_out;
 use pv_cache::CachedLookup;
-use pv_model::{BootFault, Call, Outcome, StepFault};
+use pv_model::{BootFault, CallRef, Outcome, StepFault};
 use pv_namei::Lookup;
 use pv_parts::Parts;
 use pv_paths::programs::init;
@@ -23,25 +24,14 @@ use std::alloc::Global;
 use std::marker::Model;
 
 /// What the next step of a process is.
-#[derive(Drop)]
-pub enum Fetched {
+#[derive(Clone, Copy)]
+pub enum Fetched<'a> {
     /// There is no such live process.
     Gone,
     /// An instruction on registers, or a jump.
     Register,
-    /// A call.
-    Call(Call),
-}
-
-/// What the next step of a process is, without the call.
-#[derive(Clone, Copy, Debug, PartialEq, Eq)]
-pub enum Ahead {
-    /// There is no such live process.
-    Gone,
-    /// An instruction on registers, or a jump.
-    Register,
-    /// A call, which `Kernel::put_next_call` tells.
-    Call,
+    /// A call, with its texts where they stand in the process's program.
+    Call(CallRef<'a>),
 }
 
 /// The kernel: the tree, the open files and the processes, and a lookup of names.
@@ -110,31 +100,8 @@ impl<L: Lookup + Drop> Kernel<L> {
         })
     }
 
-    /// What comes next in a process, without the call.
-    pub fn ahead(&self, pid: u32) -> Ahead
-        ensures { IsAhead result self.now.state pid }
-    {
-        if !self.parts.processes().live(pid) {
-            return Ahead::Gone;
-        }
-        if self.parts.processes().is_register_next(pid) {
-            Ahead::Register
-        } else {
-            Ahead::Call
-        }
-    }
-
-    /// Puts the call that comes next in a live process in place of another: past the last line, an exit.
-    pub fn put_next_call(&self, pid: u32, call: &mut Call)
-        requires { IsAhead Ahead.Call self.now.state pid }
-        ensures next { Fetches (Fetched.Call call.new) self.now.state pid }
-        ensures callable { IsTrue (is_call call.new) }
-    {
-        self.parts.processes().put_next_call(pid, call);
-    }
-
     /// What comes next in a process.
-    pub fn fetch(&self, pid: u32) -> Fetched
+    pub fn fetch(&self, pid: u32) -> Fetched<'_>
         ensures next { Fetches result self.now.state pid }
         ensures callable { IsCallable result }
     {
@@ -162,9 +129,9 @@ impl<L: Lookup + Drop> Kernel<L> {
     /// # Errors
     ///
     /// `NoMemory` where memory was refused for the program of an execve(2); nothing has then changed.
-    pub fn call(&mut self, alloc: Global, pid: u32, call: &Call) -> Result<Outcome, StepFault>
-        requires { IsTrue (is_call call.now) }
-        ensures answered { IfOk result (λ outcome. answer program_of self.old.state pid call.now ≡ record { after = self.new.state; outcome = outcome; walks = self.new.walks }) }
+    pub fn call(&mut self, alloc: Global, pid: u32, call: CallRef<'_>) -> Result<Outcome, StepFault>
+        requires { IsTrue (is_call (call_of call)) }
+        ensures answered { IfOk result (λ outcome. answer program_of self.old.state pid (call_of call.entry) ≡ record { after = self.new.state; outcome = outcome; walks = self.new.walks }) }
         ensures refused { OnErr result (self.new ≡ self.old) }
     {
         let answer = carry_out(alloc, &mut self.parts, &mut self.lookup, pid, call)?;

@@ -6,4 +6,4 @@
 mod carry;
 pub mod kernel;
 
-pub use kernel::{Ahead, Fetched, Kernel};
+pub use kernel::{Fetched, Kernel};

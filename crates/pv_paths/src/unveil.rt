@@ -1,5 +1,5 @@
 //! unveil(2).
-ghost use Rattle.std.specs.Prelude.{◌≡◌, ◌≤◌, IfOk, IsSome, IsTrue, OnErr, Some};
+ghost use Rattle.std.specs.Prelude.{◌≡◌, ◌≤◌, IfOk, IsSome, IsTrue, OnErr, Some, option_copied};
 ghost use Rattle.pv_laws.specs.States.{IsWhole, is_text, is_text_or_none};
 ghost use Rattle.pv_model.specs.declared.limits.TheConstants.{NUMBER};
 ghost use Rattle.pv_model.specs.Attempt.{refused};
@@ -104,14 +104,14 @@ pub fn unveil<L: Lookup>(
     parts: &mut Parts,
     lookup: &mut L,
     pid: u32,
-    path: &Option<Text>,
-    letters: &Option<Text>,
+    path: Option<&Text>,
+    letters: Option<&Text>,
 ) -> Result<Done, Refused>
     requires whole { IsWhole parts.old }
     requires live { IsSome (process_at parts.old pid) }
-    requires text { IsTrue (is_text_or_none path.now) }
+    requires text { IsTrue (is_text_or_none (option_copied path)) }
     requires agrees { L.agrees lookup.old (find_entry parts.old.tree) }
-    ensures row { (me : Process) → process_at parts.old pid ≡ Some me → trimmed (unveil parts.old pid me path.now letters.now) ≡ attempt_of parts.new result }
+    ensures row { (me : Process) → process_at parts.old pid ≡ Some me → trimmed (unveil parts.old pid me (option_copied path.entry) (option_copied letters.entry)) ≡ attempt_of parts.new result }
     ensures unchanged { OnErr result (parts.new ≡ parts.old) }
     ensures small { IfOk result (λ d. d.value ≤ NUMBER) }
     ensures agrees { L.agrees lookup.new (find_entry parts.new.tree) }

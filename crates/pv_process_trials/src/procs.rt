@@ -1,5 +1,5 @@
 //! Families of processes, what a child has and what execve leaves, and full tables.
-use pv_model::{Call, Errno, Perms, Target};
+use pv_model::{CallRef, Errno, Perms, Target};
 use pv_procs::{Processes, Reap, Record};
 use pv_promises::read_promises;
 use pv_script::{Next, Program};
@@ -182,14 +182,9 @@ fn makes_loaded_programs(rt: HostRuntime) {
     let mut processes = loaded(&rt);
     assert!(rt; processes.live(2));
     assert!(rt; matches!(processes.next(2), Next::Register));
-    assert!(rt; processes.is_register_next(2));
     processes.advance(2);
     assert!(rt; processes.live(2));
-    assert!(rt; matches!(processes.next(2), Next::Call(Call::GetPid)));
-    let mut call = Call::Wait;
-    assert!(rt; !processes.is_register_next(2));
-    processes.put_next_call(2, &mut call);
-    assert!(rt; matches!(call, Call::GetPid));
+    assert!(rt; matches!(processes.next(2), Next::Call(CallRef::GetPid)));
 }
 
 #[test]
@@ -202,6 +197,6 @@ fn tells_loaded_programs(rt: HostRuntime) {
     assert!(rt; processes.live(2));
     assert!(rt; processes.record(2).machine.buffer().starts_with(b"xyz"));
     assert!(rt; processes.live(1));
-    assert!(rt; matches!(processes.next(1), Next::Call(Call::Exit(0))));
+    assert!(rt; matches!(processes.next(1), Next::Call(CallRef::Exit(0))));
     end(&rt, &mut processes, 2, 0);
 }

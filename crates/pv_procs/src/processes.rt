@@ -21,8 +21,8 @@ use crate::place::{
     make_child, spare_places,
 };
 use crate::shared::{Shared, first_programs, free_program, let_go, take_up};
+use pv_model::Errno;
 use pv_model::limits::{LAST_PROCESS, PROCESSES};
-use pv_model::{Call, Errno};
 use pv_script::{Next, Program};
 use std::alloc::{AllocError, Global};
 use std::marker::Model;
@@ -240,37 +240,8 @@ impl Processes {
         &self.programs[place.program].program
     }
 
-    /// Whether an instruction on registers, or a jump, comes next in a live process, and no call.
-    pub fn is_register_next(&self, pid: u32) -> bool
-        requires { IsSome (process_in self.now pid) }
-        ensures { (me : Process) → process_in self.now pid ≡ Some me → result ≡ is_inside me.program (context_of me) }
-    {
-        let k = live_index(&self.places, pid);
-        let place = &self.places[k];
-        place
-            .record
-            .get()
-            .machine
-            .is_register_next(&self.programs[place.program].program)
-    }
-
-    /// Puts the call that comes next in a live process in place of another: past the last line, an exit.
-    pub fn put_next_call(&self, pid: u32, call: &mut Call)
-        requires live { IsSome (process_in self.now pid) }
-        requires call { (me : Process) → process_in self.now pid ≡ Some me → is_inside me.program (context_of me) ≡ false }
-        ensures { (me : Process) → process_in self.now pid ≡ Some me → next me ≡ calls_for call.new }
-    {
-        let k = live_index(&self.places, pid);
-        let place = &self.places[k];
-        place
-            .record
-            .get()
-            .machine
-            .put_next_call(&self.programs[place.program].program, call);
-    }
-
     /// What comes next in a live process: past the last line, an exit.
-    pub fn next(&self, pid: u32) -> Next
+    pub fn next(&self, pid: u32) -> Next<'_>
         requires { IsSome (process_in self.now pid) }
         ensures { (me : Process) → process_in self.now pid ≡ Some me → IsNext me.program (context_of me) result }
     {

@@ -1,11 +1,12 @@
 //! Which promise a call lacks.
 ghost use Rattle.std.specs.Prelude.{◌≡◌, [], ◌∷◌};
+ghost use Rattle.pv_model.specs.CallRef.{call_of};
 ghost use Rattle.pv_model.specs.Needs.{needs, needs_of_mode, needs_of_open};
 ghost use Rattle.pv_model.specs.Promises.{holds, is_lenient, missing_promise};
 ghost use Rattle.pv_promises.specs.Pledge.{bits_of};
 
 use crate::order::has;
-use pv_model::{Call, Mode, OpenFlags, Promise, Promises};
+use pv_model::{CallRef, Mode, OpenFlags, Promise, Promises};
 
 /// Whether `error` is promised.
 pub(crate) fn is_lenient(held: Option<Promises>) -> bool
@@ -72,37 +73,37 @@ fn missing_of_open(held: Option<Promises>, flags: OpenFlags) -> Option<Promise>
 
 /// The first promise that a call needs and that is not held.
 #[tactic(auto, unfolding(pv_model::specs::Needs::needs))]
-pub(crate) fn missing_for(held: Option<Promises>, call: &Call) -> Option<Promise>
-    ensures { result ≡ missing_promise (bits_of held) (needs call.now) }
+pub(crate) fn missing_for(held: Option<Promises>, call: CallRef<'_>) -> Option<Promise>
+    ensures { result ≡ missing_promise (bits_of held) (needs (call_of call.entry)) }
 {
     match call {
-        Call::Exit(_) | Call::Pledge(_, _) => None,
-        Call::Fork => missing(held, Promise::Proc),
-        Call::Execve(_) => missing(held, Promise::Exec),
-        Call::Unveil(_, _) => missing(held, Promise::Unveil),
-        Call::Open(_, flags) | Call::OpenAt(_, _, flags) => missing_of_open(held, *flags),
-        Call::Chdir(_) => missing(held, Promise::Rpath),
-        Call::Stat(_) | Call::Lstat(_) | Call::Readlink(_) => {
+        CallRef::Exit(_) | CallRef::Pledge(_, _) => None,
+        CallRef::Fork => missing(held, Promise::Proc),
+        CallRef::Execve(_) => missing(held, Promise::Exec),
+        CallRef::Unveil(_, _) => missing(held, Promise::Unveil),
+        CallRef::Open(_, flags) | CallRef::OpenAt(_, _, flags) => missing_of_open(held, flags),
+        CallRef::Chdir(_) => missing(held, Promise::Rpath),
+        CallRef::Stat(_) | CallRef::Lstat(_) | CallRef::Readlink(_) => {
             missing_both(held, Promise::Rpath, Promise::Wpath)
         }
-        Call::Mkdir(_)
-        | Call::Symlink(_, _)
-        | Call::Link(_, _)
-        | Call::Unlink(_)
-        | Call::Rmdir(_)
-        | Call::Rename(_, _) => missing(held, Promise::Cpath),
-        Call::GetPid
-        | Call::GetPpid
-        | Call::Wait
-        | Call::Close(_)
-        | Call::Dup(_)
-        | Call::Dup2(_, _)
-        | Call::Read(_, _)
-        | Call::Write(_, _)
-        | Call::Lseek(_, _, _)
-        | Call::Fstat(_)
-        | Call::Ftruncate(_, _)
-        | Call::Getdents(_)
-        | Call::Fchdir(_) => missing(held, Promise::Stdio),
+        CallRef::Mkdir(_)
+        | CallRef::Symlink(_, _)
+        | CallRef::Link(_, _)
+        | CallRef::Unlink(_)
+        | CallRef::Rmdir(_)
+        | CallRef::Rename(_, _) => missing(held, Promise::Cpath),
+        CallRef::GetPid
+        | CallRef::GetPpid
+        | CallRef::Wait
+        | CallRef::Close(_)
+        | CallRef::Dup(_)
+        | CallRef::Dup2(_, _)
+        | CallRef::Read(_, _)
+        | CallRef::Write(_, _)
+        | CallRef::Lseek(_, _, _)
+        | CallRef::Fstat(_)
+        | CallRef::Ftruncate(_, _)
+        | CallRef::Getdents(_)
+        | CallRef::Fchdir(_) => missing(held, Promise::Stdio),
     }
 }

@@ -6,7 +6,7 @@ ghost use Rattle.pv_promises.specs.Pledge.{bits_of, bits_of_result};
 use crate::missing::{is_lenient, missing_for};
 use crate::order::first_increase;
 use bitflags::Flags;
-use pv_model::{Call, Promise, Promises};
+use pv_model::{CallRef, Promise, Promises};
 use std::marker::Model;
 
 /// What a call meets, pledge(2).
@@ -67,6 +67,7 @@ fn narrowed(
 
 impl Pledge {
     ghost use Rattle.pv_promises.specs.Pledge.{narrow_both};
+    ghost use Rattle.pv_model.specs.CallRef.{call_of};
     ghost use Rattle.pv_model.specs.Needs.{needs};
     ghost use Rattle.pv_promises.specs.Decision.{decision};
 
@@ -129,8 +130,8 @@ impl Pledge {
     }
 
     /// What a call meets, by the first promise that it needs and that is not held, pledge(2).
-    pub fn decide(&self, call: &Call) -> Decision
-        ensures { result ≡ decision self.now.promises (needs call.now) }
+    pub fn decide(&self, call: CallRef<'_>) -> Decision
+        ensures { result ≡ decision self.now.promises (needs (call_of call.entry)) }
     {
         match missing_for(self.promises, call) {
             None => Decision::Allowed,

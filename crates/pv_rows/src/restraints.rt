@@ -1,5 +1,5 @@
 //! What a process gives up: pledge(2).
-ghost use Rattle.std.specs.Prelude.{◌≡◌, ◌≤◌, IfOk, IsSome, MatchResult, OnErr, Some};
+ghost use Rattle.std.specs.Prelude.{◌≡◌, ◌≤◌, IfOk, IsSome, MatchResult, OnErr, Some, option_copied};
 ghost use Rattle.pv_laws.specs.States.{IsWhole};
 ghost use Rattle.pv_model.specs.declared.limits.TheConstants.{NUMBER};
 ghost use Rattle.pv_model.specs.declared.outcome.Cause.TheVariants.{Plain};
@@ -16,8 +16,8 @@ use pv_parts::Parts;
 use pv_promises::read_promises;
 
 // The set that is asked for, if one is.
-fn asked(text: &Option<Text>) -> Result<Option<Promises>, Errno>
-    ensures { MatchResult result (λ set. asked_promises text.now ≡ give (bits_of set)) (λ e. asked_promises text.now ≡ refused 0 e Plain) }
+fn asked(text: Option<&Text>) -> Result<Option<Promises>, Errno>
+    ensures { MatchResult result (λ set. asked_promises (option_copied text.entry) ≡ give (bits_of set)) (λ e. asked_promises (option_copied text.entry) ≡ refused 0 e Plain) }
 {
     match text {
         None => Ok(None),
@@ -34,12 +34,12 @@ fn asked(text: &Option<Text>) -> Result<Option<Promises>, Errno>
 pub fn pledge(
     parts: &mut Parts,
     pid: u32,
-    promises: &Option<Text>,
-    execpromises: &Option<Text>,
+    promises: Option<&Text>,
+    execpromises: Option<&Text>,
 ) -> Result<Done, Refused>
     requires whole { IsWhole parts.old }
     requires live { IsSome (process_at parts.old pid) }
-    ensures row { (me : Process) → process_at parts.old pid ≡ Some me → trimmed (pledge parts.old pid me promises.now execpromises.now) ≡ attempt_of parts.new result }
+    ensures row { (me : Process) → process_at parts.old pid ≡ Some me → trimmed (pledge parts.old pid me (option_copied promises.entry) (option_copied execpromises.entry)) ≡ attempt_of parts.new result }
     ensures unchanged { OnErr result (parts.new ≡ parts.old) }
     ensures small { IfOk result (λ d. d.value ≤ NUMBER) }
 {

@@ -3,6 +3,7 @@ use Rattle.std.specs.Prelude.{◌≡◌, ℕ, ◌-◌, ℤ, Bool, true, false, L
 use Rattle.pv_model.specs.declared.instruction.Instruction.{Instruction}
 use Rattle.pv_model.specs.declared.instruction.Instruction.TheVariants.{Set, Add, Put, Peek, Jump, JumpIfZero, JumpIfNotZero, JumpIfNegative, Fork, Wait, GetPid, GetPpid, Exit, Close, Dup, Fstat, Getdents, Fchdir, Dup2, Read, Write, Ftruncate, Lseek, Pledge, Unveil, Execve, Chdir, Stat, Lstat, Readlink, Unlink, Mkdir, Rmdir, Open, OpenAt, Rename, Link, Symlink}
 use Rattle.pv_model.specs.Bytes.{Bytes}
+use Rattle.pv_model.specs.CallRef.{call_of}
 use Rattle.pv_model.specs.Program.{calls_for, next}
 use Rattle.pv_model.specs.State.{Program, Process, no_registers, no_bytes}
 use Rattle.pv_script.specs.declared.machine.Next.{Next}
@@ -37,12 +38,6 @@ is_on_registers (JumpIfNotZero r line) = true
 is_on_registers (JumpIfNegative r line) = true
 is_on_registers _ = false
 
--- whether an instruction is a pledge or an unveil
-abbrev pub is_restraint : Instruction → Bool
-is_restraint (Pledge promises execpromises) = true
-is_restraint (Unveil path letters) = true
-is_restraint _ = false
-
 -- whether an instruction is a call without a text
 abbrev pub is_plain : Instruction → Bool
 is_plain Fork = true
@@ -62,27 +57,6 @@ is_plain (Ftruncate d n) = true
 is_plain (Lseek d by whence) = true
 is_plain _ = false
 
--- the path of an instruction that has just one text, a path
-abbrev pub path_of : Instruction → Option Bytes
-path_of (Execve path) = Some path
-path_of (Chdir path) = Some path
-path_of (Stat path) = Some path
-path_of (Lstat path) = Some path
-path_of (Readlink path) = Some path
-path_of (Unlink path) = Some path
-path_of (Mkdir path) = Some path
-path_of (Rmdir path) = Some path
-path_of (Open path flags) = Some path
-path_of (OpenAt origin path flags) = Some path
-path_of _ = None
-
--- an instruction of two texts has these
-abbrev pub IsPair : Instruction → Bytes → Bytes → Type 0
-IsPair (Rename path new) first second = (path ≡ first) × (new ≡ second)
-IsPair (Link path new) first second = (path ≡ first) × (new ≡ second)
-IsPair (Symlink text path) first second = (text ≡ first) × (path ≡ second)
-IsPair _ first second = ⊥
-
 abbrev pub is_some_on_registers : Option Instruction → Bool
 is_some_on_registers None = false
 is_some_on_registers (Some instruction) = is_on_registers instruction
@@ -94,4 +68,4 @@ is_inside program c = is_some_on_registers (slice_get program (c.line - 1))
 -- what comes next in each process with this program and context
 abbrev pub IsNext : Program → Context → Next → Type 0
 IsNext program c Register = IsTrue (is_inside program c)
-IsNext program c (Call call) = (p : Process) → next (in_context p program c) ≡ calls_for call
+IsNext program c (Call call) = (p : Process) → next (in_context p program c) ≡ calls_for (call_of call)

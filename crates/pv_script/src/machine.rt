@@ -1,23 +1,24 @@
 //! What runs a program: the line that comes next, eight registers, and a buffer of 4,096 bytes.
 ghost use Rattle.std.specs.Prelude.{◌≡◌, ◌≤◌, ◌+ℤ◌, ◌++◌, true, false, Some, length, drop, slice_index, IsTrue, IfOk};
 ghost use Rattle.pv_model.specs.Answer.{at_next_line, with_front};
+ghost use Rattle.pv_model.specs.CallRef.{call_of};
 ghost use Rattle.pv_model.specs.Calls.Processes.{with_result};
 ghost use Rattle.pv_model.specs.Program.{operand, clamp, is_zero, is_negative, register, start_of_origin, with_register, jump_if, inside, calls_for, perform, next};
 ghost use Rattle.pv_model.specs.State.{Process, Program as Instructions};
 
 use crate::Program;
 use pv_model::limits::{BUFFER, REGISTERS};
-use pv_model::{Call, Instruction, Operand, Origin, Register, Start, Text};
+use pv_model::{CallRef, Instruction, Operand, Origin, Register, Start};
 use std::alloc::{AllocError, Global};
 use std::marker::Model;
 
 /// What comes next in a program.
-#[derive(Drop)]
-pub enum Next {
+#[derive(Clone, Copy)]
+pub enum Next<'a> {
     /// An instruction on registers or a jump, which `Machine::register` makes.
     Register,
-    /// A call.
-    Call(Call),
+    /// A call, with its texts where they stand in the program.
+    Call(CallRef<'a>),
 }
 
 /// The line that comes next, the registers and the buffer of a process: a contract sees a `Context`.
@@ -39,16 +40,6 @@ impl Model for Machine {
     ghost view = { λ m. record { line = m.line; registers = m.registers; buffer = m.buffer.items } };
 
     ghost invariant = { λ m. vec_len m.buffer ≡ BUFFER };
-}
-
-// The same text again, if there is one.
-fn copy(text: &Option<Text>) -> Option<Text>
-    ensures { result ≡ text.now }
-{
-    match text {
-        Some(text) => Some(text.copy()),
-        None => None,
-    }
 }
 
 // Puts bytes to the front of others.
@@ -105,37 +96,7 @@ fn is_on_registers(instruction: &Instruction) -> bool
     )
 }
 
-ghost use Rattle.pv_script.specs.Context.{first_context, in_context, Changes, is_on_registers, is_inside, IsNext, is_restraint, is_plain, path_of, IsPair};
-
-// Makes the call of a pledge(2) or an unveil(2).
-#[tactic(auto, unfolding(pv_model::specs::Program::perform))]
-fn put_restraint(instruction: &Instruction, call: &mut Call)
-    requires { is_restraint instruction.now ≡ true }
-    ensures { (p : Process) → perform p instruction.now ≡ calls_for call.new }
-{
-    *call = match instruction {
-        Instruction::Pledge(promises, execpromises) => {
-            Call::Pledge(copy(promises), copy(execpromises))
-        }
-        Instruction::Unveil(path, letters) => Call::Unveil(copy(path), copy(letters)),
-        _ => unreachable!(),
-    };
-}
-
-// Makes the call of an instruction on two texts.
-#[tactic(auto, unfolding(pv_model::specs::Program::perform))]
-fn put_pair(instruction: &Instruction, first: &Text, second: &Text, call: &mut Call)
-    requires { IsPair instruction.now first.now second.now }
-    ensures { (p : Process) → perform p instruction.now ≡ calls_for call.new }
-{
-    let (first, second) = (first.copy(), second.copy());
-    *call = match instruction {
-        Instruction::Rename(_, _) => Call::Rename(first, second),
-        Instruction::Link(_, _) => Call::Link(first, second),
-        Instruction::Symlink(_, _) => Call::Symlink(first, second),
-        _ => unreachable!(),
-    };
-}
+ghost use Rattle.pv_script.specs.Context.{first_context, in_context, Changes, is_on_registers, is_inside, IsNext, is_plain};
 
 impl Machine {
     /// A machine at line 1, its registers and its buffer zero. Nothing else of it allocates.
@@ -225,114 +186,73 @@ impl Machine {
         }
     }
 
-    // Makes the call of an instruction on one path.
+    // The call of an instruction without a text.
     #[tactic(auto, unfolding(pv_model::specs::Program::perform))]
-    fn put_path(&self, instruction: &Instruction, path: &Text, call: &mut Call)
-        requires { path_of instruction.now ≡ Some path.now }
-        ensures { (p : Process) (program : Instructions) → perform (in_context p program self.now) instruction.now ≡ calls_for call.new }
-    {
-        let path = path.copy();
-        *call = match instruction {
-            Instruction::Execve(_) => Call::Execve(path),
-            Instruction::Chdir(_) => Call::Chdir(path),
-            Instruction::Stat(_) => Call::Stat(path),
-            Instruction::Lstat(_) => Call::Lstat(path),
-            Instruction::Readlink(_) => Call::Readlink(path),
-            Instruction::Unlink(_) => Call::Unlink(path),
-            Instruction::Mkdir(_) => Call::Mkdir(path),
-            Instruction::Rmdir(_) => Call::Rmdir(path),
-            Instruction::Open(_, flags) => Call::Open(path, *flags),
-            Instruction::OpenAt(origin, _, flags) => {
-                Call::OpenAt(self.start(*origin), path, *flags)
-            }
-            _ => unreachable!(),
-        };
-    }
-
-    // Makes the call of an instruction without a text.
-    #[tactic(auto, unfolding(pv_model::specs::Program::perform))]
-    fn put_plain(&self, instruction: &Instruction, call: &mut Call)
+    fn plain_call<'a>(&self, instruction: &Instruction) -> CallRef<'a>
         requires { is_plain instruction.now ≡ true }
-        ensures { (p : Process) (program : Instructions) → perform (in_context p program self.now) instruction.now ≡ calls_for call.new }
-    {
-        *call = match instruction {
-            Instruction::Fork => Call::Fork,
-            Instruction::Wait => Call::Wait,
-            Instruction::GetPid => Call::GetPid,
-            Instruction::GetPpid => Call::GetPpid,
-            Instruction::Exit(code) => Call::Exit(self.operand(*code)),
-            Instruction::Close(d) => Call::Close(self.operand(*d)),
-            Instruction::Dup(d) => Call::Dup(self.operand(*d)),
-            Instruction::Fstat(d) => Call::Fstat(self.operand(*d)),
-            Instruction::Getdents(d) => Call::Getdents(self.operand(*d)),
-            Instruction::Fchdir(d) => Call::Fchdir(self.operand(*d)),
-            Instruction::Dup2(d, e) => Call::Dup2(self.operand(*d), self.operand(*e)),
-            Instruction::Read(d, n) => Call::Read(self.operand(*d), self.operand(*n)),
-            Instruction::Write(d, n) => Call::Write(self.operand(*d), self.operand(*n)),
-            Instruction::Ftruncate(d, n) => Call::Ftruncate(self.operand(*d), self.operand(*n)),
-            Instruction::Lseek(d, by, whence) => {
-                Call::Lseek(self.operand(*d), self.operand(*by), *whence)
-            }
-            _ => unreachable!(),
-        };
-    }
-
-    // Makes the call of an instruction.
-    #[tactic(auto, unfolding(pv_model::specs::Program::perform))]
-    fn put_call(&self, instruction: &Instruction, call: &mut Call)
-        requires { is_on_registers instruction.now ≡ false }
-        ensures { (p : Process) (program : Instructions) → perform (in_context p program self.now) instruction.now ≡ calls_for call.new }
+        ensures { (p : Process) (program : Instructions) → perform (in_context p program self.now) instruction.now ≡ calls_for (call_of result) }
     {
         match instruction {
-            Instruction::Pledge(..) | Instruction::Unveil(..) => put_restraint(instruction, call),
-            Instruction::Rename(first, second)
-            | Instruction::Link(first, second)
-            | Instruction::Symlink(first, second) => put_pair(instruction, first, second, call),
-            Instruction::Execve(path)
-            | Instruction::Chdir(path)
-            | Instruction::Stat(path)
-            | Instruction::Lstat(path)
-            | Instruction::Readlink(path)
-            | Instruction::Unlink(path)
-            | Instruction::Mkdir(path)
-            | Instruction::Rmdir(path)
-            | Instruction::Open(path, _)
-            | Instruction::OpenAt(_, path, _) => self.put_path(instruction, path, call),
-            _ => self.put_plain(instruction, call),
+            Instruction::Fork => CallRef::Fork,
+            Instruction::Wait => CallRef::Wait,
+            Instruction::GetPid => CallRef::GetPid,
+            Instruction::GetPpid => CallRef::GetPpid,
+            Instruction::Exit(code) => CallRef::Exit(self.operand(*code)),
+            Instruction::Close(d) => CallRef::Close(self.operand(*d)),
+            Instruction::Dup(d) => CallRef::Dup(self.operand(*d)),
+            Instruction::Fstat(d) => CallRef::Fstat(self.operand(*d)),
+            Instruction::Getdents(d) => CallRef::Getdents(self.operand(*d)),
+            Instruction::Fchdir(d) => CallRef::Fchdir(self.operand(*d)),
+            Instruction::Dup2(d, e) => CallRef::Dup2(self.operand(*d), self.operand(*e)),
+            Instruction::Read(d, n) => CallRef::Read(self.operand(*d), self.operand(*n)),
+            Instruction::Write(d, n) => CallRef::Write(self.operand(*d), self.operand(*n)),
+            Instruction::Ftruncate(d, n) => CallRef::Ftruncate(self.operand(*d), self.operand(*n)),
+            Instruction::Lseek(d, by, whence) => {
+                CallRef::Lseek(self.operand(*d), self.operand(*by), *whence)
+            }
+            _ => unreachable!(),
         }
     }
 
-    /// Whether an instruction on registers, or a jump, comes next, and no call.
-    pub fn is_register_next(&self, program: &Program) -> bool
-        ensures { result ≡ is_inside program.now self.now }
+    // The call of an instruction, with its texts where they stand.
+    #[tactic(auto, unfolding(pv_model::specs::Program::perform))]
+    fn call<'a>(&self, instruction: &'a Instruction) -> CallRef<'a>
+        requires { is_on_registers instruction.now ≡ false }
+        ensures { (p : Process) (program : Instructions) → perform (in_context p program self.now) instruction.now ≡ calls_for (call_of result) }
     {
-        match program.at(self.line) {
-            Some(instruction) => is_on_registers(instruction),
-            None => false,
-        }
-    }
-
-    /// Puts the call that comes next in place of another: past the last line, an exit.
-    pub fn put_next_call(&self, program: &Program, call: &mut Call)
-        requires { is_inside program.now self.now ≡ false }
-        ensures { (p : Process) → next (in_context p program.now self.now) ≡ calls_for call.new }
-    {
-        match program.at(self.line) {
-            Some(instruction) => self.put_call(instruction, call),
-            None => *call = Call::Exit(0),
+        match instruction {
+            Instruction::Pledge(promises, execpromises) => {
+                CallRef::Pledge(promises.as_ref(), execpromises.as_ref())
+            }
+            Instruction::Unveil(path, letters) => CallRef::Unveil(path.as_ref(), letters.as_ref()),
+            Instruction::Execve(path) => CallRef::Execve(path),
+            Instruction::Chdir(path) => CallRef::Chdir(path),
+            Instruction::Stat(path) => CallRef::Stat(path),
+            Instruction::Lstat(path) => CallRef::Lstat(path),
+            Instruction::Readlink(path) => CallRef::Readlink(path),
+            Instruction::Unlink(path) => CallRef::Unlink(path),
+            Instruction::Mkdir(path) => CallRef::Mkdir(path),
+            Instruction::Rmdir(path) => CallRef::Rmdir(path),
+            Instruction::Open(path, flags) => CallRef::Open(path, *flags),
+            Instruction::OpenAt(origin, path, flags) => {
+                CallRef::OpenAt(self.start(*origin), path, *flags)
+            }
+            Instruction::Rename(path, new) => CallRef::Rename(path, new),
+            Instruction::Link(path, new) => CallRef::Link(path, new),
+            Instruction::Symlink(text, path) => CallRef::Symlink(text, path),
+            _ => self.plain_call(instruction),
         }
     }
 
     /// What comes next: past the last line, an exit.
-    pub fn next(&self, program: &Program) -> Next
+    pub fn next<'a>(&self, program: &'a Program) -> Next<'a>
         ensures { IsNext program.now self.now result }
     {
-        if self.is_register_next(program) {
-            return Next::Register;
+        match program.at(self.line) {
+            Some(instruction) if is_on_registers(instruction) => Next::Register,
+            Some(instruction) => Next::Call(self.call(instruction)),
+            None => Next::Call(CallRef::Exit(0)),
         }
-        let mut call = Call::Exit(0);
-        self.put_next_call(program, &mut call);
-        Next::Call(call)
     }
 
     // A register's value.

@@ -1,7 +1,7 @@
 -- A step of the machine, by what is fetched and answered.
 use Rattle.std.proofs.Common.{◌≡◌, ◌∙◌, ℕ, ℤ, List, [], ap, sym, refl, Option, None, Some, Result, Ok, Err}
 use Rattle.std.specs.Prelude.{IfOk, OnOk}
-use Rattle.pv_calls.specs.declared.kernel.Fetched.TheVariants.{Register, Call as Calls}
+use Rattle.pv_calls.specs.declared.kernel.Fetched.TheVariants.{Register}
 use Rattle.pv_parts.specs.Changes.{StepsInside}
 use Rattle.pv_calls.specs.Kernel.{Fetches, Running}
 use Rattle.pv_model.specs.declared.kernel_fault.StepFault.{StepFault}
@@ -17,7 +17,7 @@ use Rattle.pv_model.specs.Step.{Stepped, step, step_of, step_by}
 use Rattle.pv_model.specs.Trace.{Line, buffer_of, call_lines, gone_lines, moved_words}
 use Rattle.pv_model.specs.Bytes.{Bytes}
 use Rattle.std.proofs.lemmas.List.{append-nil}
-use Rattle.pv_session.specs.Running.{ToldLines, stepped}
+use Rattle.pv_session.specs.Running.{BeginsLines, ToldLines, stepped}
 use Rattle.pv_session.proofs.Writes.{write-keeps}
 use Rattle.pv_trace.specs.Steps.{lines_by, moved_by}
 
@@ -81,18 +81,22 @@ module _ (s : State) (pid : ℕ) (new : State) (fetched : Fetches Register s pid
   pub inside-outcome : Value 0 ≡ (stepped s pid).outcome
   inside-outcome = sym (ap (λ (x : Stepped). x.outcome) inside-is)
 
+-- a call comes next in a process
+abbrev pub Asks : State → ℕ → Call → Type 0
+Asks s pid call = (me : Process) × (process_at s pid ≡ Some me) × (next me ≡ calls_for call)
+
 module _ (s : State) (pid : ℕ) (call : Call) (new : Running) where
   -- a call that answered, as a step
-  pub called-is : (outcome : Outcome) → Fetches (Calls call) s pid → answer program_of s pid call ≡ record { after = new.state; outcome = outcome; walks = new.walks }
+  pub called-is : (outcome : Outcome) → Asks s pid call → answer program_of s pid call ≡ record { after = new.state; outcome = outcome; walks = new.walks }
       → stepped s pid ≡ record { after = new.state; outcome = outcome; lines = lines_by pid (buffer_of (process_at new.state pid)) call outcome new.walks }
   called-is outcome fetched answered = step-called s pid fetched.0 call (record { after = new.state; outcome = outcome; walks = new.walks }) fetched.1 fetched.2 answered
 
-  pub called-after : (r : Result Outcome StepFault) → Fetches (Calls call) s pid → IfOk r (λ outcome. answer program_of s pid call ≡ record { after = new.state; outcome = outcome; walks = new.walks })
+  pub called-after : (r : Result Outcome StepFault) → Asks s pid call → IfOk r (λ outcome. answer program_of s pid call ≡ record { after = new.state; outcome = outcome; walks = new.walks })
       → OnOk r (new.state ≡ (stepped s pid).after)
   called-after (Ok outcome) fetched answered = sym (ap (λ (x : Stepped). x.after) (called-is outcome fetched answered))
   called-after (Err e) fetched answered = tt
 
-  pub called-outcome : (r : Result Outcome StepFault) → Fetches (Calls call) s pid → IfOk r (λ outcome. answer program_of s pid call ≡ record { after = new.state; outcome = outcome; walks = new.walks })
+  pub called-outcome : (r : Result Outcome StepFault) → Asks s pid call → IfOk r (λ outcome. answer program_of s pid call ≡ record { after = new.state; outcome = outcome; walks = new.walks })
       → IfOk r (λ outcome. outcome ≡ (stepped s pid).outcome)
   called-outcome (Ok outcome) fetched answered = sym (ap (λ (x : Stepped). x.outcome) (called-is outcome fetched answered))
   called-outcome (Err e) fetched answered = tt
@@ -104,3 +108,8 @@ gone-lines s t pid same none = ap (λ x. (stepped x pid).lines) (sym same) ∙ a
 pub told-none : (told : Option Bytes) → ToldLines [] told told
 told-none None = refl
 told-none (Some had) = ap (λ (bs : Bytes). Some bs) (sym (append-nil had))
+
+-- a sink that was told nothing more was told a beginning of any lines
+pub begins-none : (lines : List Line) (told : Option Bytes) → BeginsLines lines told told
+begins-none lines None = (0, refl)
+begins-none lines (Some had) = (0, ap (λ (bs : Bytes). Some bs) (sym (append-nil had)))

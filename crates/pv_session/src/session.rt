@@ -1,7 +1,8 @@
 //! The machine, step by step.
-ghost use Rattle.std.specs.Prelude.{◌≡◌, ◌⊎◌, ◌≤◌, IfOk, IfErr, OnOk, OnErr, Ok, Err, length};
-ghost use Rattle.pv_calls.specs.Kernel.{IsAhead};
-ghost use Rattle.pv_laws.specs.States.{IsFirstTree};
+ghost use Rattle.std.specs.Prelude.{◌≡◌, ◌⊎◌, ◌≤◌, IfOk, IfErr, IsTrue, OnOk, OnErr, Ok, Err, length};
+ghost use Rattle.pv_calls.specs.Kernel.{Fetches};
+ghost use Rattle.pv_laws.specs.States.{IsFirstTree, is_call};
+ghost use Rattle.pv_model.specs.CallRef.{call_of};
 ghost use Rattle.pv_model.specs.declared.limits.TheConstants.{BUFFER};
 ghost use Rattle.pv_model.specs.Sealed.{audit as audit_by_definition, audit_node as audit_of};
 ghost use Rattle.pv_model.specs.Start.{booted};
@@ -13,8 +14,10 @@ ghost use Rattle.pv_session.specs.Running.{BeginsLines, FailsBy, ToldLines, step
 
 use pv_audit::{audit, audit_node};
 use pv_cache::CachedLookup;
-use pv_calls::{Ahead, Kernel};
-use pv_model::{AuditFault, BootFault, Call, Failed, Outcome, Sink, StepFault, Verdict};
+use pv_calls::{Fetched, Kernel};
+use pv_model::{
+    AuditFault, BootFault, CallRef, CallTexts, Failed, Outcome, Sink, StepFault, Verdict,
+};
 use pv_trace::{Sheet, write_call_lines, write_gone_line};
 use pv_tree::{Store, Tree};
 use std::alloc::Global;
@@ -49,8 +52,8 @@ impl From<Failed> for Stop {
 #[derive(Drop)]
 pub struct Session {
     kernel: Kernel<CachedLookup>,
-    // The call that was made last: each next one takes its place.
-    call: Call,
+    // The texts of the call that was made last: those of each next one take their place.
+    texts: CallTexts,
     // What the lines of a trace are made on.
     sheet: Sheet,
 }
@@ -61,6 +64,31 @@ impl Model for Session {
     ghost Value = { State };
 
     ghost view = { λ s. s.kernel.state };
+}
+
+// Makes a call that comes next in a live process, and writes its lines: answers how many.
+fn trace_call<W: Sink>(
+    alloc: Global,
+    kernel: &mut Kernel<CachedLookup>,
+    sheet: &mut Sheet,
+    pid: u32,
+    call: CallRef<'_>,
+    trace: &mut W,
+) -> Result<u8, Stop>
+    requires next { Fetches (Fetched.Call call) kernel.old.state pid }
+    requires callable { IsTrue (is_call (call_of call)) }
+    ensures after { OnOk result (kernel.new.state ≡ (stepped kernel.old.state pid).after) }
+    ensures whole { OnOk result (ToldLines (stepped kernel.old.state pid).lines (W.told trace.old) (W.told trace.new)) }
+    ensures lines { IfOk result (λ n. n ≡ length (stepped kernel.old.state pid).lines) }
+    ensures few { IfOk result (λ n. n ≤ 7) }
+    ensures beginning { OnErr result (BeginsLines (stepped kernel.old.state pid).lines (W.told trace.old) (W.told trace.new)) }
+    ensures failed { IfErr result (λ stop. FailsBy stop (W.failures trace.old) (W.failures trace.new)) }
+    ensures quiet { OnOk result (W.failures trace.new ≡ W.failures trace.old) }
+{
+    let outcome = kernel.call(alloc, pid, call)?;
+    let front = kernel.buffer(pid);
+    let walks = kernel.walks();
+    Ok(write_call_lines(trace, sheet, pid, front, call, outcome, walks)?)
 }
 
 impl Session {
@@ -78,22 +106,11 @@ impl Session {
         match Kernel::boot(alloc, store) {
             Ok(kernel) => Ok(Session {
                 kernel,
-                call: Call::Exit(0),
+                texts: CallTexts::new(),
                 sheet: Sheet::new(),
             }),
             Err(fault) => Err(fault),
         }
-    }
-
-    // Makes the call that comes next in a live process.
-    fn call(&mut self, alloc: Global, pid: u32) -> Result<Outcome, StepFault>
-        requires { IsAhead Ahead.Call self.old pid }
-        ensures after { OnOk result (self.new ≡ (stepped self.old pid).after) }
-        ensures outcome { IfOk result (λ outcome. outcome ≡ (stepped self.old pid).outcome) }
-        ensures unchanged { OnErr result (self.new ≡ self.old) }
-    {
-        self.kernel.put_next_call(pid, &mut self.call);
-        self.kernel.call(alloc, pid, &self.call)
     }
 
     /// Makes one step of a process: an instruction on registers, which answers 0, or a call. A process that is not live
@@ -107,34 +124,17 @@ impl Session {
         ensures outcome { IfOk result (λ outcome. outcome ≡ (stepped self.old pid).outcome) }
         ensures unchanged { OnErr result (self.new ≡ self.old) }
     {
-        match self.kernel.ahead(pid) {
-            Ahead::Gone => Ok(Outcome::Gone),
-            Ahead::Register => {
+        match self.kernel.fetch(pid) {
+            Fetched::Gone => Ok(Outcome::Gone),
+            Fetched::Register => {
                 self.kernel.register(pid);
                 Ok(Outcome::Value(0))
             }
-            Ahead::Call => self.call(alloc, pid),
+            Fetched::Call(call) => {
+                let call = self.texts.keep(call);
+                self.kernel.call(alloc, pid, call)
+            }
         }
-    }
-
-    // Makes the call that comes next in a live process, and writes its lines: answers how many.
-    fn trace_call<W: Sink>(&mut self, alloc: Global, pid: u32, trace: &mut W) -> Result<u8, Stop>
-        requires { IsAhead Ahead.Call self.old pid }
-        ensures after { OnOk result (self.new ≡ (stepped self.old pid).after) }
-        ensures whole { OnOk result (ToldLines (stepped self.old pid).lines (W.told trace.old) (W.told trace.new)) }
-        ensures lines { IfOk result (λ n. n ≡ length (stepped self.old pid).lines) }
-        ensures few { IfOk result (λ n. n ≤ 7) }
-        ensures beginning { OnErr result (BeginsLines (stepped self.old pid).lines (W.told trace.old) (W.told trace.new)) }
-        ensures failed { IfErr result (λ stop. FailsBy stop (W.failures trace.old) (W.failures trace.new)) }
-        ensures quiet { OnOk result (W.failures trace.new ≡ W.failures trace.old) }
-    {
-        self.kernel.put_next_call(pid, &mut self.call);
-        let call = &self.call;
-        let outcome = self.kernel.call(alloc, pid, call)?;
-        let front = self.kernel.buffer(pid);
-        let walks = self.kernel.walks();
-        let sheet = &mut self.sheet;
-        Ok(write_call_lines(trace, sheet, pid, front, call, outcome, walks)?)
     }
 
     /// The 4,096 bytes of a process's buffer: none where it is not live. The bytes that an outcome tells stand at its
@@ -203,16 +203,19 @@ impl Session {
         ensures failed { IfErr result (λ stop. FailsBy stop (W.failures trace.old) (W.failures trace.new)) }
         ensures quiet { OnOk result (W.failures trace.new ≡ W.failures trace.old) }
     {
-        match self.kernel.ahead(pid) {
-            Ahead::Gone => {
+        match self.kernel.fetch(pid) {
+            Fetched::Gone => {
                 write_gone_line(trace, &mut self.sheet, pid)?;
                 Ok(1)
             }
-            Ahead::Register => {
+            Fetched::Register => {
                 self.kernel.register(pid);
                 Ok(0)
             }
-            Ahead::Call => self.trace_call(alloc, pid, trace),
+            Fetched::Call(call) => {
+                let call = self.texts.keep(call);
+                trace_call(alloc, &mut self.kernel, &mut self.sheet, pid, call, trace)
+            }
         }
     }
 }

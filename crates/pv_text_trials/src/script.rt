@@ -1,6 +1,6 @@
 //! Programs and schedules from their texts, and what a machine does with the lines of a program.
 use pv_model::{
-    Call, Instruction, Mode, OpenFlags, Operand, Origin, ParseFault, ScheduleFault, Start, What,
+    CallRef, Instruction, Mode, OpenFlags, Operand, Origin, ParseFault, ScheduleFault, Start, What,
     Whence,
 };
 use pv_script::{Machine, Next, Program, Schedule};
@@ -333,7 +333,7 @@ fn starts_that_a_machine_gives(rt: HostRuntime) {
     assert!(rt;
         matches!(
             machine.next(&program),
-            Next::Call(Call::OpenAt(Start::WorkingDirectory, _, _))
+            Next::Call(CallRef::OpenAt(Start::WorkingDirectory, _, _))
         )
     );
     machine.advance(&program);
@@ -341,7 +341,7 @@ fn starts_that_a_machine_gives(rt: HostRuntime) {
     assert!(rt;
         matches!(
             run_to_call(&mut machine, &program),
-            Some(Call::OpenAt(Start::Descriptor(-7), _, _))
+            Some(CallRef::OpenAt(Start::Descriptor(-7), _, _))
         )
     );
 }
@@ -382,7 +382,7 @@ fn calls_on_two_paths(rt: HostRuntime) {
 }
 
 // Makes the instructions on registers that come next, at most a hundred, up to a call.
-fn run_to_call(machine: &mut Machine, program: &Program) -> Option<Call> {
+fn run_to_call<'a>(machine: &mut Machine, program: &'a Program) -> Option<CallRef<'a>> {
     for _ in 0..100 {
         match machine.next(program) {
             Next::Register => machine.register(program),
@@ -397,7 +397,7 @@ fn exit_code<R: Abort + AllocGlobal>(rt: &R, bytes: &[u8]) -> Option<i32> {
     let program = read(rt, bytes);
     let mut machine = Machine::new(rt.alloc()).expect(rt, "a machine");
     match run_to_call(&mut machine, &program) {
-        Some(Call::Exit(code)) => Some(code),
+        Some(CallRef::Exit(code)) => Some(code),
         _ => None,
     }
 }
@@ -458,7 +458,7 @@ fn expect_read<R: Abort>(
     bytes: &[u8],
 ) {
     match machine.next(program) {
-        Next::Call(Call::Read(d, count)) => assert_eq!(rt; (d, count), read),
+        Next::Call(CallRef::Read(d, count)) => assert_eq!(rt; (d, count), read),
         _ => panic!(rt; "no read"),
     }
     assert!(rt; machine.buffer().starts_with(bytes));
@@ -468,13 +468,9 @@ fn expect_read<R: Abort>(
 fn answers_that_a_machine_is_told(rt: HostRuntime) {
     let program = read(&rt, ANSWERED);
     let machine = Machine::new(rt.alloc()).expect(&rt, "memory");
-    assert!(rt; matches!(machine.next(&program), Next::Call(Call::GetPid)));
+    assert!(rt; matches!(machine.next(&program), Next::Call(CallRef::GetPid)));
     let machine = told(&rt, &program);
     expect_read(&rt, &machine, &program, (-1, 9), b"hello\0");
-    let mut call = Call::Wait;
-    assert!(rt; !machine.is_register_next(&program));
-    machine.put_next_call(&program, &mut call);
-    assert!(rt; matches!(call, Call::Read(-1, 9)));
 }
 
 #[test]
@@ -493,7 +489,7 @@ fn a_machine_that_begins_again(rt: HostRuntime) {
     let program = read(&rt, ANSWERED);
     let mut machine = told(&rt, &program);
     machine.reset();
-    assert!(rt; matches!(machine.next(&program), Next::Call(Call::GetPid)));
+    assert!(rt; matches!(machine.next(&program), Next::Call(CallRef::GetPid)));
     assert!(rt; machine.buffer().starts_with(b"\0\0\0\0\0"));
 }
 
@@ -507,8 +503,8 @@ fn a_machine_past_the_last_line(rt: HostRuntime) {
     machine.reset();
     machine.advance(&short);
     machine.advance(&short);
-    assert!(rt; matches!(machine.next(&short), Next::Call(Call::Exit(0))));
-    assert!(rt; matches!(machine.next(&program), Next::Call(Call::GetPid)));
+    assert!(rt; matches!(machine.next(&short), Next::Call(CallRef::Exit(0))));
+    assert!(rt; matches!(machine.next(&program), Next::Call(CallRef::GetPid)));
 }
 
 // The schedule of these bytes.

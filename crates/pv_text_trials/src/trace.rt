@@ -3,8 +3,8 @@ ghost use Rattle.std.specs.Prelude.{None};
 ghost use Rattle.pv_trace.specs.Words.{HasFewBytes};
 
 use pv_model::{
-    Call, Cause, Errno, Failed, Mode, OpenFlags, Outcome, Perms, Promise, Sink, Start, Taken, Text,
-    Whence,
+    Call, CallRef, Cause, Errno, Failed, Mode, OpenFlags, Outcome, Perms, Promise, Sink, Start,
+    Taken, Text, Whence,
 };
 use pv_trace::{
     Buffered, Line, PIECE, PromiseVerdict, Returned, Sheet, UnveilVerdict, Way, Word,
@@ -87,7 +87,7 @@ fn expect_line<R: Abort + AllocGlobal>(rt: &R, word: Word, wanted: &[u8])
 fn each_word_has_its_text(rt: HostRuntime) {
     let path = text(&rt, b"/a\"\x01\xff~");
     let call = Call::Close(3);
-    expect_line(&rt, Word::Call(&call), b"    1 CALL  close(3)\n");
+    expect_line(&rt, Word::Call(call.as_ref()), b"    1 CALL  close(3)\n");
     expect_line(
         &rt,
         Word::Nami(&path),
@@ -95,7 +95,7 @@ fn each_word_has_its_text(rt: HostRuntime) {
     );
     expect_line(
         &rt,
-        Word::Pldg(&call, Promise::ProtExec, PromiseVerdict::Refused),
+        Word::Pldg(call.as_ref(), Promise::ProtExec, PromiseVerdict::Refused),
         b"    1 PLDG  close, \"prot_exec\", refused\n",
     );
     expect_line(
@@ -122,7 +122,7 @@ fn each_word_has_its_text(rt: HostRuntime) {
 
 // Checks that what a close returns is written so.
 fn expect_return<R: Abort + AllocGlobal>(rt: &R, returned: Returned, wanted: &[u8]) {
-    expect_line(rt, Word::Ret(&Call::Close(3), returned), wanted);
+    expect_line(rt, Word::Ret(CallRef::Close(3), returned), wanted);
 }
 
 #[test]
@@ -163,18 +163,22 @@ fn calls_show_their_arguments(rt: HostRuntime) {
     let open = Call::OpenAt(Start::Descriptor(-1), text(&rt, b"f"), all);
     expect_line(
         &rt,
-        Word::Call(&open),
+        Word::Call(open.as_ref()),
         b"    1 CALL  openat(-1, \"f\", rw+append+create+trunc+excl+nofollow+dir+cloexec)\n",
     );
     let seek = Call::Lseek(0, -2_147_483_648, Whence::Current);
     expect_line(
         &rt,
-        Word::Call(&seek),
+        Word::Call(seek.as_ref()),
         b"    1 CALL  lseek(0, -2147483648, cur)\n",
     );
     let link = Call::Link(text(&rt, b"/a"), text(&rt, b""));
-    expect_line(&rt, Word::Call(&link), b"    1 CALL  link(\"/a\", \"\")\n");
-    expect_line(&rt, Word::Call(&Call::Fork), b"    1 CALL  fork()\n");
+    expect_line(
+        &rt,
+        Word::Call(link.as_ref()),
+        b"    1 CALL  link(\"/a\", \"\")\n",
+    );
+    expect_line(&rt, Word::Call(CallRef::Fork), b"    1 CALL  fork()\n");
 }
 
 #[test]
@@ -183,7 +187,7 @@ fn longest_lines_are_written_at_once(rt: HostRuntime) {
     let call = Call::Rename(text(&rt, &[0; 1_100]), text(&rt, &[255; 1_100]));
     let line = Line {
         pid: 4_294_967_295,
-        word: Word::Call(&call),
+        word: Word::Call(call.as_ref()),
     };
     assert!(rt; write_line(&mut out, &mut Sheet::new(), &line).is_ok());
     assert!(rt; out.writes == 1);
@@ -211,7 +215,15 @@ fn hidden_open_has_four_lines(rt: HostRuntime) {
     let call = Call::Open(text(&rt, b"/a\"\x01"), FOR_READING);
     let outcome = Outcome::Failed(Errno::ENOENT, Cause::Unveil(None));
     let mut out = sink_of(&rt, 1_000, 1_000);
-    let lines = write_call_lines(&mut out, &mut Sheet::new(), 1, b"", &call, outcome, 1);
+    let lines = write_call_lines(
+        &mut out,
+        &mut Sheet::new(),
+        1,
+        b"",
+        call.as_ref(),
+        outcome,
+        1,
+    );
     assert!(rt; matches!(lines, Ok(4)));
     assert!(rt; out.writes == 1);
     assert!(rt; out.bytes.as_slice() == HIDDEN);
@@ -222,7 +234,18 @@ fn hidden_open_is_written_byte_by_byte(rt: HostRuntime) {
     let call = Call::Open(text(&rt, b"/a\"\x01"), FOR_READING);
     let outcome = Outcome::Failed(Errno::ENOENT, Cause::Unveil(None));
     let mut out = sink_of(&rt, 1_000, 1);
-    assert!(rt; write_call_lines(&mut out, &mut Sheet::new(), 1, b"", &call, outcome, 1).is_ok());
+    assert!(rt;
+        write_call_lines(
+            &mut out,
+            &mut Sheet::new(),
+            1,
+            b"",
+            call.as_ref(),
+            outcome,
+            1
+        )
+        .is_ok()
+    );
     assert!(rt; out.bytes.as_slice() == HIDDEN);
 }
 
@@ -234,7 +257,16 @@ fn full_sink_has_a_beginning_of_the_text(rt: HostRuntime) {
         for width in [1, 7, 1_000] {
             let mut out = sink_of(&rt, room, width);
             assert!(rt;
-                write_call_lines(&mut out, &mut Sheet::new(), 1, b"", &call, outcome, 1).is_err()
+                write_call_lines(
+                    &mut out,
+                    &mut Sheet::new(),
+                    1,
+                    b"",
+                    call.as_ref(),
+                    outcome,
+                    1
+                )
+                .is_err()
             );
             assert!(rt; out.bytes.as_slice() == &HIDDEN[..room]);
             assert!(rt; out.failures == 1);
@@ -251,7 +283,7 @@ fn read_shows_the_bytes_it_gave(rt: HostRuntime) {
         &mut Sheet::new(),
         99_999,
         b"abcdef",
-        &Call::Read(0, -1),
+        CallRef::Read(0, -1),
         outcome,
         0,
     );
@@ -269,7 +301,7 @@ fn write_shows_the_bytes_it_took(rt: HostRuntime) {
         &mut Sheet::new(),
         1,
         b"abcdef",
-        &call,
+        call.as_ref(),
         Outcome::Value(2),
         0,
     );
@@ -285,7 +317,15 @@ fn killed_call_ends_with_its_signal(rt: HostRuntime) {
     let outcome = Outcome::Killed(Promise::Unveil);
     assert!(rt;
         matches!(
-            write_call_lines(&mut out, &mut Sheet::new(), 12, b"", &call, outcome, 0),
+            write_call_lines(
+                &mut out,
+                &mut Sheet::new(),
+                12,
+                b"",
+                call.as_ref(),
+                outcome,
+                0
+            ),
             Ok(3)
         )
     );
@@ -301,7 +341,15 @@ fn rename_tells_the_walks_that_it_began(rt: HostRuntime) {
     let mut out = sink_of(&rt, 1_000, 1_000);
     assert!(rt;
         matches!(
-            write_call_lines(&mut out, &mut Sheet::new(), 1, b"", &call, refused, 2),
+            write_call_lines(
+                &mut out,
+                &mut Sheet::new(),
+                1,
+                b"",
+                call.as_ref(),
+                refused,
+                2
+            ),
             Ok(5)
         )
     );
@@ -317,7 +365,7 @@ fn rename_that_began_one_walk_tells_one(rt: HostRuntime) {
     let empty = Outcome::Failed(Errno::ENOENT, Cause::Plain);
     assert!(rt;
         matches!(
-            write_call_lines(&mut out, &mut Sheet::new(), 1, b"", &call, empty, 1),
+            write_call_lines(&mut out, &mut Sheet::new(), 1, b"", call.as_ref(), empty, 1),
             Ok(3)
         )
     );
@@ -333,7 +381,7 @@ fn exit_has_its_call_alone(rt: HostRuntime) {
                 &mut Sheet::new(),
                 1,
                 b"",
-                &Call::Exit(0),
+                CallRef::Exit(0),
                 Outcome::Exited,
                 0
             ),

@@ -5,6 +5,7 @@ use Rattle.pv_model.specs.declared.limits.TheConstants.{BUFFER}
 use Rattle.pv_model.specs.declared.open_flags.OpenFlags.{OpenFlags}
 use Rattle.pv_model.specs.declared.perms.Perms.{Perms}
 use Rattle.pv_model.specs.Bytes.{Bytes}
+use Rattle.pv_model.specs.CallRef.{call_of}
 use Rattle.pv_model.specs.Errno.{errno_number, errno_name}
 use Rattle.pv_model.specs.Perms.{letters_text}
 use Rattle.pv_model.specs.Trace.{Word as TraceWord, PromiseVerdict as TracePromise, UnveilVerdict as TraceUnveil, Way as TraceWay, Returned as TraceReturned, call_word, nami_word, pldg_word, unvl_word, gio_word, ret_word, psig_word, wait_word, gone_word, for_kill, for_refusal, for_increase, no_entry, entry_lacks, table_locked, gave, took, value_of, error_of, pad_left, pad_right, word_name, flags_text}
@@ -39,12 +40,12 @@ returned_of (Error errno) = error_of errno
 
 -- the word as the definitions have it
 abbrev pub word_of : Word → TraceWord
-word_of (Call call) = call_word call.now
+word_of (Call call) = call_word (call_of call)
 word_of (Nami path) = nami_word path.now
-word_of (Pldg call promise verdict) = pldg_word call.now promise (promise_verdict_of verdict)
+word_of (Pldg call promise verdict) = pldg_word (call_of call) promise (promise_verdict_of verdict)
 word_of (Unvl verdict) = unvl_word (unveil_verdict_of verdict)
 word_of (Gio way bytes) = gio_word (way_of way) bytes.now
-word_of (Ret call returned) = ret_word call.now (returned_of returned)
+word_of (Ret call returned) = ret_word (call_of call) (returned_of returned)
 word_of Psig = psig_word
 word_of Wait = wait_word
 word_of Gone = gone_word

@@ -1,14 +1,15 @@
 //! Calls with their arguments, as a program writes them.
-ghost use Rattle.std.specs.Prelude.{◌≡◌, ◌++◌, ◌+◌, ◌*◌, ◌≤◌, [], ◌∷◌, length, codes};
+ghost use Rattle.std.specs.Prelude.{◌≡◌, ◌++◌, ◌+◌, ◌*◌, ◌≤◌, [], ◌∷◌, length, codes, option_copied};
 ghost use Rattle.std.specs.Fmt.{signed_decimal};
 ghost use Rattle.std.specs.List.{join_by};
 ghost use Rattle.pv_model.specs.declared.limits.TheConstants.{TEXT};
+ghost use Rattle.pv_model.specs.CallRef.{call_of};
 ghost use Rattle.pv_model.specs.Trace.{quote, quote_or_null, flag_text, start_text, call_name, call_text, call_line, mode_text as trace_mode_text, whence_text as trace_whence_text};
 ghost use Rattle.pv_trace.specs.declared.sheet.TheConstants.{SHEET};
 ghost use Rattle.pv_trace.specs.Words.{flags_bytes};
 
 use crate::sheet::{Sheet, put, put_quoted, put_quoted_or_null, put_signed};
-use pv_model::{Call, Mode, OpenFlags, Start, Text, Whence};
+use pv_model::{CallRef, Mode, OpenFlags, Start, Text, Whence};
 
 fn mode_text(mode: Mode) -> &'static [u8]
     ensures text { result.now ≡ trace_mode_text mode }
@@ -35,9 +36,9 @@ fn put_flag(out: &mut Sheet, set: bool, name: &[u8])
 
 // The flags of an open, as a program writes them.
 #[tactic(auto, unfolding(crate::specs::Words::flags_bytes))]
-fn put_flags(out: &mut Sheet, flags: &OpenFlags)
+fn put_flags(out: &mut Sheet, flags: OpenFlags)
     requires { length out.old.items + 48 ≤ SHEET }
-    ensures text { out.new.items ≡ out.old.items ++ flags_bytes flags.now }
+    ensures text { out.new.items ≡ out.old.items ++ flags_bytes flags }
     ensures growth { length out.new.items ≤ length out.old.items + 48 }
 {
     put(out, mode_text(flags.mode));
@@ -61,54 +62,54 @@ fn whence_text(whence: Whence) -> &'static [u8]
     }
 }
 
-fn put_start(out: &mut Sheet, start: &Start)
+fn put_start(out: &mut Sheet, start: Start)
     requires { length out.old.items + 40 ≤ SHEET }
-    ensures text { out.new.items ≡ out.old.items ++ start_text start.now }
+    ensures text { out.new.items ≡ out.old.items ++ start_text start }
     ensures growth { length out.new.items ≤ length out.old.items + 40 }
 {
     match start {
         Start::WorkingDirectory => put(out, b"cwd"),
-        Start::Descriptor(descriptor) => put_signed(out, *descriptor),
+        Start::Descriptor(descriptor) => put_signed(out, descriptor),
     }
 }
 
 // The name of a call.
 #[tactic(auto, unfolding(pv_model::specs::Trace::call_text))]
-pub(crate) fn name(call: &Call) -> &'static [u8]
-    ensures text { result.now ≡ call_name call.now }
+pub(crate) fn name(call: CallRef<'_>) -> &'static [u8]
+    ensures text { result.now ≡ call_name (call_of call.entry) }
     ensures few { length result.now ≤ 9 }
 {
     match call {
-        Call::Exit(_) => b"exit",
-        Call::GetPid => b"getpid",
-        Call::GetPpid => b"getppid",
-        Call::Fork => b"fork",
-        Call::Wait => b"wait",
-        Call::Pledge(_, _) => b"pledge",
-        Call::Unveil(_, _) => b"unveil",
-        Call::Execve(_) => b"execve",
-        Call::Open(_, _) => b"open",
-        Call::OpenAt(_, _, _) => b"openat",
-        Call::Close(_) => b"close",
-        Call::Dup(_) => b"dup",
-        Call::Dup2(_, _) => b"dup2",
-        Call::Read(_, _) => b"read",
-        Call::Write(_, _) => b"write",
-        Call::Lseek(_, _, _) => b"lseek",
-        Call::Fstat(_) => b"fstat",
-        Call::Ftruncate(_, _) => b"ftruncate",
-        Call::Getdents(_) => b"getdents",
-        Call::Fchdir(_) => b"fchdir",
-        Call::Chdir(_) => b"chdir",
-        Call::Stat(_) => b"stat",
-        Call::Lstat(_) => b"lstat",
-        Call::Readlink(_) => b"readlink",
-        Call::Mkdir(_) => b"mkdir",
-        Call::Symlink(_, _) => b"symlink",
-        Call::Link(_, _) => b"link",
-        Call::Unlink(_) => b"unlink",
-        Call::Rmdir(_) => b"rmdir",
-        Call::Rename(_, _) => b"rename",
+        CallRef::Exit(_) => b"exit",
+        CallRef::GetPid => b"getpid",
+        CallRef::GetPpid => b"getppid",
+        CallRef::Fork => b"fork",
+        CallRef::Wait => b"wait",
+        CallRef::Pledge(_, _) => b"pledge",
+        CallRef::Unveil(_, _) => b"unveil",
+        CallRef::Execve(_) => b"execve",
+        CallRef::Open(_, _) => b"open",
+        CallRef::OpenAt(_, _, _) => b"openat",
+        CallRef::Close(_) => b"close",
+        CallRef::Dup(_) => b"dup",
+        CallRef::Dup2(_, _) => b"dup2",
+        CallRef::Read(_, _) => b"read",
+        CallRef::Write(_, _) => b"write",
+        CallRef::Lseek(_, _, _) => b"lseek",
+        CallRef::Fstat(_) => b"fstat",
+        CallRef::Ftruncate(_, _) => b"ftruncate",
+        CallRef::Getdents(_) => b"getdents",
+        CallRef::Fchdir(_) => b"fchdir",
+        CallRef::Chdir(_) => b"chdir",
+        CallRef::Stat(_) => b"stat",
+        CallRef::Lstat(_) => b"lstat",
+        CallRef::Readlink(_) => b"readlink",
+        CallRef::Mkdir(_) => b"mkdir",
+        CallRef::Symlink(_, _) => b"symlink",
+        CallRef::Link(_, _) => b"link",
+        CallRef::Unlink(_) => b"unlink",
+        CallRef::Rmdir(_) => b"rmdir",
+        CallRef::Rename(_, _) => b"rename",
     }
 }
 
@@ -132,9 +133,9 @@ fn put_two_texts(out: &mut Sheet, first: &Text, second: &Text)
     put_quoted(out, second);
 }
 
-fn put_two_options(out: &mut Sheet, first: &Option<Text>, second: &Option<Text>)
+fn put_two_options(out: &mut Sheet, first: Option<&Text>, second: Option<&Text>)
     requires { length out.old.items + 8 * TEXT + 6 ≤ SHEET }
-    ensures text { out.new.items ≡ out.old.items ++ join_by (λ bs. bs) (codes ", ") (quote_or_null first.now ∷ quote_or_null second.now ∷ []) }
+    ensures text { out.new.items ≡ out.old.items ++ join_by (λ bs. bs) (codes ", ") (quote_or_null (option_copied first.entry) ∷ quote_or_null (option_copied second.entry) ∷ []) }
     ensures growth { length out.new.items ≤ length out.old.items + 8 * TEXT + 6 }
 {
     put_quoted_or_null(out, first);
@@ -142,9 +143,9 @@ fn put_two_options(out: &mut Sheet, first: &Option<Text>, second: &Option<Text>)
     put_quoted_or_null(out, second);
 }
 
-fn put_open(out: &mut Sheet, path: &Text, flags: &OpenFlags)
+fn put_open(out: &mut Sheet, path: &Text, flags: OpenFlags)
     requires { length out.old.items + 4 * TEXT + 52 ≤ SHEET }
-    ensures text { out.new.items ≡ out.old.items ++ join_by (λ bs. bs) (codes ", ") (quote path.now ∷ flags_bytes flags.now ∷ []) }
+    ensures text { out.new.items ≡ out.old.items ++ join_by (λ bs. bs) (codes ", ") (quote path.now ∷ flags_bytes flags ∷ []) }
     ensures growth { length out.new.items ≤ length out.old.items + 4 * TEXT + 52 }
 {
     put_quoted(out, path);
@@ -152,9 +153,9 @@ fn put_open(out: &mut Sheet, path: &Text, flags: &OpenFlags)
     put_flags(out, flags);
 }
 
-fn put_openat(out: &mut Sheet, start: &Start, path: &Text, flags: &OpenFlags)
+fn put_openat(out: &mut Sheet, start: Start, path: &Text, flags: OpenFlags)
     requires { length out.old.items + 4 * TEXT + 94 ≤ SHEET }
-    ensures text { out.new.items ≡ out.old.items ++ join_by (λ bs. bs) (codes ", ") (start_text start.now ∷ quote path.now ∷ flags_bytes flags.now ∷ []) }
+    ensures text { out.new.items ≡ out.old.items ++ join_by (λ bs. bs) (codes ", ") (start_text start ∷ quote path.now ∷ flags_bytes flags ∷ []) }
     ensures growth { length out.new.items ≤ length out.old.items + 4 * TEXT + 94 }
 {
     put_start(out, start);
@@ -174,51 +175,51 @@ fn put_lseek(out: &mut Sheet, descriptor: i32, by: i32, whence: Whence)
 
 // The arguments of a call, joined by commas.
 #[tactic(auto, unfolding(pv_model::specs::Trace::call_text, crate::specs::Words::flags_bytes))]
-fn put_arguments(out: &mut Sheet, call: &Call)
+fn put_arguments(out: &mut Sheet, call: &CallRef<'_>)
     requires { length out.old.items + 8 * TEXT + 6 ≤ SHEET }
-    ensures text { out.new.items ≡ out.old.items ++ join_by (λ bs. bs) (codes ", ") (call_text call.now).1 }
+    ensures text { out.new.items ≡ out.old.items ++ join_by (λ bs. bs) (codes ", ") (call_text (call_of call.now)).1 }
     ensures growth { length out.new.items ≤ length out.old.items + 8 * TEXT + 6 }
 {
     match call {
-        Call::GetPid | Call::GetPpid | Call::Fork | Call::Wait => {}
-        Call::Exit(number)
-        | Call::Close(number)
-        | Call::Dup(number)
-        | Call::Fstat(number)
-        | Call::Getdents(number)
-        | Call::Fchdir(number) => put_signed(out, *number),
-        Call::Dup2(first, second)
-        | Call::Read(first, second)
-        | Call::Write(first, second)
-        | Call::Ftruncate(first, second) => put_two_numbers(out, *first, *second),
-        Call::Lseek(descriptor, by, whence) => put_lseek(out, *descriptor, *by, *whence),
-        Call::Pledge(first, second) | Call::Unveil(first, second) => {
-            put_two_options(out, first, second)
+        CallRef::GetPid | CallRef::GetPpid | CallRef::Fork | CallRef::Wait => {}
+        CallRef::Exit(number)
+        | CallRef::Close(number)
+        | CallRef::Dup(number)
+        | CallRef::Fstat(number)
+        | CallRef::Getdents(number)
+        | CallRef::Fchdir(number) => put_signed(out, *number),
+        CallRef::Dup2(first, second)
+        | CallRef::Read(first, second)
+        | CallRef::Write(first, second)
+        | CallRef::Ftruncate(first, second) => put_two_numbers(out, *first, *second),
+        CallRef::Lseek(descriptor, by, whence) => put_lseek(out, *descriptor, *by, *whence),
+        CallRef::Pledge(first, second) | CallRef::Unveil(first, second) => {
+            put_two_options(out, *first, *second)
         }
-        Call::Execve(path)
-        | Call::Chdir(path)
-        | Call::Stat(path)
-        | Call::Lstat(path)
-        | Call::Readlink(path)
-        | Call::Mkdir(path)
-        | Call::Unlink(path)
-        | Call::Rmdir(path) => put_quoted(out, path),
-        Call::Open(path, flags) => put_open(out, path, flags),
-        Call::OpenAt(start, path, flags) => put_openat(out, start, path, flags),
-        Call::Symlink(first, second) | Call::Link(first, second) | Call::Rename(first, second) => {
-            put_two_texts(out, first, second)
-        }
+        CallRef::Execve(path)
+        | CallRef::Chdir(path)
+        | CallRef::Stat(path)
+        | CallRef::Lstat(path)
+        | CallRef::Readlink(path)
+        | CallRef::Mkdir(path)
+        | CallRef::Unlink(path)
+        | CallRef::Rmdir(path) => put_quoted(out, path),
+        CallRef::Open(path, flags) => put_open(out, path, *flags),
+        CallRef::OpenAt(start, path, flags) => put_openat(out, *start, path, *flags),
+        CallRef::Symlink(first, second)
+        | CallRef::Link(first, second)
+        | CallRef::Rename(first, second) => { put_two_texts(out, first, second) }
     }
 }
 
 // A call with its arguments.
-pub(crate) fn put_call(out: &mut Sheet, call: &Call)
+pub(crate) fn put_call(out: &mut Sheet, call: CallRef<'_>)
     requires { length out.old.items + 8 * TEXT + 17 ≤ SHEET }
-    ensures text { out.new.items ≡ out.old.items ++ call_line call.now }
+    ensures text { out.new.items ≡ out.old.items ++ call_line (call_of call.entry) }
     ensures growth { length out.new.items ≤ length out.old.items + 8 * TEXT + 17 }
 {
     put(out, name(call));
     put(out, b"(");
-    put_arguments(out, call);
+    put_arguments(out, &call);
     put(out, b")");
 }

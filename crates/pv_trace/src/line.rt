@@ -9,7 +9,7 @@ ghost use Rattle.pv_trace.specs.Words.{word_of, line_front};
 use crate::sheet::{Sheet, put, put_pid};
 use crate::stream::write_whole;
 use crate::words::{name_of, put_word};
-use pv_model::{Call, Errno, Failed, Perms, Promise, Sink, Text};
+use pv_model::{CallRef, Errno, Failed, Perms, Promise, Sink, Text};
 use std::marker::Model;
 
 /// What a promise decided, pledge(2).
@@ -56,17 +56,17 @@ pub enum Returned {
 #[derive(Clone, Copy)]
 pub enum Word<'a> {
     /// CALL: a call, with its arguments.
-    Call(&'a Call),
+    Call(CallRef<'a>),
     /// NAMI: a path that a call walks.
     Nami(&'a Text),
     /// PLDG: a promise that decided a call.
-    Pldg(&'a Call, Promise, PromiseVerdict),
+    Pldg(CallRef<'a>, Promise, PromiseVerdict),
     /// UNVL: an unveil table that decided.
     Unvl(UnveilVerdict),
     /// GIO: at most 4,096 bytes that were given or taken.
     Gio(Way, &'a [u8]),
     /// RET: what a call answered.
-    Ret(&'a Call, Returned),
+    Ret(CallRef<'a>, Returned),
     /// PSIG: the process was killed.
     Psig,
     /// WAIT: the call waits.

@@ -1,7 +1,7 @@
 //! The sheet that lines are made on, and numbers, texts and bytes as a trace spells them.
 //!
 //! Each call says how much room it asks for and how much the text grows by, at most.
-ghost use Rattle.std.specs.Prelude.{◌≡◌, ◌++◌, ◌+◌, ◌*◌, ◌<◌, ◌≤◌, replicate, ◌∷◌, length, codes, decimal, flat_map};
+ghost use Rattle.std.specs.Prelude.{◌≡◌, ◌++◌, ◌+◌, ◌*◌, ◌<◌, ◌≤◌, replicate, ◌∷◌, length, codes, decimal, flat_map, option_copied};
 ghost use Rattle.std.specs.Fmt.{signed_decimal};
 ghost use Rattle.pv_model.specs.declared.limits.TheConstants.{TEXT};
 ghost use Rattle.pv_model.specs.Trace.{quote, quote_byte, quote_or_null, hex, hex_byte, hex_digit, is_plain, pad_left};
@@ -165,9 +165,9 @@ pub(crate) fn put_quoted(out: &mut Sheet, text: &Text)
     put_quoted_all(out, text.as_slice());
 }
 
-pub(crate) fn put_quoted_or_null(out: &mut Sheet, text: &Option<Text>)
+pub(crate) fn put_quoted_or_null(out: &mut Sheet, text: Option<&Text>)
     requires { length out.old.items + 4 * TEXT + 2 ≤ SHEET }
-    ensures text { out.new.items ≡ out.old.items ++ quote_or_null text.now }
+    ensures text { out.new.items ≡ out.old.items ++ quote_or_null (option_copied text.entry) }
     ensures growth { length out.new.items ≤ length out.old.items + 4 * TEXT + 2 }
 {
     match text {

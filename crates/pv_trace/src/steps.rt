@@ -1,6 +1,7 @@
 //! The lines of a step.
 ghost use Rattle.std.specs.Prelude.{◌≡◌, ◌++◌, ◌+◌, ◌≤◌, [], ◌∷◌, length, take, map, IfOk, OnOk, OnErr};
 ghost use Rattle.pv_model.specs.declared.limits.TheConstants.{BUFFER};
+ghost use Rattle.pv_model.specs.CallRef.{call_of};
 ghost use Rattle.pv_model.specs.Perms.{read_letters};
 ghost use Rattle.pv_model.specs.Stream.{Rose};
 ghost use Rattle.pv_model.specs.Trace.{line, trace_bytes, needed_by, asked_letters as letters_asked, gone_lines};
@@ -14,7 +15,7 @@ use crate::line::{Line, PromiseVerdict, Returned, UnveilVerdict, Way, Word, put_
 use crate::sheet::Sheet;
 use crate::stream::write_whole;
 use arrayvec::ArrayVec;
-use pv_model::{Call, Cause, Errno, Failed, Outcome, Perms, Sink, Text};
+use pv_model::{CallRef, Cause, Errno, Failed, Outcome, Perms, Sink, Text};
 
 /// The most lines that a step has.
 const STEP_LINES: usize = 7;
@@ -60,25 +61,25 @@ fn push_two_paths<'a>(lines: &mut Lines<'a>, pid: u32, first: &'a Text, second: 
 
 // The lines of the walks that a call began.
 #[tactic(auto, unfolding(pv_model::specs::Trace::walked_paths))]
-fn push_path_lines<'a>(lines: &mut Lines<'a>, pid: u32, call: &'a Call, walks: u8)
+fn push_path_lines<'a>(lines: &mut Lines<'a>, pid: u32, call: CallRef<'a>, walks: u8)
     requires { length lines.old.items + 2 ≤ STEP_LINES }
-    ensures lines { lines.new.items ≡ lines.old.items ++ path_lines_of pid call.now walks }
+    ensures lines { lines.new.items ≡ lines.old.items ++ path_lines_of pid (call_of call.entry) walks }
     ensures growth { length lines.new.items ≤ length lines.old.items + 2 }
 {
     match call {
-        Call::Unveil(Some(path), Some(_))
-        | Call::Execve(path)
-        | Call::Open(path, _)
-        | Call::OpenAt(_, path, _)
-        | Call::Chdir(path)
-        | Call::Stat(path)
-        | Call::Lstat(path)
-        | Call::Readlink(path)
-        | Call::Mkdir(path)
-        | Call::Symlink(_, path)
-        | Call::Unlink(path)
-        | Call::Rmdir(path) => push_one_path(lines, pid, path, walks),
-        Call::Link(first, second) | Call::Rename(first, second) => {
+        CallRef::Unveil(Some(path), Some(_))
+        | CallRef::Execve(path)
+        | CallRef::Open(path, _)
+        | CallRef::OpenAt(_, path, _)
+        | CallRef::Chdir(path)
+        | CallRef::Stat(path)
+        | CallRef::Lstat(path)
+        | CallRef::Readlink(path)
+        | CallRef::Mkdir(path)
+        | CallRef::Symlink(_, path)
+        | CallRef::Unlink(path)
+        | CallRef::Rmdir(path) => push_one_path(lines, pid, path, walks),
+        CallRef::Link(first, second) | CallRef::Rename(first, second) => {
             push_two_paths(lines, pid, first, second, walks)
         }
         _ => {}
@@ -96,9 +97,9 @@ fn verdict_of(errno: Errno) -> PromiseVerdict
 }
 
 // The line of a promise that decided.
-fn push_promise_lines<'a>(lines: &mut Lines<'a>, pid: u32, call: &'a Call, outcome: Outcome)
+fn push_promise_lines<'a>(lines: &mut Lines<'a>, pid: u32, call: CallRef<'a>, outcome: Outcome)
     requires { length lines.old.items + 1 ≤ STEP_LINES }
-    ensures lines { lines.new.items ≡ lines.old.items ++ promise_lines_of pid call.now outcome }
+    ensures lines { lines.new.items ≡ lines.old.items ++ promise_lines_of pid (call_of call.entry) outcome }
     ensures growth { length lines.new.items ≤ length lines.old.items + 1 }
 {
     match outcome {
@@ -125,8 +126,8 @@ fn letters_of(text: &Text) -> Perms
 
 // The letters that a call asks of the last place that it walked to.
 #[tactic(auto, unfolding(pv_model::specs::Trace::asked_letters))]
-fn asked_letters(call: &Call, walks: u8) -> Perms
-    ensures { result ≡ letters_asked call.now walks }
+fn asked_letters(call: CallRef<'_>, walks: u8) -> Perms
+    ensures { result ≡ letters_asked (call_of call.entry) walks }
 {
     match walks {
         1 => first_letters(call),
@@ -136,30 +137,33 @@ fn asked_letters(call: &Call, walks: u8) -> Perms
 }
 
 // The letters that a call asks of the place of its first walk.
-fn first_letters(call: &Call) -> Perms
-    ensures { result ≡ needed_by (walk_number (walks_of call.now) 1) }
+fn first_letters(call: CallRef<'_>) -> Perms
+    ensures { result ≡ needed_by (walk_number (walks_of (call_of call.entry)) 1) }
 {
     match call {
-        Call::Unveil(Some(_), Some(text)) => letters_of(text),
-        Call::Execve(_) => Perms::X,
-        Call::Open(_, flags) | Call::OpenAt(_, _, flags) => flags.letters(),
-        Call::Chdir(_) | Call::Stat(_) | Call::Lstat(_) | Call::Readlink(_) | Call::Link(_, _) =>
-            Perms::R,
-        Call::Mkdir(_)
-        | Call::Symlink(_, _)
-        | Call::Unlink(_)
-        | Call::Rmdir(_)
-        | Call::Rename(_, _) => Perms::C,
+        CallRef::Unveil(Some(_), Some(text)) => letters_of(text),
+        CallRef::Execve(_) => Perms::X,
+        CallRef::Open(_, flags) | CallRef::OpenAt(_, _, flags) => flags.letters(),
+        CallRef::Chdir(_)
+        | CallRef::Stat(_)
+        | CallRef::Lstat(_)
+        | CallRef::Readlink(_)
+        | CallRef::Link(_, _) => Perms::R,
+        CallRef::Mkdir(_)
+        | CallRef::Symlink(_, _)
+        | CallRef::Unlink(_)
+        | CallRef::Rmdir(_)
+        | CallRef::Rename(_, _) => Perms::C,
         _ => Perms::NONE,
     }
 }
 
 // The letters that a call asks of the place of its second walk.
-fn second_letters(call: &Call) -> Perms
-    ensures { result ≡ needed_by (walk_number (walks_of call.now) 2) }
+fn second_letters(call: CallRef<'_>) -> Perms
+    ensures { result ≡ needed_by (walk_number (walks_of (call_of call.entry)) 2) }
 {
     match call {
-        Call::Link(_, _) | Call::Rename(_, _) => Perms::C,
+        CallRef::Link(_, _) | CallRef::Rename(_, _) => Perms::C,
         _ => Perms::NONE,
     }
 }
@@ -168,12 +172,12 @@ fn second_letters(call: &Call) -> Perms
 fn push_unveil_lines<'a>(
     lines: &mut Lines<'a>,
     pid: u32,
-    call: &'a Call,
+    call: CallRef<'a>,
     walks: u8,
     outcome: Outcome,
 )
     requires { length lines.old.items + 1 ≤ STEP_LINES }
-    ensures lines { lines.new.items ≡ lines.old.items ++ unveil_lines_of pid call.now walks outcome }
+    ensures lines { lines.new.items ≡ lines.old.items ++ unveil_lines_of pid (call_of call.entry) walks outcome }
     ensures growth { length lines.new.items ≤ length lines.old.items + 1 }
 {
     let verdict = match outcome {
@@ -206,12 +210,12 @@ fn push_moved_lines<'a>(
     lines: &mut Lines<'a>,
     pid: u32,
     front: &'a [u8],
-    call: &'a Call,
+    call: CallRef<'a>,
     outcome: Outcome,
 )
     requires few { length front.now ≤ BUFFER }
     requires room { length lines.old.items + 1 ≤ STEP_LINES }
-    ensures lines { lines.new.items ≡ lines.old.items ++ moved_lines_of pid front.now call.now outcome }
+    ensures lines { lines.new.items ≡ lines.old.items ++ moved_lines_of pid front.now (call_of call.entry) outcome }
     ensures growth { length lines.new.items ≤ length lines.old.items + 1 }
 {
     match (outcome, call) {
@@ -219,7 +223,7 @@ fn push_moved_lines<'a>(
             let bytes = front_of(front, taken.len as usize);
             push(lines, pid, Word::Gio(Way::Gave, bytes))
         }
-        (Outcome::Value(count), Call::Write(_, _)) => {
+        (Outcome::Value(count), CallRef::Write(_, _)) => {
             let bytes = front_of(front, count as usize);
             push(lines, pid, Word::Gio(Way::Took, bytes))
         }
@@ -228,9 +232,9 @@ fn push_moved_lines<'a>(
 }
 
 // The last line of a call.
-fn push_end_lines<'a>(lines: &mut Lines<'a>, pid: u32, call: &'a Call, outcome: Outcome)
+fn push_end_lines<'a>(lines: &mut Lines<'a>, pid: u32, call: CallRef<'a>, outcome: Outcome)
     requires { length lines.old.items + 1 ≤ STEP_LINES }
-    ensures lines { lines.new.items ≡ lines.old.items ++ end_lines_of pid call.now outcome }
+    ensures lines { lines.new.items ≡ lines.old.items ++ end_lines_of pid (call_of call.entry) outcome }
     ensures growth { length lines.new.items ≤ length lines.old.items + 1 }
 {
     match outcome {
@@ -245,9 +249,15 @@ fn push_end_lines<'a>(lines: &mut Lines<'a>, pid: u32, call: &'a Call, outcome: 
 
 // The lines of a call.
 #[tactic(auto, unfolding(crate::specs::Steps::lines_by))]
-fn lines_of<'a>(pid: u32, front: &'a [u8], call: &'a Call, outcome: Outcome, walks: u8) -> Lines<'a>
+fn lines_of<'a>(
+    pid: u32,
+    front: &'a [u8],
+    call: CallRef<'a>,
+    outcome: Outcome,
+    walks: u8,
+) -> Lines<'a>
     requires { length front.now ≤ BUFFER }
-    ensures { result.items ≡ lines_by pid front.now call.now outcome walks }
+    ensures { result.items ≡ lines_by pid front.now (call_of call.entry) outcome walks }
 {
     let mut lines = Lines::new();
     push(&mut lines, pid, Word::Call(call));
@@ -296,15 +306,15 @@ pub fn write_call_lines<W: Sink>(
     sheet: &mut Sheet,
     pid: u32,
     front: &[u8],
-    call: &Call,
+    call: CallRef<'_>,
     outcome: Outcome,
     walks: u8,
 ) -> Result<u8, Failed>
     requires { length front.now ≤ BUFFER }
-    ensures whole { OnOk result (W.told out.new ≡ and_all (W.told out.old) (trace_bytes (lines_by pid front.now call.now outcome walks))) }
-    ensures count { IfOk result (λ n. n ≡ length (lines_by pid front.now call.now outcome walks)) }
+    ensures whole { OnOk result (W.told out.new ≡ and_all (W.told out.old) (trace_bytes (lines_by pid front.now (call_of call.entry) outcome walks))) }
+    ensures count { IfOk result (λ n. n ≡ length (lines_by pid front.now (call_of call.entry) outcome walks)) }
     ensures few { IfOk result (λ n. n ≤ 7) }
-    ensures beginning { OnErr result (TellsBeginning (trace_bytes (lines_by pid front.now call.now outcome walks)) (W.told out.old) (W.told out.new)) }
+    ensures beginning { OnErr result (TellsBeginning (trace_bytes (lines_by pid front.now (call_of call.entry) outcome walks)) (W.told out.old) (W.told out.new)) }
     ensures failed { OnErr result (Rose (W.failures out.old) (W.failures out.new)) }
     ensures quiet { OnOk result (W.failures out.new ≡ W.failures out.old) }
 {

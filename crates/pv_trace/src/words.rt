@@ -1,6 +1,7 @@
 //! The name of each word, and the text behind it.
 ghost use Rattle.std.specs.Prelude.{◌≡◌, ◌++◌, ◌+◌, ◌*◌, ◌≤◌, length, codes, decimal, None, Some};
 ghost use Rattle.pv_model.specs.declared.limits.TheConstants.{BUFFER, TEXT};
+ghost use Rattle.pv_model.specs.CallRef.{call_of};
 ghost use Rattle.pv_model.specs.Errno.{errno_name};
 ghost use Rattle.pv_model.specs.Promise.{promise_name};
 ghost use Rattle.pv_model.specs.Trace.{pad_right, word_name, word_text, promise_text, promise_verdict_text, unveil_verdict_text, way_text, bytes_text, returned_text, return_text};
@@ -10,7 +11,7 @@ ghost use Rattle.pv_trace.specs.Words.{word_of, promise_verdict_of, unveil_verdi
 use crate::calls::{name, put_call};
 use crate::line::{PromiseVerdict, Returned, UnveilVerdict, Way, Word};
 use crate::sheet::{Sheet, put, put_decimal, put_hex, put_letters, put_quoted, put_quoted_all};
-use pv_model::{Call, Errno, Perms, Promise};
+use pv_model::{CallRef, Errno, Perms, Promise};
 
 /// The word's name, padded to four bytes.
 pub(crate) fn name_of(word: &Word) -> &'static [u8]
@@ -50,9 +51,9 @@ fn promise_bytes(promise: Promise) -> &'static [u8]
 }
 
 // What a trace says of a promise.
-fn put_promise(out: &mut Sheet, call: &Call, promise: Promise, verdict: PromiseVerdict)
+fn put_promise(out: &mut Sheet, call: CallRef<'_>, promise: Promise, verdict: PromiseVerdict)
     requires { length out.old.items + 64 ≤ SHEET }
-    ensures text { out.new.items ≡ out.old.items ++ promise_text call.now promise (promise_verdict_text (promise_verdict_of verdict)) }
+    ensures text { out.new.items ≡ out.old.items ++ promise_text (call_of call.entry) promise (promise_verdict_text (promise_verdict_of verdict)) }
     ensures growth { length out.new.items ≤ length out.old.items + 64 }
 {
     put(out, name(call));
@@ -166,9 +167,9 @@ fn put_returned(out: &mut Sheet, returned: Returned)
 }
 
 // What a trace says of a call's answer.
-fn put_return(out: &mut Sheet, call: &Call, returned: Returned)
+fn put_return(out: &mut Sheet, call: CallRef<'_>, returned: Returned)
     requires { length out.old.items + 72 ≤ SHEET }
-    ensures text { out.new.items ≡ out.old.items ++ return_text call.now (returned_text (returned_of returned)) }
+    ensures text { out.new.items ≡ out.old.items ++ return_text (call_of call.entry) (returned_text (returned_of returned)) }
     ensures growth { length out.new.items ≤ length out.old.items + 72 }
 {
     put(out, name(call));
@@ -184,12 +185,12 @@ pub(crate) fn put_word(out: &mut Sheet, word: &Word)
     ensures growth { length out.new.items ≤ length out.old.items + 8 * TEXT + 17 }
 {
     match word {
-        Word::Call(call) => put_call(out, call),
+        Word::Call(call) => put_call(out, *call),
         Word::Nami(path) => put_quoted(out, path),
-        Word::Pldg(call, promise, verdict) => put_promise(out, call, *promise, *verdict),
+        Word::Pldg(call, promise, verdict) => put_promise(out, *call, *promise, *verdict),
         Word::Unvl(verdict) => put_unveil(out, *verdict),
         Word::Gio(way, bytes) => put_moved(out, *way, bytes),
-        Word::Ret(call, returned) => put_return(out, call, *returned),
+        Word::Ret(call, returned) => put_return(out, *call, *returned),
         Word::Psig => put(out, b"SIGABRT"),
         Word::Wait => put(out, b"blocked"),
         Word::Gone => put(out, b"no such process"),

@@ -1,7 +1,7 @@
 //! Each call once, as two lookups answer it, full tables, and memory that is refused.
 use crate::store_of;
 use pv_calls::{Fetched, Kernel};
-use pv_model::{Cause, Errno, Outcome, StepFault, Taken};
+use pv_model::{CallTexts, Cause, Errno, Outcome, StepFault, Taken};
 use pv_namei::Lookup;
 use pv_tree::Tree;
 use std::alloc::Global;
@@ -86,7 +86,11 @@ fn step<L: Lookup + Drop>(
             kernel.register(pid);
             Ok(Outcome::Value(0))
         }
-        Fetched::Call(call) => kernel.call(alloc, pid, &call),
+        Fetched::Call(call) => {
+            let mut texts = CallTexts::new();
+            let call = texts.keep(call);
+            kernel.call(alloc, pid, call)
+        }
     }
 }
 

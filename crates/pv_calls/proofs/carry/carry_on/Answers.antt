@@ -1,3 +1,4 @@
+use Rattle.pv_model.specs.CallRef.{call_of}
 use Rattle.pv_calls.proofs.Carrying.{next-live, next-whole, carried-on, next-goes_on, blocked-carried}
 use Rattle.pv_calls.proofs.carry.carry_on.Goals as goal
 
@@ -9,11 +10,11 @@ perform-requires-clause-live g c = next-live c.args.parts.now c.advance.new.self
 
 pub perform-requires-clause-goes_on : goal.perform-requires-clause-goes_on
 perform-requires-clause-goes_on g c =
-    next-goes_on c.args.parts.now c.advance.new.self c.args.pid c.args.call.now c.advance.ensures c.requires.live c.requires.whole.processes.ascending (c.is_blocked.ensures.goes_on c.if-is_blocked.false)
+    next-goes_on c.args.parts.now c.advance.new.self c.args.pid (call_of c.args.call) c.advance.ensures c.requires.live c.requires.whole.processes.ascending (c.is_blocked.ensures.goes_on c.if-is_blocked.false)
 
 pub returns-then-is_blocked-clause-carried : goal.returns-then-is_blocked-clause-carried
-returns-then-is_blocked-clause-carried g c = blocked-carried c.args.parts.now c.args.pid c.args.call.now c.requires.whole.processes.ascending (c.is_blocked.ensures.blocked c.if-is_blocked.true)
+returns-then-is_blocked-clause-carried g c = blocked-carried c.args.parts.now c.args.pid (call_of c.args.call) c.requires.whole.processes.ascending (c.is_blocked.ensures.blocked c.if-is_blocked.true)
 
 pub returns-clause-carried : goal.returns-clause-carried
 returns-clause-carried g c =
-    carried-on c.args.parts.now c.advance.new.self c.args.pid c.args.call.now c.perform.new.parts c.perform.result c.advance.ensures c.perform.ensures.row
+    carried-on c.args.parts.now c.advance.new.self c.args.pid (call_of c.args.call) c.perform.new.parts c.perform.result c.advance.ensures c.perform.ensures.row

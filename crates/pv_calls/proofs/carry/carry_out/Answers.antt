@@ -1,5 +1,6 @@
 use Rattle.std.proofs.Common.{sym, ◌∙◌, refl, subst}
 use Rattle.std.specs.Prelude.{IsSome}
+use Rattle.pv_model.specs.CallRef.{call_of}
 use Rattle.pv_model.specs.Tree.{find_entry}
 use Rattle.pv_model.specs.declared.errno.Errno.TheVariants.{ENOSYS}
 use Rattle.pv_model.specs.declared.outcome.Cause.TheVariants.{Promise as ByPromise}
@@ -13,7 +14,7 @@ use Rattle.pv_calls.proofs.carry.carry_out.Goals as goal
 
 pub returns-then-not-live-clause-answered : goal.returns-then-not-live-clause-answered
 returns-then-not-live-clause-answered g c =
-    answer-gone c.args.parts.now c.args.pid c.args.call.now (not-live c.args.parts.now c.processes.result.now c.args.pid c.processes.ensures (c.if-not-live.ensures {u = tt}))
+    answer-gone c.args.parts.now c.args.pid (call_of c.args.call) (not-live c.args.parts.now c.processes.result.now c.args.pid c.processes.ensures (c.if-not-live.ensures {u = tt}))
 
 pub tell-requires-clause-live : goal.tell-requires-clause-live
 tell-requires-clause-live g c =
@@ -23,14 +24,14 @@ tell-requires-clause-live g c =
 pub returns-in-Allowed-clause-answered : goal.returns-in-Allowed-clause-answered
 returns-in-Allowed-clause-answered g c =
     let live = live-in c.args.parts.now c.processes.result.now c.processes.result.now c.args.pid c.processes.ensures c.processes.ensures (c.if-not-live.ensures {u = tt}) in
-    answer-allowed-if c.args.parts.now c.args.pid c.args.call.now live.0 live.1 c.carry_on.new.parts c.carry_on.result
-    (decided c.args.parts.now c.args.pid c.record.result.now c.args.call.now c.decide.result c.record.ensures c.decide.ensures live.0 live.1 ∙ c.in-Allowed.is) c.carry_on.ensures.carried
+    answer-allowed-if c.args.parts.now c.args.pid (call_of c.args.call) live.0 live.1 c.carry_on.new.parts c.carry_on.result
+    (decided c.args.parts.now c.args.pid c.record.result.now (call_of c.args.call) c.decide.result c.record.ensures c.decide.ensures live.0 live.1 ∙ c.in-Allowed.is) c.carry_on.ensures.carried
 
 pub returns-in-Kill-clause-answered : goal.returns-in-Kill-clause-answered
 returns-in-Kill-clause-answered g c =
     let live = live-in c.args.parts.now c.processes.result.now c.processes.result.now c.args.pid c.processes.ensures c.processes.ensures (c.if-not-live.ensures {u = tt}) in
-    killed-so c.args.parts.now c.args.pid c.args.call.now live.0 live.1 c.in-Kill.promise c.end.new.self
-    (decided c.args.parts.now c.args.pid c.record.result.now c.args.call.now c.decide.result c.record.ensures c.decide.ensures live.0 live.1 ∙ c.in-Kill.is) (c.end.ensures live.0 live.1)
+    killed-so c.args.parts.now c.args.pid (call_of c.args.call) live.0 live.1 c.in-Kill.promise c.end.new.self
+    (decided c.args.parts.now c.args.pid c.record.result.now (call_of c.args.call) c.decide.result c.record.ensures c.decide.ensures live.0 live.1 ∙ c.in-Kill.is) (c.end.ensures live.0 live.1)
 
 pub returns-in-Kill-clause-agrees : goal.returns-in-Kill-clause-agrees
 returns-in-Kill-clause-agrees g c =
@@ -40,8 +41,8 @@ returns-in-Kill-clause-agrees g c =
 pub returns-in-Refuse-clause-answered : goal.returns-in-Refuse-clause-answered
 returns-in-Refuse-clause-answered g c =
     let live = live-in c.args.parts.now c.processes.result.now c.processes.result.now c.args.pid c.processes.ensures c.processes.ensures (c.if-not-live.ensures {u = tt}) in
-    answer-refused c.args.parts.now c.args.pid c.args.call.now live.0 live.1 c.in-Refuse.promise
-    (decided c.args.parts.now c.args.pid c.record.result.now c.args.call.now c.decide.result c.record.ensures c.decide.ensures live.0 live.1 ∙ c.in-Refuse.is)
+    answer-refused c.args.parts.now c.args.pid (call_of c.args.call) live.0 live.1 c.in-Refuse.promise
+    (decided c.args.parts.now c.args.pid c.record.result.now (call_of c.args.call) c.decide.result c.record.ensures c.decide.ensures live.0 live.1 ∙ c.in-Refuse.is)
     ∙ c.tell.ensures.told c.args.parts.now (with_process c.args.parts.now c.args.pid (at_next_line live.0)) (at_next_line live.0) (refused 0 ENOSYS (ByPromise c.in-Refuse.promise)) refl
     (c.advance.ensures ∙ update-is c.args.parts.now c.args.pid at_next_line live.0 live.1)
 

@@ -1,4 +1,5 @@
 use Rattle.std.proofs.Common.{◌≡◌, subst}
+use Rattle.pv_model.specs.CallRef.{call_of}
 use Rattle.pv_model.specs.Answer.{answer_by_attempt, effect}
 use Rattle.pv_model.specs.Bytes.{Bytes}
 use Rattle.pv_model.specs.Calls.Paths.{stat, lstat, readlink}
@@ -15,8 +16,8 @@ tell-requires g c =
     let s = c.args.parts.now in
     let mine = some-at (process_at s c.args.pid) c.requires.live in
     record {
-      live = row-live s c.path_row-row.new.parts c.args.pid c.path_row-row.result (effect program_of s c.args.pid mine.0 c.args.call.now) (c.path_row-row.ensures.row mine.0 mine.1) c.path_row-row.ensures.unchanged c.requires.live
-          (lives-path s c.args.pid mine.0 mine.1 c.args.call.now (path-rest c.args.call.now c.requires.group c.in_default.not-Stat c.in_default.not-Lstat c.in_default.not-Readlink));
+      live = row-live s c.path_row-row.new.parts c.args.pid c.path_row-row.result (effect program_of s c.args.pid mine.0 (call_of c.args.call)) (c.path_row-row.ensures.row mine.0 mine.1) c.path_row-row.ensures.unchanged c.requires.live
+          (lives-path s c.args.pid mine.0 mine.1 (call_of c.args.call) (path-rest c.args.call c.requires.group c.in_default.not-Stat c.in_default.not-Lstat c.in_default.not-Readlink));
       small = c.path_row-row.ensures.small;
     }
 

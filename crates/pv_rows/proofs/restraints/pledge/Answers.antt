@@ -1,4 +1,5 @@
 use Rattle.std.proofs.Common.{◌∙◌, ap, sym}
+use Rattle.std.specs.Prelude.{option_copied}
 use Rattle.pv_parts.specs.Attempts.{trimmed}
 use Rattle.pv_rows.specs.Rows.{attempt_of}
 use Rattle.pv_model.specs.Attempt.{done}
@@ -19,7 +20,7 @@ returns-in-Err-narrow-clause-row c = λ me at.
     let later = bits_of c.in-Ok-asked.set in
     let lent = lent-is (process_at s c.args.pid) me c.record.result.now c.record.ensures at in
     ap trimmed
-    (pledge-refused s c.args.pid me c.args.promises.now c.args.execpromises.now now later c.in-Ok.ensures c.in-Ok-asked.ensures c.in-Err-narrow.promise
+    (pledge-refused s c.args.pid me (option_copied c.args.promises) (option_copied c.args.execpromises) now later c.in-Ok.ensures c.in-Ok-asked.ensures c.in-Err-narrow.promise
     (ap (λ (r : Record). narrow_both r.pledge now later) (sym lent) ∙ c.in-Err-narrow.ensures.refused))
 
 pub returns-in-Ok-narrow-clause-row : goal.returns-in-Ok-narrow-clause-row
@@ -30,7 +31,7 @@ returns-in-Ok-narrow-clause-row c = λ me at.
     let kept = c.narrow.new.self in
     let lent = lent-is (process_at s c.args.pid) me c.record.result.now c.record.ensures at in
     ap trimmed
-    (pledge-kept s c.args.pid me c.args.promises.now c.args.execpromises.now now later c.in-Ok.ensures c.in-Ok-asked.ensures kept
+    (pledge-kept s c.args.pid me (option_copied c.args.promises) (option_copied c.args.execpromises) now later c.in-Ok.ensures c.in-Ok-asked.ensures kept
     (ap (λ (r : Record). narrow_both r.pledge now later) (sym lent) ∙ c.in-Ok-narrow.ensures.narrowed))
     ∙ ap (λ x. done 0 (x, returns 0)) (ap trim (sym (c.set_pledge.ensures ∙ update-is s c.args.pid (with_pledged kept) me at)) ∙ c.facts.ensures.trimmed)
     ∙ sym (ap (attempt_of c.set_pledge.new.self) c.answer_of.ensures)

@@ -1,6 +1,7 @@
 use Rattle.std.proofs.Common.{ap, subst}
 use Rattle.pv_laws.specs.States.{IsWhole}
 use Rattle.pv_laws.proofs.BySteps.{call-keeps_whole}
+use Rattle.pv_model.specs.CallRef.{call_of}
 use Rattle.pv_model.specs.Answer.{Answered}
 use Rattle.pv_model.specs.Grammar.Programs.{program_of}
 use Rattle.pv_runs.proofs.Ranges.{program_of-spells}
@@ -9,6 +10,6 @@ use Rattle.pv_calls.proofs.kernel.Kernel.call.Goals as goal
 pub invariant_of-self-2 : goal.invariant_of-self-2
 invariant_of-self-2 g c = (
   subst IsWhole (ap (λ (a : Answered). a.after) c.in_ok-answer.ensures.answered)
-      (call-keeps_whole program_of program_of-spells c.self.inside.parts c.args.pid c.args.call.now c.requires c.self.invariant.0),
+      (call-keeps_whole program_of program_of-spells c.self.inside.parts c.args.pid (call_of c.args.call) c.requires c.self.invariant.0),
   c.carry_out.ensures.agrees,
 )
