@@ -1,5 +1,5 @@
 -- What a lookup has kept after a use, after one more answer, and after one less.
-use Rattle.std.proofs.Common.{◌≡◌, ℕ, zero, suc, ◌-◌, ◌≤◌, Bool, true, false, cond, ◌⊎◌, inl, inr, List, [], ◌∷◌, take, length, nat_eq, nat_lt, if◌then◌else◌, Option, Some, None, Result, Ok, Err, refl, sym, ap, ◌∙◌}
+use Rattle.std.proofs.Common.{◌≡◌, ℕ, zero, suc, ◌-◌, ◌≤◌, Bool, true, false, cond, ◌⊎◌, inl, inr, List, [], ◌∷◌, take, length, nat_eq, nat_lt, if◌then◌else◌, Option, Some, None, Result, Ok, Err, refl, sym, ap, subst, ◌∙◌}
 use Rattle.std.specs.Prelude.{OnOk, OnErr}
 use Rattle.std.specs.Cmp.{IsEquivalence, nat_eq_equiv, on_equiv, and_equiv}
 use Rattle.std.specs.Cmp.Lexicographic.{pointwise, lists_equiv, bytes_decides}
@@ -176,6 +176,17 @@ module _ (old new : LruCache Pair (Option ℕ)) (pair : Pair) (directory : ℕ) 
         | inl put ↦ inl (put ∙ ap (λ kept. lru_cache (put_entries is_same kept pair answer) kept.cap) same ∙ ap (λ p. lru_cache (put_entries is_same old p answer) old.cap) (pair-is pair directory name number bytes))
         | inr not ↦ inr (pair-kept short None absent, not ∙ same)
       ]
+
+-- asked by one pair, and put under another of the same directory and name
+module _ (old new : LruCache Pair (Option ℕ)) (asked pair : Pair) (directory : ℕ) (name : Bytes)
+    (asked_number : asked.directory ≡ directory) (asked_bytes : asked.name.items ≡ name) (number : pair.directory ≡ directory) (bytes : pair.name.items ≡ name) where
+  pub put-by-asking : (used : LruCache Pair (Option ℕ)) (answer : Option ℕ) {X E : Type 0} (r : Result X E) → length name ≤ 255 → None ≡ lookup (is_same asked) old.entries
+      → used ≡ lru_cache (promoted (is_same asked) old.entries) old.cap
+      → OnOk r (new ≡ lru_cache (put_entries is_same used pair answer) used.cap) → OnErr r (new ≡ used) → IsPut old directory name answer new
+  put-by-asking used answer r short absent is ok err =
+      let same : asked ≡ pair = pair-is asked directory name asked_number asked_bytes ∙ sym (pair-is pair directory name number bytes) in
+      put-by-put old new pair directory name number bytes used answer r short (subst (λ p. None ≡ lookup (is_same p) old.entries) same absent)
+      (subst (λ p. used ≡ lru_cache (promoted (is_same p) old.entries) old.cap) same is) ok err
 
 module _ (old new : LruCache Pair (Option ℕ)) (directory : ℕ) (name : Bytes) where
   pub fits-by-put : (map : ℕ → Bytes → Option ℕ) → IsPut old directory name (map directory name) new → FitsMap old map → FitsMap new map

@@ -1,5 +1,5 @@
 //! A lookup that keeps the tree's answers.
-ghost use Rattle.std.specs.Prelude.{◌≡◌, ◌⊎◌, ℕ, List, Option, Some, None, [], IsTrue, IfOk, IfSome, IsSome, ◌↔◌, ◌≤◌, length};
+ghost use Rattle.std.specs.Prelude.{◌≡◌, ◌⊎◌, ℕ, List, Option, Some, None, [], IsTrue, IfOk, ◌≤◌, length};
 ghost use Rattle.pv_model.specs.Tree.{is_directory_at, find_entry};
 ghost use Rattle.pv_tree_laws.specs.Found.{AlikeBut};
 ghost use Rattle.pv_cache.specs.Cached.{kept_of, IsPut, FitsMap};
@@ -23,20 +23,34 @@ pub(crate) struct Pair {
 }
 
 impl Pair {
-    // The pair of a directory and a name, where the name has at most 255 bytes.
-    fn new(directory: u16, name: &[u8]) -> Option<Pair>
-        ensures fits { IsSome result ↔ (length name.now ≤ NAME_V2) }
-        ensures directory { IfSome result (λ pair. pair.directory ≡ directory) }
-        ensures name { IfSome result (λ pair. pair.name.items ≡ name.now) }
-    {
-        let mut bytes = ArrayVec::new();
-        match bytes.try_extend_from_slice(name) {
-            Ok(()) => Some(Pair {
-                directory,
-                name: bytes,
-            }),
-            Err(_) => None,
+    // The pair of directory 0 and no name.
+    fn empty() -> Pair {
+        Pair {
+            directory: 0,
+            name: ArrayVec::new(),
         }
+    }
+
+    // Becomes the pair of a directory and a name, which has at most 255 bytes.
+    fn set(&mut self, directory: u16, name: &[u8])
+        requires { length name.now ≤ NAME_V2 }
+        ensures directory { self.new.directory ≡ directory }
+        ensures name { self.new.name.items ≡ name.now }
+    {
+        self.directory = directory;
+        self.name.clear();
+        let _ = self.name.try_extend_from_slice(name);
+    }
+
+    // The pair of a directory and a name, which has at most 255 bytes.
+    fn new(directory: u16, name: &[u8]) -> Pair
+        requires { length name.now ≤ NAME_V2 }
+        ensures directory { result.directory ≡ directory }
+        ensures name { result.name.items ≡ name.now }
+    {
+        let mut pair = Pair::empty();
+        pair.set(directory, name);
+        pair
     }
 }
 
@@ -47,6 +61,8 @@ impl Pair {
 #[derive(Drop)]
 pub struct CachedLookup {
     answers: LruCache<Pair, Option<u16>>,
+    // What was asked last: each next question takes its place.
+    asked: Pair,
     ghost capacity: { answers.cap ≡ 512 },
 }
 
@@ -58,6 +74,7 @@ impl CachedLookup {
     {
         Ok(CachedLookup {
             answers: LruCache::new(alloc, NonZeroUsize::new(MOST).unwrap())?,
+            asked: Pair::empty(),
         })
     }
 
@@ -66,8 +83,10 @@ impl CachedLookup {
     pub fn kept(&self, directory: u16, name: &[u8]) -> Option<Option<u16>>
         ensures { result ≡ kept_of self.now.answers directory name.now }
     {
-        let pair = Pair::new(directory, name)?;
-        self.answers.peek(&pair).copied()
+        if name.len() > NAME_V2 {
+            return None;
+        }
+        self.answers.peek(&Pair::new(directory, name)).copied()
     }
 }
 
@@ -87,14 +106,15 @@ impl Lookup for CachedLookup {
         ensures keeps { (kept_of self.new.answers directory name.now ≡ Some result) ⊎ (self.new.answers ≡ self.old.answers) }
         ensures puts { IsPut self.old.answers directory name.now result self.new.answers }
     {
-        let Some(pair) = Pair::new(directory, name) else {
+        if name.len() > NAME_V2 {
             return tree.find(directory, name);
-        };
-        if let Some(answer) = self.answers.get(&pair).copied() {
+        }
+        self.asked.set(directory, name);
+        if let Some(answer) = self.answers.get(&self.asked).copied() {
             return answer;
         }
         let answer = tree.find(directory, name);
-        let _ = self.answers.put(pair, answer);
+        let _ = self.answers.put(Pair::new(directory, name), answer);
         answer
     }
 
@@ -105,8 +125,9 @@ impl Lookup for CachedLookup {
     {
         // What its length tells with it: no pair is kept twice.
         let _ = self.answers.len();
-        if let Some(pair) = Pair::new(directory, name) {
-            self.answers.pop(&pair);
+        if name.len() <= NAME_V2 {
+            self.asked.set(directory, name);
+            self.answers.pop(&self.asked);
         }
     }
 }

@@ -101,6 +101,7 @@ pub fn lstat<L: Lookup>(parts: &mut Parts, lookup: &mut L, pid: u32, path: &[u8]
 ///
 /// An error of the walk refuses it, then one of its judgement, `ENOENT` where nothing is there, and `EINVAL` where no
 /// link is.
+#[inline(never)]
 pub fn readlink<L: Lookup>(parts: &mut Parts, lookup: &mut L, pid: u32, path: &[u8]) -> Answer
     requires whole { IsWhole parts.old }
     requires live { IsSome (process_at parts.old pid) }

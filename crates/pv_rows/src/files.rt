@@ -136,8 +136,19 @@ pub fn read(parts: &mut Parts, pid: u32, d: i32, n: i32) -> Answer
 {
     // A buffer is zeroed when it is made, so a short read takes a short one.
     if n <= SHORT as i32 {
-        return read_by(parts, pid, d, n, &mut [0; SHORT]);
+        read_by(parts, pid, d, n, &mut [0; SHORT])
+    } else {
+        read_long(parts, pid, d, n)
     }
+}
+
+// The same of any count. It stands apart, so that no other call pays for its buffer.
+#[inline(never)]
+fn read_long(parts: &mut Parts, pid: u32, d: i32, n: i32) -> Answer
+    requires whole { IsWhole parts.old }
+    requires live { IsSome (process_at parts.old pid) }
+    ensures row { IsAnswered (λ s me. read s pid me d n) parts.old pid parts.new result }
+{
     read_by(parts, pid, d, n, &mut [0; BUFFER])
 }
 
@@ -185,7 +196,8 @@ pub fn write(parts: &mut Parts, pid: u32, d: i32, n: i32) -> Result<Done, Refuse
     write_bytes(parts, pid, file, count)
 }
 
-// Writes some bytes, at least one, through an open file.
+// Writes some bytes, at least one, through an open file. It stands apart, so that no other call pays for its buffer.
+#[inline(never)]
 fn write_bytes(parts: &mut Parts, pid: u32, file: usize, count: usize) -> Result<Done, Refused>
     requires whole { IsWhole parts.old }
     requires live { IsSome (process_at parts.old pid) }

@@ -13,11 +13,11 @@ returns-then-n c = record {
       ∙ c.read_by.ensures.row before me at;
 }
 
-pub returns : goal.returns
-returns c = record {
+pub returns-else-n : goal.returns-else-n
+returns-else-n c = record {
   row = λ before me at.
       let s = c.args.parts.now in
       ap (answer_by_attempt before s c.args.pid me)
       (ap₂ (λ d n. read s c.args.pid me d n) (sym (to_z-of_z w32 c.args.d c.ranges.d)) (sym (to_z-of_z w32 c.args.n c.ranges.n)))
-      ∙ c.read_by-2.ensures.row before me at;
+      ∙ c.read_long.ensures.row before me at;
 }
