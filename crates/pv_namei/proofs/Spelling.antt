@@ -1,5 +1,5 @@
 -- Pieces with a slash behind each.
-use Rattle.std.proofs.Common.{◌≡◌, ℕ, ◌+◌, Bool, true, false, cond, not, ◌&&◌, ◌==◌, List, [], ◌∷◌, ◌++◌, filter, length, refl, ap, ap₂, sym, ◌∙◌, append_assoc, arith}
+use Rattle.std.proofs.Common.{◌≡◌, ◌≤◌, ℕ, ◌+◌, Bool, true, false, cond, not, ◌&&◌, ◌==◌, List, [], ◌∷◌, ◌++◌, filter, length, refl, ap, ap₂, sym, ◌∙◌, append_assoc, arith}
 use Rattle.std.specs.List.{list_all}
 use Rattle.std.proofs.Math.ListN.{length-append}
 use Rattle.std.proofs.lemmas.Bool.{and_parts}
@@ -87,3 +87,32 @@ pub pieces-joined : (a b bytes : Bytes) → bytes ≡ with_slashes (pieces a) ++
 pieces-joined a b bytes is =
     ap pieces (is ∙ sym (with_slashes-append (pieces a) (pieces b)))
     ∙ spelled_back (pieces a ++ pieces b) (list_all-append (is_piece any) (pieces a) (pieces b) ∙ ap₂ (λ x y. x && y) (pieces_all a) (pieces_all b))
+
+-- ---- how much pieces weigh
+
+weight-onto : (b : ℕ) (ps : List Bytes) (first : Bytes) (others : List Bytes) → ps ≡ first ∷ others → weight (onto_first b ps) ≡ weight ps + 1
+weight-onto b ps first others is =
+    omega (arith, ap (λ ps. weight (onto_first b ps)) is, ap weight is, weight-cons (b ∷ first) others, weight-cons first others)
+
+weight-split : (bs : Bytes) → weight (split_slashes bs) ≡ length bs + 1
+weight-split [] = refl
+weight-split (b ∷ bs) =
+    let ih = weight-split bs in
+    elim (b == 47) as (λ v. weight (cond v ([] ∷ split_slashes bs) (onto_first b (split_slashes bs))) ≡ length (b ∷ bs) + 1) [
+      | true ↦ omega (arith, weight-cons [] (split_slashes bs), ih)
+      | false ↦ let filled = split_filled bs in omega (arith, weight-onto b (split_slashes bs) filled.0 filled.1 filled.2, ih)
+    ]
+
+weight-filled : (ps : List Bytes) → weight (filter (λ piece. not (is_empty piece)) ps) ≤ weight ps
+weight-filled [] = omega arith
+weight-filled (p ∷ ps) =
+    let f : Bytes → Bool = λ piece. not (is_empty piece) in
+    let ih = weight-filled ps in
+    elim (not (is_empty p)) as (λ v. weight (cond v (p ∷ filter f ps) (filter f ps)) ≤ weight (p ∷ ps)) [
+      | true ↦ omega (arith, weight-cons p (filter f ps), weight-cons p ps, ih)
+      | false ↦ omega (arith, weight-cons p ps, ih)
+    ]
+
+-- the pieces of a path weigh at most its length and one
+pub weight-pieces : (bs : Bytes) → weight (pieces bs) ≤ length bs + 1
+weight-pieces bs = omega (arith, weight-filled (split_slashes bs), weight-split bs)

@@ -10,11 +10,14 @@ use pv_model::Errno;
 use pv_model::limits::WEIGHT;
 use std::marker::Model;
 
+// Two paths that are shorter go together, with a slash between them: no slash of theirs need be left out.
+const HALF: usize = WEIGHT / 2;
+
 /// The pieces that a link leaves to walk: together with a slash behind each they are at most
 /// 1,024 bytes. A contract sees the list of the pieces.
 #[derive(Drop)]
 pub(crate) struct Joined {
-    // Each piece with a slash behind it.
+    // The pieces, with a slash at least between two of them.
     bytes: ArrayVec<u8, WEIGHT>,
 }
 
@@ -46,9 +49,14 @@ impl Joined {
         ensures too_long { OnErr result (WEIGHT < weight (pieces text.now ++ rest.now)) }
         ensures err { IfErr result (λ e. e ≡ Errno.ENAMETOOLONG) }
     {
+        let rest = rest.as_slice();
+        if text.len() < HALF && rest.len() < HALF {
+            put_both(&mut self.bytes, text, rest);
+            return Ok(());
+        }
         self.bytes.clear();
         push_pieces(&mut self.bytes, text)?;
-        push_pieces(&mut self.bytes, rest.as_slice())
+        push_pieces(&mut self.bytes, rest)
     }
 
     /// The way along its pieces.
@@ -57,6 +65,18 @@ impl Joined {
     {
         Along::new(self.bytes.as_slice())
     }
+}
+
+// Becomes two paths with a slash between them.
+fn put_both(bytes: &mut ArrayVec<u8, WEIGHT>, first: &[u8], second: &[u8])
+    requires first { length first.now < 512 }
+    requires second { length second.now < 512 }
+    ensures { bytes.new.items ≡ first.now ++ 47 ∷ second.now }
+{
+    bytes.clear();
+    let _ = bytes.try_extend_from_slice(first);
+    bytes.push(b'/');
+    let _ = bytes.try_extend_from_slice(second);
 }
 
 // Puts the pieces of a path at the end, with a slash behind each; ENAMETOOLONG where there is no room for them.
