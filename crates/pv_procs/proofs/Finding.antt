@@ -145,6 +145,11 @@ first-none (p ∷ ps) pid none =
 same-number : (q n : ℕ) → nat_cmp q n ≡ Equal → q ≡ n
 same-number q n tied = eqb-true q n (unsigned_ties q n ∙ ap is_eq tied)
 
+-- a place with the number is the first
+pub stood-found : (places : List Place) (pid k : ℕ) (place : Place) → ascends places ≡ true → IsAt places pid k place → Some k ≡ position (λ (p : Place). p.number == pid) places
+stood-found places pid k place asc at =
+    sym (ap (λ n. cond (nat_lt n (length places)) (Some n) None) (first-at places pid k place asc at) ∙ ap (λ b. cond b (Some k) None) (lt-ltb k (length places) at.within))
+
 module _ (places : List Place) (pid : ℕ) (asc : ascends places ≡ true) where
   -- an index at which a search by halves stops is the first with the number
   pub half-found : (k : ℕ) → k < length places → HoldsAt (λ (p : Place). nat_cmp p.number pid ≡ Equal) places k → Some k ≡ position (λ (p : Place). p.number == pid) places
@@ -156,8 +161,7 @@ module _ (places : List Place) (pid : ℕ) (asc : ascends places ≡ true) where
           let place = get_or places k p in
           let number = same-number place.number pid (tied p) in
           let at : IsAt places pid k place = record { within = within; is = get_or_default places k p place within; number = number } in
-          let first = first-at places pid k place asc at in
-          sym (ap (λ n. cond (nat_lt n (length places)) (Some n) None) first ∙ ap (λ b. cond b (Some k) None) (lt-ltb k (length places) within))
+          stood-found places pid k place asc at
 
   -- and where it finds none, no place has it
   pub half-none : (i : ℕ) → (IsNonDecreasingBy (λ (p : Place). ordering_index (nat_cmp p.number pid)) places

@@ -66,11 +66,28 @@ pub(crate) fn make_child(place: &mut Place, number: u32, parent: &Place)
     owned.machine.tell(0, 0);
 }
 
-// The index of a process's place: the places stand in the order of their numbers.
+// Whether a process's place is this one.
+fn stands_at(places: &[Place], k: usize, pid: u32) -> bool
+    requires { ascends places.now ≡ true }
+    ensures { result ≡ true → Some k ≡ position (λ place. place.number == pid) places.now }
+{
+    if k >= places.len() {
+        return false;
+    }
+    let place = &places[k];
+    place.number == pid
+}
+
+// The index of a process's place: the places stand in the order of their numbers. It is looked for first where it
+// stands while no process before it has gone.
 pub(crate) fn index_of(places: &[Place], pid: u32) -> Option<usize>
     requires { ascends places.now ≡ true }
     ensures { result ≡ position (λ place. place.number == pid) places.now }
 {
+    let guess = (pid as usize).saturating_sub(1);
+    if stands_at(places, guess, pid) {
+        return Some(guess);
+    }
     match places.binary_search_by_key(&pid, |place| place.number) {
         Ok(k) => Some(k),
         Err(_) => None,
