@@ -1,12 +1,12 @@
 //! Directories whose entries come and go, in both versions, and files among them.
 ghost use Rattle.std.specs.Prelude.{◌≤◌};
 
+use crate::answers::expect_same;
 use pv_dirs::Directories;
 use pv_inodes::Space;
 use pv_model::{Name, Sort, Version, is_name};
-use std::alloc::{AllocError, Global};
+use std::alloc::{AllocError, AllocGlobal, Global};
 use std::process::Abort;
-use std::test::Fail;
 
 // An image of 16 inodes and so many data blocks, with a directory under number 1.
 fn with_data_blocks(rt: &impl Abort, alloc: Global, count: u16) -> Result<Directories, AllocError>
@@ -15,13 +15,24 @@ fn with_data_blocks(rt: &impl Abort, alloc: Global, count: u16) -> Result<Direct
 {
     let zeros = vec![in alloc; 0; 512 * (count as usize + 2)]?;
     let mut files = Directories::empty(zeros, count + 2, 16, Version::V1);
-    assert_eq!(rt; files.fresh(Sort::Directory), Some(1));
+    expect_same(rt, files.fresh(Sort::Directory), Some(1));
+    Ok(files)
+}
+
+// The same in an image of version 2, whose inodes stand in two blocks.
+fn of_version_2(rt: &impl Abort, alloc: Global, count: u16) -> Result<Directories, AllocError>
+    requires some { 1 ≤ count }
+    requires few { count ≤ 8000 }
+{
+    let zeros = vec![in alloc; 0; 512 * (count as usize + 3)]?;
+    let mut files = Directories::empty(zeros, count + 3, 16, Version::V2);
+    expect_same(rt, files.fresh(Sort::Directory), Some(1));
     Ok(files)
 }
 
 fn expect_find(rt: &impl Abort, files: &Directories, name: &[u8], answer: Option<u16>) {
     assert!(rt; files.is_directory(1));
-    assert_eq!(rt; files.find(1, name), answer);
+    expect_same(rt, files.find(1, name), answer);
 }
 
 // What it answers that an entry is added.
@@ -35,14 +46,14 @@ fn expect_add(
     assert!(rt; files.is_directory(1));
     assert!(rt; files.find(1, name).is_none());
     assert!(rt; is_name(files.version(), name));
-    assert_eq!(rt; files.add(1, name, inode), answer);
+    expect_same(rt, files.add(1, name, inode), answer);
 }
 
 fn remove(rt: &impl Abort, files: &mut Directories, name: &[u8]) {
     assert!(rt; files.is_directory(1));
     let node = files.find(1, name);
     assert!(rt; node.is_some());
-    assert_eq!(rt; files.remove(1, name), node);
+    expect_same(rt, files.remove(1, name), node);
 }
 
 // The names of the directory are these, in this order, and all of them.
@@ -62,12 +73,12 @@ fn assert_lists(rt: &impl Abort, files: &Directories, names: &[&[u8]]) {
 }
 
 fn expect_free(rt: &impl Abort, files: &Directories, blocks: u16) {
-    assert_eq!(rt; files.free(), blocks);
+    expect_same(rt, files.free(), blocks);
 }
 
 fn expect_size(rt: &impl Abort, files: &Directories, inode: u16, size: u32) {
     assert!(rt; files.is_used(inode));
-    assert_eq!(rt; files.size(inode), size);
+    expect_same(rt, files.size(inode), size);
 }
 
 // Adds so many names of two bytes, of which the second is this one.
@@ -82,7 +93,7 @@ fn add_many(rt: &impl Abort, files: &mut Directories, count: u8, second: u8)
 // A node is a file.
 fn expect_file(rt: &impl Abort, files: &Directories, file: u16) {
     assert!(rt; files.is_used(file));
-    assert_eq!(rt; files.kind(file), Sort::File);
+    expect_same(rt, files.kind(file), Sort::File);
     assert!(rt; !files.is_directory(file));
 }
 
@@ -95,15 +106,15 @@ fn expect_write(
     answer: Result<(), Space>,
 ) {
     assert!(rt; files.is_used(file) && !files.is_directory(file));
-    assert_eq!(rt; files.write_at(file, at, bytes), answer);
+    expect_same(rt, files.write_at(file, at, bytes), answer);
 }
 
 // What stands in four bytes of 255 once a file is read into them from its front, and how many of them it has.
 fn expect_read(rt: &impl Abort, files: &Directories, file: u16, count: usize, bytes: [u8; 4]) {
     assert!(rt; files.is_used(file) && !files.is_directory(file));
     let mut buffer = [255; 4];
-    assert_eq!(rt; files.read_at(file, 0, &mut buffer), count);
-    assert_eq!(rt; buffer, bytes);
+    expect_same(rt, files.read_at(file, 0, &mut buffer), count);
+    expect_same(rt, buffer, bytes);
 }
 
 fn expect_cut(
@@ -114,7 +125,7 @@ fn expect_cut(
     answer: Result<(), Space>,
 ) {
     assert!(rt; files.is_used(file) && !files.is_directory(file));
-    assert_eq!(rt; files.cut(file, size), answer);
+    expect_same(rt, files.cut(file, size), answer);
 }
 
 fn drop_inode(rt: &impl Abort, files: &mut Directories, inode: u16) {
@@ -122,105 +133,166 @@ fn drop_inode(rt: &impl Abort, files: &mut Directories, inode: u16) {
     files.drop_inode(inode);
 }
 
+// What is done with the directory or asked of it, and what that answers.
+#[derive(Clone, Copy)]
+enum Step<'a> {
+    // An entry is added.
+    Add(&'a [u8], u16, Result<(), Space>),
+    // An entry is removed.
+    Remove(&'a [u8]),
+    // A name has a node or none.
+    Find(&'a [u8], Option<u16>),
+    // These are the names, in this order.
+    Lists(&'a [&'a [u8]]),
+    // So many blocks are free.
+    Free(u16),
+    // The directory has so many entries.
+    Size(u32),
+}
+
+use Step::{Add, Find, Free, Lists, Remove, Size};
+
+fn expect_step(rt: &impl Abort, files: &mut Directories, step: Step) {
+    match step {
+        Add(name, inode, answer) => expect_add(rt, files, name, inode, answer),
+        Remove(name) => remove(rt, files, name),
+        Find(name, answer) => expect_find(rt, files, name, answer),
+        Lists(names) => assert_lists(rt, files, names),
+        Free(blocks) => expect_free(rt, files, blocks),
+        Size(size) => expect_size(rt, files, 1, size),
+    }
+}
+
+// Steps are taken in turn.
+fn expect_steps(rt: &impl Abort, files: &mut Directories, steps: &[Step]) {
+    for &step in steps {
+        expect_step(rt, files, step);
+    }
+}
+
+const BYTE_ORDER: &[Step] = &[
+    Lists(&[]),
+    Add(b"a", 2, Ok(())),
+    Add(b"b", 3, Ok(())),
+    Add(b"c", 4, Ok(())),
+    Lists(&[b"a", b"b", b"c"]),
+    Remove(b"a"),
+    Lists(&[b"b", b"c"]),
+    Add(b"ab", 5, Ok(())),
+    Add(b"B", 6, Ok(())),
+    Lists(&[b"B", b"ab", b"b", b"c"]),
+    Find(b"B", Some(6)),
+    Find(b"ab", Some(5)),
+    Find(b"b", Some(3)),
+    Find(b"c", Some(4)),
+    Find(b"a", None),
+];
+
 #[test]
-fn names_come_in_byte_order(rt: HostRuntime) -> Result<(), Fail> {
+fn names_come_in_byte_order(rt: HostRuntime) -> Result<(), AllocError> {
     let mut files = with_data_blocks(&rt, rt.alloc(), 2)?;
-    assert_lists(&rt, &files, &[]);
-    expect_add(&rt, &mut files, b"a", 2, Ok(()));
-    expect_add(&rt, &mut files, b"b", 3, Ok(()));
-    expect_add(&rt, &mut files, b"c", 4, Ok(()));
-    assert_lists(&rt, &files, &[b"a", b"b", b"c"]);
-    remove(&rt, &mut files, b"a");
-    assert_lists(&rt, &files, &[b"b", b"c"]);
-    expect_add(&rt, &mut files, b"ab", 5, Ok(()));
-    expect_add(&rt, &mut files, b"B", 6, Ok(()));
-    assert_lists(&rt, &files, &[b"B", b"ab", b"b", b"c"]);
-    expect_find(&rt, &files, b"B", Some(6));
-    expect_find(&rt, &files, b"ab", Some(5));
-    expect_find(&rt, &files, b"b", Some(3));
-    expect_find(&rt, &files, b"c", Some(4));
-    expect_find(&rt, &files, b"a", None);
+    expect_steps(&rt, &mut files, BYTE_ORDER);
     Ok(())
 }
 
-#[test]
-fn a_hole_is_closed_wherever_it_is(rt: HostRuntime) -> Result<(), Fail> {
-    let mut files = with_data_blocks(&rt, rt.alloc(), 2)?;
-    expect_add(&rt, &mut files, b"a", 2, Ok(()));
-    expect_add(&rt, &mut files, b"b", 3, Ok(()));
-    expect_add(&rt, &mut files, b"c", 4, Ok(()));
-    expect_add(&rt, &mut files, b"d", 5, Ok(()));
-    remove(&rt, &mut files, b"b");
-    assert_lists(&rt, &files, &[b"a", b"c", b"d"]);
-    remove(&rt, &mut files, b"c");
-    assert_lists(&rt, &files, &[b"a", b"d"]);
-    remove(&rt, &mut files, b"a");
-    assert_lists(&rt, &files, &[b"d"]);
-    expect_find(&rt, &files, b"d", Some(5));
-    remove(&rt, &mut files, b"d");
-    assert_lists(&rt, &files, &[]);
+const HOLES: &[Step] = &[
+    Add(b"a", 2, Ok(())),
+    Add(b"b", 3, Ok(())),
+    Add(b"c", 4, Ok(())),
+    Add(b"d", 5, Ok(())),
+    Remove(b"b"),
+    Lists(&[b"a", b"c", b"d"]),
+    Remove(b"c"),
+    Lists(&[b"a", b"d"]),
+    Remove(b"a"),
+    Lists(&[b"d"]),
+    Find(b"d", Some(5)),
+    Remove(b"d"),
+    Lists(&[]),
+];
+
+fn expect_empty(rt: &impl Abort, files: &Directories) {
     assert!(rt; files.is_directory(1));
     assert!(rt; files.is_empty(1));
+}
+
+#[test]
+fn a_hole_is_closed_wherever_it_is(rt: HostRuntime) -> Result<(), AllocError> {
+    let mut files = with_data_blocks(&rt, rt.alloc(), 2)?;
+    expect_steps(&rt, &mut files, HOLES);
+    expect_empty(&rt, &files);
     expect_free(&rt, &files, 2);
     Ok(())
 }
 
+const NINTH: &[Step] = &[Free(1), Add(b"a", 2, Ok(())), Free(0)];
+
+const SEVENTEENTH: &[Step] = &[
+    Add(b"b", 2, Err(Space::Full)),
+    Find(b"b", None),
+    Find(b"a", Some(2)),
+    Size(16),
+];
+
 #[test]
-fn the_ninth_entry_takes_a_second_block(rt: HostRuntime) -> Result<(), Fail> {
+fn the_ninth_entry_takes_a_second_block(rt: HostRuntime) -> Result<(), AllocError> {
     let mut files = with_data_blocks(&rt, rt.alloc(), 2)?;
-    assert_eq!(rt; files.blocks(), 2);
-    assert_eq!(rt; files.inodes(), 16);
+    expect_same(&rt, files.blocks(), 2);
+    expect_same(&rt, files.inodes(), 16);
     add_many(&rt, &mut files, 8, 128);
-    expect_free(&rt, &files, 1);
-    expect_add(&rt, &mut files, b"a", 2, Ok(()));
-    expect_free(&rt, &files, 0);
+    expect_steps(&rt, &mut files, NINTH);
     add_many(&rt, &mut files, 7, 129);
-    expect_add(&rt, &mut files, b"b", 2, Err(Space::Full));
-    expect_find(&rt, &files, b"b", None);
-    expect_find(&rt, &files, b"a", Some(2));
-    expect_size(&rt, &files, 1, 16);
+    expect_steps(&rt, &mut files, SEVENTEENTH);
     Ok(())
 }
 
-#[test]
-fn the_last_entry_is_the_2128th(rt: HostRuntime) -> Result<(), Fail> {
-    let mut files = with_data_blocks(&rt, rt.alloc(), 300)?;
+// As many names as a directory of version 1 may have.
+fn fill(rt: &impl Abort, files: &mut Directories) {
     for k in 0..2_128u16 {
         let name = [128 + (k / 64) as u8, 128 + (k % 64) as u8];
-        expect_add(&rt, &mut files, &name, 1, Ok(()));
+        expect_add(rt, files, &name, 1, Ok(()));
     }
-    expect_free(&rt, &files, 33);
-    expect_add(&rt, &mut files, b"a", 2, Err(Space::TooBig));
-    expect_find(&rt, &files, b"a", None);
-    expect_size(&rt, &files, 1, 2_128);
+}
+
+const ONE_MORE: &[Step] = &[
+    Free(33),
+    Add(b"a", 2, Err(Space::TooBig)),
+    Find(b"a", None),
+    Size(2_128),
+];
+
+#[test]
+fn the_last_entry_is_the_2128th(rt: HostRuntime) -> Result<(), AllocError> {
+    let mut files = with_data_blocks(&rt, rt.alloc(), 300)?;
+    fill(&rt, &mut files);
+    expect_steps(&rt, &mut files, ONE_MORE);
     Ok(())
 }
 
+// A new file, under the first number that is free.
+fn fresh_file(rt: &impl Abort, files: &mut Directories) -> u16 {
+    let file = files.fresh(Sort::File).expect(rt, "an inode is free");
+    expect_same(rt, file, 2);
+    expect_file(rt, files, file);
+    file
+}
+
+fn expect_unused(rt: &impl Abort, files: &Directories, inode: u16) {
+    assert!(rt; !files.is_used(inode));
+}
+
 #[test]
-fn a_file_holds_what_was_written(rt: HostRuntime) -> Result<(), Fail> {
+fn a_file_holds_what_was_written(rt: HostRuntime) -> Result<(), AllocError> {
     let mut files = with_data_blocks(&rt, rt.alloc(), 2)?;
-    let file = files.fresh(Sort::File).expect(&rt, "an inode is free");
-    assert_eq!(rt; file, 2);
-    expect_file(&rt, &files, file);
+    let file = fresh_file(&rt, &mut files);
     expect_write(&rt, &mut files, file, 1, b"ab", Ok(()));
     expect_read(&rt, &files, file, 3, [0, b'a', b'b', 255]);
     expect_cut(&rt, &mut files, file, 2, Ok(()));
     expect_size(&rt, &files, file, 2);
     drop_inode(&rt, &mut files, file);
-    assert!(rt; !files.is_used(file));
+    expect_unused(&rt, &files, file);
     expect_free(&rt, &files, 2);
     Ok(())
-}
-
-// The same in an image of version 2, whose inodes stand in two blocks.
-fn of_version_2(rt: &impl Abort, alloc: Global, count: u16) -> Result<Directories, AllocError>
-    requires some { 1 ≤ count }
-    requires few { count ≤ 8000 }
-{
-    let zeros = vec![in alloc; 0; 512 * (count as usize + 3)]?;
-    let mut files = Directories::empty(zeros, count + 3, 16, Version::V2);
-    assert_eq!(rt; files.fresh(Sort::Directory), Some(1));
-    Ok(files)
 }
 
 // A name of 255 bytes.
@@ -230,29 +302,22 @@ fn long_name(first: u8) -> [u8; 255] {
     name
 }
 
-#[test]
-fn slots_stand_across_two_blocks(rt: HostRuntime) -> Result<(), Fail> {
-    let mut files = of_version_2(&rt, rt.alloc(), 6)?;
+// Eight long names, of which the first byte is 128 and more.
+fn add_long(rt: &impl Abort, files: &mut Directories) {
     for k in 0..8u8 {
-        expect_add(
-            &rt,
-            &mut files,
-            &long_name(128 + k),
-            2 + u16::from(k),
-            Ok(()),
-        );
+        expect_add(rt, files, &long_name(128 + k), 2 + u16::from(k), Ok(()));
     }
-    // Eight names need 2,080 bytes, which are five blocks; the second slot ends in the second.
-    expect_free(&rt, &files, 1);
-    expect_find(&rt, &files, &long_name(129), Some(3));
-    remove(&rt, &mut files, &long_name(129));
-    expect_find(&rt, &files, &long_name(129), None);
-    // The last one stands in its place now, and is found and listed.
-    expect_find(&rt, &files, &long_name(135), Some(9));
-    expect_free(&rt, &files, 2);
+}
+
+fn expect_long(rt: &impl Abort, files: &Directories, first: u8, answer: Option<u16>) {
+    expect_find(rt, files, &long_name(first), answer);
+}
+
+// All the long names but the second.
+fn expect_seven(rt: &impl Abort, files: &Directories) {
     assert_lists(
-        &rt,
-        &files,
+        rt,
+        files,
         &[
             &long_name(128),
             &long_name(130),
@@ -263,6 +328,21 @@ fn slots_stand_across_two_blocks(rt: HostRuntime) -> Result<(), Fail> {
             &long_name(135),
         ],
     );
+}
+
+#[test]
+fn slots_stand_across_two_blocks(rt: HostRuntime) -> Result<(), AllocError> {
+    let mut files = of_version_2(&rt, rt.alloc(), 6)?;
+    add_long(&rt, &mut files);
+    // Eight names need 2,080 bytes, which are five blocks; the second slot ends in the second.
+    expect_free(&rt, &files, 1);
+    expect_long(&rt, &files, 129, Some(3));
+    remove(&rt, &mut files, &long_name(129));
+    expect_long(&rt, &files, 129, None);
+    // The last one stands in its place now, and is found and listed.
+    expect_long(&rt, &files, 135, Some(9));
+    expect_free(&rt, &files, 2);
+    expect_seven(&rt, &files);
     Ok(())
 }
 
@@ -275,25 +355,35 @@ fn expect_no_name(rt: &impl Abort, files: &Directories, bytes: &[u8]) {
     assert!(rt; !is_name(files.version(), bytes));
 }
 
-#[test]
-fn each_version_has_its_greatest_name(rt: HostRuntime) -> Result<(), Fail> {
-    let mut files = with_data_blocks(&rt, rt.alloc(), 2)?;
-    expect_add(&rt, &mut files, &equal_bytes::<60>(), 2, Ok(()));
-    expect_find(&rt, &files, &equal_bytes::<60>(), Some(2));
-    expect_no_name(&rt, &files, &equal_bytes::<61>());
-    let mut files = of_version_2(&rt, rt.alloc(), 2)?;
-    expect_add(&rt, &mut files, &equal_bytes::<60>(), 2, Ok(()));
-    expect_add(&rt, &mut files, &equal_bytes::<61>(), 3, Ok(()));
-    expect_add(&rt, &mut files, &equal_bytes::<255>(), 4, Ok(()));
+// Version 1 has names of 60 bytes and no longer ones.
+fn expect_names_of_60<R: Abort + AllocGlobal>(rt: &R) -> Result<(), AllocError> {
+    let mut files = with_data_blocks(rt, rt.alloc(), 2)?;
+    expect_add(rt, &mut files, &equal_bytes::<60>(), 2, Ok(()));
+    expect_find(rt, &files, &equal_bytes::<60>(), Some(2));
+    expect_no_name(rt, &files, &equal_bytes::<61>());
+    Ok(())
+}
+
+fn expect_three_names(rt: &impl Abort, files: &Directories) {
     assert_lists(
-        &rt,
-        &files,
+        rt,
+        files,
         &[
             &equal_bytes::<60>(),
             &equal_bytes::<61>(),
             &equal_bytes::<255>(),
         ],
     );
+}
+
+#[test]
+fn each_version_has_its_greatest_name(rt: HostRuntime) -> Result<(), AllocError> {
+    expect_names_of_60(&rt)?;
+    let mut files = of_version_2(&rt, rt.alloc(), 2)?;
+    expect_add(&rt, &mut files, &equal_bytes::<60>(), 2, Ok(()));
+    expect_add(&rt, &mut files, &equal_bytes::<61>(), 3, Ok(()));
+    expect_add(&rt, &mut files, &equal_bytes::<255>(), 4, Ok(()));
+    expect_three_names(&rt, &files);
     expect_no_name(&rt, &files, &equal_bytes::<256>());
     Ok(())
 }

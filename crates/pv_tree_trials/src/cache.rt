@@ -3,6 +3,7 @@ ghost use Rattle.std.specs.Prelude.{◌≡◌, vec_len, IfOk};
 ghost use Rattle.pv_cache.specs.Cached.{FitsMap};
 ghost use Rattle.pv_model.specs.Tree.{find_entry};
 
+use crate::answers::expect_same;
 use crate::trees::{make_file, with_64_inodes};
 use pv_cache::CachedLookup;
 use pv_model::{Follow, Place};
@@ -10,7 +11,6 @@ use pv_namei::{Lookup, resolve};
 use pv_tree::Tree;
 use std::alloc::{AllocError, Global};
 use std::process::Abort;
-use std::test::Fail;
 
 // The byte `a`, so many times.
 fn repeated(alloc: Global, length: usize) -> Result<Vec<u8>, AllocError>
@@ -31,7 +31,7 @@ fn expect_look(
     ensures { FitsMap lookup.new.answers (find_entry tree.now.tree) }
 {
     assert!(rt; tree.is_directory(1));
-    assert_eq!(rt; lookup.look(tree, 1, name), answer);
+    expect_same(rt, lookup.look(tree, 1, name), answer);
 }
 
 // What is kept of a directory and a name.
@@ -42,7 +42,7 @@ fn expect_answer(
     name: &[u8],
     expected: Option<Option<u16>>,
 ) {
-    assert_eq!(rt; lookup.kept(directory, name), expected);
+    expect_same(rt, lookup.kept(directory, name), expected);
 }
 
 // Looks up names that the root has not, once each: n and a number below 600.
@@ -75,7 +75,7 @@ fn expect_kept(
 }
 
 #[test]
-fn a_cached_lookup_keeps_512_answers(rt: HostRuntime) -> Result<(), Fail> {
+fn a_cached_lookup_keeps_512_answers(rt: HostRuntime) -> Result<(), AllocError> {
     let tree = with_64_inodes(rt.alloc(), 64)?;
     let mut lookup = CachedLookup::new(rt.alloc())?;
     look_for_absent(&rt, rt.alloc(), &tree, &mut lookup)?;
@@ -88,14 +88,22 @@ fn a_cached_lookup_keeps_512_answers(rt: HostRuntime) -> Result<(), Fail> {
     Ok(())
 }
 
+// A walk from the root to /f.
+fn expect_resolved(rt: &impl Abort, tree: &Tree, lookup: &mut CachedLookup, f: u16)
+    requires { FitsMap lookup.old.answers (find_entry tree.now.tree) }
+    ensures { FitsMap lookup.new.answers (find_entry tree.now.tree) }
+{
+    assert!(rt; tree.is_directory(1));
+    let walked = resolve(tree, lookup, 1, b"/f", Follow::Last);
+    assert!(rt; matches!(walked, Ok(Place::At { node: Some(node), .. }) if node == f));
+}
+
 #[test]
-fn a_cached_lookup_forgets_what_changed(rt: HostRuntime) -> Result<(), Fail> {
+fn a_cached_lookup_forgets_what_changed(rt: HostRuntime) -> Result<(), AllocError> {
     let mut tree = with_64_inodes(rt.alloc(), 64)?;
     let f = make_file(&rt, &mut tree, 1, b"f");
     let mut lookup = CachedLookup::new(rt.alloc())?;
-    assert!(rt; tree.is_directory(1));
-    let walked = resolve(&tree, &mut lookup, 1, b"/f", Follow::Last);
-    assert!(rt; matches!(walked, Ok(Place::At { node: Some(node), .. }) if node == f));
+    expect_resolved(&rt, &tree, &mut lookup, f);
     expect_answer(&rt, &lookup, 1, b"f", Some(Some(f)));
     expect_look(&rt, &tree, &mut lookup, b"f", Some(f));
     expect_look(&rt, &tree, &mut lookup, b"g", None);
@@ -109,7 +117,7 @@ fn a_cached_lookup_forgets_what_changed(rt: HostRuntime) -> Result<(), Fail> {
 }
 
 #[test]
-fn a_long_name_goes_past_the_cache(rt: HostRuntime) -> Result<(), Fail> {
+fn a_long_name_goes_past_the_cache(rt: HostRuntime) -> Result<(), AllocError> {
     let tree = with_64_inodes(rt.alloc(), 64)?;
     let mut lookup = CachedLookup::new(rt.alloc())?;
     let longer = repeated(rt.alloc(), 256)?;

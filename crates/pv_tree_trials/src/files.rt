@@ -1,4 +1,5 @@
 //! Open files with several users, and the numbers of descriptors.
+use crate::answers::expect_same;
 use pv_files::{Descriptors, OpenFiles};
 use pv_model::{Errno, Mode, Name};
 use std::process::Abort;
@@ -13,13 +14,13 @@ fn expect_add(
     append: bool,
     answer: Result<usize, Errno>,
 ) {
-    assert_eq!(rt; files.add(node, mode, append), answer);
+    expect_same(rt, files.add(node, mode, append), answer);
 }
 
 // What it answers that a user of an open file goes.
 fn expect_release(rt: &impl Abort, files: &mut OpenFiles, file: usize, answer: Option<u16>) {
     assert!(rt; files.is_open(file));
-    assert_eq!(rt; files.release(file), answer);
+    expect_same(rt, files.release(file), answer);
 }
 
 // What an open file is of, how it is used, and where it stands.
@@ -35,7 +36,11 @@ fn expect_opened(
     assert!(rt; files.is_open(file));
     assert!(rt; files.node(file) == node && files.mode(file) == mode);
     assert!(rt; files.appends(file) == append);
-    assert_eq!(rt; files.offset(file), offset);
+    expect_same(rt, files.offset(file), offset);
+}
+
+fn expect_users(rt: &impl Abort, files: &OpenFiles, users: u16) {
+    expect_same(rt, files.users(0), users);
 }
 
 fn expect_no_last_name(rt: &impl Abort, files: &OpenFiles, file: usize) {
@@ -62,11 +67,11 @@ fn expect_give(
     close_on_exec: bool,
     answer: Result<u8, Errno>,
 ) {
-    assert_eq!(rt; descriptors.give(file, close_on_exec), answer);
+    expect_same(rt, descriptors.give(file, close_on_exec), answer);
 }
 
 fn expect_at(rt: &impl Abort, descriptors: &Descriptors, d: i32, answer: Result<usize, Errno>) {
-    assert_eq!(rt; descriptors.at(d), answer);
+    expect_same(rt, descriptors.at(d), answer);
 }
 
 fn expect_close(
@@ -75,7 +80,7 @@ fn expect_close(
     d: i32,
     answer: Result<usize, Errno>,
 ) {
-    assert_eq!(rt; descriptors.close(d), answer);
+    expect_same(rt, descriptors.close(d), answer);
 }
 
 #[test]
@@ -101,7 +106,7 @@ fn gives_the_least_free_number(rt: HostRuntime) -> Result<(), Fail> {
 #[test]
 fn goes_with_the_last_user(rt: HostRuntime) -> Result<(), Fail> {
     let mut files = OpenFiles::new(rt.alloc())?;
-    assert_eq!(rt; files.users(0), 0);
+    expect_users(&rt, &files, 0);
     expect_add(&rt, &mut files, 4, Mode::ReadWrite, true, Ok(0));
     for users in 1..4 {
         assert_eq!(rt; files.users(0), users);
@@ -112,7 +117,7 @@ fn goes_with_the_last_user(rt: HostRuntime) -> Result<(), Fail> {
         expect_release(&rt, &mut files, 0, None);
     }
     expect_release(&rt, &mut files, 0, Some(4));
-    assert_eq!(rt; files.users(0), 0);
+    expect_users(&rt, &files, 0);
     files.facts();
     Ok(())
 }

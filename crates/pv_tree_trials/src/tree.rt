@@ -1,4 +1,5 @@
 //! Whole runs of calls on a tree.
+use crate::answers::expect_same;
 use crate::trees::{
     expect_make, expect_new, hold, of_version_2, remove_directory, with_data_blocks,
 };
@@ -24,7 +25,7 @@ fn expect_link(
     expect_new(rt, tree, directory, name);
     assert!(rt; tree.is_used(node));
     assert!(rt; !tree.is_directory(node));
-    assert_eq!(rt; tree.link(directory, name, node), answer);
+    expect_same(rt, tree.link(directory, name, node), answer);
 }
 
 // Gives a node a name that no node has.
@@ -41,7 +42,7 @@ fn expect_rename(
     let node = tree.find(from, name).expect(rt, "the name is there");
     expect_new(rt, tree, to, other);
     assert!(rt; !tree.contains(node, to));
-    assert_eq!(rt; tree.rename(from, name, to, other), answer);
+    expect_same(rt, tree.rename(from, name, to, other), answer);
 }
 
 // Gives a node a name that another node without entries has.
@@ -64,7 +65,7 @@ fn expect_rename_over(
     assert!(rt; tree.is_directory(gone));
     assert!(rt; tree.is_empty(gone));
     assert!(rt; is_name(tree.sizes().version, other));
-    assert_eq!(rt; tree.rename(from, name, to, other), answer);
+    expect_same(rt, tree.rename(from, name, to, other), answer);
 }
 
 // The names of a directory are these, in this order, and all of them.
@@ -92,18 +93,18 @@ fn expect_write(
 ) {
     assert!(rt; tree.is_used(node));
     assert!(rt; tree.kind(node) == Sort::File);
-    assert_eq!(rt; tree.write_at(node, at, bytes), answer);
+    expect_same(rt, tree.write_at(node, at, bytes), answer);
 }
 
 fn expect_cut(rt: &impl Abort, tree: &mut Tree, node: u16, size: u32, answer: Result<(), Space>) {
     assert!(rt; tree.is_used(node));
     assert!(rt; tree.kind(node) == Sort::File);
-    assert_eq!(rt; tree.cut(node, size), answer);
+    expect_same(rt, tree.cut(node, size), answer);
 }
 
 fn expect_size(rt: &impl Abort, tree: &Tree, node: u16, size: u32) {
     assert!(rt; tree.is_used(node));
-    assert_eq!(rt; tree.size(node), size);
+    expect_same(rt, tree.size(node), size);
 }
 
 // How many bytes a read from a place on puts into five bytes, and what stands there then.
@@ -117,28 +118,28 @@ fn expect_read(
     bytes: &[u8; 5],
 ) {
     assert!(rt; tree.is_used(node) && !tree.is_directory(node));
-    assert_eq!(rt; tree.read_at(node, at, buffer), count);
+    expect_same(rt, tree.read_at(node, at, buffer), count);
     assert_eq!(rt; *buffer, *bytes);
 }
 
 fn expect_find(rt: &impl Abort, tree: &Tree, directory: u16, name: &[u8], node: u16) {
     assert!(rt; tree.is_directory(directory));
-    assert_eq!(rt; tree.find(directory, name), Some(node));
+    expect_same(rt, tree.find(directory, name), Some(node));
 }
 
 fn expect_parent(rt: &impl Abort, tree: &Tree, directory: u16, parent: Option<u16>) {
     assert!(rt; tree.is_directory(directory));
-    assert_eq!(rt; tree.parent(directory), parent);
+    expect_same(rt, tree.parent(directory), parent);
 }
 
 fn expect_names(rt: &impl Abort, tree: &Tree, node: u16, names: u32) {
     assert!(rt; tree.is_used(node));
-    assert_eq!(rt; tree.names(node), names);
+    expect_same(rt, tree.names(node), names);
 }
 
 fn expect_holds(rt: &impl Abort, tree: &Tree, node: u16, holds: u16) {
     assert!(rt; tree.is_used(node));
-    assert_eq!(rt; tree.holds(node), holds);
+    expect_same(rt, tree.holds(node), holds);
 }
 
 // Lets go of a node that is held once.
@@ -162,33 +163,47 @@ fn a_file_grows_as_far_as_there_are_blocks(rt: HostRuntime) -> Result<(), Fail> 
     Ok(())
 }
 
+const DIGITS: &[&[u8]] = &[b"1", b"2", b"3", b"4", b"5", b"6", b"7", b"8"];
+
+// Gives the node 4 eight names in the directory 3.
+fn link_eight(rt: &impl Abort, tree: &mut Tree) {
+    for name in DIGITS {
+        expect_link(rt, tree, 3, name, 4, Ok(()));
+    }
+}
+
+// The directories use no block, two and one: a name more needs a block in the first alone.
+fn expect_blocks(rt: &impl Abort, tree: &mut Tree) {
+    expect_size(rt, tree, 2, 0);
+    expect_size(rt, tree, 3, 9);
+    expect_size(rt, tree, 1, 2);
+    expect_link(rt, tree, 2, b"h", 4, Err(Space::Full));
+    expect_link(rt, tree, 3, b"h", 4, Ok(()));
+    expect_link(rt, tree, 1, b"h", 4, Ok(()));
+}
+
+fn expect_empty(rt: &impl Abort, tree: &Tree, directory: u16) {
+    assert!(rt; tree.is_directory(directory));
+    assert!(rt; tree.is_empty(directory));
+}
+
+fn expect_unused(rt: &impl Abort, tree: &Tree, node: u16) {
+    assert!(rt; !tree.is_used(node));
+}
+
 #[test]
 fn a_rename_gives_back_before_it_asks(rt: HostRuntime) -> Result<(), Fail> {
     let mut tree = with_data_blocks(rt.alloc(), 3)?;
     expect_make(&rt, &mut tree, 1, b"a", Kind::Directory, Ok(2));
     expect_make(&rt, &mut tree, 1, b"b", Kind::Directory, Ok(3));
     expect_make(&rt, &mut tree, 2, b"f", Kind::File, Ok(4));
-    expect_link(&rt, &mut tree, 3, b"1", 4, Ok(()));
-    expect_link(&rt, &mut tree, 3, b"2", 4, Ok(()));
-    expect_link(&rt, &mut tree, 3, b"3", 4, Ok(()));
-    expect_link(&rt, &mut tree, 3, b"4", 4, Ok(()));
-    expect_link(&rt, &mut tree, 3, b"5", 4, Ok(()));
-    expect_link(&rt, &mut tree, 3, b"6", 4, Ok(()));
-    expect_link(&rt, &mut tree, 3, b"7", 4, Ok(()));
-    expect_link(&rt, &mut tree, 3, b"8", 4, Ok(()));
+    link_eight(&rt, &mut tree);
     expect_link(&rt, &mut tree, 3, b"g", 4, Err(Space::Full));
     expect_rename(&rt, &mut tree, 2, b"f", 3, b"g", Ok(()));
     expect_find(&rt, &tree, 3, b"g", 4);
     expect_names(&rt, &tree, 4, 9);
-    assert!(rt; tree.is_directory(2));
-    assert!(rt; tree.is_empty(2));
-    // The directories use no block, two and one: a name more needs a block in the first alone.
-    expect_size(&rt, &tree, 2, 0);
-    expect_size(&rt, &tree, 3, 9);
-    expect_size(&rt, &tree, 1, 2);
-    expect_link(&rt, &mut tree, 2, b"h", 4, Err(Space::Full));
-    expect_link(&rt, &mut tree, 3, b"h", 4, Ok(()));
-    expect_link(&rt, &mut tree, 1, b"h", 4, Ok(()));
+    expect_empty(&rt, &tree, 2);
+    expect_blocks(&rt, &mut tree);
     Ok(())
 }
 
@@ -201,7 +216,7 @@ fn a_node_that_is_held_keeps_its_number(rt: HostRuntime) -> Result<(), Fail> {
     expect_make(&rt, &mut tree, 1, b"d", Kind::Directory, Ok(3));
     expect_parent(&rt, &tree, 2, None);
     let_go(&rt, &mut tree, 2);
-    assert!(rt; !tree.is_used(2));
+    expect_unused(&rt, &tree, 2);
     expect_make(&rt, &mut tree, 1, b"e", Kind::Symlink(b"d"), Ok(2));
     Ok(())
 }
@@ -239,10 +254,10 @@ fn a_rename_takes_the_place_of_another_node(rt: HostRuntime) -> Result<(), Fail>
     expect_parent(&rt, &tree, 4, None);
     expect_names(&rt, &tree, 4, 0);
     let_go(&rt, &mut tree, 4);
-    assert!(rt; !tree.is_used(4));
+    expect_unused(&rt, &tree, 4);
     // Where nothing holds it, it goes at once.
     expect_rename_over(&rt, &mut tree, 1, b"e", 1, b"a", Ok(()));
-    assert!(rt; !tree.is_used(2));
+    expect_unused(&rt, &tree, 2);
     assert_lists(&rt, &tree, 1, &[b"a"]);
     Ok(())
 }

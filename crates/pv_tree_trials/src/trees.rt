@@ -5,6 +5,7 @@ ghost use Rattle.pv_model.specs.Tree.{is_name, is_node, find_entry};
 ghost use Rattle.pv_tree.specs.Changes.{new_node};
 ghost use Rattle.pv_tree_laws.specs.Tree.{Stands};
 
+use crate::answers::expect_same;
 use pv_model::{Kind, Version, is_name};
 use pv_tree::{Space, Store, Tree};
 use std::alloc::{AllocError, Global};
@@ -60,7 +61,7 @@ pub(crate) fn expect_make(
     requires { (v : Version) → IsTrue (is_node v (new_node kind)) }
 {
     expect_new(rt, tree, directory, name);
-    assert_eq!(rt; tree.make(directory, name, kind), answer);
+    expect_same(rt, tree.make(directory, name, kind), answer);
 }
 
 pub(crate) fn make_file(rt: &impl Abort, tree: &mut Tree, directory: u16, name: &[u8]) -> u16 {

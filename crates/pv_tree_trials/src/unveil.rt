@@ -1,4 +1,5 @@
 //! Small tables, and what they say of the places of a small tree.
+use crate::answers::expect_same;
 use crate::trees::{expect_make, hold, of_version_2, remove_directory, with_data_blocks};
 use pv_model::{Judgement, Kind, Name, Perms, Place, Target};
 use pv_tree::Tree;
@@ -31,7 +32,7 @@ fn remove(rt: &impl Abort, tree: &mut Tree, directory: u16, name: &[u8]) {
     let node = tree.find(directory, name).expect(rt, "the name is there");
     hold(rt, tree, node);
     assert!(rt; tree.is_directory(directory));
-    assert_eq!(rt; tree.find(directory, name), Some(node));
+    expect_same(rt, tree.find(directory, name), Some(node));
     remove_directory(rt, tree, directory, name);
 }
 
@@ -65,7 +66,7 @@ fn expect_by_name(
         name: name(rt, text),
         node: tree.find(dir, text),
     };
-    assert_eq!(rt; table.judge(tree, &place, needed), judgement);
+    expect_same(rt, table.judge(tree, &place, needed), judgement);
 }
 
 // What is said of a directory without a name.
@@ -79,7 +80,7 @@ fn expect_by_node(
 ) {
     assert!(rt; tree.is_directory(directory));
     let place = Place::Node(directory);
-    assert_eq!(rt; table.judge(tree, &place, needed), judgement);
+    expect_same(rt, table.judge(tree, &place, needed), judgement);
 }
 
 // What it answers that an entry is added.
@@ -90,7 +91,7 @@ fn expect_add(
     letters: Perms,
     answer: Result<u8, AddFault>,
 ) {
-    assert_eq!(rt; table.add(target, letters), answer);
+    expect_same(rt, table.add(target, letters), answer);
 }
 
 // The target of a name in a directory.
@@ -221,7 +222,7 @@ fn adds_entries(rt: HostRuntime) {
         RW,
         Err(AddFault::Increase(63)),
     );
-    assert_eq!(rt; table.len(), 64);
+    expect_same(&rt, table.len(), 64);
     table.lock();
     expect_add(
         &rt,
