@@ -1,8 +1,10 @@
 //! Texts and their readers tried, and what writes traces and verdicts: programs, schedules and machines, lines and words.
 //!
-//! It has tests alone, a module for each crate that they try.
+//! It has tests alone, a module for each crate that they try; `answers` has what they compare by.
 #![tactic(auto)]
 
+#[cfg(test)]
+mod answers;
 #[cfg(test)]
 mod script;
 #[cfg(test)]

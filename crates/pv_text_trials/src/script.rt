@@ -1,4 +1,5 @@
 //! Programs and schedules from their texts, and what a machine does with the lines of a program.
+use crate::answers::{expect, expect_equal, expect_same};
 use pv_model::{
     CallRef, Instruction, Mode, OpenFlags, Operand, Origin, ParseFault, ScheduleFault, Start, What,
     Whence,
@@ -22,47 +23,53 @@ fn read<R: Abort + AllocGlobal>(rt: &R, bytes: &[u8]) -> Program {
 
 // Bytes are a program of so many lines.
 fn expect_length<R: Abort + AllocGlobal>(rt: &R, bytes: &[u8], length: usize) {
-    assert_eq!(rt; read(rt, bytes).len(), length);
+    expect_same(rt, read(rt, bytes).len(), length);
 }
 
 // Bytes are refused as a program: this line, for this reason.
 fn expect_fault<R: Abort + AllocGlobal>(rt: &R, bytes: &[u8], line: u16, what: What) {
     let fault = Program::parse(rt.alloc(), bytes).err();
-    assert_eq!(rt; fault, Some(ParseFault::Line(line, what)));
+    expect_same(rt, fault, Some(ParseFault::Line(line, what)));
 }
+
+const NO_INSTRUCTIONS: &[(&[u8], u16, What)] = &[
+    (b"exit 0\njmp 3\n", 2, What::Target),
+    (b"exit 0\njmp 0\n", 2, What::Target),
+    (b"jz r0 -1\n", 1, What::Target),
+    (b"jmp r0\n", 1, What::Argument),
+    (b"exit  0\n", 1, What::Argument),
+    (b"exit 0 \n", 1, What::Argument),
+    (b"exit\n", 1, What::Argument),
+    (b"fork \n", 1, What::Argument),
+    (b"\n", 1, What::Word),
+    (b"exit 0\n\n", 2, What::Word),
+    (b" exit 0", 1, What::Word),
+    (b"Exit 0", 1, What::Word),
+    (b"exits 0", 1, What::Word),
+    (b"set r0 2147483648", 1, What::Argument),
+    (b"set r0 -2147483649", 1, What::Argument),
+    (b"set r0 -0", 1, What::Argument),
+    (b"set r0 01", 1, What::Argument),
+    (b"set r8 1", 1, What::Argument),
+    (b"set r0 r1", 1, What::Argument),
+    (b"peek r0 4096", 1, What::Argument),
+    (b"peek r0 -1", 1, What::Argument),
+    (b"put \"\\x00\"", 1, What::Argument),
+    (b"put \"\\x4A\"", 1, What::Argument),
+    (b"put null", 1, What::Argument),
+    (b"open \"/a\" r+trunc+append", 1, What::Argument),
+    (b"open \"/a\" wr", 1, What::Argument),
+    (b"lseek 0 0 here", 1, What::Argument),
+    (b"openat \"/a\" r", 1, What::Argument),
+    (b"openat cwd \"/a\"", 1, What::Argument),
+    (b"openat r8 \"/a\" r", 1, What::Argument),
+];
 
 #[test]
 fn lines_that_are_no_instructions(rt: HostRuntime) {
-    expect_fault(&rt, b"exit 0\njmp 3\n", 2, What::Target);
-    expect_fault(&rt, b"exit 0\njmp 0\n", 2, What::Target);
-    expect_fault(&rt, b"jz r0 -1\n", 1, What::Target);
-    expect_fault(&rt, b"jmp r0\n", 1, What::Argument);
-    expect_fault(&rt, b"exit  0\n", 1, What::Argument);
-    expect_fault(&rt, b"exit 0 \n", 1, What::Argument);
-    expect_fault(&rt, b"exit\n", 1, What::Argument);
-    expect_fault(&rt, b"fork \n", 1, What::Argument);
-    expect_fault(&rt, b"\n", 1, What::Word);
-    expect_fault(&rt, b"exit 0\n\n", 2, What::Word);
-    expect_fault(&rt, b" exit 0", 1, What::Word);
-    expect_fault(&rt, b"Exit 0", 1, What::Word);
-    expect_fault(&rt, b"exits 0", 1, What::Word);
-    expect_fault(&rt, b"set r0 2147483648", 1, What::Argument);
-    expect_fault(&rt, b"set r0 -2147483649", 1, What::Argument);
-    expect_fault(&rt, b"set r0 -0", 1, What::Argument);
-    expect_fault(&rt, b"set r0 01", 1, What::Argument);
-    expect_fault(&rt, b"set r8 1", 1, What::Argument);
-    expect_fault(&rt, b"set r0 r1", 1, What::Argument);
-    expect_fault(&rt, b"peek r0 4096", 1, What::Argument);
-    expect_fault(&rt, b"peek r0 -1", 1, What::Argument);
-    expect_fault(&rt, b"put \"\\x00\"", 1, What::Argument);
-    expect_fault(&rt, b"put \"\\x4A\"", 1, What::Argument);
-    expect_fault(&rt, b"put null", 1, What::Argument);
-    expect_fault(&rt, b"open \"/a\" r+trunc+append", 1, What::Argument);
-    expect_fault(&rt, b"open \"/a\" wr", 1, What::Argument);
-    expect_fault(&rt, b"lseek 0 0 here", 1, What::Argument);
-    expect_fault(&rt, b"openat \"/a\" r", 1, What::Argument);
-    expect_fault(&rt, b"openat cwd \"/a\"", 1, What::Argument);
-    expect_fault(&rt, b"openat r8 \"/a\" r", 1, What::Argument);
+    for &(bytes, line, what) in NO_INSTRUCTIONS {
+        expect_fault(&rt, bytes, line, what);
+    }
 }
 
 #[test]
@@ -72,187 +79,301 @@ fn more_lines_than_a_program_has(rt: HostRuntime) {
     expect_fault(&rt, &many, 257, What::TooMany);
 }
 
+// Bytes, and others behind them.
+fn joined<R: Abort + AllocGlobal>(rt: &R, front: &[u8], behind: &[u8]) -> Vec<u8> {
+    let mut all = Vec::new(rt.alloc());
+    assert!(rt; all.extend_from_slice(front).is_ok());
+    assert!(rt; all.extend_from_slice(behind).is_ok());
+    all
+}
+
 // A jump leads to one of the first 256 lines, also where there are more.
 #[test]
 fn jumps_past_the_last_line_that_a_program_has(rt: HostRuntime) {
-    let mut jump = repeated(&rt, b"wait\n", 8);
-    assert!(rt; jump.extend_from_slice(b"jmp 257\n").is_ok());
-    let behind = repeated(&rt, b"wait\n", 248);
-    assert!(rt; jump.extend_from_slice(&behind).is_ok());
+    let front = joined(&rt, &repeated(&rt, b"wait\n", 8), b"jmp 257\n");
+    let jump = joined(&rt, &front, &repeated(&rt, b"wait\n", 248));
     expect_fault(&rt, &jump, 9, What::Target);
 }
 
 #[test]
 fn a_jump_to_the_last_line_that_a_program_has(rt: HostRuntime) {
-    let mut last = repeated(&rt, b"wait\n", 255);
-    assert!(rt; last.extend_from_slice(b"jmp 256").is_ok());
+    let last = joined(&rt, &repeated(&rt, b"wait\n", 255), b"jmp 256");
     expect_length(&rt, &last, 256);
+}
+
+// A line of a program.
+fn line(program: &Program, number: u16) -> Option<&Instruction> {
+    program.at(number)
+}
+
+fn expect_lines<R: Abort>(rt: &R, program: &Program, count: usize) {
+    expect_same(rt, program.len(), count);
+    assert!(rt; !program.is_empty());
 }
 
 const REGISTERS: &[u8] =
     b"set r0 -2147483648\nadd r7 2147483647\nput \"a\\xff \\x22\"\npeek r3 4095\njmp 8\njz r1 1\njnz r2 2\njneg r4 3";
 
+// The register and the number of a set.
+fn set_of(line: Option<&Instruction>) -> Option<(usize, i32)> {
+    match line {
+        Some(Instruction::Set(register, number)) => Some((register.number(), *number)),
+        _ => None,
+    }
+}
+
+// The register and the number of an add.
+fn add_of(line: Option<&Instruction>) -> Option<(usize, i32)> {
+    match line {
+        Some(Instruction::Add(register, number)) => Some((register.number(), *number)),
+        _ => None,
+    }
+}
+
 #[test]
 fn instructions_on_registers(rt: HostRuntime) {
     let program = read(&rt, REGISTERS);
-    assert_eq!(rt; program.len(), 8);
-    assert!(rt; !program.is_empty());
-    match program.at(1) {
-        Some(Instruction::Set(register, -2_147_483_648)) => assert_eq!(rt; register.number(), 0),
-        _ => panic!(rt; "no set"),
+    expect_lines(&rt, &program, 8);
+    expect_same(&rt, set_of(line(&program, 1)), Some((0, -2_147_483_648)));
+    expect_same(&rt, add_of(line(&program, 2)), Some((7, 2_147_483_647)));
+}
+
+// A line is a put of these bytes.
+fn expect_put<R: Abort>(rt: &R, line: Option<&Instruction>, bytes: &[u8]) {
+    match line {
+        Some(Instruction::Put(text)) => expect_equal(rt, text.as_slice(), bytes),
+        _ => panic!(rt; "no put"),
     }
-    match program.at(2) {
-        Some(Instruction::Add(register, 2_147_483_647)) => assert_eq!(rt; register.number(), 7),
-        _ => panic!(rt; "no add"),
+}
+
+// The register and the place of a peek.
+fn peek_of(line: Option<&Instruction>) -> Option<(usize, u16)> {
+    match line {
+        Some(Instruction::Peek(register, place)) => Some((register.number(), *place)),
+        _ => None,
     }
 }
 
 #[test]
 fn instructions_on_the_buffer(rt: HostRuntime) {
     let program = read(&rt, REGISTERS);
-    match program.at(3) {
-        Some(Instruction::Put(text)) => {
-            assert_eq!(rt; text.as_slice(), b"a\xff \"".as_slice());
-        }
-        _ => panic!(rt; "no put"),
-    }
-    match program.at(4) {
-        Some(Instruction::Peek(register, 4_095)) => assert_eq!(rt; register.number(), 3),
-        _ => panic!(rt; "no peek"),
+    expect_put(&rt, line(&program, 3), b"a\xff \"");
+    expect_same(&rt, peek_of(line(&program, 4)), Some((3, 4_095)));
+}
+
+// To which line a jump leads, and when.
+fn jump_of(line: Option<&Instruction>) -> Option<(&'static str, u16)> {
+    match line {
+        Some(Instruction::Jump(to)) => Some(("always", *to)),
+        Some(Instruction::JumpIfZero(_, to)) => Some(("zero", *to)),
+        Some(Instruction::JumpIfNotZero(_, to)) => Some(("not zero", *to)),
+        Some(Instruction::JumpIfNegative(_, to)) => Some(("negative", *to)),
+        _ => None,
     }
 }
 
 #[test]
 fn jumps_of_a_program(rt: HostRuntime) {
     let program = read(&rt, REGISTERS);
-    assert!(rt; matches!(program.at(5), Some(Instruction::Jump(8))));
-    assert!(rt; matches!(program.at(6), Some(Instruction::JumpIfZero(_, 1))));
-    assert!(rt; matches!(program.at(7), Some(Instruction::JumpIfNotZero(_, 2))));
-    assert!(rt; matches!(program.at(8), Some(Instruction::JumpIfNegative(_, 3))));
-    assert!(rt; program.at(9).is_none());
+    expect_same(&rt, jump_of(line(&program, 5)), Some(("always", 8)));
+    expect_same(&rt, jump_of(line(&program, 6)), Some(("zero", 1)));
+    expect_same(&rt, jump_of(line(&program, 7)), Some(("not zero", 2)));
+    expect_same(&rt, jump_of(line(&program, 8)), Some(("negative", 3)));
+    expect(&rt, line(&program, 9).is_none());
 }
 
 const PROCESSES: &[u8] =
     b"fork\nwait\ngetpid\ngetppid\nexit r7\npledge \"stdio\" null\nunveil null \"r\"\nexecve \"/bin\"\n";
 
+// The name of a call.
+fn name_of(line: Option<&Instruction>) -> &'static str {
+    match line {
+        Some(Instruction::Fork) => "fork",
+        Some(Instruction::Wait) => "wait",
+        Some(Instruction::GetPid) => "getpid",
+        Some(Instruction::GetPpid) => "getppid",
+        Some(Instruction::Close(_)) => "close",
+        Some(Instruction::Dup(_)) => "dup",
+        Some(Instruction::Fstat(_)) => "fstat",
+        Some(Instruction::Getdents(_)) => "getdents",
+        Some(Instruction::Fchdir(_)) => "fchdir",
+        Some(Instruction::Read(_, _)) => "read",
+        Some(Instruction::Write(_, _)) => "write",
+        Some(Instruction::Ftruncate(_, _)) => "ftruncate",
+        Some(Instruction::Chdir(_)) => "chdir",
+        Some(Instruction::Stat(_)) => "stat",
+        Some(Instruction::Lstat(_)) => "lstat",
+        Some(Instruction::Readlink(_)) => "readlink",
+        Some(Instruction::Unlink(_)) => "unlink",
+        Some(Instruction::Mkdir(_)) => "mkdir",
+        Some(Instruction::Rmdir(_)) => "rmdir",
+        Some(Instruction::Rename(_, _)) => "rename",
+        Some(Instruction::Link(_, _)) => "link",
+        _ => "another",
+    }
+}
+
+// The lines of a program are calls of these names, from a line on.
+fn expect_names<R: Abort>(rt: &R, program: &Program, first: u8, names: &[&'static str]) {
+    let mut number = u16::from(first);
+    for &name in names {
+        expect_same(rt, name_of(line(program, number)), name);
+        number = number.saturating_add(1);
+    }
+}
+
 #[test]
 fn calls_on_processes(rt: HostRuntime) {
     let program = read(&rt, PROCESSES);
-    assert_eq!(rt; program.len(), 8);
-    assert!(rt; matches!(program.at(1), Some(Instruction::Fork)));
-    assert!(rt; matches!(program.at(2), Some(Instruction::Wait)));
-    assert!(rt; matches!(program.at(3), Some(Instruction::GetPid)));
-    assert!(rt; matches!(program.at(4), Some(Instruction::GetPpid)));
+    expect_lines(&rt, &program, 8);
+    expect_names(&rt, &program, 1, &["fork", "wait", "getpid", "getppid"]);
+}
+
+// The register whose value a line exits with.
+fn exit_register(line: Option<&Instruction>) -> Option<usize> {
+    match line {
+        Some(Instruction::Exit(Operand::Register(register))) => Some(register.number()),
+        _ => None,
+    }
+}
+
+// A line is an execve of this path.
+fn expect_execve<R: Abort>(rt: &R, line: Option<&Instruction>, bytes: &[u8]) {
+    match line {
+        Some(Instruction::Execve(path)) => expect_equal(rt, path.as_slice(), bytes),
+        _ => panic!(rt; "no execve"),
+    }
 }
 
 #[test]
 fn ends_of_programs(rt: HostRuntime) {
     let program = read(&rt, PROCESSES);
-    match program.at(5) {
-        Some(Instruction::Exit(Operand::Register(register))) => {
-            assert_eq!(rt; register.number(), 7);
+    expect_same(&rt, exit_register(line(&program, 5)), Some(7));
+    expect_execve(&rt, line(&program, 8), b"/bin");
+}
+
+// A line is a pledge of these promises alone.
+fn expect_pledge<R: Abort>(rt: &R, line: Option<&Instruction>, bytes: &[u8]) {
+    match line {
+        Some(Instruction::Pledge(Some(promises), None)) => {
+            expect_equal(rt, promises.as_slice(), bytes);
         }
-        _ => panic!(rt; "no exit"),
+        _ => panic!(rt; "no pledge"),
     }
-    match program.at(8) {
-        Some(Instruction::Execve(path)) => {
-            assert_eq!(rt; path.as_slice(), b"/bin".as_slice());
+}
+
+// A line is an unveil of these letters alone.
+fn expect_unveil<R: Abort>(rt: &R, line: Option<&Instruction>, bytes: &[u8]) {
+    match line {
+        Some(Instruction::Unveil(None, Some(letters))) => {
+            expect_equal(rt, letters.as_slice(), bytes);
         }
-        _ => panic!(rt; "no execve"),
+        _ => panic!(rt; "no unveil"),
     }
 }
 
 #[test]
 fn calls_that_restrain(rt: HostRuntime) {
     let program = read(&rt, PROCESSES);
-    match program.at(6) {
-        Some(Instruction::Pledge(Some(promises), None)) => {
-            assert_eq!(rt; promises.as_slice(), b"stdio".as_slice());
-        }
-        _ => panic!(rt; "no pledge"),
-    }
-    match program.at(7) {
-        Some(Instruction::Unveil(None, Some(letters))) => {
-            assert_eq!(rt; letters.as_slice(), b"r".as_slice());
-        }
-        _ => panic!(rt; "no unveil"),
-    }
+    expect_pledge(&rt, line(&program, 6), b"stdio");
+    expect_unveil(&rt, line(&program, 7), b"r");
 }
 
 const DESCRIPTORS: &[u8] =
     b"close -1\ndup 2\ndup2 3 r1\nread 4 5\nwrite 6 7\nlseek 8 -9 set\nlseek 0 0 cur\nlseek 0 0 end\nfstat 1\nftruncate 2 3\ngetdents 4\nfchdir 5\n";
 
+// The operand of a call that has one.
+fn operand_of(line: Option<&Instruction>) -> Option<Operand> {
+    match line {
+        Some(
+            Instruction::Close(d)
+            | Instruction::Dup(d)
+            | Instruction::Fstat(d)
+            | Instruction::Getdents(d)
+            | Instruction::Fchdir(d),
+        ) => Some(*d),
+        _ => None,
+    }
+}
+
+// A line is a call of this name on this number.
+fn expect_one<R: Abort>(rt: &R, line: Option<&Instruction>, name: &'static str, number: i32) {
+    expect_same(rt, name_of(line), name);
+    expect_same(rt, operand_of(line), Some(Operand::Number(number)));
+}
+
 #[test]
 fn calls_on_descriptors(rt: HostRuntime) {
     let program = read(&rt, DESCRIPTORS);
-    assert_eq!(rt; program.len(), 12);
-    assert!(rt; matches!(program.at(1), Some(Instruction::Close(Operand::Number(-1)))));
-    assert!(rt; matches!(program.at(2), Some(Instruction::Dup(Operand::Number(2)))));
-    assert!(rt; matches!(program.at(9), Some(Instruction::Fstat(Operand::Number(1)))));
+    expect_lines(&rt, &program, 12);
+    expect_one(&rt, line(&program, 1), "close", -1);
+    expect_one(&rt, line(&program, 2), "dup", 2);
+    expect_one(&rt, line(&program, 9), "fstat", 1);
 }
 
 #[test]
 fn calls_on_directories(rt: HostRuntime) {
     let program = read(&rt, DESCRIPTORS);
-    assert!(rt;
-        matches!(
-            program.at(11),
-            Some(Instruction::Getdents(Operand::Number(4)))
-        )
-    );
-    assert!(rt;
-        matches!(
-            program.at(12),
-            Some(Instruction::Fchdir(Operand::Number(5)))
-        )
-    );
+    expect_one(&rt, line(&program, 11), "getdents", 4);
+    expect_one(&rt, line(&program, 12), "fchdir", 5);
+}
+
+// The operands of a call that has two.
+fn operands_of(line: Option<&Instruction>) -> Option<(Operand, Operand)> {
+    match line {
+        Some(Instruction::Read(a, b) | Instruction::Write(a, b) | Instruction::Ftruncate(a, b)) =>
+            Some((*a, *b)),
+        _ => None,
+    }
+}
+
+// A line is a call of this name on these numbers.
+fn expect_two<R: Abort>(rt: &R, line: Option<&Instruction>, name: &'static str, a: i32, b: i32) {
+    let numbers = (Operand::Number(a), Operand::Number(b));
+    expect_same(rt, name_of(line), name);
+    expect_same(rt, operands_of(line), Some(numbers));
+}
+
+// A line is a dup2 of 3 to a register.
+fn is_dup2(line: Option<&Instruction>) -> bool {
+    matches!(
+        line,
+        Some(Instruction::Dup2(Operand::Number(3), Operand::Register(_)))
+    )
 }
 
 #[test]
 fn calls_on_two_operands(rt: HostRuntime) {
     let program = read(&rt, DESCRIPTORS);
-    assert!(rt;
-        matches!(
-            program.at(3),
-            Some(Instruction::Dup2(Operand::Number(3), Operand::Register(_)))
-        )
-    );
-    assert!(rt;
-        matches!(
-            program.at(4),
-            Some(Instruction::Read(Operand::Number(4), Operand::Number(5)))
-        )
-    );
-    assert!(rt;
-        matches!(
-            program.at(5),
-            Some(Instruction::Write(Operand::Number(6), Operand::Number(7)))
-        )
-    );
-    assert!(rt;
-        matches!(
-            program.at(10),
-            Some(Instruction::Ftruncate(Operand::Number(2), Operand::Number(3)))
-        )
-    );
+    expect(&rt, is_dup2(line(&program, 3)));
+    expect_two(&rt, line(&program, 4), "read", 4, 5);
+    expect_two(&rt, line(&program, 5), "write", 6, 7);
+    expect_two(&rt, line(&program, 10), "ftruncate", 2, 3);
+}
+
+// The operands of an lseek, and from where it counts.
+fn lseek_of(line: Option<&Instruction>) -> Option<(Operand, Operand, Whence)> {
+    match line {
+        Some(Instruction::Lseek(d, offset, whence)) => Some((*d, *offset, *whence)),
+        _ => None,
+    }
+}
+
+// From where an lseek counts.
+fn whence_of(line: Option<&Instruction>) -> Option<Whence> {
+    match line {
+        Some(Instruction::Lseek(_, _, whence)) => Some(*whence),
+        _ => None,
+    }
 }
 
 #[test]
 fn places_of_an_lseek(rt: HostRuntime) {
     let program = read(&rt, DESCRIPTORS);
-    assert!(rt;
-        matches!(
-            program.at(6),
-            Some(Instruction::Lseek(Operand::Number(8), Operand::Number(-9), Whence::Set))
-        )
-    );
-    assert!(rt;
-        matches!(
-            program.at(7),
-            Some(Instruction::Lseek(_, _, Whence::Current))
-        )
-    );
-    assert!(rt; matches!(program.at(8), Some(Instruction::Lseek(_, _, Whence::End))));
+    let set = (Operand::Number(8), Operand::Number(-9), Whence::Set);
+    expect_same(&rt, lseek_of(line(&program, 6)), Some(set));
+    expect_same(&rt, whence_of(line(&program, 7)), Some(Whence::Current));
+    expect_same(&rt, whence_of(line(&program, 8)), Some(Whence::End));
 }
 
 const OPENS: &[u8] =
@@ -262,8 +383,8 @@ const OPENS: &[u8] =
 fn expect_open<R: Abort>(rt: &R, line: Option<&Instruction>, path: &[u8], flags: OpenFlags) {
     match line {
         Some(Instruction::Open(opened, given)) => {
-            assert_eq!(rt; opened.as_slice(), path);
-            assert_eq!(rt; *given, flags);
+            expect_equal(rt, opened.as_slice(), path);
+            expect_same(rt, *given, flags);
         }
         _ => panic!(rt; "no open"),
     }
@@ -297,47 +418,60 @@ fn flags_of_an_open(rt: HostRuntime) {
         ..none
     };
     let program = read(&rt, OPENS);
-    expect_open(&rt, program.at(1), b"/a", all);
-    expect_open(&rt, program.at(2), b"", one);
-    expect_open(&rt, program.at(3), b"b", none);
+    expect_open(&rt, line(&program, 1), b"/a", all);
+    expect_open(&rt, line(&program, 2), b"", one);
+    expect_open(&rt, line(&program, 3), b"b", none);
 }
 
 const STARTS: &[u8] =
     b"openat cwd \"a\" r\nopenat 3 \"b\" w+create\nset r2 -7\nopenat r2 \"c\" rw\n";
 
+// A line is an openat that starts there, of this path, with flags of this mode, and which creates or not.
+fn expect_open_at<R: Abort>(
+    rt: &R,
+    line: Option<&Instruction>,
+    start: Origin,
+    opened: &[u8],
+    mode: Mode,
+    create: bool,
+) {
+    match line {
+        Some(Instruction::OpenAt(origin, path, flags)) => {
+            expect_same(rt, *origin, start);
+            expect_equal(rt, path.as_slice(), opened);
+            expect(rt, flags.mode == mode && flags.create == create);
+        }
+        _ => panic!(rt; "no openat"),
+    }
+}
+
 #[test]
 fn starts_of_an_openat(rt: HostRuntime) {
     let program = read(&rt, STARTS);
-    assert_eq!(rt; program.len(), 4);
-    match program.at(1) {
-        Some(Instruction::OpenAt(Origin::WorkingDirectory, path, flags)) => {
-            assert_eq!(rt; path.as_slice(), b"a".as_slice());
-            assert_eq!(rt; flags.mode, Mode::Read);
-        }
-        _ => panic!(rt; "not from the working directory"),
-    }
-    match program.at(2) {
-        Some(Instruction::OpenAt(Origin::Descriptor(Operand::Number(3)), path, flags)) => {
-            assert_eq!(rt; path.as_slice(), b"b".as_slice());
-            assert!(rt; flags.create);
-        }
-        _ => panic!(rt; "not from a descriptor"),
-    }
-    assert_eq!(rt; program.into_lines().len(), 4);
+    expect_lines(&rt, &program, 4);
+    let working = Origin::WorkingDirectory;
+    expect_open_at(&rt, line(&program, 1), working, b"a", Mode::Read, false);
+    let third = Origin::Descriptor(Operand::Number(3));
+    expect_open_at(&rt, line(&program, 2), third, b"b", Mode::Write, true);
+    expect_same(&rt, program.into_lines().len(), 4);
+}
+
+// A machine opens from the working directory next.
+fn expect_open_from_working<R: Abort>(rt: &R, machine: &Machine, program: &Program) {
+    assert!(rt;
+        matches!(
+            machine.next(program),
+            Next::Call(CallRef::OpenAt(Start::WorkingDirectory, _, _))
+        )
+    );
 }
 
 #[test]
 fn starts_that_a_machine_gives(rt: HostRuntime) {
     let program = read(&rt, STARTS);
-    let mut machine = Machine::new(rt.alloc()).expect(&rt, "memory");
-    assert!(rt;
-        matches!(
-            machine.next(&program),
-            Next::Call(CallRef::OpenAt(Start::WorkingDirectory, _, _))
-        )
-    );
-    machine.advance(&program);
-    machine.advance(&program);
+    let mut machine = fresh(&rt);
+    expect_open_from_working(&rt, &machine, &program);
+    advance_twice(&mut machine, &program);
     assert!(rt;
         matches!(
             run_to_call(&mut machine, &program),
@@ -352,33 +486,32 @@ const PATHS: &[u8] =
 #[test]
 fn calls_on_paths(rt: HostRuntime) {
     let program = read(&rt, PATHS);
-    assert_eq!(rt; program.len(), 10);
-    assert!(rt; matches!(program.at(1), Some(Instruction::Chdir(_))));
-    assert!(rt; matches!(program.at(2), Some(Instruction::Stat(_))));
-    assert!(rt; matches!(program.at(3), Some(Instruction::Lstat(_))));
-    assert!(rt; matches!(program.at(4), Some(Instruction::Readlink(_))));
+    expect_lines(&rt, &program, 10);
+    expect_names(&rt, &program, 1, &["chdir", "stat", "lstat", "readlink"]);
 }
 
 #[test]
 fn calls_that_change_names(rt: HostRuntime) {
     let program = read(&rt, PATHS);
-    assert!(rt; matches!(program.at(5), Some(Instruction::Unlink(_))));
-    assert!(rt; matches!(program.at(6), Some(Instruction::Mkdir(_))));
-    assert!(rt; matches!(program.at(7), Some(Instruction::Rmdir(_))));
+    expect_names(&rt, &program, 5, &["unlink", "mkdir", "rmdir"]);
+}
+
+// A line is a symlink of this text and path.
+fn expect_symlink<R: Abort>(rt: &R, line: Option<&Instruction>, bytes: &[u8], made: &[u8]) {
+    match line {
+        Some(Instruction::Symlink(text, path)) => {
+            expect_equal(rt, text.as_slice(), bytes);
+            expect_equal(rt, path.as_slice(), made);
+        }
+        _ => panic!(rt; "no symlink"),
+    }
 }
 
 #[test]
 fn calls_on_two_paths(rt: HostRuntime) {
     let program = read(&rt, PATHS);
-    assert!(rt; matches!(program.at(8), Some(Instruction::Rename(_, _))));
-    assert!(rt; matches!(program.at(9), Some(Instruction::Link(_, _))));
-    match program.at(10) {
-        Some(Instruction::Symlink(text, path)) => {
-            assert_eq!(rt; text.as_slice(), b"k".as_slice());
-            assert_eq!(rt; path.as_slice(), b"l".as_slice());
-        }
-        _ => panic!(rt; "no symlink"),
-    }
+    expect_names(&rt, &program, 8, &["rename", "link"]);
+    expect_symlink(&rt, line(&program, 10), b"k", b"l");
 }
 
 // Makes the instructions on registers that come next, at most a hundred, up to a call.
@@ -404,49 +537,79 @@ fn exit_code<R: Abort + AllocGlobal>(rt: &R, bytes: &[u8]) -> Option<i32> {
 
 // The first call of a program is an exit with this code, or none where no exit is.
 fn expect_exit<R: Abort + AllocGlobal>(rt: &R, bytes: &[u8], code: Option<i32>) {
-    assert_eq!(rt; exit_code(rt, bytes), code);
+    expect_same(rt, exit_code(rt, bytes), code);
 }
+
+fn expect_exits<R: Abort + AllocGlobal>(rt: &R, exits: &[(&[u8], Option<i32>)]) {
+    for &(bytes, code) in exits {
+        expect_exit(rt, bytes, code);
+    }
+}
+
+const REGISTER_EXITS: &[(&[u8], Option<i32>)] = &[
+    (b"", Some(0)),
+    (b"set r0 7", Some(0)),
+    (b"set r3 -7\nadd r3 5\nexit r3", Some(-2)),
+    (b"set r0 2147483647\nadd r0 1\nexit r0", Some(2_147_483_647)),
+    (
+        b"set r0 -2147483648\nadd r0 -1\nexit r0",
+        Some(-2_147_483_648),
+    ),
+    (b"put \"a\\xff\"\npeek r1 1\nexit r1", Some(255)),
+    (b"put \"ab\"\nput \"c\"\npeek r1 1\nexit r1", Some(98)),
+    (b"peek r1 4095\nexit r1", Some(0)),
+];
 
 #[test]
 fn registers_of_a_machine(rt: HostRuntime) {
-    expect_exit(&rt, b"", Some(0));
-    expect_exit(&rt, b"set r0 7", Some(0));
-    expect_exit(&rt, b"set r3 -7\nadd r3 5\nexit r3", Some(-2));
-    let up = b"set r0 2147483647\nadd r0 1\nexit r0";
-    expect_exit(&rt, up, Some(2_147_483_647));
-    let down = b"set r0 -2147483648\nadd r0 -1\nexit r0";
-    expect_exit(&rt, down, Some(-2_147_483_648));
-    expect_exit(&rt, b"put \"a\\xff\"\npeek r1 1\nexit r1", Some(255));
-    let twice = b"put \"ab\"\nput \"c\"\npeek r1 1\nexit r1";
-    expect_exit(&rt, twice, Some(98));
-    expect_exit(&rt, b"peek r1 4095\nexit r1", Some(0));
+    expect_exits(&rt, REGISTER_EXITS);
 }
+
+const JUMP_EXITS: &[(&[u8], Option<i32>)] = &[
+    (b"jmp 3\nexit 1\nexit 2", Some(2)),
+    (b"jz r0 3\nexit 1\nexit 2", Some(2)),
+    (b"jnz r0 3\nexit 1\nexit 2", Some(1)),
+    (b"jneg r0 3\nexit 1\nexit 2", Some(1)),
+    (b"set r0 -1\njneg r0 4\nexit 1\nexit 2", Some(2)),
+    (b"set r0 -1\njz r0 4\nexit 1\nexit 2", Some(1)),
+    (b"set r0 -1\njnz r0 4\nexit 1\nexit 2", Some(2)),
+    // Ten rounds.
+    (
+        b"set r0 10\nadd r1 3\nadd r0 -1\njnz r0 2\nexit r1",
+        Some(30),
+    ),
+    // A jump to itself never comes to a call.
+    (b"jmp 1", None),
+];
 
 #[test]
 fn jumps_of_a_machine(rt: HostRuntime) {
-    expect_exit(&rt, b"jmp 3\nexit 1\nexit 2", Some(2));
-    expect_exit(&rt, b"jz r0 3\nexit 1\nexit 2", Some(2));
-    expect_exit(&rt, b"jnz r0 3\nexit 1\nexit 2", Some(1));
-    expect_exit(&rt, b"jneg r0 3\nexit 1\nexit 2", Some(1));
-    expect_exit(&rt, b"set r0 -1\njneg r0 4\nexit 1\nexit 2", Some(2));
-    expect_exit(&rt, b"set r0 -1\njz r0 4\nexit 1\nexit 2", Some(1));
-    expect_exit(&rt, b"set r0 -1\njnz r0 4\nexit 1\nexit 2", Some(2));
-    // Ten rounds.
-    let rounds = b"set r0 10\nadd r1 3\nadd r0 -1\njnz r0 2\nexit r1";
-    expect_exit(&rt, rounds, Some(30));
-    // A jump to itself never comes to a call.
-    expect_exit(&rt, b"jmp 1", None);
+    expect_exits(&rt, JUMP_EXITS);
 }
 
 const ANSWERED: &[u8] = b"getpid\nread r0 r1\nexit 0";
 
 // A machine at the second line of the program, told -1 with error 9 and given some bytes.
 fn told<R: Abort + AllocGlobal>(rt: &R, program: &Program) -> Machine {
-    let mut machine = Machine::new(rt.alloc()).expect(rt, "memory");
+    let mut machine = fresh(rt);
     machine.advance(program);
     machine.tell(-1, 9);
     machine.put_front(b"hello");
     machine
+}
+
+// The machine's buffer begins with these bytes.
+fn expect_buffer<R: Abort>(rt: &R, machine: &Machine, bytes: &[u8]) {
+    assert!(rt; machine.buffer().starts_with(bytes));
+}
+
+// The machine asks for its number next.
+fn expect_getpid<R: Abort>(rt: &R, machine: &Machine, program: &Program) {
+    assert!(rt; matches!(machine.next(program), Next::Call(CallRef::GetPid)));
+}
+
+fn fresh<R: Abort + AllocGlobal>(rt: &R) -> Machine {
+    Machine::new(rt.alloc()).expect(rt, "memory")
 }
 
 // The machine makes this read next, and its buffer begins with these bytes.
@@ -458,53 +621,78 @@ fn expect_read<R: Abort>(
     bytes: &[u8],
 ) {
     match machine.next(program) {
-        Next::Call(CallRef::Read(d, count)) => assert_eq!(rt; (d, count), read),
+        Next::Call(CallRef::Read(d, count)) => expect_same(rt, (d, count), read),
         _ => panic!(rt; "no read"),
     }
-    assert!(rt; machine.buffer().starts_with(bytes));
+    expect_buffer(rt, machine, bytes);
 }
 
 #[test]
 fn answers_that_a_machine_is_told(rt: HostRuntime) {
     let program = read(&rt, ANSWERED);
-    let machine = Machine::new(rt.alloc()).expect(&rt, "memory");
-    assert!(rt; matches!(machine.next(&program), Next::Call(CallRef::GetPid)));
+    expect_getpid(&rt, &fresh(&rt), &program);
     let machine = told(&rt, &program);
     expect_read(&rt, &machine, &program, (-1, 9), b"hello\0");
+}
+
+// A copy of a machine, told 0 without an error.
+fn child_of<R: Abort + AllocGlobal>(rt: &R, machine: &Machine) -> Machine {
+    let mut child = fresh(rt);
+    child.copy_from(machine);
+    child.tell(0, 0);
+    child
 }
 
 #[test]
 fn a_copy_of_a_machine(rt: HostRuntime) {
     let program = read(&rt, ANSWERED);
     let machine = told(&rt, &program);
-    let mut child = Machine::new(rt.alloc()).expect(&rt, "memory");
-    child.copy_from(&machine);
-    child.tell(0, 0);
+    let child = child_of(&rt, &machine);
     expect_read(&rt, &child, &program, (0, 0), b"hello\0");
     expect_read(&rt, &machine, &program, (-1, 9), b"hello\0");
+}
+
+// A machine that was told something, and begins again.
+fn begun_again<R: Abort + AllocGlobal>(rt: &R, program: &Program) -> Machine {
+    let mut machine = told(rt, program);
+    machine.reset();
+    machine
 }
 
 #[test]
 fn a_machine_that_begins_again(rt: HostRuntime) {
     let program = read(&rt, ANSWERED);
-    let mut machine = told(&rt, &program);
-    machine.reset();
-    assert!(rt; matches!(machine.next(&program), Next::Call(CallRef::GetPid)));
-    assert!(rt; machine.buffer().starts_with(b"\0\0\0\0\0"));
+    let machine = begun_again(&rt, &program);
+    expect_getpid(&rt, &machine, &program);
+    expect_buffer(&rt, &machine, b"\0\0\0\0\0");
+}
+
+// A program of no lines.
+fn no_lines<R: Abort + AllocGlobal>(rt: &R) -> Program {
+    let short = Program::empty(rt.alloc());
+    assert!(rt; short.is_empty());
+    short
+}
+
+fn advance_twice(machine: &mut Machine, program: &Program) {
+    machine.advance(program);
+    machine.advance(program);
+}
+
+// The machine exits next, with 0.
+fn expect_end<R: Abort>(rt: &R, machine: &Machine, program: &Program) {
+    assert!(rt; matches!(machine.next(program), Next::Call(CallRef::Exit(0))));
 }
 
 // Past the last line stands an exit, and nothing behind it.
 #[test]
 fn a_machine_past_the_last_line(rt: HostRuntime) {
     let program = read(&rt, ANSWERED);
-    let short = Program::empty(rt.alloc());
-    assert!(rt; short.is_empty());
-    let mut machine = told(&rt, &program);
-    machine.reset();
-    machine.advance(&short);
-    machine.advance(&short);
-    assert!(rt; matches!(machine.next(&short), Next::Call(CallRef::Exit(0))));
-    assert!(rt; matches!(machine.next(&program), Next::Call(CallRef::GetPid)));
+    let short = no_lines(&rt);
+    let mut machine = begun_again(&rt, &program);
+    advance_twice(&mut machine, &short);
+    expect_end(&rt, &machine, &short);
+    expect_getpid(&rt, &machine, &program);
 }
 
 // The schedule of these bytes.
@@ -517,21 +705,25 @@ fn expect_turns<R: Abort + AllocGlobal>(rt: &R, bytes: &[u8], turns: &[(u32, u32
     assert_eq!(rt; schedule(rt, bytes).turns(), turns);
 }
 
+// The turn at a place of a schedule.
+fn expect_turn<R: Abort>(rt: &R, schedule: &Schedule, place: usize, turn: (u32, u32)) {
+    assert!(rt; place < schedule.len());
+    expect_same(rt, schedule.at(place), turn);
+}
+
 // Bytes are refused as a schedule, for this line.
 fn expect_turn_fault<R: Abort + AllocGlobal>(rt: &R, bytes: &[u8], line: u32) {
     let fault = Schedule::parse(rt.alloc(), bytes).err();
-    assert_eq!(rt; fault, Some(ScheduleFault::Line(line)));
+    expect_same(rt, fault, Some(ScheduleFault::Line(line)));
 }
 
 #[test]
 fn turns_of_a_schedule(rt: HostRuntime) {
     expect_turns(&rt, b"1\n99999 99999", &[(1, 1), (99_999, 99_999)]);
     let schedule = schedule(&rt, b"1 2\n3\n");
-    assert_eq!(rt; schedule.len(), 2);
-    if schedule.len() > 1 {
-        assert_eq!(rt; schedule.at(0), (1, 2));
-        assert_eq!(rt; schedule.at(1), (3, 1));
-    }
+    expect_same(&rt, schedule.len(), 2);
+    expect_turn(&rt, &schedule, 0, (1, 2));
+    expect_turn(&rt, &schedule, 1, (3, 1));
 }
 
 #[test]

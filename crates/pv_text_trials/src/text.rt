@@ -1,4 +1,5 @@
 //! Lines, words, texts and arguments, and what is none.
+use crate::answers::{expect, expect_equal, expect_same};
 use pv_model::{Mode, Operand, Origin, Whence};
 use pv_text::arguments::{
     one_text, origin_text_and_flags, text_and_size, two_operands_and_whence, two_sizes,
@@ -10,7 +11,6 @@ use pv_text::texts::{text, text_or_null};
 use pv_text::words::{decimal, flags, number, operand, origin, register};
 use std::alloc::{AllocError, Global};
 use std::process::Abort;
-use std::test::Fail;
 
 // A text of the same byte over and over, in quotation marks.
 fn quoted(alloc: Global, byte: &[u8], count: u32) -> Result<Vec<u8>, AllocError> {
@@ -25,8 +25,17 @@ fn quoted(alloc: Global, byte: &[u8], count: u32) -> Result<Vec<u8>, AllocError>
 // A text begins with this line, and this stands behind it.
 fn expect_line(rt: &impl Abort, text: &[u8], line: &[u8], behind: &[u8]) {
     let (first, rest) = split_line(text).expect(rt, "a line");
-    assert_eq!(rt; first, line);
-    assert_eq!(rt; rest, behind);
+    expect_equal(rt, first, line);
+    expect_equal(rt, rest, behind);
+}
+
+fn expect_no_line(rt: &impl Abort, text: &[u8]) {
+    assert!(rt; split_line(text).is_none());
+}
+
+// A text has so many lines, or as many as are counted.
+fn expect_count(rt: &impl Abort, text: &[u8], limit: u16, count: u16) {
+    expect_same(rt, count_lines(text, limit), count);
 }
 
 #[test]
@@ -34,32 +43,65 @@ fn lines_with_their_ends_or_without(rt: HostRuntime) {
     expect_line(&rt, b"a b\n\nc", b"a b", b"\nc");
     expect_line(&rt, b"\nc", b"", b"c");
     expect_line(&rt, b"c", b"c", b"");
-    assert!(rt; split_line(b"").is_none());
-    assert_eq!(rt; count_lines(b"a b\n\nc", 9), 3);
-    assert_eq!(rt; count_lines(b"a b\n\nc\n", 2), 2);
+    expect_no_line(&rt, b"");
+    expect_count(&rt, b"a b\n\nc", 9, 3);
+    expect_count(&rt, b"a b\n\nc\n", 2, 2);
+}
+
+// A line begins with this word, and this stands behind it.
+fn expect_word(rt: &impl Abort, line: &[u8], word: &[u8], behind: &[u8]) {
+    let (first, rest) = split_word(line);
+    expect_equal(rt, first, word);
+    expect_equal(rt, rest, behind);
+}
+
+// A byte stands first at this place.
+fn expect_first(rt: &impl Abort, bytes: &[u8], byte: u8, place: usize) {
+    expect_same(rt, first_of(bytes, byte), place);
 }
 
 #[test]
 fn words_with_what_is_behind(rt: HostRuntime) {
-    let (word, behind) = split_word(b"a b c");
-    assert_eq!(rt; word, b"a".as_slice());
-    assert_eq!(rt; behind, b" b c".as_slice());
-    assert_eq!(rt; first_of(b"abc", b'c'), 2);
-    assert_eq!(rt; first_of(b"abc", b'd'), 3);
+    expect_word(&rt, b"a b c", b"a", b" b c");
+    expect_first(&rt, b"abc", b'c', 2);
+    expect_first(&rt, b"abc", b'd', 3);
+}
+
+// A path begins with this piece, and this stands behind its slash.
+fn expect_piece(rt: &impl Abort, path: &[u8], piece: &[u8], behind: &[u8]) {
+    let (first, rest) = split_piece(path);
+    expect_equal(rt, first, piece);
+    expect_equal(rt, rest.expect(rt, "a slash"), behind);
+}
+
+// A path is one piece.
+fn expect_one_piece(rt: &impl Abort, path: &[u8]) {
+    let (first, rest) = split_piece(path);
+    expect_equal(rt, first, path);
+    assert!(rt; rest.is_none());
 }
 
 #[test]
 fn pieces_of_a_path(rt: HostRuntime) {
-    let (piece, behind) = split_piece(b"a//b");
-    assert_eq!(rt; piece, b"a".as_slice());
-    assert!(rt; matches!(behind, Some([b'/', b'b'])));
-    assert!(rt; matches!(split_piece(b"/"), ([], Some([]))));
-    assert!(rt; matches!(split_piece(b"b"), ([b'b'], None)));
+    expect_piece(&rt, b"a//b", b"a", b"/b");
+    expect_piece(&rt, b"/", b"", b"");
+    expect_one_piece(&rt, b"b");
 }
 
 // A word is read as this number, or as none.
 fn expect_decimal(rt: &impl Abort, digits: &[u8], wanted: Option<u32>) {
-    assert_eq!(rt; decimal(digits), wanted);
+    expect_same(rt, decimal(digits), wanted);
+}
+
+// Bytes begin with this number, and this stands behind it.
+fn expect_number(rt: &impl Abort, bytes: &[u8], wanted: i32, behind: &[u8]) {
+    let (value, rest) = number(bytes).expect(rt, "a number");
+    expect_same(rt, value, wanted);
+    expect_equal(rt, rest, behind);
+}
+
+fn expect_no_number(rt: &impl Abort, bytes: &[u8]) {
+    assert!(rt; number(bytes).is_none());
 }
 
 #[test]
@@ -68,14 +110,9 @@ fn words_that_are_numbers(rt: HostRuntime) {
     expect_decimal(&rt, b"00", None);
     expect_decimal(&rt, b"", None);
     expect_decimal(&rt, b"18446744073709551616", Some(4_294_967_295));
-    assert!(rt;
-        matches!(
-            number(b"-2147483648 x"),
-            Some((-2_147_483_648, [b' ', b'x']))
-        )
-    );
-    assert!(rt; number(b"-0").is_none());
-    assert!(rt; number(b"2147483648").is_none());
+    expect_number(&rt, b"-2147483648 x", -2_147_483_648, b" x");
+    expect_no_number(&rt, b"-0");
+    expect_no_number(&rt, b"2147483648");
 }
 
 #[test]
@@ -106,10 +143,10 @@ fn starts_of_an_openat(rt: HostRuntime) {
 fn arguments_of_an_openat(rt: HostRuntime) {
     let read = origin_text_and_flags(b" cwd \"a\" w+create");
     let (start, path, flags) = read.expect(&rt, "a start, a path and flags");
-    assert_eq!(rt; start, Origin::WorkingDirectory);
-    assert_eq!(rt; path.as_slice(), b"a".as_slice());
-    assert_eq!(rt; flags.mode, Mode::Write);
-    assert!(rt; flags.create && !flags.append);
+    expect_same(&rt, start, Origin::WorkingDirectory);
+    expect_equal(&rt, path.as_slice(), b"a");
+    expect_same(&rt, flags.mode, Mode::Write);
+    expect(&rt, flags.create && !flags.append);
 }
 
 #[test]
@@ -127,8 +164,8 @@ fn arguments_that_an_openat_lacks(rt: HostRuntime) {
 #[test]
 fn texts_with_escapes(rt: HostRuntime) {
     let (read, rest) = text(b"\"a\\x22\\xff\" b").expect(&rt, "a text");
-    assert_eq!(rt; read.as_slice(), b"a\"\xff".as_slice());
-    assert_eq!(rt; rest, b" b".as_slice());
+    expect_equal(&rt, read.as_slice(), b"a\"\xff");
+    expect_equal(&rt, rest, b" b");
 }
 
 // Bytes begin with no text.
@@ -146,11 +183,16 @@ fn bytes_that_are_no_texts(rt: HostRuntime) {
     assert!(rt; text_or_null(b"nul").is_none());
 }
 
+// Bytes are a text of so many bytes.
+fn expect_text_of(rt: &impl Abort, bytes: &[u8], length: usize) {
+    let (read, _) = text(bytes).expect(rt, "the longest text");
+    expect_same(rt, read.len(), length);
+}
+
 #[test]
 fn texts_up_to_their_limit(rt: HostRuntime) {
     let longest = quoted(rt.alloc(), b"\\x61", 1_100).expect(&rt, "memory");
-    let (read, _) = text(&longest).expect(&rt, "the longest text");
-    assert_eq!(rt; read.len(), 1_100);
+    expect_text_of(&rt, &longest, 1_100);
     let longer = quoted(rt.alloc(), b"a", 1_101).expect(&rt, "memory");
     expect_no_text(&rt, &longer);
 }
@@ -160,23 +202,35 @@ fn expect_not_one_text(rt: &impl Abort, bytes: &[u8]) {
     assert!(rt; one_text(bytes).is_none());
 }
 
+fn expect_one_text(rt: &impl Abort, bytes: &[u8], wanted: &[u8]) {
+    let read = one_text(bytes).expect(rt, "a text");
+    expect_equal(rt, read.as_slice(), wanted);
+}
+
 #[test]
 fn texts_behind_one_space(rt: HostRuntime) {
-    let read = one_text(b" \"a\"").expect(&rt, "a text");
-    assert_eq!(rt; read.as_slice(), b"a".as_slice());
+    expect_one_text(&rt, b" \"a\"", b"a");
     expect_not_one_text(&rt, b"\"a\"");
     expect_not_one_text(&rt, b" \"a\" ");
     expect_not_one_text(&rt, b"  \"a\"");
     assert!(rt; matches!(two_texts_or_null(b" null \"b\""), Some((None, Some(_)))));
 }
 
+fn expect_sizes(rt: &impl Abort, bytes: &[u8], sizes: Option<(u32, u32)>) {
+    expect_same(rt, two_sizes(bytes), sizes);
+}
+
+fn expect_text_and_size(rt: &impl Abort, bytes: &[u8], path: &[u8], size: u32) {
+    let (read, lines) = text_and_size(bytes).expect(rt, "a text and a size");
+    expect_equal(rt, read.as_slice(), path);
+    expect_same(rt, lines, size);
+}
+
 #[test]
 fn sizes_behind_one_space(rt: HostRuntime) {
-    assert_eq!(rt; two_sizes(b" 16 4294967296"), Some((16, 4_294_967_295)));
-    assert_eq!(rt; two_sizes(b" 16"), None);
-    let (path, lines) = text_and_size(b" \"/p\" 12").expect(&rt, "a text and a size");
-    assert_eq!(rt; path.as_slice(), b"/p".as_slice());
-    assert_eq!(rt; lines, 12);
+    expect_sizes(&rt, b" 16 4294967296", Some((16, 4_294_967_295)));
+    expect_sizes(&rt, b" 16", None);
+    expect_text_and_size(&rt, b" \"/p\" 12", b"/p", 12);
 }
 
 #[test]

@@ -2,6 +2,7 @@
 ghost use Rattle.std.specs.Prelude.{None};
 ghost use Rattle.pv_trace.specs.Words.{HasFewBytes};
 
+use crate::answers::expect_equal;
 use pv_model::{
     Call, CallRef, Cause, Errno, Failed, Mode, OpenFlags, Outcome, Perms, Promise, Sink, Start,
     Taken, Text, Whence,
@@ -210,240 +211,272 @@ fn longest_bytes_are_written_at_once(rt: HostRuntime) {
 const HIDDEN: &[u8] =
     b"    1 CALL  open(\"/a\\x22\\x01\", r)\n    1 NAMI  \"/a\\x22\\x01\"\n    1 UNVL  none, needs r\n    1 RET   open -1 errno 2 ENOENT\n";
 
+// A sink of so much room, at most so many a write, once it was told of the open, and what that answered.
+fn told_of_hidden<R: Abort + AllocGlobal>(
+    rt: &R,
+    room: usize,
+    width: usize,
+) -> (Narrow, Result<u8, Failed>) {
+    let call = Call::Open(text(rt, b"/a\"\x01"), FOR_READING);
+    let outcome = Outcome::Failed(Errno::ENOENT, Cause::Unveil(None));
+    let mut out = sink_of(rt, room, width);
+    let sheet = &mut Sheet::new();
+    let lines = write_call_lines(&mut out, sheet, 1, b"", call.as_ref(), outcome, 1);
+    (out, lines)
+}
+
 #[test]
 fn hidden_open_has_four_lines(rt: HostRuntime) {
-    let call = Call::Open(text(&rt, b"/a\"\x01"), FOR_READING);
-    let outcome = Outcome::Failed(Errno::ENOENT, Cause::Unveil(None));
-    let mut out = sink_of(&rt, 1_000, 1_000);
-    let lines = write_call_lines(
-        &mut out,
-        &mut Sheet::new(),
-        1,
-        b"",
-        call.as_ref(),
-        outcome,
-        1,
-    );
+    let (out, lines) = told_of_hidden(&rt, 1_000, 1_000);
     assert!(rt; matches!(lines, Ok(4)));
     assert!(rt; out.writes == 1);
-    assert!(rt; out.bytes.as_slice() == HIDDEN);
+    expect_equal(&rt, out.bytes.as_slice(), HIDDEN);
 }
 
 #[test]
 fn hidden_open_is_written_byte_by_byte(rt: HostRuntime) {
-    let call = Call::Open(text(&rt, b"/a\"\x01"), FOR_READING);
-    let outcome = Outcome::Failed(Errno::ENOENT, Cause::Unveil(None));
-    let mut out = sink_of(&rt, 1_000, 1);
-    assert!(rt;
-        write_call_lines(
-            &mut out,
-            &mut Sheet::new(),
-            1,
-            b"",
-            call.as_ref(),
-            outcome,
-            1
-        )
-        .is_ok()
-    );
-    assert!(rt; out.bytes.as_slice() == HIDDEN);
+    let (out, lines) = told_of_hidden(&rt, 1_000, 1);
+    assert!(rt; lines.is_ok());
+    expect_equal(&rt, out.bytes.as_slice(), HIDDEN);
+}
+
+// The bytes up to a place.
+fn front(bytes: &[u8], room: usize) -> &[u8] {
+    if room < bytes.len() {
+        &bytes[..room]
+    } else {
+        bytes
+    }
+}
+
+// A sink of less room than the lines want has a beginning of them, and failed once.
+fn expect_beginning<R: Abort + AllocGlobal>(rt: &R, room: usize, width: usize) {
+    let (out, lines) = told_of_hidden(rt, room, width);
+    assert!(rt; lines.is_err());
+    expect_equal(rt, out.bytes.as_slice(), front(HIDDEN, room));
+    assert!(rt; out.failures == 1);
 }
 
 #[test]
 fn full_sink_has_a_beginning_of_the_text(rt: HostRuntime) {
-    let call = Call::Open(text(&rt, b"/a\"\x01"), FOR_READING);
-    let outcome = Outcome::Failed(Errno::ENOENT, Cause::Unveil(None));
     for room in 0..HIDDEN.len() {
         for width in [1, 7, 1_000] {
-            let mut out = sink_of(&rt, room, width);
-            assert!(rt;
-                write_call_lines(
-                    &mut out,
-                    &mut Sheet::new(),
-                    1,
-                    b"",
-                    call.as_ref(),
-                    outcome,
-                    1
-                )
-                .is_err()
-            );
-            assert!(rt; out.bytes.as_slice() == &HIDDEN[..room]);
-            assert!(rt; out.failures == 1);
+            expect_beginning(&rt, room, width);
         }
     }
 }
 
+// What a call did, and how it is told.
+#[derive(Clone, Copy)]
+struct Told<'a> {
+    pid: u32,
+    // What its buffer begins with.
+    buffer: &'a [u8],
+    outcome: Outcome,
+    walks: u8,
+    // How many lines it has.
+    count: u8,
+}
+
+// The lines of a call, in one write.
+fn lines_of<R: Abort + AllocGlobal>(rt: &R, call: CallRef, told: &Told) -> Vec<u8> {
+    assert!(rt; told.buffer.len() <= 4_096);
+    let mut out = sink_of(rt, 1_000, 1_000);
+    let sheet = &mut Sheet::new();
+    let (outcome, walks) = (told.outcome, told.walks);
+    let lines = write_call_lines(&mut out, sheet, told.pid, told.buffer, call, outcome, walks);
+    assert!(rt; matches!(lines, Ok(count) if count == told.count));
+    assert!(rt; out.writes == 1);
+    let Narrow { bytes, .. } = out;
+    bytes
+}
+
+fn expect_told<R: Abort + AllocGlobal>(rt: &R, call: CallRef, told: &Told, wanted: &[u8]) {
+    expect_equal(rt, lines_of(rt, call, told).as_slice(), wanted);
+}
+
 #[test]
 fn read_shows_the_bytes_it_gave(rt: HostRuntime) {
-    let mut out = sink_of(&rt, 1_000, 1_000);
-    let outcome = Outcome::Text(Taken { value: 3, len: 3 });
-    let lines = write_call_lines(
-        &mut out,
-        &mut Sheet::new(),
-        99_999,
-        b"abcdef",
-        CallRef::Read(0, -1),
-        outcome,
-        0,
-    );
-    assert!(rt; matches!(lines, Ok(3)));
+    let told = Told {
+        pid: 99_999,
+        buffer: b"abcdef",
+        outcome: Outcome::Text(Taken { value: 3, len: 3 }),
+        walks: 0,
+        count: 3,
+    };
     let wanted = b"99999 CALL  read(0, -1)\n99999 GIO   read 3 616263\n99999 RET   read 3\n";
-    assert!(rt; out.bytes.as_slice() == wanted.as_slice());
+    expect_told(&rt, CallRef::Read(0, -1), &told, wanted);
 }
 
 #[test]
 fn write_shows_the_bytes_it_took(rt: HostRuntime) {
-    let mut out = sink_of(&rt, 1_000, 1_000);
-    let call = Call::Write(0, 2);
-    let lines = write_call_lines(
-        &mut out,
-        &mut Sheet::new(),
-        1,
-        b"abcdef",
-        call.as_ref(),
-        Outcome::Value(2),
-        0,
-    );
-    assert!(rt; matches!(lines, Ok(3)));
+    let told = Told {
+        pid: 1,
+        buffer: b"abcdef",
+        outcome: Outcome::Value(2),
+        walks: 0,
+        count: 3,
+    };
     let wanted = b"    1 CALL  write(0, 2)\n    1 GIO   wrote 2 6162\n    1 RET   write 2\n";
-    assert!(rt; out.bytes.as_slice() == wanted.as_slice());
+    expect_told(&rt, Call::Write(0, 2).as_ref(), &told, wanted);
 }
 
 #[test]
 fn killed_call_ends_with_its_signal(rt: HostRuntime) {
-    let mut out = sink_of(&rt, 1_000, 1_000);
     let call = Call::Unveil(None, Some(text(&rt, b"r")));
-    let outcome = Outcome::Killed(Promise::Unveil);
-    assert!(rt;
-        matches!(
-            write_call_lines(
-                &mut out,
-                &mut Sheet::new(),
-                12,
-                b"",
-                call.as_ref(),
-                outcome,
-                0
-            ),
-            Ok(3)
-        )
-    );
+    let told = Told {
+        pid: 12,
+        buffer: b"",
+        outcome: Outcome::Killed(Promise::Unveil),
+        walks: 0,
+        count: 3,
+    };
     let wanted =
         b"   12 CALL  unveil(null, \"r\")\n   12 PLDG  unveil, \"unveil\", killed\n   12 PSIG  SIGABRT\n";
-    assert!(rt; out.bytes.as_slice() == wanted.as_slice());
+    expect_told(&rt, call.as_ref(), &told, wanted);
+}
+
+fn rename_call<R: Abort>(rt: &R) -> Call {
+    Call::Rename(text(rt, b"/a"), text(rt, b"/b"))
 }
 
 #[test]
 fn rename_tells_the_walks_that_it_began(rt: HostRuntime) {
-    let call = Call::Rename(text(&rt, b"/a"), text(&rt, b"/b"));
-    let refused = Outcome::Failed(Errno::EACCES, Cause::Unveil(Some(1)));
-    let mut out = sink_of(&rt, 1_000, 1_000);
-    assert!(rt;
-        matches!(
-            write_call_lines(
-                &mut out,
-                &mut Sheet::new(),
-                1,
-                b"",
-                call.as_ref(),
-                refused,
-                2
-            ),
-            Ok(5)
-        )
-    );
+    let call = rename_call(&rt);
+    let told = Told {
+        pid: 1,
+        buffer: b"",
+        outcome: Outcome::Failed(Errno::EACCES, Cause::Unveil(Some(1))),
+        walks: 2,
+        count: 5,
+    };
     let wanted =
         b"    1 CALL  rename(\"/a\", \"/b\")\n    1 NAMI  \"/a\"\n    1 NAMI  \"/b\"\n    1 UNVL  entry 1, needs c\n    1 RET   rename -1 errno 13 EACCES\n";
-    assert!(rt; out.bytes.as_slice() == wanted.as_slice());
+    expect_told(&rt, call.as_ref(), &told, wanted);
 }
 
 #[test]
 fn rename_that_began_one_walk_tells_one(rt: HostRuntime) {
-    let call = Call::Rename(text(&rt, b"/a"), text(&rt, b"/b"));
-    let mut out = sink_of(&rt, 1_000, 1_000);
-    let empty = Outcome::Failed(Errno::ENOENT, Cause::Plain);
-    assert!(rt;
-        matches!(
-            write_call_lines(&mut out, &mut Sheet::new(), 1, b"", call.as_ref(), empty, 1),
-            Ok(3)
-        )
-    );
+    let call = rename_call(&rt);
+    let told = Told {
+        pid: 1,
+        buffer: b"",
+        outcome: Outcome::Failed(Errno::ENOENT, Cause::Plain),
+        walks: 1,
+        count: 3,
+    };
+    lines_of(&rt, call.as_ref(), &told);
 }
 
 #[test]
 fn exit_has_its_call_alone(rt: HostRuntime) {
-    let mut out = sink_of(&rt, 1_000, 1_000);
-    assert!(rt;
-        matches!(
-            write_call_lines(
-                &mut out,
-                &mut Sheet::new(),
-                1,
-                b"",
-                CallRef::Exit(0),
-                Outcome::Exited,
-                0
-            ),
-            Ok(1)
-        )
-    );
-    assert!(rt; out.bytes.as_slice() == b"    1 CALL  exit(0)\n".as_slice());
+    let told = Told {
+        pid: 1,
+        buffer: b"",
+        outcome: Outcome::Exited,
+        walks: 0,
+        count: 1,
+    };
+    expect_told(&rt, CallRef::Exit(0), &told, b"    1 CALL  exit(0)\n");
+}
+
+// A sink of so much room, at most so many a write, once it was told of the step, and whether it took it.
+fn told_of_gone<R: Abort + AllocGlobal>(rt: &R, room: usize, width: usize) -> (Narrow, bool) {
+    let mut out = sink_of(rt, room, width);
+    let written = write_gone_line(&mut out, &mut Sheet::new(), 2).is_ok();
+    (out, written)
 }
 
 #[test]
 fn step_of_a_process_that_is_gone_has_one_line(rt: HostRuntime) {
-    let mut out = sink_of(&rt, 1_000, 1_000);
-    assert!(rt; write_gone_line(&mut out, &mut Sheet::new(), 2).is_ok());
-    assert!(rt; out.bytes.as_slice() == b"    2 GONE  no such process\n".as_slice());
-    let mut out = sink_of(&rt, 11, 2);
-    assert!(rt; write_gone_line(&mut out, &mut Sheet::new(), 2).is_err());
-    assert!(rt; out.bytes.as_slice() == b"    2 GONE  ".as_slice().split_at(11).0);
+    let (out, written) = told_of_gone(&rt, 1_000, 1_000);
+    assert!(rt; written);
+    expect_equal(&rt, out.bytes.as_slice(), b"    2 GONE  no such process\n");
+    let (out, written) = told_of_gone(&rt, 11, 2);
+    assert!(rt; !written);
+    expect_equal(
+        &rt,
+        out.bytes.as_slice(),
+        b"    2 GONE  ".as_slice().split_at(11).0,
+    );
 }
 
 // How many bytes more than one piece.
 const MORE: usize = PIECE + 9;
 
+fn expect_whole<R: Abort>(rt: &R, out: &mut Buffered<Narrow>, bytes: &[u8]) {
+    assert!(rt; write_whole(out, bytes).is_ok());
+}
+
+// What waits is handed on, or not.
+fn expect_flush<R: Abort>(rt: &R, out: &mut Buffered<Narrow>, handed_on: bool) {
+    assert!(rt; out.flush().is_ok() == handed_on);
+}
+
+// A sink was written to so many times.
+fn expect_writes<R: Abort>(rt: &R, out: &Buffered<Narrow>, writes: u64) {
+    assert!(rt; out.sink().writes == writes);
+}
+
+// A sink has so many bytes, and these are its last.
+fn expect_bytes<R: Abort>(rt: &R, out: &Buffered<Narrow>, count: usize, last: &[u8]) {
+    assert!(rt; out.sink().bytes.len() == count);
+    assert!(rt; out.sink().bytes.ends_with(last));
+}
+
 // A sink behind five bytes, with which nothing was handed on, and a whole piece.
 fn with_a_piece<R: Abort + AllocGlobal>(rt: &R) -> Buffered<Narrow> {
     let mut out = Buffered::new(sink_of(rt, 2 * MORE, 2 * MORE));
-    assert!(rt; write_whole(&mut out, b"abc").is_ok());
-    assert!(rt; write_whole(&mut out, b"de").is_ok());
-    assert!(rt; out.sink().writes == 0);
-    assert!(rt; write_whole(&mut out, &[7; PIECE]).is_ok());
+    expect_whole(rt, &mut out, b"abc");
+    expect_whole(rt, &mut out, b"de");
+    expect_writes(rt, &out, 0);
+    expect_whole(rt, &mut out, &[7; PIECE]);
     out
 }
 
 #[test]
 fn pieces_are_handed_on_when_they_are_full(rt: HostRuntime) {
     let mut out = with_a_piece(&rt);
-    assert!(rt; out.sink().writes == 1);
-    assert!(rt; out.sink().bytes.as_slice() == b"abcde".as_slice());
-    assert!(rt; out.flush().is_ok());
-    assert!(rt; out.sink().writes == 2);
-    assert!(rt; out.sink().bytes.len() == PIECE + 5);
+    expect_writes(&rt, &out, 1);
+    expect_bytes(&rt, &out, 5, b"abcde");
+    expect_flush(&rt, &mut out, true);
+    expect_writes(&rt, &out, 2);
+    expect_bytes(&rt, &out, PIECE + 5, b"");
+}
+
+// Bytes are written, and what waits is handed on behind them, or not.
+fn expect_through<R: Abort>(rt: &R, out: &mut Buffered<Narrow>, bytes: &[u8], handed_on: bool) {
+    assert!(rt; write_through(out, bytes).is_ok() == handed_on);
+}
+
+fn expect_failures<R: Abort>(rt: &R, out: &Buffered<Narrow>, failures: u64) {
+    assert!(rt; out.sink().failures == failures);
 }
 
 #[test]
 fn more_than_a_piece_is_written_through(rt: HostRuntime) {
     let mut out = with_a_piece(&rt);
-    assert!(rt; out.flush().is_ok());
-    assert!(rt; write_through(&mut out, &[8; MORE]).is_ok());
-    assert!(rt; out.sink().bytes.len() == PIECE + 5 + MORE);
-    assert!(rt; out.sink().bytes.ends_with(b"\x08\x08"));
-    assert!(rt; out.sink().failures == 0);
+    expect_flush(&rt, &mut out, true);
+    expect_through(&rt, &mut out, &[8; MORE], true);
+    expect_bytes(&rt, &out, PIECE + 5 + MORE, b"\x08\x08");
+    expect_failures(&rt, &out, 0);
+}
+
+// A sink has what it has room for, and no more comes of another flush.
+fn expect_room<R: Abort + AllocGlobal>(rt: &R, room: usize) {
+    let mut out = Buffered::new(sink_of(rt, room, 2));
+    expect_whole(rt, &mut out, b"abcde");
+    expect_flush(rt, &mut out, false);
+    expect_failures(rt, &out, 1);
+    expect_bytes(rt, &out, room, front(b"abcde", room));
+    expect_flush(rt, &mut out, false);
+    expect_bytes(rt, &out, room, front(b"abcde", room));
+    expect_through(rt, &mut out, b"f", false);
 }
 
 #[test]
 fn what_is_not_handed_on_waits(rt: HostRuntime) {
     for room in 0..5 {
-        let mut out = Buffered::new(sink_of(&rt, room, 2));
-        assert!(rt; write_whole(&mut out, b"abcde").is_ok());
-        assert!(rt; out.flush().is_err());
-        assert!(rt; out.sink().failures == 1);
-        assert!(rt; out.sink().bytes.as_slice() == b"abcde".as_slice().split_at(room).0);
-        assert!(rt; out.flush().is_err());
-        assert!(rt; out.sink().bytes.as_slice() == b"abcde".as_slice().split_at(room).0);
-        assert!(rt; write_through(&mut out, b"f").is_err());
+        expect_room(&rt, room);
     }
 }
