@@ -1,6 +1,7 @@
 //! What is to walk behind a link.
 ghost use Rattle.std.specs.Prelude.{◌≡◌, ◌≤◌, ◌<◌, ◌+◌, ◌-◌, ◌++◌, ◌∷◌, [], length, OnOk, OnErr, IfErr};
 ghost use Rattle.pv_model.specs.Walk.{pieces, weight};
+ghost use Rattle.pv_namei.specs.declared.joined.TheConstants.{HALF};
 ghost use Rattle.pv_namei.specs.Pieces.{with_slashes};
 
 use crate::along::Along;
@@ -69,8 +70,8 @@ impl Joined {
 
 // Becomes two paths with a slash between them.
 fn put_both(bytes: &mut ArrayVec<u8, WEIGHT>, first: &[u8], second: &[u8])
-    requires first { length first.now < 512 }
-    requires second { length second.now < 512 }
+    requires first { length first.now < HALF }
+    requires second { length second.now < HALF }
     ensures { bytes.new.items ≡ first.now ++ 47 ∷ second.now }
 {
     bytes.clear();
