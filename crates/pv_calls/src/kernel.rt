@@ -1,6 +1,5 @@
 //! The kernel: the parts of the system, and the calls on them.
-ghost use Rattle.std.specs.Prelude.{◌≡◌, ◌⊎◌, ◌≤◌, ℕ, IfOk, IfErr, OnErr, IsOk, IsSome, IsTrue, Ok, Err, Some, length, List, Option};
-ghost use Rattle.pv_calls.specs.Kernel.{Fetches, IsCallable};
+ghost use Rattle.std.specs.Prelude.{◌≡◌, ◌⊎◌, ◌≤◌, ℕ, IfOk, IfErr, OnErr, IsOk, IsTrue, Ok, Err, Some, length, List, Option};
 ghost use Rattle.pv_laws.specs.States.{IsFirstTree, IsWhole, is_call};
 ghost use Rattle.pv_model.specs.declared.limits.TheConstants.{BUFFER};
 ghost use Rattle.pv_model.specs.Answer.{answer};
@@ -10,7 +9,8 @@ ghost use Rattle.pv_model.specs.Start.{booted};
 ghost use Rattle.pv_model.specs.State.{Process, process_at};
 ghost use Rattle.pv_model.specs.Trace.{buffer_of};
 ghost use Rattle.pv_model.specs.Tree.{find_entry};
-ghost use Rattle.pv_parts.specs.Changes.{StepsInside};
+ghost use Rattle.pv_parts.specs.Changes.{IsRegistered};
+ghost use Rattle.pv_procs.specs.Turns.{CallsNext, IsAtCall};
 
 use crate::carry::carry_out;
 use pv_cache::CachedLookup;
@@ -18,21 +18,10 @@ use pv_model::{BootFault, CallRef, Outcome, StepFault};
 use pv_namei::Lookup;
 use pv_parts::Parts;
 use pv_paths::programs::init;
-use pv_script::Next;
+use pv_procs::Ahead;
 use pv_tree::{Store, Tree};
 use std::alloc::Global;
 use std::marker::Model;
-
-/// What the next step of a process is.
-#[derive(Clone, Copy)]
-pub enum Fetched<'a> {
-    /// There is no such live process.
-    Gone,
-    /// An instruction on registers, or a jump.
-    Register,
-    /// A call, with its texts where they stand in the process's program.
-    Call(CallRef<'a>),
-}
 
 /// The kernel: the tree, the open files and the processes, and a lookup of names.
 ///
@@ -100,27 +89,26 @@ impl<L: Lookup + Drop> Kernel<L> {
         })
     }
 
-    /// What comes next in a process.
-    pub fn fetch(&self, pid: u32) -> Fetched<'_>
-        ensures next { Fetches result self.now.state pid }
-        ensures callable { IsCallable result }
+    /// The call that comes next in a process, as `register` answers, with its texts where they stand in its program: past
+    /// the last line, an exit.
+    pub fn next(&self, pid: u32) -> CallRef<'_>
+        requires { IsAtCall (process_at self.now.state pid) }
+        ensures next { CallsNext (Some result) (process_at self.now.state pid) }
+        ensures callable { IsTrue (is_call (call_of result)) }
     {
-        if !self.parts.processes().live(pid) {
-            return Fetched::Gone;
-        }
         match self.parts.processes().next(pid) {
-            Next::Register => Fetched::Register,
-            Next::Call(call) => Fetched::Call(call),
+            Some(call) => call,
+            None => unreachable!(),
         }
     }
 
-    /// Makes the instruction on registers, or the jump, that comes next in a live process.
-    pub fn register(&mut self, pid: u32)
-        requires { Fetches Fetched.Register self.old.state pid }
-        ensures state { (me : Process) → process_at self.old.state pid ≡ Some me → StepsInside self.old.state pid me self.new.state }
+    /// Makes the instruction on registers, or the jump, that comes next in a process, if one does: answers what came
+    /// next.
+    pub fn register(&mut self, pid: u32) -> Ahead
+        ensures state { IsRegistered result pid self.old.state self.new.state }
         ensures walks { self.new.walks ≡ self.old.walks }
     {
-        self.parts.register(pid);
+        self.parts.register(pid)
     }
 
     /// Makes a call of a process: what it answers. `walks` then tells how many walks it began, and the bytes that an

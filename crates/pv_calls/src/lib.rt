@@ -6,4 +6,4 @@
 mod carry;
 pub mod kernel;
 
-pub use kernel::{Fetched, Kernel};
+pub use kernel::Kernel;

@@ -12,7 +12,11 @@ use Rattle.pv_model.specs.Answer.{at_next_line, with_front}
 use Rattle.pv_model.specs.Held.{held_by_process, held_by_table}
 use Rattle.pv_model.specs.Numbered.{Numbered, at_number, with_number}
 use Rattle.pv_model.specs.Program.{Next, inside, calls_for, perform, next_by, next, at_line, jump_if, with_register, register, clamp}
-use Rattle.pv_model.specs.State.{OpenFile, Process}
+use Rattle.pv_model.specs.State.{OpenFile, Process, State, process_at, with_process as with_process_at}
+use Rattle.pv_parts.specs.Changes.{IsRegistered}
+use Rattle.pv_procs.specs.declared.processes.Ahead.{Ahead}
+use Rattle.pv_procs.specs.declared.processes.Ahead.TheVariants.{Gone, Register, Call}
+use Rattle.pv_procs.specs.Turns.{Registered}
 use Rattle.pv_procs.specs.ProcessTable.{ProcessTable, process_in, with_process, update_live, update}
 use Rattle.pv_procs.specs.Parts.{record_of, with_record}
 use Rattle.pv_procs.specs.declared.record.Record.{Record}
@@ -113,6 +117,29 @@ inside-same p q is = subst (HoldsNext p) is (by (slice_get p.program (p.line - 1
     by : (o : Option Instruction) → HoldsNext p (next_by p o)
     by None = refl
     by (Some i) = performs p i
+
+-- an instruction that came next and was made uses and holds what was used and held
+pub counted-registered : (tree : HeldTree) (c : Counted) (ps qs : ProcessTable) (ahead : Ahead) (pid : ℕ) → IsCountedUp tree c ps → is_sorted nat_cmp ps.processes ≡ true
+    → Registered ahead pid ps qs → IsCountedUp tree c qs
+counted-registered tree c ps qs Gone pid up sorted same = subst (IsCountedUp tree c) (sym same.1) up
+counted-registered tree c ps qs Register pid up sorted made =
+    subst (IsCountedUp tree c) (sym made.only) (counted-with tree c ps up sorted pid made.me made.after made.lives (inside-same made.me made.after made.step))
+counted-registered tree c ps qs Call pid up sorted same = subst (IsCountedUp tree c) (sym same.1) up
+
+-- and is what the state makes of it
+pub registered-is : (tree : HeldTree) (c : Counted) (ps qs : ProcessTable) (s : State) (ahead : Ahead) (pid : ℕ) → state_of tree c ps ≡ s
+    → Registered ahead pid ps qs → IsRegistered ahead pid s (state_of tree c qs)
+registered-is tree c ps qs s Gone pid seen same =
+    (sym (ap (λ (t : State). process_at t pid) seen) ∙ same.0, ap (state_of tree c) same.1 ∙ seen)
+registered-is tree c ps qs s Register pid seen made = record {
+  me = made.me;
+  lives = sym (ap (λ (t : State). process_at t pid) seen) ∙ made.lives;
+  after = made.after;
+  step = made.step;
+  only = ap (state_of tree c) made.only ∙ ap (λ (t : State). with_process_at t pid made.after) seen;
+}
+registered-is tree c ps qs s Call pid seen same =
+    ((same.0.0, sym (ap (λ (t : State). process_at t pid) seen) ∙ same.0.1, same.0.2), ap (state_of tree c) same.1 ∙ seen)
 
 -- ---- open files
 

@@ -1,5 +1,5 @@
 -- What the parts come to.
-use Rattle.std.specs.Prelude.{◌≡◌, ℕ, if◌then◌else◌, [], Bool, false, Some}
+use Rattle.std.specs.Prelude.{◌≡◌, ℕ, if◌then◌else◌, [], Bool, false, None, Some}
 use Rattle.pv_model.specs.declared.open_flags.OpenFlags.{OpenFlags}
 use Rattle.pv_model.specs.declared.perms.Perms.{Perms}
 use Rattle.pv_model.specs.declared.target.Target.{Target}
@@ -8,17 +8,28 @@ use Rattle.pv_model.specs.Bytes.{Bytes}
 use Rattle.pv_model.specs.Calls.Descriptors.{with_content, with_open_file}
 use Rattle.pv_model.specs.Program.{inside, next}
 use Rattle.pv_model.specs.Numbered.{Numbered, with_number, least_free}
-use Rattle.pv_model.specs.State.{Descriptor, Process, State, with_process}
+use Rattle.pv_model.specs.State.{Descriptor, Process, State, process_at, with_process}
 use Rattle.pv_model.specs.Tree.{Tree, file_node, new_number, with_new_node}
 use Rattle.pv_model.specs.Unveil.{Table}
+use Rattle.pv_procs.specs.declared.processes.Ahead.{Ahead}
+use Rattle.pv_procs.specs.declared.processes.Ahead.TheVariants.{Gone, Register, Call}
+use Rattle.pv_procs.specs.Turns.{IsAtCall}
 use Rattle.pv_unveil.specs.Added.{add_to}
 use Rattle.pv_unveil.specs.Unveiled.{Unveiled}
 
--- the instruction inside a process that comes next was made
-pub record StepsInside (s : State) (pid : ℕ) (me : Process) (new : State) : Type 0 where
+-- the instruction inside a live process that comes next was made
+pub record StepsInside (s : State) (pid : ℕ) (new : State) : Type 0 where
+  pub me : Process
+  pub lives : process_at s pid ≡ Some me
   pub after : Process
   pub step : next me ≡ inside after
   pub only : new ≡ with_process s pid after
+
+-- what came next in a process was made, if it is an instruction inside it, and else nothing changed
+abbrev pub IsRegistered : Ahead → ℕ → State → State → Type 0
+IsRegistered Gone pid s new = (process_at s pid ≡ None) × (new ≡ s)
+IsRegistered Register pid s new = StepsInside s pid new
+IsRegistered Call pid s new = IsAtCall (process_at s pid) × (new ≡ s)
 
 abbrev pub unveiled_of : Process → Unveiled
 unveiled_of p = record { table = p.table; locked = p.locked }

@@ -7,7 +7,6 @@ ghost use Rattle.pv_parts.specs.Counts.{processes_of};
 ghost use Rattle.pv_procs.specs.Parts.{record_of};
 ghost use Rattle.pv_procs.specs.ProcessTable.{IsProcessTable};
 ghost use Rattle.pv_procs.specs.Turns.{context_of};
-ghost use Rattle.pv_script.specs.Context.{IsNext};
 ghost use Rattle.pv_tree.specs.Standing.{IsStanding};
 
 mod descriptors;
@@ -20,7 +19,7 @@ mod process;
 use pv_files::OpenFiles;
 use pv_model::limits::ROOT;
 use pv_procs::{Processes, Record};
-use pv_script::{Next, Program};
+use pv_script::Program;
 use pv_tree::{Store, Tree};
 use std::alloc::{AllocError, Global};
 use std::marker::Model;

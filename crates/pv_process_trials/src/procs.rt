@@ -2,7 +2,7 @@
 use pv_model::{CallRef, Errno, Perms, Target};
 use pv_procs::{Processes, Reap, Record};
 use pv_promises::read_promises;
-use pv_script::{Next, Program};
+use pv_script::Program;
 use std::process::Abort;
 
 fn first<R: Abort + AllocGlobal>(rt: &R) -> Processes {
@@ -181,10 +181,10 @@ fn loads_programs(rt: HostRuntime) {
 fn makes_loaded_programs(rt: HostRuntime) {
     let mut processes = loaded(&rt);
     assert!(rt; processes.live(2));
-    assert!(rt; matches!(processes.next(2), Next::Register));
+    assert!(rt; processes.next(2).is_none());
     processes.advance(2);
     assert!(rt; processes.live(2));
-    assert!(rt; matches!(processes.next(2), Next::Call(CallRef::GetPid)));
+    assert!(rt; matches!(processes.next(2), Some(CallRef::GetPid)));
 }
 
 #[test]
@@ -197,6 +197,6 @@ fn tells_loaded_programs(rt: HostRuntime) {
     assert!(rt; processes.live(2));
     assert!(rt; processes.record(2).machine.buffer().starts_with(b"xyz"));
     assert!(rt; processes.live(1));
-    assert!(rt; matches!(processes.next(1), Next::Call(CallRef::Exit(0))));
+    assert!(rt; matches!(processes.next(1), Some(CallRef::Exit(0))));
     end(&rt, &mut processes, 2, 0);
 }

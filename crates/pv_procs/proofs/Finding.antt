@@ -185,6 +185,9 @@ live_status place program (Some n) is = cc
 pub live_is : (place : Place) (program : Program) (status : Option ℕ) → status ≡ None → live_process (Some (entry_by place program status)) ≡ Some (process_of program place)
 live_is place program status none = ap (λ s. live_process (Some (entry_by place program s))) none
 
+pub ended_is : (place : Place) (program : Program) (status : Option ℕ) (n : ℕ) → status ≡ Some n → live_process (Some (entry_by place program status)) ≡ None
+ended_is place program status n is = ap (λ s. live_process (Some (entry_by place program s))) is
+
 pub live_test : (place : Place) (program : Program) (status : Option ℕ) (lives : Bool) → is_some status ≡ not lives → lives ≡ is_some (live_process (Some (entry_by place program status)))
 live_test place program None true is = refl
 live_test place program None false is = cc
@@ -208,6 +211,10 @@ module _ (places : List Place) (programs : List Shared) (last : ℕ) (ps : Proce
   pub seen-none : position (λ (p : Place). p.number == pid) places ≡ None → find nat_cmp pid ps.processes ≡ None
   seen-none none = ap (λ (t : ProcessTable). find nat_cmp pid t.processes) (sym seen) ∙ find-none programs places pid none
 
+  -- what has no place of a live process is not live
+  pub gone-in : live_process (find nat_cmp pid (entries_of programs places)) ≡ None → process_in ps pid ≡ None
+  gone-in none = ap (λ (t : ProcessTable). process_in t pid) (sym seen) ∙ none
+
   -- a live process has a place
   pub live-place : IsSome (process_in ps pid) → IsSome (position (λ (p : Place). p.number == pid) places)
   live-place there = unless-none (position (λ (p : Place). p.number == pid) places) (λ none. none-some (process_in ps pid) (ap live_process (seen-none none)) there)
@@ -219,8 +226,11 @@ module _ (places : List Place) (programs : List Shared) (last : ℕ) (ps : Proce
     pub status-at : IsSome (process_in ps pid) → place.status ≡ None
     status-at there = live_status place (program_at programs place.program) place.status (sym (ap (λ o. is_some (live_process o)) seen-at) ∙ there)
 
+    pub living : place.status ≡ None → process_in ps pid ≡ Some (process_of (program_at programs place.program) place)
+    living none = ap live_process seen-at ∙ live_is place (program_at programs place.program) place.status none
+
     pub process-at : IsSome (process_in ps pid) → process_in ps pid ≡ Some (process_of (program_at programs place.program) place)
-    process-at there = ap live_process seen-at ∙ live_is place (program_at programs place.program) place.status (status-at there)
+    process-at there = living (status-at there)
 
     -- another place there is a change of the live process
     pub changed-at : (there : IsSome (process_in ps pid)) (new : Place) (f : Process → Process) → new.number ≡ pid → new.status ≡ None

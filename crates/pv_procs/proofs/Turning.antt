@@ -1,13 +1,17 @@
 -- The machine of a live process turns, on the places.
-use Rattle.std.proofs.Common.{◌≡◌, ℕ, zero, suc, ◌<◌, true, List, [], ◌∷◌, length, IsSome, refl, sym, ap, ◌∙◌, arith}
+use Rattle.std.proofs.Common.{◌≡◌, ℕ, zero, suc, ◌<◌, true, false, List, [], ◌∷◌, length, Option, None, Some, IsTrue, IsSome, is_some, refl, sym, subst, ap, ◌∙◌, arith}
 use Rattle.std.proofs.Math.ListN.{get_or, set}
+use Rattle.std.proofs.lemmas.List.{set-get_or}
+use Rattle.pv_model.specs.declared.call_ref.CallRef.{CallRef}
+use Rattle.pv_model.specs.Program.{inside, next}
 use Rattle.pv_model.specs.State.{Process}
-use Rattle.pv_script.specs.Context.{Context, in_context}
+use Rattle.pv_script.specs.Context.{Context, IsNext, in_context, is_inside}
 use Rattle.pv_procs.specs.declared.place.Place.{Place}
 use Rattle.pv_procs.specs.declared.shared.Shared.{Shared}
 use Rattle.pv_procs.specs.Places.{process_of, ascends, program_at, table_of}
 use Rattle.pv_procs.specs.ProcessTable.{ProcessTable, process_in, with_process, update, update_live}
-use Rattle.pv_procs.proofs.Finding.{IsAt, status-at, process-at, changed-at}
+use Rattle.pv_procs.specs.Turns.{CallsNext, IsAtCall, Performs, context_of}
+use Rattle.pv_procs.proofs.Finding.{IsAt, living, status-at, process-at, changed-at}
 
 pub program-read : (programs : List Shared) (k : ℕ) (s : Shared) → k < length programs → s ≡ get_or programs k s → program_at programs k ≡ s.program
 program-read [] k s within is = absurd (omega arith)
@@ -29,3 +33,37 @@ module _ (places : List Place) (programs : List Shared) (last : ℕ) (ps : Proce
   pub machine-put : (m : Context) → table_of (set places k (turned m)) programs last ≡ with_process ps pid (in_context own own.program m)
   machine-put m =
       machine-changed m (λ p. in_context own own.program m) refl ∙ ap (update_live ps pid (λ p. in_context own own.program m)) (process-at places programs last ps seen pid asc k place at there)
+
+-- what comes next in the process that is live
+pub calls-next : (me : Process) (lives : Option Process) → lives ≡ Some me → (call : Option CallRef) → IsNext me.program (context_of me) call → CallsNext call lives
+calls-next me lives is None within = λ found at.
+    let same : me ≡ found = cc in
+    subst (λ (p : Process). IsTrue (is_inside p.program (context_of p))) same within
+calls-next me lives is (Some call) comes = (me, is, comes me)
+
+module _ (places : List Place) (programs : List Shared) (last : ℕ) (ps : ProcessTable) (seen : table_of places programs last ≡ ps) (pid : ℕ) (asc : ascends places ≡ true)
+    (k : ℕ) (place : Place) (at : IsAt places pid k place) (none : place.status ≡ None) (m : Context) where
+  abbrev me : Process
+  me = process_of (program_at programs place.program) place
+
+  lives : process_in ps pid ≡ Some me
+  lives = living places programs last ps seen pid asc k place at none
+
+  -- the machine made the instruction that comes next
+  pub performed : next me ≡ inside (in_context me me.program m) → Performs pid ps (table_of (set places k (record place { «record» = record place.record { machine = m } })) programs last)
+  performed step = record {
+    me = me;
+    lives = lives;
+    after = in_context me me.program m;
+    step = step;
+    only = machine-put places programs last ps seen pid asc k place at (ap is_some lives) m;
+  }
+
+  -- it made none
+  pub at-call : m ≡ place.record.machine → is_inside me.program place.record.machine ≡ false
+      → IsAtCall (process_in ps pid) × (table_of (set places k (record place { «record» = record place.record { machine = m } })) programs last ≡ ps)
+  at-call same call = (
+    (me, lives, call),
+    ap (λ n. table_of (set places k (record place { «record» = record place.record { machine = n } })) programs last) same
+    ∙ ap (λ p. table_of (set places k p) programs last) at.is ∙ ap (λ xs. table_of xs programs last) (set-get_or places k place) ∙ seen,
+  )

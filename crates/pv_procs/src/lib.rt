@@ -13,5 +13,5 @@ pub mod processes;
 pub mod record;
 mod shared;
 
-pub use processes::{Processes, Reap};
+pub use processes::{Ahead, Processes, Reap};
 pub use record::Record;

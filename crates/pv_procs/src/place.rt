@@ -1,12 +1,12 @@
 //! A place for a process.
-ghost use Rattle.std.specs.Prelude.{◌≡◌, ◌-◌, ◌==◌, true, List, position, is_some, IsSome, Some, None, IfOk, vec_len, vec_capacity, if◌then◌else◌};
+ghost use Rattle.std.specs.Prelude.{◌≡◌, ◌-◌, ◌==◌, true, List, position, is_some, IsSome, IfSome, Some, None, IfOk, vec_len, vec_capacity, if◌then◌else◌};
 ghost use Rattle.std.specs.FinMap.Entries.{find};
 ghost use Rattle.std.specs.Ordering.{nat_cmp};
 ghost use Rattle.pv_model.specs.State.{live_process};
 ghost use Rattle.pv_procs.specs.declared.shared.Shared.{Shared};
 ghost use Rattle.pv_procs.specs.Children.{child_place};
 ghost use Rattle.pv_procs.specs.Parts.{first_record};
-ghost use Rattle.std.specs.List.{list_any};
+ghost use Rattle.std.specs.List.{list_any, HoldsAt};
 ghost use Rattle.pv_procs.specs.Places.{is_ended_child, ascends, entries_of};
 
 use crate::record::Stored;
@@ -123,6 +123,21 @@ pub(crate) fn is_live(places: &[Place], pid: u32) -> bool
     match index_of(places, pid) {
         Some(k) => places[k].status.is_none(),
         None => false,
+    }
+}
+
+// The index of the place of a live process.
+pub(crate) fn index_of_live(places: &[Place], pid: u32) -> Option<usize>
+    requires { ascends places.now ≡ true }
+    ensures place { IfSome result (λ k. position (λ place. place.number == pid) places.now ≡ Some k) }
+    ensures live { IfSome result (λ k. HoldsAt (λ place. place.status ≡ None) places.now k) }
+    ensures none { result ≡ None → (programs : List Shared) → live_process (find nat_cmp pid (entries_of programs places.now)) ≡ None }
+{
+    let k = index_of(places, pid)?;
+    let place = &places[k];
+    match place.status {
+        None => Some(k),
+        Some(_) => None,
     }
 }
 

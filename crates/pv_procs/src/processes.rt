@@ -1,5 +1,5 @@
 //! The processes of the system.
-ghost use Rattle.std.specs.Prelude.{◌≡◌, ◌↔◌, ◌<◌, ◌≤◌, ◌-◌, pos, length, false, is_some, IfOk, IsTrue, IsSome, Some, IfErr, OnErr, option_map, slice_set, position};
+ghost use Rattle.std.specs.Prelude.{◌≡◌, ◌↔◌, ◌<◌, ◌≤◌, ◌-◌, pos, length, false, is_some, IfOk, IsTrue, IsSome, Some, IfErr, OnErr, option_map, slice_set, position, true};
 ghost use Rattle.std.specs.FinMap.Entries.{find};
 ghost use Rattle.std.specs.Borrow.{sem};
 ghost use Rattle.std.specs.Ordering.{nat_cmp};
@@ -17,15 +17,26 @@ ghost use Rattle.pv_model.specs.Tree.{Tree};
 use crate::Record;
 use crate::ending::settle;
 use crate::place::{
-    Place, adopter, blank, ended_child_of, has_child, has_ended_child, index_of, live_index,
-    make_child, spare_places,
+    Place, adopter, blank, ended_child_of, has_child, has_ended_child, index_of, index_of_live,
+    live_index, make_child, spare_places,
 };
 use crate::shared::{Shared, first_programs, free_program, let_go, take_up};
-use pv_model::Errno;
+use pv_model::{CallRef, Errno};
 use pv_model::limits::{LAST_PROCESS, PROCESSES};
-use pv_script::{Next, Program};
+use pv_script::Program;
 use std::alloc::{AllocError, Global};
 use std::marker::Model;
+
+/// What comes next in a process.
+#[derive(Clone, Copy, Debug, PartialEq, Eq)]
+pub enum Ahead {
+    /// Nothing: it is not live.
+    Gone,
+    /// An instruction on registers, or a jump.
+    Register,
+    /// A call.
+    Call,
+}
 
 /// What wait(2) finds.
 #[derive(Clone, Copy, Debug, PartialEq, Eq)]
@@ -67,8 +78,7 @@ impl Processes {
     ghost use Rattle.pv_procs.specs.Parts.{record_of};
     ghost use Rattle.pv_procs.specs.ProcessTable.{IsProcessTable, state_with, process_in, with_process, update, first_processes, after_inside};
     ghost use Rattle.pv_procs.specs.Reaping.{waited};
-    ghost use Rattle.pv_procs.specs.Turns.{context_of, Performs};
-    ghost use Rattle.pv_script.specs.Context.{IsNext, is_inside};
+    ghost use Rattle.pv_procs.specs.Turns.{CallsNext, Registered};
 
     /// Process 1 alone, with its program, before its first step.
     ///
@@ -240,12 +250,13 @@ impl Processes {
         &self.programs[place.program].program
     }
 
-    /// What comes next in a live process: past the last line, an exit.
-    pub fn next(&self, pid: u32) -> Next<'_>
-        requires { IsSome (process_in self.now pid) }
-        ensures { (me : Process) → process_in self.now pid ≡ Some me → IsNext me.program (context_of me) result }
+    /// The call that comes next in a process, with its texts where they stand in its program: past the last line, an
+    /// exit. None where the process is not live, or where an instruction on registers or a jump comes next, which
+    /// `register` makes.
+    pub fn next(&self, pid: u32) -> Option<CallRef<'_>>
+        ensures { CallsNext result (process_in self.now pid) }
     {
-        let k = live_index(&self.places, pid);
+        let k = index_of_live(&self.places, pid)?;
         let place = &self.places[k];
         place
             .record
@@ -254,16 +265,21 @@ impl Processes {
             .next(&self.programs[place.program].program)
     }
 
-    /// Makes the instruction on registers, or the jump, that comes next in a live process.
-    pub fn register(&mut self, pid: u32)
-        requires live { IsSome (process_in self.old pid) }
-        requires inside { (me : Process) → process_in self.old pid ≡ Some me → IsTrue (is_inside me.program (context_of me)) }
-        ensures { (me : Process) → process_in self.old pid ≡ Some me → Performs pid me self.old self.new }
+    /// Makes the instruction on registers, or the jump, that comes next in a process, if one does: answers what came
+    /// next.
+    pub fn register(&mut self, pid: u32) -> Ahead
+        ensures { Registered result pid self.old self.new }
     {
-        let k = live_index(&self.places, pid);
+        let Some(k) = index_of_live(&self.places, pid) else {
+            return Ahead::Gone;
+        };
         let place = &mut self.places[k];
         let shared = &self.programs[place.program];
-        place.record.get_mut().machine.register(&shared.program);
+        if place.record.get_mut().machine.register(&shared.program) {
+            Ahead::Register
+        } else {
+            Ahead::Call
+        }
     }
 
     /// A live process goes on to its next line, at most to the one behind the last.

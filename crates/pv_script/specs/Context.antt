@@ -1,13 +1,12 @@
 -- The context of a process: the line that comes next, its registers and its buffer.
 use Rattle.std.specs.Prelude.{◌≡◌, ℕ, ◌-◌, ℤ, Bool, true, false, List, IsTrue, slice_get, Option, None, Some}
+use Rattle.pv_model.specs.declared.call_ref.CallRef.{CallRef}
 use Rattle.pv_model.specs.declared.instruction.Instruction.{Instruction}
 use Rattle.pv_model.specs.declared.instruction.Instruction.TheVariants.{Set, Add, Put, Peek, Jump, JumpIfZero, JumpIfNotZero, JumpIfNegative, Fork, Wait, GetPid, GetPpid, Exit, Close, Dup, Fstat, Getdents, Fchdir, Dup2, Read, Write, Ftruncate, Lseek, Pledge, Unveil, Execve, Chdir, Stat, Lstat, Readlink, Unlink, Mkdir, Rmdir, Open, OpenAt, Rename, Link, Symlink}
 use Rattle.pv_model.specs.Bytes.{Bytes}
 use Rattle.pv_model.specs.CallRef.{call_of}
 use Rattle.pv_model.specs.Program.{calls_for, next}
 use Rattle.pv_model.specs.State.{Program, Process, no_registers, no_bytes}
-use Rattle.pv_script.specs.declared.machine.Next.{Next}
-use Rattle.pv_script.specs.declared.machine.Next.TheVariants.{Register, Call}
 
 pub record Context : Type 0 where
   pub line : ℕ
@@ -65,7 +64,7 @@ is_some_on_registers (Some instruction) = is_on_registers instruction
 abbrev pub is_inside : Program → Context → Bool
 is_inside program c = is_some_on_registers (slice_get program (c.line - 1))
 
--- what comes next in each process with this program and context
-abbrev pub IsNext : Program → Context → Next → Type 0
-IsNext program c Register = IsTrue (is_inside program c)
-IsNext program c (Call call) = (p : Process) → next (in_context p program c) ≡ calls_for (call_of call)
+-- the call that comes next in each process with this program and context, or none where an instruction on registers does
+abbrev pub IsNext : Program → Context → Option CallRef → Type 0
+IsNext program c None = IsTrue (is_inside program c)
+IsNext program c (Some call) = (p : Process) → next (in_context p program c) ≡ calls_for (call_of call)

@@ -12,6 +12,6 @@ pub mod machine;
 pub mod program;
 pub mod schedule;
 
-pub use machine::{Machine, Next};
+pub use machine::Machine;
 pub use program::Program;
 pub use schedule::Schedule;

@@ -1,5 +1,5 @@
 //! What runs a program: the line that comes next, eight registers, and a buffer of 4,096 bytes.
-ghost use Rattle.std.specs.Prelude.{◌≡◌, ◌≤◌, ◌+ℤ◌, ◌++◌, true, false, Some, length, drop, slice_index, IsTrue, IfOk};
+ghost use Rattle.std.specs.Prelude.{◌≡◌, ◌≤◌, ◌+ℤ◌, ◌++◌, true, false, Some, length, drop, slice_index, IfOk};
 ghost use Rattle.pv_model.specs.Answer.{at_next_line, with_front};
 ghost use Rattle.pv_model.specs.CallRef.{call_of};
 ghost use Rattle.pv_model.specs.Calls.Processes.{with_result};
@@ -11,15 +11,6 @@ use pv_model::limits::{BUFFER, REGISTERS};
 use pv_model::{CallRef, Instruction, Operand, Origin, Register, Start};
 use std::alloc::{AllocError, Global};
 use std::marker::Model;
-
-/// What comes next in a program.
-#[derive(Clone, Copy)]
-pub enum Next<'a> {
-    /// An instruction on registers or a jump, which `Machine::register` makes.
-    Register,
-    /// A call, with its texts where they stand in the program.
-    Call(CallRef<'a>),
-}
 
 /// The line that comes next, the registers and the buffer of a process: a contract sees a `Context`.
 #[derive(Drop)]
@@ -244,14 +235,15 @@ impl Machine {
         }
     }
 
-    /// What comes next: past the last line, an exit.
-    pub fn next<'a>(&self, program: &'a Program) -> Next<'a>
+    /// The call that comes next, with its texts where they stand in the program: past the last line, an exit. None where
+    /// an instruction on registers or a jump comes next, which `register` makes.
+    pub fn next<'a>(&self, program: &'a Program) -> Option<CallRef<'a>>
         ensures { IsNext program.now self.now result }
     {
         match program.at(self.line) {
-            Some(instruction) if is_on_registers(instruction) => Next::Register,
-            Some(instruction) => Next::Call(self.call(instruction)),
-            None => Next::Call(CallRef::Exit(0)),
+            Some(instruction) if is_on_registers(instruction) => None,
+            Some(instruction) => Some(self.call(instruction)),
+            None => Some(CallRef::Exit(0)),
         }
     }
 
@@ -325,14 +317,18 @@ impl Machine {
         }
     }
 
-    /// Makes the instruction on registers, or the jump, that comes next.
-    pub fn register(&mut self, program: &Program)
-        requires { IsTrue (is_inside program.now self.old) }
-        ensures { (p : Process) → next (in_context p program.now self.old) ≡ inside (in_context p program.now self.new) }
+    /// Makes the instruction on registers, or the jump, that comes next: answers whether one does.
+    pub fn register(&mut self, program: &Program) -> bool
+        ensures comes { result ≡ is_inside program.now self.old }
+        ensures made { result ≡ true → (p : Process) → next (in_context p program.now self.old) ≡ inside (in_context p program.now self.new) }
+        ensures kept { result ≡ false → self.new ≡ self.old }
     {
         match program.at(self.line) {
-            Some(instruction) => self.make(instruction, program),
-            None => unreachable!(),
+            Some(instruction) if is_on_registers(instruction) => {
+                self.make(instruction, program);
+                true
+            }
+            _ => false,
         }
     }
 }

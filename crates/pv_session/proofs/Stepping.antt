@@ -1,9 +1,8 @@
 -- A step of the machine, by what is fetched and answered.
 use Rattle.std.proofs.Common.{◌≡◌, ◌∙◌, ℕ, ℤ, List, [], ap, sym, refl, Option, None, Some, Result, Ok, Err}
 use Rattle.std.specs.Prelude.{IfOk, OnOk}
-use Rattle.pv_calls.specs.declared.kernel.Fetched.TheVariants.{Register}
 use Rattle.pv_parts.specs.Changes.{StepsInside}
-use Rattle.pv_calls.specs.Kernel.{Fetches, Running}
+use Rattle.pv_calls.specs.Kernel.{Running}
 use Rattle.pv_model.specs.declared.kernel_fault.StepFault.{StepFault}
 use Rattle.pv_model.specs.declared.call.Call.{Call}
 use Rattle.pv_model.specs.declared.call.Call.TheVariants.{Write}
@@ -66,14 +65,14 @@ step-called s pid me call a at is answered =
         let same : answer program_of s pid (Write d n) ≡ a = ap (answer program_of s pid) (sym write) ∙ answered in
         ap (λ (x : Answered). buffer_of (process_at x.after pid)) (sym same) ∙ write-keeps program_of s pid me d n at k (ap (λ (x : Answered). x.outcome) same ∙ value)
 
--- ---- what is fetched
+-- ---- what comes next
 
-module _ (s : State) (pid : ℕ) (new : State) (fetched : Fetches Register s pid) (steps : (me : Process) → process_at s pid ≡ Some me → StepsInside s pid me new) where
+-- an instruction inside a process was made
+module _ (s : State) (pid : ℕ) (new : State) (made : StepsInside s pid new) where
   pub inside-is : stepped s pid ≡ record { after = new; outcome = Value 0; lines = [] }
   inside-is =
-      let inner = steps fetched.0 fetched.1 in
-      step-inside s pid fetched.0 inner.after fetched.1 inner.step
-      ∙ ap (λ after. let it : Stepped = record { after = after; outcome = Value 0; lines = [] } in it) (sym inner.only)
+      step-inside s pid made.me made.after made.lives made.step
+      ∙ ap (λ after. let it : Stepped = record { after = after; outcome = Value 0; lines = [] } in it) (sym made.only)
 
   pub inside-after : new ≡ (stepped s pid).after
   inside-after = sym (ap (λ (x : Stepped). x.after) inside-is)
@@ -90,6 +89,13 @@ module _ (s : State) (pid : ℕ) (call : Call) (new : Running) where
   pub called-is : (outcome : Outcome) → Asks s pid call → answer program_of s pid call ≡ record { after = new.state; outcome = outcome; walks = new.walks }
       → stepped s pid ≡ record { after = new.state; outcome = outcome; lines = lines_by pid (buffer_of (process_at new.state pid)) call outcome new.walks }
   called-is outcome fetched answered = step-called s pid fetched.0 call (record { after = new.state; outcome = outcome; walks = new.walks }) fetched.1 fetched.2 answered
+
+  -- its lines, by what the kernel tells behind it
+  pub called-lines : (outcome : Outcome) → Asks s pid call → answer program_of s pid call ≡ record { after = new.state; outcome = outcome; walks = new.walks }
+      → (front : Bytes) (walks : ℕ) → front ≡ buffer_of (process_at new.state pid) → walks ≡ new.walks → lines_by pid front call outcome walks ≡ (stepped s pid).lines
+  called-lines outcome fetched answered front walks buffer begun =
+      ap (λ bytes. lines_by pid bytes call outcome walks) buffer ∙ ap (lines_by pid (buffer_of (process_at new.state pid)) call outcome) begun
+      ∙ sym (ap (λ (x : Stepped). x.lines) (called-is outcome fetched answered))
 
   pub called-after : (r : Result Outcome StepFault) → Asks s pid call → IfOk r (λ outcome. answer program_of s pid call ≡ record { after = new.state; outcome = outcome; walks = new.walks })
       → OnOk r (new.state ≡ (stepped s pid).after)

@@ -1,6 +1,5 @@
 //! The machine, step by step.
-ghost use Rattle.std.specs.Prelude.{◌≡◌, ◌⊎◌, ◌≤◌, IfOk, IfErr, IsTrue, OnOk, OnErr, Ok, Err, length};
-ghost use Rattle.pv_calls.specs.Kernel.{Fetches};
+ghost use Rattle.std.specs.Prelude.{◌≡◌, ◌⊎◌, ◌≤◌, IfOk, IfErr, IsTrue, OnOk, OnErr, Ok, Err, Some, length};
 ghost use Rattle.pv_laws.specs.States.{IsFirstTree, is_call};
 ghost use Rattle.pv_model.specs.CallRef.{call_of};
 ghost use Rattle.pv_model.specs.declared.limits.TheConstants.{BUFFER};
@@ -8,16 +7,18 @@ ghost use Rattle.pv_model.specs.Sealed.{audit as audit_by_definition, audit_node
 ghost use Rattle.pv_model.specs.Start.{booted};
 ghost use Rattle.pv_model.specs.Trace.{buffer_of};
 ghost use Rattle.pv_model.specs.State.{process_at};
+ghost use Rattle.pv_procs.specs.Turns.{CallsNext};
 ghost use Rattle.pv_session.specs.Audits.{KeepsSecret, KeepsSecretAt};
 ghost use Rattle.pv_session.specs.declared.session.Stop.TheVariants.{Memory, Write};
 ghost use Rattle.pv_session.specs.Running.{BeginsLines, FailsBy, ToldLines, stepped};
 
 use pv_audit::{audit, audit_node};
 use pv_cache::CachedLookup;
-use pv_calls::{Fetched, Kernel};
+use pv_calls::Kernel;
 use pv_model::{
     AuditFault, BootFault, CallRef, CallTexts, Failed, Outcome, Sink, StepFault, Verdict,
 };
+use pv_procs::Ahead;
 use pv_trace::{Sheet, write_call_lines, write_gone_line};
 use pv_tree::{Store, Tree};
 use std::alloc::Global;
@@ -75,7 +76,7 @@ fn trace_call<W: Sink>(
     call: CallRef<'_>,
     trace: &mut W,
 ) -> Result<u8, Stop>
-    requires next { Fetches (Fetched.Call call) kernel.old.state pid }
+    requires next { CallsNext (Some call) (process_at kernel.old.state pid) }
     requires callable { IsTrue (is_call (call_of call)) }
     ensures after { OnOk result (kernel.new.state ≡ (stepped kernel.old.state pid).after) }
     ensures whole { OnOk result (ToldLines (stepped kernel.old.state pid).lines (W.told trace.old) (W.told trace.new)) }
@@ -124,14 +125,11 @@ impl Session {
         ensures outcome { IfOk result (λ outcome. outcome ≡ (stepped self.old pid).outcome) }
         ensures unchanged { OnErr result (self.new ≡ self.old) }
     {
-        match self.kernel.fetch(pid) {
-            Fetched::Gone => Ok(Outcome::Gone),
-            Fetched::Register => {
-                self.kernel.register(pid);
-                Ok(Outcome::Value(0))
-            }
-            Fetched::Call(call) => {
-                let call = self.texts.keep(call);
+        match self.kernel.register(pid) {
+            Ahead::Gone => Ok(Outcome::Gone),
+            Ahead::Register => Ok(Outcome::Value(0)),
+            Ahead::Call => {
+                let call = self.texts.keep(self.kernel.next(pid));
                 self.kernel.call(alloc, pid, call)
             }
         }
@@ -203,17 +201,14 @@ impl Session {
         ensures failed { IfErr result (λ stop. FailsBy stop (W.failures trace.old) (W.failures trace.new)) }
         ensures quiet { OnOk result (W.failures trace.new ≡ W.failures trace.old) }
     {
-        match self.kernel.fetch(pid) {
-            Fetched::Gone => {
+        match self.kernel.register(pid) {
+            Ahead::Gone => {
                 write_gone_line(trace, &mut self.sheet, pid)?;
                 Ok(1)
             }
-            Fetched::Register => {
-                self.kernel.register(pid);
-                Ok(0)
-            }
-            Fetched::Call(call) => {
-                let call = self.texts.keep(call);
+            Ahead::Register => Ok(0),
+            Ahead::Call => {
+                let call = self.texts.keep(self.kernel.next(pid));
                 trace_call(alloc, &mut self.kernel, &mut self.sheet, pid, call, trace)
             }
         }

@@ -4,7 +4,7 @@ use pv_model::{
     CallRef, Instruction, Mode, OpenFlags, Operand, Origin, ParseFault, ScheduleFault, Start, What,
     Whence,
 };
-use pv_script::{Machine, Next, Program, Schedule};
+use pv_script::{Machine, Program, Schedule};
 use std::process::Abort;
 
 // The same bytes over and over.
@@ -461,7 +461,7 @@ fn expect_open_from_working<R: Abort>(rt: &R, machine: &Machine, program: &Progr
     assert!(rt;
         matches!(
             machine.next(program),
-            Next::Call(CallRef::OpenAt(Start::WorkingDirectory, _, _))
+            Some(CallRef::OpenAt(Start::WorkingDirectory, _, _))
         )
     );
 }
@@ -517,9 +517,8 @@ fn calls_on_two_paths(rt: HostRuntime) {
 // Makes the instructions on registers that come next, at most a hundred, up to a call.
 fn run_to_call<'a>(machine: &mut Machine, program: &'a Program) -> Option<CallRef<'a>> {
     for _ in 0..100 {
-        match machine.next(program) {
-            Next::Register => machine.register(program),
-            Next::Call(call) => return Some(call),
+        if !machine.register(program) {
+            return machine.next(program);
         }
     }
     None
@@ -605,7 +604,7 @@ fn expect_buffer<R: Abort>(rt: &R, machine: &Machine, bytes: &[u8]) {
 
 // The machine asks for its number next.
 fn expect_getpid<R: Abort>(rt: &R, machine: &Machine, program: &Program) {
-    assert!(rt; matches!(machine.next(program), Next::Call(CallRef::GetPid)));
+    assert!(rt; matches!(machine.next(program), Some(CallRef::GetPid)));
 }
 
 fn fresh<R: Abort + AllocGlobal>(rt: &R) -> Machine {
@@ -621,7 +620,7 @@ fn expect_read<R: Abort>(
     bytes: &[u8],
 ) {
     match machine.next(program) {
-        Next::Call(CallRef::Read(d, count)) => expect_same(rt, (d, count), read),
+        Some(CallRef::Read(d, count)) => expect_same(rt, (d, count), read),
         _ => panic!(rt; "no read"),
     }
     expect_buffer(rt, machine, bytes);
@@ -681,7 +680,7 @@ fn advance_twice(machine: &mut Machine, program: &Program) {
 
 // The machine exits next, with 0.
 fn expect_end<R: Abort>(rt: &R, machine: &Machine, program: &Program) {
-    assert!(rt; matches!(machine.next(program), Next::Call(CallRef::Exit(0))));
+    assert!(rt; matches!(machine.next(program), Some(CallRef::Exit(0))));
 }
 
 // Past the last line stands an exit, and nothing behind it.

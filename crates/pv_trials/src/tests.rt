@@ -1,6 +1,7 @@
 //! Each call once, as two lookups answer it, full tables, and memory that is refused.
 use crate::store_of;
-use pv_calls::{Fetched, Kernel};
+use pv_calls::Kernel;
+use pv_procs::Ahead;
 use pv_model::{CallTexts, Cause, Errno, Outcome, StepFault, Taken};
 use pv_namei::Lookup;
 use pv_tree::Tree;
@@ -80,15 +81,12 @@ fn step<L: Lookup + Drop>(
     alloc: Global,
     pid: u32,
 ) -> Result<Outcome, StepFault> {
-    match kernel.fetch(pid) {
-        Fetched::Gone => Ok(Outcome::Gone),
-        Fetched::Register => {
-            kernel.register(pid);
-            Ok(Outcome::Value(0))
-        }
-        Fetched::Call(call) => {
+    match kernel.register(pid) {
+        Ahead::Gone => Ok(Outcome::Gone),
+        Ahead::Register => Ok(Outcome::Value(0)),
+        Ahead::Call => {
             let mut texts = CallTexts::new();
-            let call = texts.keep(call);
+            let call = texts.keep(kernel.next(pid));
             kernel.call(alloc, pid, call)
         }
     }

@@ -1,25 +1,23 @@
 //! What changes in a process alone.
-ghost use Rattle.std.specs.Prelude.{◌≡◌, ◌≤◌, length, IsSome, IsTrue, true, Some};
+ghost use Rattle.std.specs.Prelude.{◌≡◌, ◌≤◌, length, IsSome, true};
 ghost use Rattle.pv_model.specs.Answer.{at_next_line, with_front, update};
 ghost use Rattle.pv_model.specs.Calls.Processes.{with_result};
 ghost use Rattle.pv_model.specs.State.{Process, process_at};
-ghost use Rattle.pv_parts.specs.Changes.{StepsInside};
-ghost use Rattle.pv_procs.specs.Turns.{context_of};
-ghost use Rattle.pv_script.specs.Context.{is_inside};
+ghost use Rattle.pv_parts.specs.Changes.{IsRegistered};
 
 use super::Parts;
 use pv_model::limits::BUFFER;
+use pv_procs::Ahead;
 use pv_promises::Pledge;
 
 impl Parts {
-    /// Makes the instruction on registers, or the jump, that comes next in a live process.
-    pub fn register(&mut self, pid: u32)
-        requires live { IsSome (process_at self.old pid) }
-        requires inside { (me : Process) → process_at self.old pid ≡ Some me → IsTrue (is_inside me.program (context_of me)) }
-        ensures { (me : Process) → process_at self.old pid ≡ Some me → StepsInside self.old pid me self.new }
+    /// Makes the instruction on registers, or the jump, that comes next in a process, if one does: answers what came
+    /// next.
+    pub fn register(&mut self, pid: u32) -> Ahead
+        ensures { IsRegistered result pid self.old self.new }
     {
         self.processes.facts();
-        self.processes.register(pid);
+        self.processes.register(pid)
     }
 
     /// A live process goes on to its next line, at most to the one behind the last.

@@ -1,12 +1,10 @@
 use Rattle.std.proofs.Common.{ap, sym, ◌∙◌, subst, length, List}
 use Rattle.pv_model.specs.CallRef.{call_of}
 use Rattle.pv_model.specs.Step.{Stepped}
-use Rattle.pv_model.specs.Trace.{Line, buffer_of}
-use Rattle.pv_model.specs.State.{process_at}
+use Rattle.pv_model.specs.Trace.{Line}
 use Rattle.pv_trace.proofs.Telling.{on_err}
-use Rattle.pv_trace.specs.Steps.{lines_by}
 use Rattle.pv_session.specs.Running.{BeginsLines, ToldLines, stepped}
-use Rattle.pv_session.proofs.Stepping.{begins-none, called-is}
+use Rattle.pv_session.proofs.Stepping.{begins-none, called-is, called-lines}
 use Rattle.pv_session.proofs.session.trace_call.Goals as goal
 
 pub returns-in_err-outcome-clause-beginning : goal.returns-in_err-outcome-clause-beginning
@@ -15,12 +13,9 @@ returns-in_err-outcome-clause-beginning g c =
 
 pub returns-in_err-write_call_lines-clause-beginning : goal.returns-in_err-write_call_lines-clause-beginning
 returns-in_err-write_call_lines-clause-beginning g c =
-    let call = call_of c.args.call in
-    let step = called-is c.args.kernel.now.state c.args.pid call c.call.new.self c.in_ok-outcome.outcome c.requires.next c.in_ok-outcome.ensures.answered in
     let same =
-    ap (λ front. lines_by c.args.pid front call c.in_ok-outcome.outcome c.walks-walks.result) c.buffer-front.ensures.value
-    ∙ ap (λ walks. lines_by c.args.pid (buffer_of (process_at c.call.new.self.state c.args.pid)) call c.in_ok-outcome.outcome walks) c.walks-walks.ensures
-    ∙ sym (ap (λ (x : Stepped). x.lines) step) in
+    called-lines c.args.kernel.now.state c.args.pid (call_of c.args.call) c.call.new.self c.in_ok-outcome.outcome c.requires.next c.in_ok-outcome.ensures.answered
+    c.buffer-front.result.now c.walks-walks.result c.buffer-front.ensures.value c.walks-walks.ensures in
     on_err c.from_residual-in_err-write_call_lines.result
     (subst (λ (ls : List Line). BeginsLines ls (g.W.Sink.told c.args.trace.now) (g.W.Sink.told c.write_call_lines.new.out)) same c.in_err-write_call_lines.ensures.beginning)
 
@@ -30,20 +25,14 @@ returns-clause-after g c =
 
 pub returns-clause-whole : goal.returns-clause-whole
 returns-clause-whole g c =
-    let call = call_of c.args.call in
-    let step = called-is c.args.kernel.now.state c.args.pid call c.call.new.self c.in_ok-outcome.outcome c.requires.next c.in_ok-outcome.ensures.answered in
     let same =
-    ap (λ front. lines_by c.args.pid front call c.in_ok-outcome.outcome c.walks-walks.result) c.buffer-front.ensures.value
-    ∙ ap (λ walks. lines_by c.args.pid (buffer_of (process_at c.call.new.self.state c.args.pid)) call c.in_ok-outcome.outcome walks) c.walks-walks.ensures
-    ∙ sym (ap (λ (x : Stepped). x.lines) step) in
+    called-lines c.args.kernel.now.state c.args.pid (call_of c.args.call) c.call.new.self c.in_ok-outcome.outcome c.requires.next c.in_ok-outcome.ensures.answered
+    c.buffer-front.result.now c.walks-walks.result c.buffer-front.ensures.value c.walks-walks.ensures in
     subst (λ (ls : List Line). ToldLines ls (g.W.Sink.told c.args.trace.now) (g.W.Sink.told c.write_call_lines.new.out)) same c.in_ok-write_call_lines.ensures.whole
 
 pub returns-clause-lines : goal.returns-clause-lines
 returns-clause-lines g c =
-    let call = call_of c.args.call in
-    let step = called-is c.args.kernel.now.state c.args.pid call c.call.new.self c.in_ok-outcome.outcome c.requires.next c.in_ok-outcome.ensures.answered in
-    let same =
-    ap (λ front. lines_by c.args.pid front call c.in_ok-outcome.outcome c.walks-walks.result) c.buffer-front.ensures.value
-    ∙ ap (λ walks. lines_by c.args.pid (buffer_of (process_at c.call.new.self.state c.args.pid)) call c.in_ok-outcome.outcome walks) c.walks-walks.ensures
-    ∙ sym (ap (λ (x : Stepped). x.lines) step) in
-    c.in_ok-write_call_lines.ensures.count ∙ ap length same
+    c.in_ok-write_call_lines.ensures.count
+    ∙ ap length
+    (called-lines c.args.kernel.now.state c.args.pid (call_of c.args.call) c.call.new.self c.in_ok-outcome.outcome c.requires.next c.in_ok-outcome.ensures.answered
+    c.buffer-front.result.now c.walks-walks.result c.buffer-front.ensures.value c.walks-walks.ensures)
