@@ -1,7 +1,7 @@
 -- What sinks are told, text by text.
-use Rattle.std.proofs.Common.{◌≡◌, ◌<◌, ◌+◌, ◌++◌, ◌∙◌, ap, sym, ℕ, List, [], ◌∷◌, length, take, get_or, append_assoc, refl, zero, suc, Option, None, Some}
+use Rattle.std.proofs.Common.{◌≡◌, ◌++◌, ◌∙◌, ap, sym, ℕ, List, [], ◌∷◌, take, append_assoc, refl, zero, suc, Option, None, Some}
 use Rattle.std.specs.Prelude.{OnOk, OnErr, Result, Ok, Err}
-use Rattle.std.proofs.lemmas.List.{append-nil, take_more}
+use Rattle.std.proofs.lemmas.List.{append-nil}
 use Rattle.std.proofs.lemmas.Grind.{flat_map-append}
 use Rattle.pv_model.specs.Bytes.{Bytes}
 use Rattle.pv_model.specs.Stream.{and_front}
@@ -45,16 +45,12 @@ pub told_no_lines : (before : Option Bytes) → before ≡ and_all before (trace
 told_no_lines None = refl
 told_no_lines (Some had) = ap Some (sym (append-nil had))
 
-module _ (ls : List Line) (i : ℕ) (x : Line) (is : x ≡ get_or ls i x) (within : i < length ls) where
-  -- the lines up to one more
-  lines_more : trace_bytes (take (i + 1) ls) ≡ trace_bytes (take i ls) ++ line_bytes x
-  lines_more =
-      ap trace_bytes (take_more ls i x within) ∙ flat_map-append line_bytes (take i ls) (get_or ls i x ∷ [])
-      ∙ ap (λ bs. trace_bytes (take i ls) ++ bs) (append-nil (line_bytes (get_or ls i x)) ∙ ap line_bytes (sym is))
-
-  -- a text that has the lines so far has them and one more, once that is put behind it
-  pub text_more : (before after : Bytes) → before ≡ trace_bytes (take i ls) → after ≡ before ++ line_bytes x → after ≡ trace_bytes (take (i + 1) ls)
-  text_more before after so_far put = put ∙ ap (λ bs. bs ++ line_bytes x) so_far ∙ sym lines_more
+-- the text of lines behind another text, and then that of further lines
+pub text_joined : (before mid after : Bytes) (xs ys : List Line)
+    → mid ≡ before ++ trace_bytes xs → after ≡ mid ++ trace_bytes ys → after ≡ before ++ trace_bytes (xs ++ ys)
+text_joined before mid after xs ys first second =
+    second ∙ ap (λ bs. bs ++ trace_bytes ys) first ∙ append_assoc before (trace_bytes xs) (trace_bytes ys)
+    ∙ ap (λ bs. before ++ bs) (sym (flat_map-append line_bytes xs ys))
 
 -- what holds holds where something succeeded, and where it failed
 pub on_ok : {T E P : Type 0} (r : Result T E) → P → OnOk r P

@@ -8,7 +8,7 @@ use Rattle.pv_model.specs.Bytes.{Bytes}
 use Rattle.pv_model.specs.CallRef.{call_of}
 use Rattle.pv_model.specs.Errno.{errno_number, errno_name}
 use Rattle.pv_model.specs.Perms.{letters_text}
-use Rattle.pv_model.specs.Trace.{Word as TraceWord, PromiseVerdict as TracePromise, UnveilVerdict as TraceUnveil, Way as TraceWay, Returned as TraceReturned, call_word, nami_word, pldg_word, unvl_word, gio_word, ret_word, psig_word, wait_word, gone_word, for_kill, for_refusal, for_increase, no_entry, entry_lacks, table_locked, gave, took, value_of, error_of, pad_left, pad_right, word_name, flags_text}
+use Rattle.pv_model.specs.Trace.{Word as TraceWord, PromiseVerdict as TracePromise, UnveilVerdict as TraceUnveil, Way as TraceWay, Returned as TraceReturned, call_word, nami_word, pldg_word, unvl_word, gio_word, ret_word, psig_word, wait_word, gone_word, for_kill, for_refusal, for_increase, no_entry, entry_lacks, table_locked, gave, took, value_of, error_of, flags_text}
 use Rattle.pv_trace.specs.declared.line.PromiseVerdict.{PromiseVerdict}
 use Rattle.pv_trace.specs.declared.line.PromiseVerdict.TheVariants.{Killed, Refused, Increase}
 use Rattle.pv_trace.specs.declared.line.Returned.{Returned}
@@ -54,10 +54,6 @@ word_of Gone = gone_word
 abbrev pub HasFewBytes : Word → Type 0
 HasFewBytes (Gio way bytes) = length bytes.now ≤ BUFFER
 HasFewBytes word = ⊤
-
--- what stands before a line's text
-abbrev pub line_front : ℕ → TraceWord → Bytes
-line_front pid word = pad_left 5 (decimal pid) ++ codes " " ++ pad_right 4 (word_name word) ++ codes "  "
 
 -- the flags of an open as a program writes them
 unfoldable pub flags_bytes : OpenFlags → Bytes

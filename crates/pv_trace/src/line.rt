@@ -1,14 +1,14 @@
 //! Lines as values, and a line written to a sink.
 ghost use Rattle.std.specs.Prelude.{◌≡◌, ◌++◌, ◌+◌, ◌≤◌, length, OnOk, OnErr};
 ghost use Rattle.pv_model.specs.Stream.{Rose};
-ghost use Rattle.pv_model.specs.Trace.{line_bytes};
+ghost use Rattle.pv_model.specs.Trace.{line, line_bytes};
 ghost use Rattle.pv_trace.specs.declared.sheet.TheConstants.{LINE_BYTES, SHEET};
 ghost use Rattle.pv_trace.specs.Streams.{and_all, TellsBeginning};
-ghost use Rattle.pv_trace.specs.Words.{word_of, line_front};
+ghost use Rattle.pv_trace.specs.Words.{word_of, HasFewBytes};
 
 use crate::sheet::{Sheet, put, put_pid};
 use crate::stream::write_whole;
-use crate::words::{name_of, put_word};
+use crate::words::{put_word, word_front};
 use pv_model::{CallRef, Errno, Failed, Perms, Promise, Sink, Text};
 use std::marker::Model;
 
@@ -86,21 +86,6 @@ pub struct Line<'a> {
     pub word: Word<'a>,
 }
 
-/// A blank for the unused places of a row of lines.
-impl<'a> Default for Line<'a> {
-    ghost use Rattle.std.specs.Prelude.{◌≡◌};
-    ghost use Rattle.pv_model.specs.Trace.{gone_word};
-
-    ghost is_default = { λ line. line ≡ record { pid = 0; word = gone_word } };
-
-    fn default() -> Line<'a> {
-        Line {
-            pid: 0,
-            word: Word::Gone,
-        }
-    }
-}
-
 impl<'a> Model for Line<'a> {
     ghost use Rattle.pv_model.specs.Trace.{Line as TraceLine};
     ghost use Rattle.pv_trace.specs.Words.{word_of, HasFewBytes};
@@ -112,27 +97,17 @@ impl<'a> Model for Line<'a> {
     ghost invariant = { λ l. HasFewBytes l.word };
 }
 
-// The beginning of a line: whose it is, and its word.
-fn begin_line(out: &mut Sheet, pid: u32, word: &Word)
-    requires { length out.old.items + 52 ≤ SHEET }
-    ensures text { out.new.items ≡ out.old.items ++ line_front pid (word_of word.now) }
-    ensures growth { length out.new.items ≤ length out.old.items + 52 }
-{
-    put_pid(out, pid);
-    put(out, b" ");
-    put(out, name_of(word));
-    put(out, b"  ");
-}
-
-// Puts a line on a sheet, behind what it has.
+// Puts a line on a sheet, behind what it has: whose it is, its word, and the text behind that.
 #[tactic(auto, unfolding(pv_model::specs::Trace::text_line))]
-pub(crate) fn put_line(out: &mut Sheet, line: &Line)
-    requires { length out.old.items + LINE_BYTES ≤ SHEET }
-    ensures text { out.new.items ≡ out.old.items ++ line_bytes line.now }
+pub(crate) fn put_line(out: &mut Sheet, pid: u32, word: &Word)
+    requires few { HasFewBytes word.now }
+    requires room { length out.old.items + LINE_BYTES ≤ SHEET }
+    ensures text { out.new.items ≡ out.old.items ++ line_bytes (line pid (word_of word.now)) }
     ensures growth { length out.new.items ≤ length out.old.items + LINE_BYTES }
 {
-    begin_line(out, line.pid, &line.word);
-    put_word(out, &line.word);
+    put_pid(out, pid);
+    put(out, word_front(word));
+    put_word(out, word);
     put(out, b"\n");
 }
 
@@ -148,6 +123,6 @@ pub fn write_line<W: Sink>(out: &mut W, sheet: &mut Sheet, line: &Line) -> Resul
     ensures quiet { OnOk result (W.failures out.new ≡ W.failures out.old) }
 {
     sheet.clear();
-    put_line(sheet, line);
+    put_line(sheet, line.pid, &line.word);
     write_whole(out, sheet.as_slice())
 }

@@ -24,6 +24,7 @@ const PART: usize = 64;
 pub type Sheet = ArrayVec<u8, SHEET>;
 
 /// Puts bytes behind what the sheet has, which has room for them.
+#[inline]
 pub fn put(out: &mut Sheet, bytes: &[u8])
     requires { length out.old.items + length bytes.now ≤ SHEET }
     ensures text { out.new.items ≡ out.old.items ++ bytes.now }

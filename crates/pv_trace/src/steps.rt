@@ -1,70 +1,74 @@
 //! The lines of a step.
-ghost use Rattle.std.specs.Prelude.{◌≡◌, ◌++◌, ◌+◌, ◌≤◌, [], ◌∷◌, length, take, map, IfOk, OnOk, OnErr};
+ghost use Rattle.std.specs.Prelude.{◌≡◌, ◌++◌, ◌+◌, ◌*◌, ◌≤◌, [], ◌∷◌, length, take, map, IfOk, OnOk, OnErr};
 ghost use Rattle.pv_model.specs.declared.limits.TheConstants.{BUFFER};
 ghost use Rattle.pv_model.specs.CallRef.{call_of};
 ghost use Rattle.pv_model.specs.Perms.{read_letters};
 ghost use Rattle.pv_model.specs.Stream.{Rose};
 ghost use Rattle.pv_model.specs.Trace.{line, trace_bytes, needed_by, asked_letters as letters_asked, gone_lines};
 ghost use Rattle.pv_model.specs.Walks.{letters_or_none, walks_of, walk_number};
-ghost use Rattle.pv_trace.specs.Steps.{call_lines_of, path_line, path_lines_of, refusal_verdict, promise_lines_of, unveil_lines_of, moved_lines_of, end_lines_of, lines_by};
+ghost use Rattle.pv_trace.specs.Steps.{path_line, path_lines_of, refusal_verdict, promise_lines_of, unveil_lines_of, moved_lines_of, end_lines_of, lines_by};
 ghost use Rattle.pv_trace.specs.Streams.{and_all, TellsBeginning};
 ghost use Rattle.pv_trace.specs.Words.{word_of, promise_verdict_of, HasFewBytes};
-ghost use Rattle.pv_trace.specs.declared.steps.TheConstants.{STEP_LINES};
+ghost use Rattle.pv_trace.specs.declared.sheet.TheConstants.{LINE_BYTES, SHEET};
 
 use crate::line::{Line, PromiseVerdict, Returned, UnveilVerdict, Way, Word, put_line, write_line};
 use crate::sheet::Sheet;
 use crate::stream::write_whole;
-use arrayvec::ArrayVec;
 use pv_model::{CallRef, Cause, Errno, Failed, Outcome, Perms, Sink, Text};
 
-/// The most lines that a step has.
-const STEP_LINES: usize = 7;
-
-/// The lines of a step.
-type Lines<'a> = ArrayVec<Line<'a>, STEP_LINES>;
-
-fn push<'a>(lines: &mut Lines<'a>, pid: u32, word: Word<'a>)
-    requires few { HasFewBytes word }
-    requires room { length lines.old.items + 1 ≤ STEP_LINES }
-    ensures lines { lines.new.items ≡ lines.old.items ++ line pid (word_of word.entry) ∷ [] }
-    ensures growth { length lines.new.items ≤ length lines.old.items + 1 }
+// Puts one line behind what the sheet has. It answers how many lines it put, as each call below does that puts some.
+#[inline]
+fn put_one(out: &mut Sheet, pid: u32, word: &Word) -> u8
+    requires few { HasFewBytes word.now }
+    requires room { length out.old.items + LINE_BYTES ≤ SHEET }
+    ensures text { out.new.items ≡ out.old.items ++ trace_bytes (line pid (word_of word.now) ∷ []) }
+    ensures count { result ≡ 1 }
+    ensures growth { length out.new.items ≤ length out.old.items + LINE_BYTES }
 {
-    lines.push(Line { pid, word });
+    put_line(out, pid, word);
+    1
 }
 
 // The lines of the walks along one path, of which there is at most one.
 #[tactic(auto, using(crate::proofs::Paths::take_one))]
-fn push_one_path<'a>(lines: &mut Lines<'a>, pid: u32, path: &'a Text, walks: u8)
-    requires { length lines.old.items + 2 ≤ STEP_LINES }
-    ensures lines { lines.new.items ≡ lines.old.items ++ map (path_line pid) (take walks (path.now ∷ [])) }
-    ensures growth { length lines.new.items ≤ length lines.old.items + 1 }
+fn put_one_path(out: &mut Sheet, pid: u32, path: &Text, walks: u8) -> u8
+    requires { length out.old.items + LINE_BYTES ≤ SHEET }
+    ensures text { out.new.items ≡ out.old.items ++ trace_bytes (map (path_line pid) (take walks (path.now ∷ []))) }
+    ensures count { result ≡ length (map (path_line pid) (take walks (path.now ∷ []))) }
+    ensures few { result ≤ 1 }
+    ensures growth { length out.new.items ≤ length out.old.items + LINE_BYTES }
 {
     if walks > 0 {
-        push(lines, pid, Word::Nami(path));
+        put_one(out, pid, &Word::Nami(path))
+    } else {
+        0
     }
 }
 
 // The lines of the walks along two paths.
 #[tactic(auto, using(crate::proofs::Paths::take_two))]
-fn push_two_paths<'a>(lines: &mut Lines<'a>, pid: u32, first: &'a Text, second: &'a Text, walks: u8)
-    requires { length lines.old.items + 2 ≤ STEP_LINES }
-    ensures lines { lines.new.items ≡ lines.old.items ++ map (path_line pid) (take walks (first.now ∷ second.now ∷ [])) }
-    ensures growth { length lines.new.items ≤ length lines.old.items + 2 }
+fn put_two_paths(out: &mut Sheet, pid: u32, first: &Text, second: &Text, walks: u8) -> u8
+    requires { length out.old.items + 2 * LINE_BYTES ≤ SHEET }
+    ensures text { out.new.items ≡ out.old.items ++ trace_bytes (map (path_line pid) (take walks (first.now ∷ second.now ∷ []))) }
+    ensures count { result ≡ length (map (path_line pid) (take walks (first.now ∷ second.now ∷ []))) }
+    ensures few { result ≤ 2 }
+    ensures growth { length out.new.items ≤ length out.old.items + 2 * LINE_BYTES }
 {
     if walks < 2 {
-        push_one_path(lines, pid, first, walks);
+        put_one_path(out, pid, first, walks)
     } else {
-        push(lines, pid, Word::Nami(first));
-        push(lines, pid, Word::Nami(second));
+        put_one(out, pid, &Word::Nami(first)) + put_one(out, pid, &Word::Nami(second))
     }
 }
 
 // The lines of the walks that a call began.
 #[tactic(auto, unfolding(pv_model::specs::Trace::walked_paths))]
-fn push_path_lines<'a>(lines: &mut Lines<'a>, pid: u32, call: CallRef<'a>, walks: u8)
-    requires { length lines.old.items + 2 ≤ STEP_LINES }
-    ensures lines { lines.new.items ≡ lines.old.items ++ path_lines_of pid (call_of call.entry) walks }
-    ensures growth { length lines.new.items ≤ length lines.old.items + 2 }
+fn put_path_lines(out: &mut Sheet, pid: u32, call: CallRef<'_>, walks: u8) -> u8
+    requires { length out.old.items + 2 * LINE_BYTES ≤ SHEET }
+    ensures text { out.new.items ≡ out.old.items ++ trace_bytes (path_lines_of pid (call_of call.entry) walks) }
+    ensures count { result ≡ length (path_lines_of pid (call_of call.entry) walks) }
+    ensures few { result ≤ 2 }
+    ensures growth { length out.new.items ≤ length out.old.items + 2 * LINE_BYTES }
 {
     match call {
         CallRef::Unveil(Some(path), Some(_))
@@ -78,11 +82,11 @@ fn push_path_lines<'a>(lines: &mut Lines<'a>, pid: u32, call: CallRef<'a>, walks
         | CallRef::Mkdir(path)
         | CallRef::Symlink(_, path)
         | CallRef::Unlink(path)
-        | CallRef::Rmdir(path) => push_one_path(lines, pid, path, walks),
+        | CallRef::Rmdir(path) => put_one_path(out, pid, path, walks),
         CallRef::Link(first, second) | CallRef::Rename(first, second) => {
-            push_two_paths(lines, pid, first, second, walks)
+            put_two_paths(out, pid, first, second, walks)
         }
-        _ => {}
+        _ => 0,
     }
 }
 
@@ -97,24 +101,19 @@ fn verdict_of(errno: Errno) -> PromiseVerdict
 }
 
 // The line of a promise that decided.
-fn push_promise_lines<'a>(lines: &mut Lines<'a>, pid: u32, call: CallRef<'a>, outcome: Outcome)
-    requires { length lines.old.items + 1 ≤ STEP_LINES }
-    ensures lines { lines.new.items ≡ lines.old.items ++ promise_lines_of pid (call_of call.entry) outcome }
-    ensures growth { length lines.new.items ≤ length lines.old.items + 1 }
+fn put_promise_lines(out: &mut Sheet, pid: u32, call: CallRef<'_>, outcome: Outcome) -> u8
+    requires { length out.old.items + LINE_BYTES ≤ SHEET }
+    ensures text { out.new.items ≡ out.old.items ++ trace_bytes (promise_lines_of pid (call_of call.entry) outcome) }
+    ensures count { result ≡ length (promise_lines_of pid (call_of call.entry) outcome) }
+    ensures few { result ≤ 1 }
+    ensures growth { length out.new.items ≤ length out.old.items + LINE_BYTES }
 {
-    match outcome {
-        Outcome::Killed(promise) => {
-            push(
-                lines,
-                pid,
-                Word::Pldg(call, promise, PromiseVerdict::Killed),
-            )
-        }
-        Outcome::Failed(errno, Cause::Promise(promise)) => {
-            push(lines, pid, Word::Pldg(call, promise, verdict_of(errno)))
-        }
-        _ => {}
-    }
+    let (promise, verdict) = match outcome {
+        Outcome::Killed(promise) => (promise, PromiseVerdict::Killed),
+        Outcome::Failed(errno, Cause::Promise(promise)) => (promise, verdict_of(errno)),
+        _ => return 0,
+    };
+    put_one(out, pid, &Word::Pldg(call, promise, verdict))
 }
 
 // The letters that a text asks for, or none.
@@ -169,16 +168,12 @@ fn second_letters(call: CallRef<'_>) -> Perms
 }
 
 // The line of an unveil table that decided.
-fn push_unveil_lines<'a>(
-    lines: &mut Lines<'a>,
-    pid: u32,
-    call: CallRef<'a>,
-    walks: u8,
-    outcome: Outcome,
-)
-    requires { length lines.old.items + 1 ≤ STEP_LINES }
-    ensures lines { lines.new.items ≡ lines.old.items ++ unveil_lines_of pid (call_of call.entry) walks outcome }
-    ensures growth { length lines.new.items ≤ length lines.old.items + 1 }
+fn put_unveil_lines(out: &mut Sheet, pid: u32, call: CallRef<'_>, walks: u8, outcome: Outcome) -> u8
+    requires { length out.old.items + LINE_BYTES ≤ SHEET }
+    ensures text { out.new.items ≡ out.old.items ++ trace_bytes (unveil_lines_of pid (call_of call.entry) walks outcome) }
+    ensures count { result ≡ length (unveil_lines_of pid (call_of call.entry) walks outcome) }
+    ensures few { result ≤ 1 }
+    ensures growth { length out.new.items ≤ length out.old.items + LINE_BYTES }
 {
     let verdict = match outcome {
         Outcome::Failed(_, Cause::Unveil(None)) => {
@@ -188,9 +183,9 @@ fn push_unveil_lines<'a>(
             UnveilVerdict::EntryLacks(entry, asked_letters(call, walks))
         }
         Outcome::Failed(_, Cause::Locked) => UnveilVerdict::Locked,
-        _ => return,
+        _ => return 0,
     };
-    push(lines, pid, Word::Unvl(verdict));
+    put_one(out, pid, &Word::Unvl(verdict))
 }
 
 // The front of some bytes: all where there are fewer.
@@ -206,91 +201,74 @@ fn front_of(bytes: &[u8], count: usize) -> &[u8]
 }
 
 // The line of the bytes that a call gave or took.
-fn push_moved_lines<'a>(
-    lines: &mut Lines<'a>,
+fn put_moved_lines(
+    out: &mut Sheet,
     pid: u32,
-    front: &'a [u8],
-    call: CallRef<'a>,
+    front: &[u8],
+    call: CallRef<'_>,
     outcome: Outcome,
-)
+) -> u8
     requires few { length front.now ≤ BUFFER }
-    requires room { length lines.old.items + 1 ≤ STEP_LINES }
-    ensures lines { lines.new.items ≡ lines.old.items ++ moved_lines_of pid front.now (call_of call.entry) outcome }
-    ensures growth { length lines.new.items ≤ length lines.old.items + 1 }
+    requires room { length out.old.items + LINE_BYTES ≤ SHEET }
+    ensures text { out.new.items ≡ out.old.items ++ trace_bytes (moved_lines_of pid front.now (call_of call.entry) outcome) }
+    ensures count { result ≡ length (moved_lines_of pid front.now (call_of call.entry) outcome) }
+    ensures few { result ≤ 1 }
+    ensures growth { length out.new.items ≤ length out.old.items + LINE_BYTES }
 {
     match (outcome, call) {
         (Outcome::Text(taken), _) => {
             let bytes = front_of(front, taken.len as usize);
-            push(lines, pid, Word::Gio(Way::Gave, bytes))
+            put_one(out, pid, &Word::Gio(Way::Gave, bytes))
         }
         (Outcome::Value(count), CallRef::Write(_, _)) => {
             let bytes = front_of(front, count as usize);
-            push(lines, pid, Word::Gio(Way::Took, bytes))
+            put_one(out, pid, &Word::Gio(Way::Took, bytes))
         }
-        _ => {}
+        _ => 0,
     }
 }
 
 // The last line of a call.
-fn push_end_lines<'a>(lines: &mut Lines<'a>, pid: u32, call: CallRef<'a>, outcome: Outcome)
-    requires { length lines.old.items + 1 ≤ STEP_LINES }
-    ensures lines { lines.new.items ≡ lines.old.items ++ end_lines_of pid (call_of call.entry) outcome }
-    ensures growth { length lines.new.items ≤ length lines.old.items + 1 }
+fn put_end_lines(out: &mut Sheet, pid: u32, call: CallRef<'_>, outcome: Outcome) -> u8
+    requires { length out.old.items + LINE_BYTES ≤ SHEET }
+    ensures text { out.new.items ≡ out.old.items ++ trace_bytes (end_lines_of pid (call_of call.entry) outcome) }
+    ensures count { result ≡ length (end_lines_of pid (call_of call.entry) outcome) }
+    ensures few { result ≤ 1 }
+    ensures growth { length out.new.items ≤ length out.old.items + LINE_BYTES }
 {
-    match outcome {
-        Outcome::Value(value) => push(lines, pid, Word::Ret(call, Returned::Value(value))),
-        Outcome::Text(taken) => push(lines, pid, Word::Ret(call, Returned::Value(taken.value))),
-        Outcome::Failed(errno, _) => push(lines, pid, Word::Ret(call, Returned::Error(errno))),
-        Outcome::Killed(_) => push(lines, pid, Word::Psig),
-        Outcome::Blocked => push(lines, pid, Word::Wait),
-        Outcome::Exited | Outcome::Gone => {}
-    }
+    let word = match outcome {
+        Outcome::Value(value) => Word::Ret(call, Returned::Value(value)),
+        Outcome::Text(taken) => Word::Ret(call, Returned::Value(taken.value)),
+        Outcome::Failed(errno, _) => Word::Ret(call, Returned::Error(errno)),
+        Outcome::Killed(_) => Word::Psig,
+        Outcome::Blocked => Word::Wait,
+        Outcome::Exited | Outcome::Gone => return 0,
+    };
+    put_one(out, pid, &word)
 }
 
-// The lines of a call.
-#[tactic(auto, unfolding(crate::specs::Steps::lines_by))]
-fn lines_of<'a>(
+// Puts the lines of a call on a sheet, whatever that had.
+#[tactic(auto, unfolding(crate::specs::Steps::lines_by), using(crate::proofs::Telling::text_joined))]
+fn put_lines(
+    out: &mut Sheet,
     pid: u32,
-    front: &'a [u8],
-    call: CallRef<'a>,
+    front: &[u8],
+    call: CallRef<'_>,
     outcome: Outcome,
     walks: u8,
-) -> Lines<'a>
+) -> u8
     requires { length front.now ≤ BUFFER }
-    ensures { result.items ≡ lines_by pid front.now (call_of call.entry) outcome walks }
+    ensures text { out.new.items ≡ trace_bytes (lines_by pid front.now (call_of call.entry) outcome walks) }
+    ensures count { result ≡ length (lines_by pid front.now (call_of call.entry) outcome walks) }
+    ensures few { result ≤ 7 }
 {
-    let mut lines = Lines::new();
-    push(&mut lines, pid, Word::Call(call));
-    push_path_lines(&mut lines, pid, call, walks);
-    push_promise_lines(&mut lines, pid, call, outcome);
-    push_unveil_lines(&mut lines, pid, call, walks, outcome);
-    push_moved_lines(&mut lines, pid, front, call, outcome);
-    push_end_lines(&mut lines, pid, call, outcome);
-    lines
-}
-
-// Puts lines on a sheet in their order, whatever that had.
-#[tactic(auto, using(crate::proofs::Telling::text_more))]
-fn put_lines(sheet: &mut Sheet, lines: &[Line])
-    requires { length lines.now ≤ STEP_LINES }
-    ensures { sheet.new.items ≡ trace_bytes lines.now }
-{
-    sheet.clear();
-    for line in lines {
-        put_line(sheet, line);
-    }
-}
-
-// Writes lines in their order, in one piece.
-fn write_lines<W: Sink>(out: &mut W, sheet: &mut Sheet, lines: &[Line]) -> Result<(), Failed>
-    requires { length lines.now ≤ STEP_LINES }
-    ensures whole { OnOk result (W.told out.new ≡ and_all (W.told out.old) (trace_bytes lines.now)) }
-    ensures beginning { OnErr result (TellsBeginning (trace_bytes lines.now) (W.told out.old) (W.told out.new)) }
-    ensures failed { OnErr result (Rose (W.failures out.old) (W.failures out.new)) }
-    ensures quiet { OnOk result (W.failures out.new ≡ W.failures out.old) }
-{
-    put_lines(sheet, lines);
-    write_whole(out, sheet.as_slice())
+    out.clear();
+    let mut count = put_one(out, pid, &Word::Call(call));
+    count += put_path_lines(out, pid, call, walks);
+    count += put_promise_lines(out, pid, call, outcome);
+    count += put_unveil_lines(out, pid, call, walks, outcome);
+    count += put_moved_lines(out, pid, front, call, outcome);
+    count + put_end_lines(out, pid, call, outcome)
 }
 
 /// Writes the lines of a call in one piece, and answers how many they are, at most seven. They are made on the sheet.
@@ -318,9 +296,9 @@ pub fn write_call_lines<W: Sink>(
     ensures failed { OnErr result (Rose (W.failures out.old) (W.failures out.new)) }
     ensures quiet { OnOk result (W.failures out.new ≡ W.failures out.old) }
 {
-    let lines = lines_of(pid, front, call, outcome, walks);
-    write_lines(out, sheet, lines.as_slice())?;
-    Ok(lines.len() as u8)
+    let count = put_lines(sheet, pid, front, call, outcome, walks);
+    write_whole(out, sheet.as_slice())?;
+    Ok(count)
 }
 
 /// Writes the one line of a step by a process that is not live, which is made on the sheet.

@@ -13,21 +13,21 @@ use crate::line::{PromiseVerdict, Returned, UnveilVerdict, Way, Word};
 use crate::sheet::{Sheet, put, put_decimal, put_hex, put_letters, put_quoted, put_quoted_all};
 use pv_model::{CallRef, Errno, Perms, Promise};
 
-/// The word's name, padded to four bytes.
-pub(crate) fn name_of(word: &Word) -> &'static [u8]
-    ensures text { result.now ≡ pad_right 4 (word_name (word_of word.now)) }
-    ensures few { length result.now ≤ 4 }
+/// The word's name, padded to four bytes, with the blanks around it.
+pub(crate) fn word_front(word: &Word) -> &'static [u8]
+    ensures text { result.now ≡ codes " " ++ pad_right 4 (word_name (word_of word.now)) ++ codes "  " }
+    ensures few { length result.now ≤ 7 }
 {
     match word {
-        Word::Call(_) => b"CALL",
-        Word::Nami(_) => b"NAMI",
-        Word::Pldg(_, _, _) => b"PLDG",
-        Word::Unvl(_) => b"UNVL",
-        Word::Gio(_, _) => b"GIO ",
-        Word::Ret(_, _) => b"RET ",
-        Word::Psig => b"PSIG",
-        Word::Wait => b"WAIT",
-        Word::Gone => b"GONE",
+        Word::Call(_) => b" CALL  ",
+        Word::Nami(_) => b" NAMI  ",
+        Word::Pldg(_, _, _) => b" PLDG  ",
+        Word::Unvl(_) => b" UNVL  ",
+        Word::Gio(_, _) => b" GIO   ",
+        Word::Ret(_, _) => b" RET   ",
+        Word::Psig => b" PSIG  ",
+        Word::Wait => b" WAIT  ",
+        Word::Gone => b" GONE  ",
     }
 }
 
