@@ -1,5 +1,6 @@
 -- The first state of the kernel, and what comes next in a live process.
 use Rattle.std.proofs.Common.{◌≡◌, ◌∙◌, ap, sym, subst, refl, ℕ, true, false, ◌⊎◌, inl, inr, [], ◌∷◌, Option, None, Some, Result, Ok, Err}
+use Rattle.std.specs.Prelude.{is_some}
 use Rattle.pv_model.specs.declared.fault.ParseFault.{ParseFault}
 use Rattle.pv_model.specs.declared.fault.ParseFault.TheVariants.{Line, Memory as ParseMemory}
 use Rattle.pv_model.specs.declared.kernel_fault.BootFault.{BootFault}
@@ -11,14 +12,12 @@ use Rattle.pv_model.specs.RunFault.{of_init}
 use Rattle.pv_model.specs.Start.{and_then, program_in, init_of, booted}
 use Rattle.pv_model.specs.State.{Program, Process, State, first_state, process_at, with_process}
 use Rattle.pv_model.specs.Tree.{Tree, Node, directory_node, file_node, link_node}
-use Rattle.pv_model.specs.declared.call_ref.CallRef.{CallRef}
 use Rattle.pv_parts.specs.Changes.{IsRegistered}
 use Rattle.pv_parts.specs.Counts.{processes_of}
-use Rattle.pv_procs.specs.ProcessTable.{ProcessTable, process_in}
-use Rattle.pv_procs.specs.Turns.{CallsNext, IsAtCall, context_of}
-use Rattle.pv_script.specs.Context.{is_inside}
+use Rattle.pv_parts.proofs.Alone.{some-at}
 use Rattle.pv_procs.specs.declared.processes.Ahead.{Ahead}
-use Rattle.pv_procs.specs.declared.processes.Ahead.TheVariants.{Gone, Register, Call}
+use Rattle.pv_procs.specs.declared.processes.Ahead.TheVariants.{Gone, Register, Call as AtCall}
+use Rattle.pv_procs.specs.ProcessTable.{ProcessTable, process_in}
 use Rattle.pv_laws.specs.States.{IsFirstTree, IsWhole, is_program, is_call}
 use Rattle.pv_laws.proofs.BySteps.{IsGoodNext, good-next, first-whole}
 use Rattle.pv_laws.proofs.Running.{whole-inside}
@@ -35,30 +34,23 @@ inside-whole s pid me after whole at is =
     let good : IsGoodNext me (inside after) = subst (IsGoodNext me) is (good-next me (whole.processes.running pid me at)) in
     whole-inside s pid me after whole at good.1 good.0
 
--- the call that comes next, as the table of processes has it
-module _ (s : State) (ps : ProcessTable) (same : ps ≡ processes_of s) (pid : ℕ) (o : Option CallRef) (comes : CallsNext o (process_in ps pid)) where
-  comes-at : (p : Option CallRef) → o ≡ p → CallsNext p (process_at s pid)
-  comes-at p is = subst (λ (q : Option CallRef). CallsNext q (process_at s pid)) is (subst (λ (x : ProcessTable). CallsNext o (process_in x pid)) same comes)
-
-  pub comes-next : (call : CallRef) → o ≡ Some call → CallsNext (Some call) (process_at s pid)
-  comes-next call is = comes-at (Some call) is
-
-  pub never-none : IsAtCall (process_at s pid) → o ≡ None → ⊥
-  never-none at none =
-      let within : is_inside at.0.program (context_of at.0) ≡ true = comes-at None none at.0 at.1 in
-      let not = at.2 in
-      cc
+-- the process that is live, as the tables of processes have it
+pub live-in : (s : State) (ps qs : ProcessTable) (pid : ℕ) → ps ≡ processes_of s → qs ≡ processes_of s → true ≡ is_some (process_in ps pid)
+    → (me : Process) × (process_at s pid ≡ Some me) × (process_in qs pid ≡ Some me)
+live-in s ps qs pid one two live =
+    let found = some-at (process_at s pid) (ap (λ x. is_some (process_in x pid)) (sym one) ∙ sym live) in
+    (found.0, found.1, ap (λ x. process_in x pid) two ∙ found.1)
 
 -- what came next in a process and was made leaves the state whole, and the tree as it was
 pub registered-whole : (s t : State) (ahead : Ahead) (pid : ℕ) → IsWhole s → IsRegistered ahead pid s t → IsWhole t
 registered-whole s t Gone pid whole same = subst IsWhole (sym same.1) whole
 registered-whole s t Register pid whole made = subst IsWhole (sym made.only) (inside-whole s pid made.me made.after whole made.lives made.step)
-registered-whole s t Call pid whole same = subst IsWhole (sym same.1) whole
+registered-whole s t AtCall pid whole same = subst IsWhole (sym same.1) whole
 
 pub registered-tree : (s t : State) (ahead : Ahead) (pid : ℕ) → IsRegistered ahead pid s t → t.tree ≡ s.tree
 registered-tree s t Gone pid same = ap (λ (x : State). x.tree) same.1
 registered-tree s t Register pid made = ap (λ (x : State). x.tree) made.only
-registered-tree s t Call pid same = ap (λ (x : State). x.tree) same.1
+registered-tree s t AtCall pid same = ap (λ (x : State). x.tree) same.1
 
 -- ---- the first state
 
