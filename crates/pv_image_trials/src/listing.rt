@@ -100,7 +100,7 @@ const LISTINGS: &[(&[Step], &[u8])] = &[
     ),
 ];
 
-// A tree to which this was done is listed so, whatever the sink takes at a time.
+// A tree in which this was put is listed so, however many bytes a sink takes at a time.
 fn expect_listings<R: Abort + AllocGlobal>(
     rt: &R,
     steps: &[Step],
@@ -236,11 +236,6 @@ fn chain(rt: &impl Abort, alloc: Global, count: u16, name: &[u8]) -> Result<Tree
     Ok(tree)
 }
 
-// A chain of 20 directories, whose names have 60 bytes of which each is written as four.
-fn long_chain<R: Abort + AllocGlobal>(rt: &R) -> Result<Tree, AllocError> {
-    chain(rt, rt.alloc(), 20, &[255; 60])
-}
-
 // The listing of a tree, all of it.
 fn listing_of<R: Abort + AllocGlobal>(rt: &R, tree: &Tree) -> Vec<u8> {
     let (out, answer) = listed(rt, tree, 100_000_000, 100_000_000);
@@ -249,7 +244,45 @@ fn listing_of<R: Abort + AllocGlobal>(rt: &R, tree: &Tree) -> Vec<u8> {
     bytes
 }
 
-// A listing ends with a path of so many equal pieces, whose line has so many bytes behind the first two words.
+// A chain of so many directories with one name, and its listing: the first lines, the piece of the last line's path for
+// each directory, and how many bytes that path has with its end of line.
+struct ChainListed {
+    count: u16,
+    name: &'static [u8],
+    first: &'static [u8],
+    piece: &'static [u8],
+    length: usize,
+}
+
+// A path may be longer than one that is walked.
+const LONG: ChainListed = ChainListed {
+    count: 20,
+    name: &[255; 60],
+    first: b"d 1 1 \"/\"\nd 2 1 \"/\\xff\\xff",
+    piece: LONG_PIECE,
+    length: 4_823,
+};
+
+// A name of 60 bytes as it is written.
+const LONG_PIECE: &[u8] =
+    b"/\\xff\\xff\\xff\\xff\\xff\\xff\\xff\\xff\\xff\\xff\\xff\\xff\\xff\\xff\\xff\\xff\\xff\\xff\\xff\\xff\\xff\\xff\\xff\\xff\\xff\\xff\\xff\\xff\\xff\\xff\\xff\\xff\\xff\\xff\\xff\\xff\\xff\\xff\\xff\\xff\\xff\\xff\\xff\\xff\\xff\\xff\\xff\\xff\\xff\\xff\\xff\\xff\\xff\\xff\\xff\\xff\\xff\\xff\\xff\\xff";
+
+const DEEP: ChainListed = ChainListed {
+    count: 1_000,
+    name: b"d",
+    first: b"d 1 1 \"/\"\nd 2 1 \"/d\"\nd 3 1 \"/d/d\"\n",
+    piece: b"/d",
+    length: 2_003,
+};
+
+// A listing begins with these lines, and has so many.
+fn expect_lines(rt: &impl Abort, listing: &[u8], first: &[u8], count: usize) {
+    expect(rt, listing.starts_with(first));
+    let lines = listing.iter().filter(|byte| **byte == b'\n').count();
+    expect_same(rt, lines, count);
+}
+
+// A listing ends with a path of so many equal pieces, which is written in so many bytes.
 fn expect_last_path(
     rt: &impl Abort,
     alloc: Global,
@@ -264,20 +297,23 @@ fn expect_last_path(
     Ok(())
 }
 
-// A name of 60 bytes, as it is written behind a slash.
-fn long_piece(alloc: Global) -> Result<Vec<u8>, AllocError> {
-    let mut piece = Vec::from_slice(alloc, b"/")?;
-    for _byte in 0..60 {
-        piece.extend_from_slice(b"\\xff")?;
-    }
-    Ok(piece)
+fn expect_chain<R: Abort + AllocGlobal>(rt: &R, wanted: &ChainListed) -> Result<(), AllocError> {
+    let tree = chain(rt, rt.alloc(), wanted.count, wanted.name)?;
+    let listing = listing_of(rt, &tree);
+    let count = wanted.count as usize;
+    expect_lines(rt, &listing, wanted.first, count + 1);
+    expect_last_path(rt, rt.alloc(), &listing, count, wanted.piece, wanted.length)
 }
 
 #[test]
-fn a_path_may_be_longer_than_one_that_is_walked(rt: HostRuntime) -> Result<(), AllocError> {
-    let whole = listing_of(&rt, &long_chain(&rt)?);
-    let piece = long_piece(rt.alloc())?;
-    expect_last_path(&rt, rt.alloc(), &whole, 20, &piece, 4_823)
+fn chains_of_directories_are_listed(rt: HostRuntime) -> Result<(), AllocError> {
+    expect_chain(&rt, &LONG)?;
+    expect_chain(&rt, &DEEP)
+}
+
+// A chain of 20 directories, whose names have 60 bytes of which each is written as four.
+fn long_chain<R: Abort + AllocGlobal>(rt: &R) -> Result<Tree, AllocError> {
+    chain(rt, rt.alloc(), 20, &[255; 60])
 }
 
 #[test]
@@ -306,40 +342,18 @@ fn expect_part(rt: &impl Abort, listed: Result<(), ListStop>, first: &Narrow, wh
     expect_same(rt, listed.is_err(), is_short);
 }
 
-// An allocation that is refused here, if any, is one for the first path.
-fn expect_want_of_memory<R: Abort + AllocGlobal>(
-    rt: &R,
-    tree: &Tree,
-    first: &mut Narrow,
-    whole: &mut Narrow,
-) {
-    let listed = write_listing(rt.alloc(), tree, first);
-    expect_same(rt, write_listing(rt.alloc(), tree, whole), Ok(()));
-    expect_part(rt, listed, first, whole);
+// An allocation that is refused once both sinks are ready, if any, is one for the first path.
+fn expect_want_of_memory<R: Abort + AllocGlobal>(rt: &R, tree: &Tree) -> Result<(), AllocError> {
+    let mut first = ready_sink(rt)?;
+    let mut whole = ready_sink(rt)?;
+    let listed = write_listing(rt.alloc(), tree, &mut first);
+    expect_same(rt, write_listing(rt.alloc(), tree, &mut whole), Ok(()));
+    expect_part(rt, listed, &first, &whole);
+    Ok(())
 }
 
 #[test]
 fn want_of_memory_leaves_a_beginning(rt: HostRuntime) -> Result<(), AllocError> {
     let tree = long_chain(&rt)?;
-    let mut first = ready_sink(&rt)?;
-    let mut whole = ready_sink(&rt)?;
-    expect_want_of_memory(&rt, &tree, &mut first, &mut whole);
-    Ok(())
-}
-
-// A listing begins with these lines, and has so many.
-fn expect_lines(rt: &impl Abort, listing: &[u8], first: &[u8], count: usize) {
-    expect(rt, listing.starts_with(first));
-    let lines = listing.iter().filter(|byte| **byte == b'\n').count();
-    expect_same(rt, lines, count);
-}
-
-const DEEP: &[u8] = b"d 1 1 \"/\"\nd 2 1 \"/d\"\nd 3 1 \"/d/d\"\n";
-
-#[test]
-fn a_deep_tree_is_listed(rt: HostRuntime) -> Result<(), AllocError> {
-    let tree = chain(&rt, rt.alloc(), 1_000, b"d")?;
-    let whole = listing_of(&rt, &tree);
-    expect_lines(&rt, &whole, DEEP, 1_001);
-    expect_last_path(&rt, rt.alloc(), &whole, 1_000, b"/d", 2_003)
+    expect_want_of_memory(&rt, &tree)
 }

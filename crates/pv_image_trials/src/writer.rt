@@ -71,10 +71,12 @@ fn a_held_node_without_a_name_is_not_written(rt: HostRuntime) -> Result<(), Allo
     expect_whole(&rt, rt.alloc(), &tree, 512 * 8, ROOT)
 }
 
-// A tree of the first version in an image with so many data blocks, which needs some of them, and the image.
+// What is put into a tree of version 1 with so many data blocks, how many it needs in an image of a version, and the
+// image.
 struct Image {
     count: u16,
     steps: &'static [Step<'static>],
+    version: Version,
     need: u32,
     length: usize,
     pieces: &'static [(usize, &'static [u8])],
@@ -87,6 +89,7 @@ const A_DIRECTORY_AND_A_FILE: Image = Image {
         Make(1, b"file", Sort::File, 3),
         Write(3, 0, b"some bytes"),
     ],
+    version: Version::V1,
     need: 2,
     length: 512 * 8,
     pieces: &[
@@ -103,6 +106,7 @@ const A_DIRECTORY_AND_A_FILE: Image = Image {
 const TEN_BLOCKS: Image = Image {
     count: 21,
     steps: &[Make(1, b"f", Sort::File, 2), Write(2, 5_119, b"x")],
+    version: Version::V1,
     need: 11,
     length: 512 * 23,
     pieces: &[
@@ -120,6 +124,7 @@ const ELEVEN_BLOCKS: Image = Image {
         Write(2, 5_119, b"x"),
         Write(2, 5_120, b"y"),
     ],
+    version: Version::V1,
     need: 13,
     length: 512 * 23,
     pieces: &[
@@ -130,26 +135,32 @@ const ELEVEN_BLOCKS: Image = Image {
     ],
 };
 
+// Longer inodes and slots, in 30 blocks with 17 inodes.
+const SECOND: Image = Image {
+    count: 21,
+    steps: &[Make(1, b"f", Sort::File, 2), Write(2, 5_120, b"y")],
+    version: Version::V2,
+    need: 13,
+    length: 512 * 30,
+    pieces: &[
+        (0, b"PVIMAGE2\x1e\x00\x11\x00"),
+        (512, b"\x01\x00\x00\x00\x04\x01\x00\x00\x04\x00\x00"),
+        (576, b"\x02\x00\x00\x00\x01\x14\x00\x00\x05\x00\x06"),
+        (
+            604,
+            b"\x10\x00\x00\x00\x00\x00\x00\x00\x00\x00\x01\x00\x00\x00",
+        ),
+        (512 * 4, b"\x02\x00\x01\x00f\x00"),
+        (512 * 15, b"y\x00"),
+        (512 * 16, b"\x0f\x00\x00\x00"),
+    ],
+};
+
 // The bytes of the image of a tree, which needs so many blocks.
 fn written(rt: &impl Abort, alloc: Global, tree: &Tree, need: u32) -> Result<Vec<u8>, AllocError> {
     assert!(rt; tree.sizes().version == Version::V1);
     expect_same(rt, needed_blocks(tree, Version::V1), need);
     to_bytes(alloc, tree)
-}
-
-fn expect_image(rt: &impl Abort, alloc: Global, image: &Image) -> Result<(), AllocError> {
-    let tree = tree_of(rt, alloc, image.count, image.steps)?;
-    let bytes = written(rt, alloc, &tree, image.need)?;
-    expect_pieces(rt, &bytes, image.length, image.pieces);
-    Ok(())
-}
-
-#[test]
-fn nodes_and_blocks_stand_in_their_places(rt: HostRuntime) -> Result<(), AllocError> {
-    for image in &[A_DIRECTORY_AND_A_FILE, TEN_BLOCKS, ELEVEN_BLOCKS] {
-        expect_image(&rt, rt.alloc(), image)?;
-    }
-    Ok(())
 }
 
 // The bytes of an image of version 2 of 30 blocks and 17 inodes, of a tree of the first version, which needs so many
@@ -169,25 +180,29 @@ fn rewritten(
     write_as(alloc, tree, Version::V2, 30, 17)
 }
 
-const SECOND_STEPS: &[Step] = &[Make(1, b"f", Sort::File, 2), Write(2, 5_120, b"y")];
+fn bytes_of(
+    rt: &impl Abort,
+    alloc: Global,
+    tree: &Tree,
+    image: &Image,
+) -> Result<Vec<u8>, AllocError> {
+    match image.version {
+        Version::V1 => written(rt, alloc, tree, image.need),
+        Version::V2 => rewritten(rt, alloc, tree, image.need),
+    }
+}
 
-const SECOND: &[(usize, &[u8])] = &[
-    (0, b"PVIMAGE2\x1e\x00\x11\x00"),
-    (512, b"\x01\x00\x00\x00\x04\x01\x00\x00\x04\x00\x00"),
-    (576, b"\x02\x00\x00\x00\x01\x14\x00\x00\x05\x00\x06"),
-    (
-        604,
-        b"\x10\x00\x00\x00\x00\x00\x00\x00\x00\x00\x01\x00\x00\x00",
-    ),
-    (512 * 4, b"\x02\x00\x01\x00f\x00"),
-    (512 * 15, b"y\x00"),
-    (512 * 16, b"\x0f\x00\x00\x00"),
-];
+fn expect_image(rt: &impl Abort, alloc: Global, image: &Image) -> Result<(), AllocError> {
+    let tree = tree_of(rt, alloc, image.count, image.steps)?;
+    let bytes = bytes_of(rt, alloc, &tree, image)?;
+    expect_pieces(rt, &bytes, image.length, image.pieces);
+    Ok(())
+}
 
 #[test]
-fn the_second_version_has_longer_inodes_and_slots(rt: HostRuntime) -> Result<(), AllocError> {
-    let tree = tree_of(&rt, rt.alloc(), 21, SECOND_STEPS)?;
-    let bytes = rewritten(&rt, rt.alloc(), &tree, 13)?;
-    expect_pieces(&rt, &bytes, 512 * 30, SECOND);
+fn nodes_and_blocks_stand_in_their_places(rt: HostRuntime) -> Result<(), AllocError> {
+    for image in &[A_DIRECTORY_AND_A_FILE, TEN_BLOCKS, ELEVEN_BLOCKS, SECOND] {
+        expect_image(&rt, rt.alloc(), image)?;
+    }
     Ok(())
 }
