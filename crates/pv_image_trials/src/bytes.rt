@@ -1,15 +1,45 @@
-//! Bytes that tests change and compare.
+//! Bytes that tests change and compare, a piece at each of some places.
+use crate::answers::{expect, expect_same};
 use std::process::Abort;
 
 // Writes bytes from a place on, if they go in.
-pub(crate) fn put(bytes: &mut [u8], at: usize, new: &[u8]) {
+fn put(bytes: &mut [u8], at: usize, new: &[u8]) {
     if at <= bytes.len() && new.len() <= bytes.len() - at {
         bytes[at..at + new.len()].copy_from_slice(new);
     }
 }
 
+// Writes each piece at its place.
+pub(crate) fn put_all(bytes: &mut [u8], pieces: &[(usize, &[u8])]) {
+    for &(at, new) in pieces {
+        put(bytes, at, new);
+    }
+}
+
 // The bytes from a place on are these.
-pub(crate) fn assert_bytes(rt: &impl Abort, bytes: &[u8], at: usize, expected: &[u8]) {
+fn expect_piece(rt: &impl Abort, bytes: &[u8], at: usize, wanted: &[u8]) {
     assert!(rt; at <= bytes.len());
-    assert!(rt; bytes[at..].starts_with(expected));
+    expect(rt, bytes[at..].starts_with(wanted));
+}
+
+// There are so many bytes, and each piece stands at its place.
+pub(crate) fn expect_pieces(
+    rt: &impl Abort,
+    bytes: &[u8],
+    length: usize,
+    pieces: &[(usize, &[u8])],
+) {
+    expect_same(rt, bytes.len(), length);
+    for &(at, wanted) in pieces {
+        expect_piece(rt, bytes, at, wanted);
+    }
+}
+
+// The first bytes, so many.
+pub(crate) fn front(bytes: &[u8], count: usize) -> &[u8] {
+    if count < bytes.len() {
+        &bytes[..count]
+    } else {
+        bytes
+    }
 }

@@ -1,232 +1,217 @@
 //! Manifests and bundles that are read.
-ghost use Rattle.std.specs.Prelude.{◌<◌, ◌^◌, length};
-
-use pv_image::{Bundle, Content, Entry, Manifest};
+use crate::answers::{expect_equal, expect_same, expect_same_of};
+use pv_image::{Bundle, Content, Manifest};
 use pv_model::ManifestFault;
 use std::process::Abort;
-use std::test::Fail;
 
-// A bundle is refused so, or read.
-fn assert_fault(rt: &(impl Abort + AllocGlobal), bytes: &[u8], fault: Option<ManifestFault>)
-    requires { length bytes.now < 2 ^ 31 }
-{
-    assert_eq!(rt; Bundle::parse(rt.alloc(), bytes).err(), fault);
+// The manifest of a text.
+fn read<R: Abort + AllocGlobal>(rt: &R, text: &str) -> Result<Manifest, ManifestFault> {
+    assert!(rt; text.len() < 1_000_000);
+    Manifest::parse(rt.alloc(), text.as_bytes())
 }
 
-// A manifest is refused so, or read.
-fn assert_manifest_fault(
-    rt: &(impl Abort + AllocGlobal),
-    bytes: &[u8],
-    fault: Option<ManifestFault>,
-)
-    requires { length bytes.now < 2 ^ 31 }
-{
-    assert_eq!(rt; Manifest::parse(rt.alloc(), bytes).err(), fault);
+// The bundle of a text.
+fn read_bundle<R: Abort + AllocGlobal>(rt: &R, text: &str) -> Result<Bundle, ManifestFault> {
+    assert!(rt; text.len() < 1_000_000);
+    Bundle::parse(rt.alloc(), text.as_bytes())
 }
 
-const ENTRIES: &[u8] =
-    b"image 16 8\ndir \"/etc\"\nbytes \"/etc/motd\" \"h\\x65llo\"\nexec \"/init\" 2\nopen \"/etc/motd\" r\nschedule\nlink \"/l\" \"etc/motd\"\nname \"/m\" \"/etc/motd\"";
+const ENTRIES: &str =
+    "image 16 8\ndir \"/etc\"\nbytes \"/etc/motd\" \"h\\x65llo\"\nexec \"/init\" 2\nopen \"/etc/motd\" r\nschedule\nlink \"/l\" \"etc/motd\"\nname \"/m\" \"/etc/motd\"";
 
-// Whether an entry makes a file of these bytes, which may be executed or not.
-fn is_file(entry: &Entry, may_run: bool, wanted: &[u8]) -> bool {
-    match &entry.content {
-        Content::File { executable, bytes } => *executable == may_run && bytes.as_slice() == wanted,
-        _ => false,
-    }
+// An entry of a manifest.
+struct Wanted {
+    place: usize,
+    line: u32,
+    path: &'static [u8],
+    // The word of what it makes, and the bytes of that.
+    word: &'static str,
+    bytes: &'static [u8],
 }
 
-#[test]
-fn entries_of_each_sort(rt: HostRuntime) -> Result<(), Fail> {
-    let manifest = Manifest::parse(rt.alloc(), ENTRIES)?;
-    assert_eq!(rt; manifest.blocks, 16);
-    assert_eq!(rt; manifest.inodes, 8);
-    assert_eq!(rt; manifest.entries.len(), 5);
-    Ok(())
-}
+const WANTED: &[Wanted] = &[
+    Wanted {
+        place: 0,
+        line: 2,
+        path: b"/etc",
+        word: "dir",
+        bytes: b"",
+    },
+    Wanted {
+        place: 1,
+        line: 3,
+        path: b"/etc/motd",
+        word: "bytes",
+        bytes: b"hello",
+    },
+    Wanted {
+        place: 2,
+        line: 4,
+        path: b"/init",
+        word: "exec",
+        bytes: b"open \"/etc/motd\" r\nschedule\n",
+    },
+    Wanted {
+        place: 3,
+        line: 7,
+        path: b"/l",
+        word: "link",
+        bytes: b"etc/motd",
+    },
+    Wanted {
+        place: 4,
+        line: 8,
+        path: b"/m",
+        word: "name",
+        bytes: b"/etc/motd",
+    },
+];
 
-#[test]
-fn an_entry_of_a_file(rt: HostRuntime) -> Result<(), Fail> {
-    let manifest = Manifest::parse(rt.alloc(), ENTRIES)?;
-    let entry = manifest.entries.get(1).expect(&rt, "a second entry");
-    assert_eq!(rt; entry.line, 3);
-    assert_eq!(rt; entry.path.as_slice(), b"/etc/motd".as_slice());
-    assert!(rt; is_file(entry, false, b"hello"));
-    Ok(())
-}
-
-#[test]
-fn an_entry_of_a_program(rt: HostRuntime) -> Result<(), Fail> {
-    let manifest = Manifest::parse(rt.alloc(), ENTRIES)?;
-    let entry = manifest.entries.get(2).expect(&rt, "a third entry");
-    assert!(rt; is_file(entry, true, b"open \"/etc/motd\" r\nschedule\n"));
-    Ok(())
-}
-
-#[test]
-fn an_entry_of_a_link(rt: HostRuntime) -> Result<(), Fail> {
-    let manifest = Manifest::parse(rt.alloc(), ENTRIES)?;
-    let entry = manifest.entries.get(3).expect(&rt, "a fourth entry");
-    assert_eq!(rt; entry.line, 7);
-    match &entry.content {
-        Content::Link(text) => {
-            assert_eq!(rt; text.as_slice(), b"etc/motd".as_slice());
+// The word of what an entry makes, and its bytes.
+fn made(content: &Content) -> (&'static str, &[u8]) {
+    match content {
+        Content::Directory => ("dir", b""),
+        Content::File { executable, bytes } => {
+            (if *executable { "exec" } else { "bytes" }, bytes.as_slice())
         }
-        _ => return Err("a link".into()),
+        Content::Link(text) => ("link", text.as_slice()),
+        Content::Name(source) => ("name", source.as_slice()),
     }
-    Ok(())
+}
+
+fn expect_entry(rt: &impl Abort, manifest: &Manifest, wanted: &Wanted) {
+    let entry = manifest.entries.get(wanted.place).expect(rt, "an entry");
+    let (word, bytes) = made(&entry.content);
+    expect_same(rt, entry.line, wanted.line);
+    expect_equal(rt, entry.path.as_slice(), wanted.path);
+    expect_same(rt, word, wanted.word);
+    expect_equal(rt, bytes, wanted.bytes);
+}
+
+fn expect_sizes(rt: &impl Abort, manifest: &Manifest, blocks: u16, inodes: u16, entries: usize) {
+    expect_same(rt, manifest.blocks, blocks);
+    expect_same(rt, manifest.inodes, inodes);
+    expect_same(rt, manifest.entries.len(), entries);
 }
 
 #[test]
-fn an_entry_of_a_further_name(rt: HostRuntime) -> Result<(), Fail> {
-    let manifest = Manifest::parse(rt.alloc(), ENTRIES)?;
-    let entry = manifest.entries.get(4).expect(&rt, "a fifth entry");
-    match &entry.content {
-        Content::Name(source) => {
-            assert_eq!(rt; source.as_slice(), b"/etc/motd".as_slice());
-        }
-        _ => return Err("a further name".into()),
+fn entries_of_each_sort(rt: HostRuntime) {
+    let manifest = read(&rt, ENTRIES).expect(&rt, "a manifest");
+    expect_sizes(&rt, &manifest, 16, 8, 5);
+    for wanted in WANTED {
+        expect_entry(&rt, &manifest, wanted);
     }
-    Ok(())
 }
 
-// The schedule of a bundle begins at this place.
-fn assert_schedule_at(rt: &(impl Abort + AllocGlobal), bytes: &[u8], at: usize) -> Result<(), Fail>
-    requires { length bytes.now < 2 ^ 31 }
-{
-    let bundle = Bundle::parse(rt.alloc(), bytes)?;
-    assert_eq!(rt; bundle.schedule_at, at);
-    Ok(())
-}
+// Where the schedule of a bundle begins, and how many entries the manifest before it has.
+const SCHEDULES: &[(&str, usize, usize)] = &[
+    ("image 16 16\nschedule\n1 5\n", 21, 0),
+    ("image 16 16\nschedule", 20, 0),
+    ("image 16 16\nexec \"/p\" 2\nschedule\nx\nschedule\n", 44, 1),
+];
 
-#[test]
-fn where_a_schedule_begins(rt: HostRuntime) -> Result<(), Fail> {
-    assert_schedule_at(&rt, b"image 16 16\nschedule\n1 5\n", 21)?;
-    assert_schedule_at(&rt, b"image 16 16\nschedule", 20)?;
-    let behind_a_program = b"image 16 16\nexec \"/p\" 2\nschedule\nx\nschedule\n";
-    assert_schedule_at(&rt, behind_a_program, 44)?;
-    let bundle = Bundle::parse(rt.alloc(), behind_a_program)?;
-    assert_eq!(rt; bundle.manifest.entries.len(), 1);
-    Ok(())
+fn expect_schedule(rt: &(impl Abort + AllocGlobal), text: &str, at: usize, entries: usize) {
+    let bundle = read_bundle(rt, text).expect(rt, "a bundle");
+    expect_same_of(rt, bundle.schedule_at, at, text);
+    expect_same_of(rt, bundle.manifest.entries.len(), entries, text);
 }
 
 #[test]
-fn lines_without_form(rt: HostRuntime) {
-    assert_fault(&rt, b"", Some(ManifestFault::Form(1)));
-    assert_manifest_fault(&rt, b"", Some(ManifestFault::Form(1)));
-    assert_manifest_fault(&rt, b"image 16 16", None);
-    assert_manifest_fault(
-        &rt,
-        b"image 16 16\nschedule\n",
-        Some(ManifestFault::Form(2)),
-    );
-    assert_fault(&rt, b"schedule\n", Some(ManifestFault::Form(1)));
-    assert_fault(
-        &rt,
-        b"image 16 016\nschedule\n",
-        Some(ManifestFault::Form(1)),
-    );
-    assert_fault(
-        &rt,
-        b"image 16 16 \nschedule\n",
-        Some(ManifestFault::Form(1)),
-    );
-    assert_fault(&rt, b"image 16 16\n", Some(ManifestFault::Form(2)));
-    assert_fault(
-        &rt,
-        b"image 16 16\n\nschedule\n",
-        Some(ManifestFault::Form(2)),
-    );
-    assert_fault(
-        &rt,
-        b"image 0 0\ndir \"/a\"\nimage 16 16\nschedule\n",
+fn where_a_schedule_begins(rt: HostRuntime) {
+    for &(text, at, entries) in SCHEDULES {
+        expect_schedule(&rt, text, at, entries);
+    }
+}
+
+const MANIFESTS: &[(&str, Option<ManifestFault>)] = &[
+    ("", Some(ManifestFault::Form(1))),
+    ("image 16 16", None),
+    ("image 16 16\nschedule\n", Some(ManifestFault::Form(2))),
+];
+
+#[test]
+fn manifests_and_what_is_none(rt: HostRuntime) {
+    for &(text, fault) in MANIFESTS {
+        expect_same_of(&rt, read(&rt, text).err(), fault, text);
+    }
+}
+
+const BUNDLES: &[(&str, Option<ManifestFault>)] = &[
+    // Lines without form.
+    ("", Some(ManifestFault::Form(1))),
+    ("schedule\n", Some(ManifestFault::Form(1))),
+    ("image 16 016\nschedule\n", Some(ManifestFault::Form(1))),
+    ("image 16 16 \nschedule\n", Some(ManifestFault::Form(1))),
+    ("image 16 16\n", Some(ManifestFault::Form(2))),
+    ("image 16 16\n\nschedule\n", Some(ManifestFault::Form(2))),
+    (
+        "image 0 0\ndir \"/a\"\nimage 16 16\nschedule\n",
         Some(ManifestFault::Form(3)),
-    );
-    assert_fault(
-        &rt,
-        b"image 16 16\nlink \"/l\" \"\"\nschedule\n",
+    ),
+    (
+        "image 16 16\nlink \"/l\" \"\"\nschedule\n",
         Some(ManifestFault::Form(2)),
-    );
-    assert_fault(
-        &rt,
-        b"image 16 16\nname \"/m\" \"etc\"\nschedule\n",
+    ),
+    (
+        "image 16 16\nname \"/m\" \"etc\"\nschedule\n",
         Some(ManifestFault::Form(2)),
-    );
-}
-
-#[test]
-fn paths_of_entries(rt: HostRuntime) {
-    assert_fault(
-        &rt,
-        b"image 16 16\ndir \"/\"\nschedule\n",
+    ),
+    // Paths of entries.
+    (
+        "image 16 16\ndir \"/\"\nschedule\n",
         Some(ManifestFault::Form(2)),
-    );
-    assert_fault(
-        &rt,
-        b"image 16 16\ndir \"a\"\nschedule\n",
+    ),
+    (
+        "image 16 16\ndir \"a\"\nschedule\n",
         Some(ManifestFault::Form(2)),
-    );
-    assert_fault(
-        &rt,
-        b"image 16 16\ndir \"/a/\"\nschedule\n",
+    ),
+    (
+        "image 16 16\ndir \"/a/\"\nschedule\n",
         Some(ManifestFault::Form(2)),
-    );
-    assert_fault(
-        &rt,
-        b"image 16 16\ndir \"//a\"\nschedule\n",
+    ),
+    (
+        "image 16 16\ndir \"//a\"\nschedule\n",
         Some(ManifestFault::Form(2)),
-    );
-    assert_fault(
-        &rt,
-        b"image 16 16\ndir \"/..\"\nschedule\n",
+    ),
+    (
+        "image 16 16\ndir \"/..\"\nschedule\n",
         Some(ManifestFault::Form(2)),
-    );
-    assert_fault(&rt, b"image 16 16\ndir \"/...\"\nschedule\n", None);
-}
-
-#[test]
-fn lines_of_an_executable(rt: HostRuntime) {
-    assert_fault(
-        &rt,
-        b"image 16 16\nexec \"/p\" 0\ny\nschedule\n",
+    ),
+    ("image 16 16\ndir \"/...\"\nschedule\n", None),
+    // Lines of an executable.
+    (
+        "image 16 16\nexec \"/p\" 0\ny\nschedule\n",
         Some(ManifestFault::Form(3)),
-    );
-    assert_fault(
-        &rt,
-        b"image 16 16\nexec \"/p\" 2\nx\nschedule\n",
+    ),
+    (
+        "image 16 16\nexec \"/p\" 2\nx\nschedule\n",
         Some(ManifestFault::Form(5)),
-    );
-    assert_fault(
-        &rt,
-        b"image 16 16\nexec \"/p\" 3\nx\nschedule\n",
+    ),
+    (
+        "image 16 16\nexec \"/p\" 3\nx\nschedule\n",
         Some(ManifestFault::Form(2)),
-    );
-    assert_fault(
-        &rt,
-        b"image 16 16\nexec \"/p\" 10000\nx\nschedule\n",
+    ),
+    (
+        "image 16 16\nexec \"/p\" 10000\nx\nschedule\n",
         Some(ManifestFault::Form(2)),
-    );
-}
+    ),
+    // Sizes of an image.
+    ("image 16 0\nschedule\n", Some(ManifestFault::Size)),
+    ("image 8192 4096\nschedule\n", None),
+    ("image 8193 4096\nschedule\n", Some(ManifestFault::Size)),
+    ("image 8192 4097\nschedule\n", Some(ManifestFault::Size)),
+    // Two blocks of 16 inodes each, and the first.
+    ("image 3 32\nschedule\n", None),
+    ("image 2 32\nschedule\n", Some(ManifestFault::Size)),
+    (
+        "image 18446744073709551632 16\nschedule\n",
+        Some(ManifestFault::Size),
+    ),
+];
 
 #[test]
-fn sizes_of_an_image(rt: HostRuntime) {
-    assert_fault(&rt, b"image 16 0\nschedule\n", Some(ManifestFault::Size));
-    assert_fault(&rt, b"image 8192 4096\nschedule\n", None);
-    assert_fault(
-        &rt,
-        b"image 8193 4096\nschedule\n",
-        Some(ManifestFault::Size),
-    );
-    assert_fault(
-        &rt,
-        b"image 8192 4097\nschedule\n",
-        Some(ManifestFault::Size),
-    );
-    // Two blocks of 16 inodes each, and the first.
-    assert_fault(&rt, b"image 3 32\nschedule\n", None);
-    assert_fault(&rt, b"image 2 32\nschedule\n", Some(ManifestFault::Size));
-    assert_fault(
-        &rt,
-        b"image 18446744073709551632 16\nschedule\n",
-        Some(ManifestFault::Size),
-    );
+fn bundles_and_what_is_none(rt: HostRuntime) {
+    for &(text, fault) in BUNDLES {
+        expect_same_of(&rt, read_bundle(&rt, text).err(), fault, text);
+    }
 }

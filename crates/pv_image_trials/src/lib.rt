@@ -2,9 +2,12 @@
 //! judged and migrated.
 //!
 //! It has tests alone: `image` and `building` read manifests and make their trees, `listing` tells of trees, `writer` writes
-//! their images, `mount` judges images, and `migrate` makes new ones of old. `trees` and `bytes` have what they begin with.
+//! their images, `mount` judges images, and `migrate` makes new ones of old. `trees` and `bytes` have what they begin with,
+//! and `answers` what they compare by.
 #![tactic(auto)]
 
+#[cfg(test)]
+mod answers;
 #[cfg(test)]
 mod building;
 #[cfg(test)]

@@ -1,14 +1,16 @@
 //! Listings and other remarks, and sinks that take little.
 ghost use Rattle.std.specs.Prelude.{◌≤◌, [], ◌∷◌, None};
 
-use crate::trees::{make, small_tree, write};
+use crate::answers::{expect, expect_equal, expect_same};
+use crate::bytes::front;
+use crate::trees::Step::{Link, Make, Write};
+use crate::trees::{Step, make, tree_of};
 use pv_listing::{ListStop, Remarks, write_lines, write_listing, write_path};
-use pv_model::{Failed, Kind, Sink, Version, is_name};
+use pv_model::{Failed, Sink, Sort, Version};
 use pv_trace::write_whole;
 use pv_tree::{Store, Tree};
 use std::alloc::{AllocError, Global};
 use std::process::Abort;
-use std::test::Fail;
 
 // A sink that takes so many bytes, at most so many a write.
 #[derive(Drop)]
@@ -50,115 +52,101 @@ fn sink_of<R: AllocGlobal>(rt: &R, room: usize, width: usize) -> Narrow {
     }
 }
 
-// A tree of the root alone, in an image of 4,096 inodes and so many data blocks.
-fn great_tree(alloc: Global, count: u16) -> Result<Tree, AllocError>
-    requires { count ≤ 7000 }
-{
-    let zeros = vec![in alloc; 0; 512 * (count as usize + 257)]?;
-    Ok(Store::empty(zeros, count + 257, 4_096, Version::V1).into_tree())
+// A sink of so much room, at most so many bytes a write, to which a tree was listed, and what that answered.
+fn listed<R: AllocGlobal>(
+    rt: &R,
+    tree: &Tree,
+    room: usize,
+    width: usize,
+) -> (Narrow, Result<(), ListStop>) {
+    let mut out = sink_of(rt, room, width);
+    let answer = write_listing(rt.alloc(), tree, &mut out);
+    (out, answer)
 }
 
-// Puts a node that is no directory under one more name.
-fn link(rt: &impl Abort, tree: &mut Tree, directory: u16, name: &[u8], node: u16) {
-    assert!(rt; tree.is_directory(directory));
-    assert!(rt; tree.parent(directory).is_some());
-    assert!(rt; tree.find(directory, name).is_none());
-    assert!(rt; tree.is_used(node));
-    assert!(rt; !tree.is_directory(node));
-    assert!(rt; is_name(tree.sizes().version, name));
-    assert!(rt; tree.link(directory, name, node).is_ok());
-}
-
-// A chain of so many directories below the root, each with this name.
-fn make_chain(rt: &impl Abort, tree: &mut Tree, count: u16, name: &[u8]) {
-    let mut directory = 1;
-    for _made in 0..count {
-        directory = make(rt, tree, directory, name, Kind::Directory);
-    }
+// The listing of a tree is this, written at most so many bytes at a time.
+fn expect_listing<R: Abort + AllocGlobal>(rt: &R, tree: &Tree, width: usize, wanted: &[u8]) {
+    let (out, answer) = listed(rt, tree, 1_000, width);
+    expect_same(rt, answer, Ok(()));
+    expect_equal(rt, out.bytes.as_slice(), wanted);
 }
 
 // Two directories with a file of two names, an executable file and a link.
-fn make_some(rt: &impl Abort, tree: &mut Tree) {
-    assert!(rt; make(rt, tree, 1, b"d", Kind::Directory) == 2);
-    assert!(rt; make(rt, tree, 2, b"f", Kind::File) == 3);
-    assert!(rt; make(rt, tree, 1, b"x", Kind::Executable) == 4);
-    assert!(rt; make(rt, tree, 1, b"l", Kind::Symlink(b"d/f")) == 5);
-    assert!(rt; make(rt, tree, 2, b"e", Kind::Directory) == 6);
-    assert!(rt; make(rt, tree, 6, b"g", Kind::File) == 7);
-    write(rt, tree, 3, 0, b"bytes");
-    link(rt, tree, 1, b"d.", 3);
-}
+const SOME: &[Step] = &[
+    Make(1, b"d", Sort::Directory, 2),
+    Make(2, b"f", Sort::File, 3),
+    Make(1, b"x", Sort::Executable, 4),
+    Make(1, b"l", Sort::Symlink, 5),
+    Make(2, b"e", Sort::Directory, 6),
+    Make(6, b"g", Sort::File, 7),
+    Write(3, 0, b"bytes"),
+    Link(1, b"d.", 3),
+];
 
-const SOME: &[u8] =
+// A directory is followed by all that is in it.
+const SOME_LISTED: &[u8] =
     b"d 1 4 \"/\"\nd 2 2 \"/d\"\nd 6 1 \"/d/e\"\nf 7 0 \"/d/e/g\"\nf 3 5 \"/d/f\"\nf 3 5 \"/d.\"\nl 5 3 \"/l\"\nx 4 0 \"/x\"\n";
 
-// The listing of a tree is this, written at most so many bytes at a time.
-fn assert_listing(rt: &(impl Abort + AllocGlobal), tree: &Tree, width: usize, wanted: &[u8]) {
-    let mut out = sink_of(rt, 1_000, width);
-    assert_eq!(rt; write_listing(rt.alloc(), tree, &mut out), Ok(()));
-    assert!(rt; out.bytes.as_slice() == wanted);
+// A name that is quoted.
+const QUOTED: &[Step] = &[Make(1, b"\"\\ ~\x01\x7f\xff", Sort::File, 2)];
+
+// What is put into a tree, and its listing.
+const LISTINGS: &[(&[Step], &[u8])] = &[
+    (&[], b"d 1 0 \"/\"\n"),
+    (SOME, SOME_LISTED),
+    (
+        QUOTED,
+        b"d 1 1 \"/\"\nf 2 0 \"/\\x22\\x5c ~\\x01\\x7f\\xff\"\n",
+    ),
+];
+
+// A tree in which this was put is listed so, however many bytes a sink takes at a time.
+fn expect_listings<R: Abort + AllocGlobal>(
+    rt: &R,
+    steps: &[Step],
+    wanted: &[u8],
+) -> Result<(), AllocError> {
+    let tree = tree_of(rt, rt.alloc(), 30, steps)?;
+    for width in [1, 7, 1_000] {
+        expect_listing(rt, &tree, width, wanted);
+    }
+    Ok(())
 }
 
-// The listing of a tree, all of it.
-fn listing_of(rt: &(impl Abort + AllocGlobal), tree: &Tree) -> Vec<u8> {
-    let mut out = sink_of(rt, 100_000_000, 100_000_000);
-    assert_eq!(rt; write_listing(rt.alloc(), tree, &mut out), Ok(()));
-    let Narrow { bytes, .. } = out;
-    bytes
+#[test]
+fn trees_have_their_listings(rt: HostRuntime) -> Result<(), AllocError> {
+    for &(steps, wanted) in LISTINGS {
+        expect_listings(&rt, steps, wanted)?;
+    }
+    Ok(())
 }
 
 // A sink of less room than a listing wants has just the beginning of it, and failed once.
-fn assert_beginning(
-    rt: &(impl Abort + AllocGlobal),
+fn expect_beginning<R: Abort + AllocGlobal>(
+    rt: &R,
     tree: &Tree,
     room: usize,
     width: usize,
     listing: &[u8],
 ) {
-    let mut out = sink_of(rt, room, width);
-    assert_eq!(rt;
-        write_listing(rt.alloc(), tree, &mut out),
-        Err(ListStop::Write)
-    );
-    assert!(rt; listing.starts_with(out.bytes.as_slice()));
-    assert!(rt; out.bytes.len() == room);
-    assert!(rt; out.failures == 1);
+    let (out, answer) = listed(rt, tree, room, width);
+    expect_same(rt, answer, Err(ListStop::Write));
+    expect_equal(rt, out.bytes.as_slice(), front(listing, room));
+    expect_same(rt, out.failures, 1);
 }
 
-#[test]
-fn the_root_alone_has_one_line(rt: HostRuntime) -> Result<(), Fail> {
-    let tree = small_tree(rt.alloc(), 30)?;
-    assert_listing(&rt, &tree, 1_000, b"d 1 0 \"/\"\n");
-    Ok(())
-}
-
-#[test]
-fn a_directory_is_followed_by_all_that_is_in_it(rt: HostRuntime) -> Result<(), Fail> {
-    let mut tree = small_tree(rt.alloc(), 30)?;
-    make_some(&rt, &mut tree);
-    for width in [1, 7, 1_000] {
-        assert_listing(&rt, &tree, width, SOME);
+// The same in sinks of all sizes that are too small.
+fn expect_beginnings<R: Abort + AllocGlobal>(rt: &R, tree: &Tree, width: usize, listing: &[u8]) {
+    for room in 0..listing.len() {
+        expect_beginning(rt, tree, room, width, listing);
     }
-    Ok(())
 }
 
 #[test]
-fn names_are_quoted(rt: HostRuntime) -> Result<(), Fail> {
-    let mut tree = small_tree(rt.alloc(), 30)?;
-    make(&rt, &mut tree, 1, b"\"\\ ~\x01\x7f\xff", Kind::File);
-    let wanted = b"d 1 1 \"/\"\nf 2 0 \"/\\x22\\x5c ~\\x01\\x7f\\xff\"\n";
-    assert_listing(&rt, &tree, 1_000, wanted);
-    Ok(())
-}
-
-#[test]
-fn a_full_sink_has_a_beginning_of_the_listing(rt: HostRuntime) -> Result<(), Fail> {
-    let mut tree = small_tree(rt.alloc(), 30)?;
-    make_some(&rt, &mut tree);
-    for room in 0..SOME.len() {
-        for width in [1, 7, 1_000] {
-            assert_beginning(&rt, &tree, room, width, SOME);
-        }
+fn a_full_sink_has_a_beginning_of_the_listing(rt: HostRuntime) -> Result<(), AllocError> {
+    let tree = tree_of(&rt, rt.alloc(), 30, SOME)?;
+    for width in [1, 7, 1_000] {
+        expect_beginnings(&rt, &tree, width, SOME_LISTED);
     }
     Ok(())
 }
@@ -175,29 +163,36 @@ impl Remarks for Dots {
 }
 
 // A sink of so much room is told this of the names, with this answer.
-fn assert_dots(
-    rt: &(impl Abort + AllocGlobal),
+fn expect_dots<R: Abort + AllocGlobal>(
+    rt: &R,
     tree: &Tree,
     room: usize,
     answer: Result<(), ListStop>,
     wanted: &[u8],
 ) {
     let mut out = sink_of(rt, room, 1_000);
-    assert_eq!(rt; write_lines(rt.alloc(), tree, &Dots, &mut out), answer);
-    assert!(rt; out.bytes.as_slice() == wanted);
+    expect_same(rt, write_lines(rt.alloc(), tree, &Dots, &mut out), answer);
+    expect_equal(rt, out.bytes.as_slice(), wanted);
 }
 
 #[test]
-fn each_name_is_told_as_the_remarks_say(rt: HostRuntime) -> Result<(), Fail> {
-    let mut tree = small_tree(rt.alloc(), 30)?;
-    make_some(&rt, &mut tree);
-    assert_dots(&rt, &tree, 1_000, Ok(()), b"........");
-    assert_dots(&rt, &tree, 3, Err(ListStop::Write), b"...");
+fn each_name_is_told_as_the_remarks_say(rt: HostRuntime) -> Result<(), AllocError> {
+    let tree = tree_of(&rt, rt.alloc(), 30, SOME)?;
+    expect_dots(&rt, &tree, 1_000, Ok(()), b"........");
+    expect_dots(&rt, &tree, 3, Err(ListStop::Write), b"...");
     Ok(())
 }
 
-// The path of the last node of a chain, as a program writes it.
-fn chain_path(alloc: Global, count: usize, piece: &[u8]) -> Result<Vec<u8>, AllocError> {
+// A path is written so, and an end of line behind it.
+fn expect_path<R: Abort + AllocGlobal>(rt: &R, path: &[u8], wanted: &[u8]) {
+    let mut out = sink_of(rt, 100_000, 100_000);
+    expect(rt, write_path(&mut out, path).is_ok());
+    expect(rt, write_whole(&mut out, b"\n").is_ok());
+    expect_equal(rt, out.bytes.as_slice(), wanted);
+}
+
+// So many equal pieces in quotation marks, and an end of line.
+fn quoted(alloc: Global, count: usize, piece: &[u8]) -> Result<Vec<u8>, AllocError> {
     let mut path = Vec::from_slice(alloc, b"\"")?;
     for _piece in 0..count {
         path.extend_from_slice(piece)?;
@@ -206,88 +201,159 @@ fn chain_path(alloc: Global, count: usize, piece: &[u8]) -> Result<Vec<u8>, Allo
     Ok(path)
 }
 
-#[test]
-fn a_path_of_any_length_is_quoted(rt: HostRuntime) -> Result<(), Fail> {
-    for count in [1, 63, 64, 65, 128, 1_000] {
-        let bytes = vec![in rt.alloc(); 255; count]?;
-        let path = chain_path(rt.alloc(), count, b"\\xff")?;
-        let mut out = sink_of(&rt, 100_000, 100_000);
-        assert!(rt; write_path(&mut out, bytes.as_slice()).is_ok());
-        assert!(rt; write_whole(&mut out, b"\n").is_ok());
-        assert!(rt; out.bytes.as_slice() == path.as_slice());
-    }
-    let mut out = sink_of(&rt, 1_000, 1_000);
-    assert!(rt; write_path(&mut out, b"").is_ok());
-    assert!(rt; out.bytes.as_slice() == b"\"/\"".as_slice());
+// So many bytes of 255 are written as so many pieces.
+fn expect_long_path<R: Abort + AllocGlobal>(rt: &R, count: usize) -> Result<(), AllocError> {
+    let path = vec![in rt.alloc(); 255; count]?;
+    let wanted = quoted(rt.alloc(), count, b"\\xff")?;
+    expect_path(rt, &path, &wanted);
     Ok(())
 }
 
-// A chain of 20 directories, whose names have 60 bytes of which each is written as four.
-fn long_chain(rt: &(impl Abort + AllocGlobal)) -> Result<Tree, AllocError> {
-    let mut tree = great_tree(rt.alloc(), 1_100)?;
-    make_chain(rt, &mut tree, 20, &[255; 60]);
+#[test]
+fn a_path_of_any_length_is_quoted(rt: HostRuntime) -> Result<(), AllocError> {
+    for count in [1, 63, 64, 65, 128, 1_000] {
+        expect_long_path(&rt, count)?;
+    }
+    expect_path(&rt, b"", b"\"/\"\n");
+    Ok(())
+}
+
+// A tree of the root alone, in an image of 4,096 inodes and so many data blocks.
+fn great_tree(alloc: Global, count: u16) -> Result<Tree, AllocError>
+    requires { count ≤ 7000 }
+{
+    let zeros = vec![in alloc; 0; 512 * (count as usize + 257)]?;
+    Ok(Store::empty(zeros, count + 257, 4_096, Version::V1).into_tree())
+}
+
+// A chain of so many directories below the root, each with this name.
+fn chain(rt: &impl Abort, alloc: Global, count: u16, name: &[u8]) -> Result<Tree, AllocError> {
+    let mut tree = great_tree(alloc, 1_100)?;
+    let mut directory = 1;
+    for _made in 0..count {
+        directory = make(rt, &mut tree, directory, name, Sort::Directory);
+    }
     Ok(tree)
 }
 
-#[test]
-fn a_path_may_be_longer_than_one_that_is_walked(rt: HostRuntime) -> Result<(), Fail> {
-    let tree = long_chain(&rt)?;
-    let mut piece = Vec::from_slice(rt.alloc(), b"/")?;
-    for _byte in 0..60 {
-        piece.extend_from_slice(b"\\xff")?;
-    }
-    let path = chain_path(rt.alloc(), 20, piece.as_slice())?;
-    let whole = listing_of(&rt, &tree);
-    assert!(rt; whole.ends_with(path.as_slice()));
-    assert!(rt; path.len() == 4_823);
+// The listing of a tree, all of it.
+fn listing_of<R: Abort + AllocGlobal>(rt: &R, tree: &Tree) -> Vec<u8> {
+    let (out, answer) = listed(rt, tree, 100_000_000, 100_000_000);
+    expect_same(rt, answer, Ok(()));
+    let Narrow { bytes, .. } = out;
+    bytes
+}
+
+// A chain of so many directories with one name, and its listing: the first lines, the piece of the last line's path for
+// each directory, and how many bytes that path has with its end of line.
+struct ChainListed {
+    count: u16,
+    name: &'static [u8],
+    first: &'static [u8],
+    piece: &'static [u8],
+    length: usize,
+}
+
+// A path may be longer than one that is walked.
+const LONG: ChainListed = ChainListed {
+    count: 20,
+    name: &[255; 60],
+    first: b"d 1 1 \"/\"\nd 2 1 \"/\\xff\\xff",
+    piece: LONG_PIECE,
+    length: 4_823,
+};
+
+// A name of 60 bytes as it is written.
+const LONG_PIECE: &[u8] =
+    b"/\\xff\\xff\\xff\\xff\\xff\\xff\\xff\\xff\\xff\\xff\\xff\\xff\\xff\\xff\\xff\\xff\\xff\\xff\\xff\\xff\\xff\\xff\\xff\\xff\\xff\\xff\\xff\\xff\\xff\\xff\\xff\\xff\\xff\\xff\\xff\\xff\\xff\\xff\\xff\\xff\\xff\\xff\\xff\\xff\\xff\\xff\\xff\\xff\\xff\\xff\\xff\\xff\\xff\\xff\\xff\\xff\\xff\\xff\\xff\\xff";
+
+const DEEP: ChainListed = ChainListed {
+    count: 1_000,
+    name: b"d",
+    first: b"d 1 1 \"/\"\nd 2 1 \"/d\"\nd 3 1 \"/d/d\"\n",
+    piece: b"/d",
+    length: 2_003,
+};
+
+// A listing begins with these lines, and has so many.
+fn expect_lines(rt: &impl Abort, listing: &[u8], first: &[u8], count: usize) {
+    expect(rt, listing.starts_with(first));
+    let lines = listing.iter().filter(|byte| **byte == b'\n').count();
+    expect_same(rt, lines, count);
+}
+
+// A listing ends with a path of so many equal pieces, which is written in so many bytes.
+fn expect_last_path(
+    rt: &impl Abort,
+    alloc: Global,
+    listing: &[u8],
+    count: usize,
+    piece: &[u8],
+    length: usize,
+) -> Result<(), AllocError> {
+    let path = quoted(alloc, count, piece)?;
+    expect(rt, listing.ends_with(path.as_slice()));
+    expect_same(rt, path.len(), length);
     Ok(())
 }
 
+fn expect_chain<R: Abort + AllocGlobal>(rt: &R, wanted: &ChainListed) -> Result<(), AllocError> {
+    let tree = chain(rt, rt.alloc(), wanted.count, wanted.name)?;
+    let listing = listing_of(rt, &tree);
+    let count = wanted.count as usize;
+    expect_lines(rt, &listing, wanted.first, count + 1);
+    expect_last_path(rt, rt.alloc(), &listing, count, wanted.piece, wanted.length)
+}
+
 #[test]
-fn a_full_sink_may_end_within_a_long_path(rt: HostRuntime) -> Result<(), Fail> {
+fn chains_of_directories_are_listed(rt: HostRuntime) -> Result<(), AllocError> {
+    expect_chain(&rt, &LONG)?;
+    expect_chain(&rt, &DEEP)
+}
+
+// A chain of 20 directories, whose names have 60 bytes of which each is written as four.
+fn long_chain<R: Abort + AllocGlobal>(rt: &R) -> Result<Tree, AllocError> {
+    chain(rt, rt.alloc(), 20, &[255; 60])
+}
+
+#[test]
+fn a_full_sink_may_end_within_a_long_path(rt: HostRuntime) -> Result<(), AllocError> {
     let tree = long_chain(&rt)?;
     let whole = listing_of(&rt, &tree);
     for room in [0, 4_095, 4_096, 4_097, 20_000] {
-        assert_beginning(&rt, &tree, room, 1_000_000, whole.as_slice());
+        expect_beginning(&rt, &tree, room, 1_000_000, &whole);
     }
     Ok(())
 }
 
+// A sink with memory for all that it is told.
+fn ready_sink<R: AllocGlobal>(rt: &R) -> Result<Narrow, AllocError> {
+    let mut out = sink_of(rt, 1_000_000, 1_000_000);
+    out.bytes.reserve(100_000)?;
+    Ok(out)
+}
+
 // What a sink has where memory may have been refused is a beginning of the whole listing, and all of it with `Ok`.
-fn assert_want_of_memory(
-    rt: &impl Abort,
-    listed: Result<(), ListStop>,
-    first: &Narrow,
-    whole: &Narrow,
-) {
-    assert!(rt; listed != Err(ListStop::Write));
-    assert!(rt; first.failures == 0);
-    assert!(rt; whole.bytes.starts_with(first.bytes.as_slice()));
-    assert!(rt; listed.is_err() == (first.bytes.len() < whole.bytes.len()));
+fn expect_part(rt: &impl Abort, listed: Result<(), ListStop>, first: &Narrow, whole: &Narrow) {
+    expect(rt, listed != Err(ListStop::Write));
+    expect_same(rt, first.failures, 0);
+    expect(rt, whole.bytes.starts_with(first.bytes.as_slice()));
+    let is_short = first.bytes.len() < whole.bytes.len();
+    expect_same(rt, listed.is_err(), is_short);
+}
+
+// An allocation that is refused once both sinks are ready, if any, is one for the first path.
+fn expect_want_of_memory<R: Abort + AllocGlobal>(rt: &R, tree: &Tree) -> Result<(), AllocError> {
+    let mut first = ready_sink(rt)?;
+    let mut whole = ready_sink(rt)?;
+    let listed = write_listing(rt.alloc(), tree, &mut first);
+    expect_same(rt, write_listing(rt.alloc(), tree, &mut whole), Ok(()));
+    expect_part(rt, listed, &first, &whole);
+    Ok(())
 }
 
 #[test]
-fn want_of_memory_leaves_a_beginning(rt: HostRuntime) -> Result<(), Fail> {
+fn want_of_memory_leaves_a_beginning(rt: HostRuntime) -> Result<(), AllocError> {
     let tree = long_chain(&rt)?;
-    let mut first = sink_of(&rt, 1_000_000, 1_000_000);
-    let mut whole = sink_of(&rt, 1_000_000, 1_000_000);
-    first.bytes.reserve(100_000)?;
-    whole.bytes.reserve(100_000)?;
-    // An allocation that is refused from here on, if any, is one for the first path.
-    let listed = write_listing(rt.alloc(), &tree, &mut first);
-    assert_eq!(rt; write_listing(rt.alloc(), &tree, &mut whole), Ok(()));
-    assert_want_of_memory(&rt, listed, &first, &whole);
-    Ok(())
-}
-
-#[test]
-fn a_deep_tree_is_listed(rt: HostRuntime) -> Result<(), Fail> {
-    let mut tree = great_tree(rt.alloc(), 1_100)?;
-    make_chain(&rt, &mut tree, 1_000, b"d");
-    let path = chain_path(rt.alloc(), 1_000, b"/d")?;
-    let whole = listing_of(&rt, &tree);
-    assert!(rt; whole.starts_with(b"d 1 1 \"/\"\nd 2 1 \"/d\"\nd 3 1 \"/d/d\"\n"));
-    assert!(rt; whole.ends_with(path.as_slice()));
-    assert!(rt; whole.iter().filter(|byte| **byte == b'\n').count() == 1_001);
-    Ok(())
+    expect_want_of_memory(&rt, &tree)
 }

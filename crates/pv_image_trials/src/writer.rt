@@ -1,14 +1,15 @@
 //! Images byte for byte.
 ghost use Rattle.std.specs.Prelude.{◌≤◌};
 
-use crate::bytes::assert_bytes;
-use crate::trees::{make, small_tree, write};
-use pv_model::{Kind, Version};
+use crate::answers::{expect, expect_equal, expect_same};
+use crate::bytes::{expect_pieces, put_all};
+use crate::trees::Step::{Make, Write};
+use crate::trees::{Step, tree_of};
+use pv_model::{Sort, Version};
 use pv_tree::{Store, Tree};
 use pv_writer::{needed_blocks, to_bytes, write_as};
 use std::alloc::{AllocError, Global};
 use std::process::Abort;
-use std::test::Fail;
 
 // A tree of the root alone, in an image of one inode and so many blocks.
 fn tree_of_one_inode(alloc: Global, blocks: u16) -> Result<Tree, AllocError>
@@ -17,6 +18,36 @@ fn tree_of_one_inode(alloc: Global, blocks: u16) -> Result<Tree, AllocError>
 {
     let zeros = vec![in alloc; 0; 512 * blocks as usize]?;
     Ok(Store::empty(zeros, blocks, 1, Version::V1).into_tree())
+}
+
+// The image of a tree has so many bytes, with these pieces among zeros.
+fn expect_whole(
+    rt: &impl Abort,
+    alloc: Global,
+    tree: &Tree,
+    length: usize,
+    pieces: &[(usize, &[u8])],
+) -> Result<(), AllocError> {
+    let mut wanted = vec![in alloc; 0; length]?;
+    put_all(&mut wanted, pieces);
+    let bytes = to_bytes(alloc, tree)?;
+    expect_equal(rt, &bytes, &wanted);
+    Ok(())
+}
+
+const SMALLEST: &[(usize, &[u8])] = &[(0, b"PVIMAGE1\x02\x00\x01\x00"), (512, b"\x01")];
+
+#[test]
+fn the_smallest_image_has_a_root(rt: HostRuntime) -> Result<(), AllocError> {
+    let tree = tree_of_one_inode(rt.alloc(), 2)?;
+    expect_whole(&rt, rt.alloc(), &tree, 1_024, SMALLEST)
+}
+
+// Holds a node that nothing has held.
+fn hold(rt: &impl Abort, tree: &mut Tree, node: u16) {
+    assert!(rt; tree.is_used(node));
+    assert!(rt; tree.holds(node) == 0);
+    tree.hold(node);
 }
 
 // Takes the name of a directory away.
@@ -28,10 +59,107 @@ fn unlink(rt: &impl Abort, tree: &mut Tree, directory: u16, name: &[u8]) {
     tree.unlink(directory, name);
 }
 
-// The bytes of an image of a tree of the first version, which needs so many blocks.
+const ROOT: &[(usize, &[u8])] = &[(0, b"PVIMAGE1\x08\x00\x10\x00"), (512, b"\x01")];
+
+#[test]
+fn a_held_node_without_a_name_is_not_written(rt: HostRuntime) -> Result<(), AllocError> {
+    let steps = &[Make(1, b"d", Sort::Directory, 2)];
+    let mut tree = tree_of(&rt, rt.alloc(), 6, steps)?;
+    hold(&rt, &mut tree, 2);
+    unlink(&rt, &mut tree, 1, b"d");
+    expect(&rt, tree.is_used(2));
+    expect_whole(&rt, rt.alloc(), &tree, 512 * 8, ROOT)
+}
+
+// What is put into a tree of version 1 with so many data blocks, how many it needs in an image of a version, and the
+// image.
+struct Image {
+    count: u16,
+    steps: &'static [Step<'static>],
+    version: Version,
+    need: u32,
+    length: usize,
+    pieces: &'static [(usize, &'static [u8])],
+}
+
+const A_DIRECTORY_AND_A_FILE: Image = Image {
+    count: 6,
+    steps: &[
+        Make(1, b"d", Sort::Directory, 2),
+        Make(1, b"file", Sort::File, 3),
+        Write(3, 0, b"some bytes"),
+    ],
+    version: Version::V1,
+    need: 2,
+    length: 512 * 8,
+    pieces: &[
+        (0, b"PVIMAGE1\x08\x00\x10\x00"),
+        (512, b"\x01\x00\x00\x00\x80\x00\x00\x00\x02\x00\x00"),
+        (544, b"\x01\x00\x01\x00\x00\x00\x00\x00\x00\x00"),
+        (576, b"\x02\x00\x01\x00\x0a\x00\x00\x00\x03\x00\x00"),
+        (1_024, b"\x02\x00\x01\x00d\x00"),
+        (1_088, b"\x03\x00\x04\x00file\x00"),
+        (1_536, b"some bytes\x00"),
+    ],
+};
+
+const TEN_BLOCKS: Image = Image {
+    count: 21,
+    steps: &[Make(1, b"f", Sort::File, 2), Write(2, 5_119, b"x")],
+    version: Version::V1,
+    need: 11,
+    length: 512 * 23,
+    pieces: &[
+        (544, b"\x02\x00\x01\x00\x00\x14\x00\x00\x03\x00\x04"),
+        (570, b"\x0c\x00\x00\x00\x00\x00"),
+        (512 * 13 - 1, b"x\x00"),
+    ],
+};
+
+// The eleventh block has its number in another.
+const ELEVEN_BLOCKS: Image = Image {
+    count: 21,
+    steps: &[
+        Make(1, b"f", Sort::File, 2),
+        Write(2, 5_119, b"x"),
+        Write(2, 5_120, b"y"),
+    ],
+    version: Version::V1,
+    need: 13,
+    length: 512 * 23,
+    pieces: &[
+        (544, b"\x02\x00\x01\x00\x01\x14\x00\x00\x03\x00\x04"),
+        (570, b"\x0c\x00\x0e\x00\x00\x00"),
+        (512 * 13 - 1, b"xy\x00"),
+        (512 * 14, b"\x0d\x00\x00\x00"),
+    ],
+};
+
+// Longer inodes and slots, in 30 blocks with 17 inodes.
+const SECOND: Image = Image {
+    count: 21,
+    steps: &[Make(1, b"f", Sort::File, 2), Write(2, 5_120, b"y")],
+    version: Version::V2,
+    need: 13,
+    length: 512 * 30,
+    pieces: &[
+        (0, b"PVIMAGE2\x1e\x00\x11\x00"),
+        (512, b"\x01\x00\x00\x00\x04\x01\x00\x00\x04\x00\x00"),
+        (576, b"\x02\x00\x00\x00\x01\x14\x00\x00\x05\x00\x06"),
+        (
+            604,
+            b"\x10\x00\x00\x00\x00\x00\x00\x00\x00\x00\x01\x00\x00\x00",
+        ),
+        (512 * 4, b"\x02\x00\x01\x00f\x00"),
+        (512 * 15, b"y\x00"),
+        (512 * 16, b"\x0f\x00\x00\x00"),
+    ],
+};
+
+// The bytes of the image of a tree, which needs so many blocks.
 fn written(rt: &impl Abort, alloc: Global, tree: &Tree, need: u32) -> Result<Vec<u8>, AllocError> {
     assert!(rt; tree.sizes().version == Version::V1);
-    assert_eq!(rt; needed_blocks(tree, Version::V1), need);
+    expect_same(rt, needed_blocks(tree, Version::V1), need);
     to_bytes(alloc, tree)
 }
 
@@ -47,132 +175,34 @@ fn rewritten(
     assert!(rt; sizes.version == Version::V1);
     assert!(rt; sizes.inodes <= 17);
     let needed = needed_blocks(tree, Version::V2);
-    assert_eq!(rt; needed, need);
+    expect_same(rt, needed, need);
     assert!(rt; needed <= 26);
     write_as(alloc, tree, Version::V2, 30, 17)
 }
 
-// All bytes but those of these places are zero.
-fn assert_zeros_but(rt: &impl Abort, bytes: &[u8], places: &[(usize, usize)]) {
-    for (at, byte) in bytes.iter().enumerate() {
-        assert!(rt; *byte == 0 || places.iter().any(|place| place.0 <= at && at < place.1));
+fn bytes_of(
+    rt: &impl Abort,
+    alloc: Global,
+    tree: &Tree,
+    image: &Image,
+) -> Result<Vec<u8>, AllocError> {
+    match image.version {
+        Version::V1 => written(rt, alloc, tree, image.need),
+        Version::V2 => rewritten(rt, alloc, tree, image.need),
     }
 }
 
-#[test]
-fn the_smallest_image_has_a_root(rt: HostRuntime) -> Result<(), Fail> {
-    let tree = tree_of_one_inode(rt.alloc(), 2)?;
-    let bytes = to_bytes(rt.alloc(), &tree)?;
-    assert_eq!(rt; bytes.len(), 1_024);
-    assert_bytes(&rt, &bytes, 0, b"PVIMAGE1\x02\x00\x01\x00");
-    assert_bytes(&rt, &bytes, 512, b"\x01");
-    assert_zeros_but(&rt, &bytes, &[(0, 12), (512, 513)]);
+fn expect_image(rt: &impl Abort, alloc: Global, image: &Image) -> Result<(), AllocError> {
+    let tree = tree_of(rt, alloc, image.count, image.steps)?;
+    let bytes = bytes_of(rt, alloc, &tree, image)?;
+    expect_pieces(rt, &bytes, image.length, image.pieces);
     Ok(())
 }
 
 #[test]
-fn a_directory_and_a_file_stand_in_slots(rt: HostRuntime) -> Result<(), Fail> {
-    let mut tree = small_tree(rt.alloc(), 6)?;
-    assert_eq!(rt; make(&rt, &mut tree, 1, b"d", Kind::Directory), 2);
-    assert_eq!(rt; make(&rt, &mut tree, 1, b"file", Kind::File), 3);
-    write(&rt, &mut tree, 3, 0, b"some bytes");
-    let bytes = to_bytes(rt.alloc(), &tree)?;
-    assert_eq!(rt; bytes.len(), 512 * 8);
-    assert_bytes(&rt, &bytes, 0, b"PVIMAGE1\x08\x00\x10\x00");
-    assert_bytes(
-        &rt,
-        &bytes,
-        512,
-        b"\x01\x00\x00\x00\x80\x00\x00\x00\x02\x00\x00",
-    );
-    assert_bytes(
-        &rt,
-        &bytes,
-        544,
-        b"\x01\x00\x01\x00\x00\x00\x00\x00\x00\x00",
-    );
-    assert_bytes(
-        &rt,
-        &bytes,
-        576,
-        b"\x02\x00\x01\x00\x0a\x00\x00\x00\x03\x00\x00",
-    );
-    assert_bytes(&rt, &bytes, 1_024, b"\x02\x00\x01\x00d\x00");
-    assert_bytes(&rt, &bytes, 1_088, b"\x03\x00\x04\x00file\x00");
-    assert_bytes(&rt, &bytes, 1_536, b"some bytes\x00");
-    Ok(())
-}
-
-#[test]
-fn a_held_node_without_a_name_is_not_written(rt: HostRuntime) -> Result<(), Fail> {
-    let mut tree = small_tree(rt.alloc(), 6)?;
-    assert_eq!(rt; make(&rt, &mut tree, 1, b"d", Kind::Directory), 2);
-    assert!(rt; tree.is_used(2));
-    assert!(rt; tree.holds(2) == 0);
-    tree.hold(2);
-    unlink(&rt, &mut tree, 1, b"d");
-    assert!(rt; tree.is_used(2));
-    let bytes = to_bytes(rt.alloc(), &tree)?;
-    assert_zeros_but(&rt, &bytes, &[(0, 12), (512, 513)]);
-    Ok(())
-}
-
-#[test]
-fn the_eleventh_block_has_its_number_in_another(rt: HostRuntime) -> Result<(), Fail> {
-    let mut tree = small_tree(rt.alloc(), 21)?;
-    assert_eq!(rt; make(&rt, &mut tree, 1, b"f", Kind::File), 2);
-    write(&rt, &mut tree, 2, 5_119, b"x");
-    let bytes = written(&rt, rt.alloc(), &tree, 11)?;
-    assert_bytes(
-        &rt,
-        &bytes,
-        544,
-        b"\x02\x00\x01\x00\x00\x14\x00\x00\x03\x00\x04",
-    );
-    assert_bytes(&rt, &bytes, 570, b"\x0c\x00\x00\x00\x00\x00");
-    assert_bytes(&rt, &bytes, 512 * 13 - 1, b"x\x00");
-    write(&rt, &mut tree, 2, 5_120, b"y");
-    let bytes = written(&rt, rt.alloc(), &tree, 13)?;
-    assert_bytes(
-        &rt,
-        &bytes,
-        544,
-        b"\x02\x00\x01\x00\x01\x14\x00\x00\x03\x00\x04",
-    );
-    assert_bytes(&rt, &bytes, 570, b"\x0c\x00\x0e\x00\x00\x00");
-    assert_bytes(&rt, &bytes, 512 * 13 - 1, b"xy\x00");
-    assert_bytes(&rt, &bytes, 512 * 14, b"\x0d\x00\x00\x00");
-    Ok(())
-}
-
-#[test]
-fn the_second_version_has_longer_inodes_and_slots(rt: HostRuntime) -> Result<(), Fail> {
-    let mut tree = small_tree(rt.alloc(), 21)?;
-    assert_eq!(rt; make(&rt, &mut tree, 1, b"f", Kind::File), 2);
-    write(&rt, &mut tree, 2, 5_120, b"y");
-    let bytes = rewritten(&rt, rt.alloc(), &tree, 13)?;
-    assert_eq!(rt; bytes.len(), 512 * 30);
-    assert_bytes(&rt, &bytes, 0, b"PVIMAGE2\x1e\x00\x11\x00");
-    assert_bytes(
-        &rt,
-        &bytes,
-        512,
-        b"\x01\x00\x00\x00\x04\x01\x00\x00\x04\x00\x00",
-    );
-    assert_bytes(
-        &rt,
-        &bytes,
-        576,
-        b"\x02\x00\x00\x00\x01\x14\x00\x00\x05\x00\x06",
-    );
-    assert_bytes(
-        &rt,
-        &bytes,
-        604,
-        b"\x10\x00\x00\x00\x00\x00\x00\x00\x00\x00\x01\x00\x00\x00",
-    );
-    assert_bytes(&rt, &bytes, 512 * 4, b"\x02\x00\x01\x00f\x00");
-    assert_bytes(&rt, &bytes, 512 * 15, b"y\x00");
-    assert_bytes(&rt, &bytes, 512 * 16, b"\x0f\x00\x00\x00");
+fn nodes_and_blocks_stand_in_their_places(rt: HostRuntime) -> Result<(), AllocError> {
+    for image in &[A_DIRECTORY_AND_A_FILE, TEN_BLOCKS, ELEVEN_BLOCKS, SECOND] {
+        expect_image(&rt, rt.alloc(), image)?;
+    }
     Ok(())
 }
