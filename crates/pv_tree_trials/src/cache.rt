@@ -37,6 +37,11 @@ fn expect_kept(
     expect_same(rt, lookup.kept(directory, name), expected);
 }
 
+// A lookup is told that a name of the root has changed.
+fn tell_changed(lookup: &mut CachedLookup, name: &[u8]) {
+    lookup.changed(1, name);
+}
+
 // What is asked of a lookup, and what that answers.
 #[derive(Clone, Copy)]
 enum Step<'a> {
@@ -99,7 +104,7 @@ fn expect_512_kept(
 
 #[test]
 fn a_cached_lookup_keeps_512_answers(rt: HostRuntime) -> Result<(), AllocError> {
-    let tree = with_64_inodes(rt.alloc(), 64)?;
+    let tree = with_64_inodes(rt.alloc())?;
     let mut lookup = CachedLookup::new(rt.alloc())?;
     look_for_absent(&rt, rt.alloc(), &tree, &mut lookup)?;
     expect_512_kept(&rt, rt.alloc(), &lookup)
@@ -127,12 +132,12 @@ const WALKED: &[Step] = &[
 
 #[test]
 fn a_cached_lookup_forgets_what_changed(rt: HostRuntime) -> Result<(), AllocError> {
-    let mut tree = with_64_inodes(rt.alloc(), 64)?;
+    let mut tree = with_64_inodes(rt.alloc())?;
     expect_make(&rt, &mut tree, 1, b"f", Kind::File, Ok(2));
     let mut lookup = CachedLookup::new(rt.alloc())?;
     expect_resolved(&rt, &tree, &mut lookup, 2);
     expect_steps(&rt, &tree, &mut lookup, WALKED);
-    lookup.changed(1, b"f");
+    tell_changed(&mut lookup, b"f");
     expect_kept(&rt, &lookup, 1, b"f", None);
     expect_kept(&rt, &lookup, 1, b"g", Some(None));
     Ok(())
@@ -152,10 +157,10 @@ const LONG_NAMES: &[Step] = &[
 
 #[test]
 fn a_long_name_goes_past_the_cache(rt: HostRuntime) -> Result<(), AllocError> {
-    let tree = with_64_inodes(rt.alloc(), 64)?;
+    let tree = with_64_inodes(rt.alloc())?;
     let mut lookup = CachedLookup::new(rt.alloc())?;
     expect_steps(&rt, &tree, &mut lookup, LONG_NAMES);
-    lookup.changed(1, LONGER);
+    tell_changed(&mut lookup, LONGER);
     expect_kept(&rt, &lookup, 1, LONG, Some(None));
     Ok(())
 }

@@ -1,5 +1,5 @@
 //! Open files with several users, and the numbers of descriptors.
-use crate::answers::expect_same;
+use crate::answers::{expect_name, expect_same};
 use pv_files::{Descriptors, OpenFiles};
 use pv_model::{Errno, Mode, Name};
 use std::alloc::{AllocError, AllocGlobal};
@@ -58,7 +58,7 @@ fn set_last_name(rt: &impl Abort, files: &mut OpenFiles, file: usize, text: &[u8
 
 fn expect_last_name(rt: &impl Abort, files: &OpenFiles, file: usize, text: Option<&[u8]>) {
     assert!(rt; files.is_open(file));
-    assert!(rt; files.last_name(file).map(|name| name.as_slice()) == text);
+    expect_name(rt, files.last_name(file), text);
 }
 
 // What is done to open files or asked of them, and what that answers.

@@ -62,7 +62,7 @@ fn expect_paths<R: Abort + AllocGlobal>(
     start: u16,
     walks: &[(&[u8], Follow, Expected)],
 ) -> Result<(), AllocError> {
-    let mut tree = with_64_inodes(rt.alloc(), 64)?;
+    let mut tree = with_64_inodes(rt.alloc())?;
     make_all(rt, &mut tree, nodes);
     expect_walks(rt, &tree, start, walks);
     Ok(())
@@ -123,7 +123,7 @@ fn expect_long_links<R: Abort + AllocGlobal>(
     links: &[LongLink],
     walks: &[(&[u8], Follow, Expected)],
 ) -> Result<(), AllocError> {
-    let mut tree = with_64_inodes(rt.alloc(), 64)?;
+    let mut tree = with_64_inodes(rt.alloc())?;
     for &link in links {
         make_long_link(rt, rt.alloc(), &mut tree, link)?;
     }
@@ -285,7 +285,7 @@ const CHAINED: &[(&[u8], Follow, Expected)] = &[
 
 #[test]
 fn a_walk_follows_32_links(rt: HostRuntime) -> Result<(), AllocError> {
-    let mut tree = with_64_inodes(rt.alloc(), 64)?;
+    let mut tree = with_64_inodes(rt.alloc())?;
     make_chain(&rt, &mut tree);
     make_all(&rt, &mut tree, TO_ITSELF);
     expect_walks(&rt, &tree, 1, CHAINED);
@@ -392,7 +392,7 @@ const REMOVED: &[(&[u8], Follow, Expected)] = &[
 
 #[test]
 fn a_removed_directory_has_no_names(rt: HostRuntime) -> Result<(), AllocError> {
-    let mut tree = with_64_inodes(rt.alloc(), 64)?;
+    let mut tree = with_64_inodes(rt.alloc())?;
     expect_make(&rt, &mut tree, 1, b"d", Kind::Directory, Ok(2));
     hold(&rt, &mut tree, 2);
     remove_directory(&rt, &mut tree, 1, b"d");
@@ -414,7 +414,7 @@ fn expect_look(
 
 #[test]
 fn a_plain_lookup_asks_the_tree(rt: HostRuntime) -> Result<(), AllocError> {
-    let mut tree = with_64_inodes(rt.alloc(), 64)?;
+    let mut tree = with_64_inodes(rt.alloc())?;
     let mut lookup = PlainLookup;
     expect_look(&rt, &tree, &mut lookup, b"f", None);
     expect_make(&rt, &mut tree, 1, b"f", Kind::File, Ok(2));

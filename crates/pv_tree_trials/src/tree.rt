@@ -1,11 +1,11 @@
 //! Whole runs of calls on a tree.
 ghost use Rattle.std.specs.Prelude.{◌≤◌};
 
-use crate::answers::{expect_equal, expect_same};
+use crate::answers::{expect_equal, expect_name, expect_same};
 use crate::trees::{
     expect_find, expect_make, expect_new, hold, of_version_2, remove_directory, with_data_blocks,
 };
-use pv_model::{Kind, Name, Sort, is_name};
+use pv_model::{Kind, Sort, is_name};
 use pv_tree::{Space, Tree};
 use std::alloc::{AllocError, AllocGlobal};
 use std::process::Abort;
@@ -100,8 +100,8 @@ fn expect_next(
     name: Option<&[u8]>,
 ) {
     assert!(rt; tree.is_directory(directory));
-    let next: Option<Name> = tree.next_after(directory, last);
-    assert!(rt; next.as_ref().map(|next| next.as_slice()) == name);
+    let next = tree.next_after(directory, last);
+    expect_name(rt, next.as_ref(), name);
 }
 
 // The names of a directory are these, in this order, and all of them.
@@ -462,7 +462,7 @@ const LONG_NAMES: &[Step] = &[
 
 #[test]
 fn names_of_version_2_have_255_bytes(rt: HostRuntime) -> Result<(), AllocError> {
-    let mut tree = of_version_2(rt.alloc(), 20)?;
+    let mut tree = of_version_2(rt.alloc())?;
     expect_steps(&rt, &mut tree, LONG_NAMES);
     Ok(())
 }

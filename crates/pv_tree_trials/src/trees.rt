@@ -1,7 +1,8 @@
 //! Trees to try, and what is done to them.
-ghost use Rattle.std.specs.Prelude.{◌≡◌, ◌≤◌, ◌==◌, not, nat_lt, length, IsTrue, None};
+ghost use Rattle.std.specs.Prelude.{◌≡◌, ◌+◌, ◌≤◌, ◌==◌, not, nat_lt, length, IsTrue, None};
 ghost use Rattle.std.specs.List.{list_all};
 ghost use Rattle.pv_model.specs.declared.version.Version.{Version};
+ghost use Rattle.pv_model.specs.Image.{inode_blocks, greatest_blocks};
 ghost use Rattle.pv_model.specs.Tree.{is_name, is_node, is_link_text, find_entry};
 ghost use Rattle.pv_tree.specs.Changes.{new_node};
 ghost use Rattle.pv_tree_laws.specs.Tree.{Stands};
@@ -12,30 +13,32 @@ use pv_tree::{Space, Store, Tree};
 use std::alloc::{AllocError, Global};
 use std::process::Abort;
 
+// A tree of the root alone, in an image of a version, of so many blocks and inodes.
+fn empty(alloc: Global, blocks: u16, inodes: u16, version: Version) -> Result<Tree, AllocError>
+    requires some_inodes { 1 ≤ inodes }
+    requires few_inodes { inodes ≤ 64 }
+    requires some_blocks { inode_blocks version inodes + 1 ≤ blocks }
+    requires few_blocks { blocks ≤ greatest_blocks version }
+{
+    let zeros = vec![in alloc; 0; 512 * blocks as usize]?;
+    Ok(Store::empty(zeros, blocks, inodes, version).into_tree())
+}
+
 // A tree of the root alone, in an image of version 1, of 16 inodes and so many data blocks.
 pub(crate) fn with_data_blocks(alloc: Global, count: u16) -> Result<Tree, AllocError>
     requires { count ≤ 8000 }
 {
-    let zeros = vec![in alloc; 0; 512 * (count as usize + 2)]?;
-    Ok(Store::empty(zeros, count + 2, 16, Version::V1).into_tree())
+    empty(alloc, count + 2, 16, Version::V1)
 }
 
-// A tree of the root alone, in an image of version 2, of 16 inodes and so many blocks.
-pub(crate) fn of_version_2(alloc: Global, blocks: u16) -> Result<Tree, AllocError>
-    requires some { 8 ≤ blocks }
-    requires few { blocks ≤ 8000 }
-{
-    let zeros = vec![in alloc; 0; 512 * blocks as usize]?;
-    Ok(Store::empty(zeros, blocks, 16, Version::V2).into_tree())
+// A tree of the root alone, in an image of version 2, of 16 inodes and 20 blocks.
+pub(crate) fn of_version_2(alloc: Global) -> Result<Tree, AllocError> {
+    empty(alloc, 20, 16, Version::V2)
 }
 
-// A tree of the root alone, in an image of version 1, of 64 inodes and so many blocks.
-pub(crate) fn with_64_inodes(alloc: Global, blocks: u16) -> Result<Tree, AllocError>
-    requires some { 8 ≤ blocks }
-    requires few { blocks ≤ 100 }
-{
-    let zeros = vec![in alloc; 0; 512 * blocks as usize]?;
-    Ok(Store::empty(zeros, blocks, 64, Version::V1).into_tree())
+// A tree of the root alone, in an image of version 1, of 64 inodes and 64 blocks.
+pub(crate) fn with_64_inodes(alloc: Global) -> Result<Tree, AllocError> {
+    empty(alloc, 64, 64, Version::V1)
 }
 
 // Whether a link's text would be too long.

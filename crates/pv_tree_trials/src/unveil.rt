@@ -255,7 +255,7 @@ const BY_GREATEST_NAMES: &[Step] = &[
 
 #[test]
 fn judges_by_a_name_of_version_2(rt: HostRuntime) -> Result<(), AllocError> {
-    let mut tree = of_version_2(rt.alloc(), 20)?;
+    let mut tree = of_version_2(rt.alloc())?;
     make_all(&rt, &mut tree, GREATEST_NAMES);
     expect_steps(&rt, &mut Table::new(), &tree, BY_GREATEST_NAMES);
     Ok(())
