@@ -1,7 +1,21 @@
 //! Answers compared with what is wanted.
+use pv_model::Name;
 use std::fmt::Debug;
 use std::process::Abort;
 
 pub fn expect_same<T: Copy + Debug + PartialEq>(rt: &impl Abort, answer: T, wanted: T) {
     assert_eq!(rt; answer, wanted);
+}
+
+pub fn expect_equal(rt: &impl Abort, bytes: &[u8], others: &[u8]) {
+    assert_eq!(rt; bytes, others);
+}
+
+// A name is this one, or there is none.
+pub fn expect_name(rt: &impl Abort, name: Option<&Name>, wanted: Option<&[u8]>) {
+    match (name, wanted) {
+        (Some(name), Some(wanted)) => expect_equal(rt, name.as_slice(), wanted),
+        (None, None) => {}
+        _ => panic!(rt; "a name is missing, or one is there that is not wanted"),
+    }
 }

@@ -1,23 +1,15 @@
 //! What the cache keeps and what it forgets.
-ghost use Rattle.std.specs.Prelude.{◌≡◌, vec_len, IfOk};
 ghost use Rattle.pv_cache.specs.Cached.{FitsMap};
 ghost use Rattle.pv_model.specs.Tree.{find_entry};
 
 use crate::answers::expect_same;
-use crate::trees::{make_file, with_64_inodes};
+use crate::trees::{expect_make, with_64_inodes};
 use pv_cache::CachedLookup;
-use pv_model::{Follow, Place};
+use pv_model::{Follow, Kind, Place};
 use pv_namei::{Lookup, resolve};
 use pv_tree::Tree;
 use std::alloc::{AllocError, Global};
 use std::process::Abort;
-
-// The byte `a`, so many times.
-fn repeated(alloc: Global, length: usize) -> Result<Vec<u8>, AllocError>
-    ensures { IfOk result (λ bytes. vec_len bytes ≡ length) }
-{
-    vec![in alloc; b'a'; length]
-}
 
 // What is looked up in the root.
 fn expect_look(
@@ -35,7 +27,7 @@ fn expect_look(
 }
 
 // What is kept of a directory and a name.
-fn expect_answer(
+fn expect_kept(
     rt: &impl Abort,
     lookup: &CachedLookup,
     directory: u16,
@@ -43,6 +35,41 @@ fn expect_answer(
     expected: Option<Option<u16>>,
 ) {
     expect_same(rt, lookup.kept(directory, name), expected);
+}
+
+// A lookup is told that a name of the root has changed.
+fn tell_changed(lookup: &mut CachedLookup, name: &[u8]) {
+    lookup.changed(1, name);
+}
+
+// What is asked of a lookup, and what that answers.
+#[derive(Clone, Copy)]
+enum Step<'a> {
+    // A name is looked up in the root.
+    Look(&'a [u8], Option<u16>),
+    // This or nothing is kept of a directory and a name.
+    Kept(u16, &'a [u8], Option<Option<u16>>),
+}
+
+use Step::{Kept, Look};
+
+fn expect_step(rt: &impl Abort, tree: &Tree, lookup: &mut CachedLookup, step: Step)
+    requires { FitsMap lookup.old.answers (find_entry tree.now.tree) }
+    ensures { FitsMap lookup.new.answers (find_entry tree.now.tree) }
+{
+    match step {
+        Look(name, answer) => expect_look(rt, tree, lookup, name, answer),
+        Kept(directory, name, expected) => expect_kept(rt, lookup, directory, name, expected),
+    }
+}
+
+// Steps are taken in turn.
+fn expect_steps(rt: &impl Abort, tree: &Tree, lookup: &mut CachedLookup, steps: &[Step])
+    requires agrees { FitsMap lookup.old.answers (find_entry tree.now.tree) }
+{
+    for &step in steps {
+        expect_step(rt, tree, lookup, step);
+    }
 }
 
 // Looks up names that the root has not, once each: n and a number below 600.
@@ -61,31 +88,26 @@ fn look_for_absent(
     Ok(())
 }
 
-// Compares what is kept of such a name.
-fn expect_kept(
+// The last 512 of these names are kept, and no others.
+fn expect_512_kept(
     rt: &impl Abort,
     alloc: Global,
     lookup: &CachedLookup,
-    number: u16,
-    expected: Option<Option<u16>>,
 ) -> Result<(), AllocError> {
-    let name = format!(in alloc; "n{number}")?;
-    expect_answer(rt, lookup, 1, name.as_bytes(), expected);
+    for number in 0..600 {
+        let name = format!(in alloc; "n{number}")?;
+        let expected = if number < 88 { None } else { Some(None) };
+        expect_kept(rt, lookup, 1, name.as_bytes(), expected);
+    }
     Ok(())
 }
 
 #[test]
 fn a_cached_lookup_keeps_512_answers(rt: HostRuntime) -> Result<(), AllocError> {
-    let tree = with_64_inodes(rt.alloc(), 64)?;
+    let tree = with_64_inodes(rt.alloc())?;
     let mut lookup = CachedLookup::new(rt.alloc())?;
     look_for_absent(&rt, rt.alloc(), &tree, &mut lookup)?;
-    for number in 0..88 {
-        expect_kept(&rt, rt.alloc(), &lookup, number, None)?;
-    }
-    for number in 88..600 {
-        expect_kept(&rt, rt.alloc(), &lookup, number, Some(None))?;
-    }
-    Ok(())
+    expect_512_kept(&rt, rt.alloc(), &lookup)
 }
 
 // A walk from the root to /f.
@@ -98,35 +120,47 @@ fn expect_resolved(rt: &impl Abort, tree: &Tree, lookup: &mut CachedLookup, f: u
     assert!(rt; matches!(walked, Ok(Place::At { node: Some(node), .. }) if node == f));
 }
 
+// What is asked once /f, which is 2, was walked to.
+const WALKED: &[Step] = &[
+    Kept(1, b"f", Some(Some(2))),
+    Look(b"f", Some(2)),
+    Look(b"g", None),
+    Kept(1, b"f", Some(Some(2))),
+    Kept(1, b"g", Some(None)),
+    Kept(2, b"f", None),
+];
+
 #[test]
 fn a_cached_lookup_forgets_what_changed(rt: HostRuntime) -> Result<(), AllocError> {
-    let mut tree = with_64_inodes(rt.alloc(), 64)?;
-    let f = make_file(&rt, &mut tree, 1, b"f");
+    let mut tree = with_64_inodes(rt.alloc())?;
+    expect_make(&rt, &mut tree, 1, b"f", Kind::File, Ok(2));
     let mut lookup = CachedLookup::new(rt.alloc())?;
-    expect_resolved(&rt, &tree, &mut lookup, f);
-    expect_answer(&rt, &lookup, 1, b"f", Some(Some(f)));
-    expect_look(&rt, &tree, &mut lookup, b"f", Some(f));
-    expect_look(&rt, &tree, &mut lookup, b"g", None);
-    expect_answer(&rt, &lookup, 1, b"f", Some(Some(f)));
-    expect_answer(&rt, &lookup, 1, b"g", Some(None));
-    expect_answer(&rt, &lookup, 2, b"f", None);
-    lookup.changed(1, b"f");
-    expect_answer(&rt, &lookup, 1, b"f", None);
-    expect_answer(&rt, &lookup, 1, b"g", Some(None));
+    expect_resolved(&rt, &tree, &mut lookup, 2);
+    expect_steps(&rt, &tree, &mut lookup, WALKED);
+    tell_changed(&mut lookup, b"f");
+    expect_kept(&rt, &lookup, 1, b"f", None);
+    expect_kept(&rt, &lookup, 1, b"g", Some(None));
     Ok(())
 }
 
+// The longest name that is kept, and one that is longer.
+const LONG: &[u8] = &[b'a'; 255];
+
+const LONGER: &[u8] = &[b'a'; 256];
+
+const LONG_NAMES: &[Step] = &[
+    Look(LONGER, None),
+    Look(LONG, None),
+    Kept(1, LONGER, None),
+    Kept(1, LONG, Some(None)),
+];
+
 #[test]
 fn a_long_name_goes_past_the_cache(rt: HostRuntime) -> Result<(), AllocError> {
-    let tree = with_64_inodes(rt.alloc(), 64)?;
+    let tree = with_64_inodes(rt.alloc())?;
     let mut lookup = CachedLookup::new(rt.alloc())?;
-    let longer = repeated(rt.alloc(), 256)?;
-    let (long, _) = longer.split_at(255);
-    expect_look(&rt, &tree, &mut lookup, &longer, None);
-    expect_look(&rt, &tree, &mut lookup, long, None);
-    expect_answer(&rt, &lookup, 1, &longer, None);
-    expect_answer(&rt, &lookup, 1, long, Some(None));
-    lookup.changed(1, &longer);
-    expect_answer(&rt, &lookup, 1, long, Some(None));
+    expect_steps(&rt, &tree, &mut lookup, LONG_NAMES);
+    tell_changed(&mut lookup, LONGER);
+    expect_kept(&rt, &lookup, 1, LONG, Some(None));
     Ok(())
 }

@@ -1,14 +1,12 @@
 //! Walks in small trees.
-ghost use Rattle.std.specs.Prelude.{◌≡◌, ◌≤◌, ◌==◌, not, nat_lt, length, vec_len, IsTrue, IfOk};
-ghost use Rattle.std.specs.List.{list_all};
-ghost use Rattle.pv_model.specs.Tree.{is_link_text};
+ghost use Rattle.std.specs.Prelude.{◌≤◌};
 
 use crate::answers::expect_same;
-use crate::trees::{expect_new, hold, make_file, remove_directory, with_64_inodes};
+use crate::trees::{expect_make, hold, make_all, remove_directory, with_64_inodes};
 use pv_model::{Errno, Follow, Kind, Place};
 use pv_namei::{Lookup, PlainLookup, resolve};
 use pv_tree::Tree;
-use std::alloc::{AllocError, Global};
+use std::alloc::{AllocError, AllocGlobal, Global};
 use std::process::Abort;
 
 // What a walk is to answer.
@@ -24,51 +22,15 @@ enum Expected<'a> {
 
 use Expected::{At, Fault, Node};
 
-// Whether a link's text would be too long.
-fn is_long_text(text: &[u8]) -> bool
-    ensures { result ≡ nat_lt 1023 (length text.now) }
-{
-    text.len() > 1_023
-}
-
-// Whether each byte may stand in a link's text.
-fn has_text_bytes(text: &[u8]) -> bool
-    ensures { result ≡ list_all (λ b. not (b == 0)) text.now }
-{
-    text.iter().all(|b| *b != 0)
-}
-
-// Whether bytes are a link's text.
-fn is_link_text(text: &[u8]) -> bool
-    ensures { IsTrue result → IsTrue (is_link_text text.now) }
-{
-    if text.is_empty() || is_long_text(text) {
-        return false;
-    }
-    has_text_bytes(text)
-}
-
-// So many equal bytes.
-fn repeated(alloc: Global, byte: u8, length: usize) -> Result<Vec<u8>, AllocError>
-    ensures { IfOk result (λ bytes. vec_len bytes ≡ length) }
-{
-    vec![in alloc; byte; length]
-}
-
-fn make_directory(rt: &impl Abort, tree: &mut Tree, directory: u16, name: &[u8]) -> u16 {
-    expect_new(rt, tree, directory, name);
-    match tree.make(directory, name, Kind::Directory) {
-        Ok(node) => node,
-        Err(_) => panic!(rt; "the image has no room"),
-    }
-}
-
-fn make_link(rt: &impl Abort, tree: &mut Tree, directory: u16, name: &[u8], text: &[u8]) -> u16 {
-    expect_new(rt, tree, directory, name);
-    assert!(rt; is_link_text(text));
-    match tree.make(directory, name, Kind::Symlink(text)) {
-        Ok(node) => node,
-        Err(_) => panic!(rt; "the image has no room"),
+// Whether a walk ended so.
+fn is_expected(walked: &Result<Place, Errno>, expected: Expected) -> bool {
+    match (walked, expected) {
+        (Ok(Place::At { dir, name, node }), At(directory, text, there)) => {
+            *dir == directory && name.as_slice() == text && *node == there
+        }
+        (Ok(Place::Node(node)), Node(there)) => *node == there,
+        (Err(fault), Fault(why)) => *fault == why,
+        _ => false,
     }
 }
 
@@ -82,44 +44,8 @@ fn expect_walk(
     expected: Expected,
 ) {
     assert!(rt; tree.is_directory(start));
-    let same = match (
-        resolve(tree, &mut PlainLookup, start, path, follow),
-        expected,
-    ) {
-        (Ok(Place::At { dir, name, node }), At(directory, text, there)) => {
-            dir == directory && name.as_slice() == text && node == there
-        }
-        (Ok(Place::Node(node)), Node(there)) => node == there,
-        (Err(fault), Fault(why)) => fault == why,
-        _ => false,
-    };
-    assert!(rt; same);
-}
-
-// What is made in a directory, with its name, its node and, of a link, its text.
-#[derive(Clone, Copy)]
-enum Made<'a> {
-    File(u16, &'a [u8], u16),
-    Directory(u16, &'a [u8], u16),
-    Link(u16, &'a [u8], u16, &'a [u8]),
-}
-
-use Made::{Directory, File, Link};
-
-fn make(rt: &impl Abort, tree: &mut Tree, made: Made) {
-    match made {
-        File(dir, name, node) => expect_same(rt, make_file(rt, tree, dir, name), node),
-        Directory(dir, name, node) => expect_same(rt, make_directory(rt, tree, dir, name), node),
-        Link(dir, name, node, text) => {
-            expect_same(rt, make_link(rt, tree, dir, name, text), node);
-        }
-    }
-}
-
-fn make_all(rt: &impl Abort, tree: &mut Tree, all: &[Made]) {
-    for &made in all {
-        make(rt, tree, made);
-    }
+    let walked = resolve(tree, &mut PlainLookup, start, path, follow);
+    assert!(rt; is_expected(&walked, expected));
 }
 
 // Walks from one place, each compared.
@@ -129,11 +55,24 @@ fn expect_walks(rt: &impl Abort, tree: &Tree, start: u16, walks: &[(&[u8], Follo
     }
 }
 
-const FOUR_NODES: &[Made] = &[
-    File(1, b"f", 2),
-    Directory(1, b"d", 3),
-    Link(1, b"l", 4, b"d"),
-    Link(1, b"m", 5, b"f/"),
+// Walks from one place of a tree of these nodes.
+fn expect_paths<R: Abort + AllocGlobal>(
+    rt: &R,
+    nodes: &[(u16, &[u8], Kind, u16)],
+    start: u16,
+    walks: &[(&[u8], Follow, Expected)],
+) -> Result<(), AllocError> {
+    let mut tree = with_64_inodes(rt.alloc())?;
+    make_all(rt, &mut tree, nodes);
+    expect_walks(rt, &tree, start, walks);
+    Ok(())
+}
+
+const FOUR_NODES: &[(u16, &[u8], Kind, u16)] = &[
+    (1, b"f", Kind::File, 2),
+    (1, b"d", Kind::Directory, 3),
+    (1, b"l", Kind::Symlink(b"d"), 4),
+    (1, b"m", Kind::Symlink(b"f/"), 5),
 ];
 
 const ENDS: &[(&[u8], Follow, Expected)] = &[
@@ -153,45 +92,90 @@ const ENDS: &[(&[u8], Follow, Expected)] = &[
 
 #[test]
 fn ends_of_paths(rt: HostRuntime) -> Result<(), AllocError> {
-    let mut tree = with_64_inodes(rt.alloc(), 64)?;
-    make_all(&rt, &mut tree, FOUR_NODES);
-    expect_walks(&rt, &tree, 1, ENDS);
+    expect_paths(&rt, FOUR_NODES, 1, ENDS)
+}
+
+// A link in the root: its name, its number, and its text, which is a piece so many times and then an end.
+#[derive(Clone, Copy)]
+struct LongLink<'a> {
+    name: &'a [u8],
+    node: u16,
+    piece: &'a [u8],
+    count: usize,
+    end: &'a [u8],
+}
+
+fn make_long_link(
+    rt: &impl Abort,
+    alloc: Global,
+    tree: &mut Tree,
+    link: LongLink,
+) -> Result<(), AllocError> {
+    let mut text = link.piece.repeat(alloc, link.count)?;
+    text.extend_from_slice(link.end)?;
+    expect_make(rt, tree, 1, link.name, Kind::Symlink(&text), Ok(link.node));
     Ok(())
 }
+
+// Walks from the root of a tree that has these links alone.
+fn expect_long_links<R: Abort + AllocGlobal>(
+    rt: &R,
+    links: &[LongLink],
+    walks: &[(&[u8], Follow, Expected)],
+) -> Result<(), AllocError> {
+    let mut tree = with_64_inodes(rt.alloc())?;
+    for &link in links {
+        make_long_link(rt, rt.alloc(), &mut tree, link)?;
+    }
+    expect_walks(rt, &tree, 1, walks);
+    Ok(())
+}
+
+// A link of 975 bytes: 60 of them stand before, between and behind 15 slashes.
+const LINK_OF_975: &[LongLink] = &[LongLink {
+    name: b"k",
+    node: 2,
+    piece: b"nnnnnnnnnnnnnnnnnnnnnnnnnnnnnnnnnnnnnnnnnnnnnnnnnnnnnnnnnnnn/",
+    count: 15,
+    end: &[b'n'; 60],
+}];
+
+// Behind the link stand 48 bytes with their slash, and then 49.
+const LEFT: &[(&[u8], Follow, Expected)] = &[
+    (
+        b"/k/aaaaaaaaaabbbbbbbbbbccccccccccddddddddddeeeeeee",
+        Follow::Last,
+        Fault(Errno::ENOENT),
+    ),
+    (
+        b"/k/aaaaaaaaaabbbbbbbbbbccccccccccddddddddddeeeeeeee",
+        Follow::Last,
+        Fault(Errno::ENAMETOOLONG),
+    ),
+];
 
 #[test]
 fn a_link_leaves_1024_bytes_to_walk(rt: HostRuntime) -> Result<(), AllocError> {
-    let mut tree = with_64_inodes(rt.alloc(), 64)?;
-    let mut text = repeated(rt.alloc(), b'n', 975)?;
-    for k in 0..15 {
-        text[61 * k + 60] = b'/';
-    }
-    make_link(&rt, &mut tree, 1, b"k", &text);
-    let path = b"/k/aaaaaaaaaabbbbbbbbbbccccccccccddddddddddeeeeeeee";
-    let (short, _) = path.split_at(50);
-    expect_walk(&rt, &tree, 1, short, Follow::Last, Fault(Errno::ENOENT));
-    expect_walk(
-        &rt,
-        &tree,
-        1,
-        path,
-        Follow::Last,
-        Fault(Errno::ENAMETOOLONG),
-    );
-    Ok(())
+    expect_long_links(&rt, LINK_OF_975, LEFT)
 }
 
 // Links of 978 and of 977 bytes, of which every other one is a dot.
-fn make_dotted(rt: &impl Abort, alloc: Global, tree: &mut Tree) -> Result<(), AllocError> {
-    let mut text = repeated(alloc, b'.', 978)?;
-    for k in 0..489 {
-        text[2 * k + 1] = b'/';
-    }
-    make_link(rt, tree, 1, b"k", &text);
-    let (unended, _) = text.split_at(977);
-    make_link(rt, tree, 1, b"u", unended);
-    Ok(())
-}
+const DOTTED_LINKS: &[LongLink] = &[
+    LongLink {
+        name: b"k",
+        node: 2,
+        piece: b"./",
+        count: 489,
+        end: b"",
+    },
+    LongLink {
+        name: b"u",
+        node: 3,
+        piece: b"./",
+        count: 488,
+        end: b".",
+    },
+];
 
 // Behind each link stand 45 bytes, and then 46.
 const WEIGHED: &[(&[u8], Follow, Expected)] = &[
@@ -219,18 +203,15 @@ const WEIGHED: &[(&[u8], Follow, Expected)] = &[
 
 #[test]
 fn pieces_behind_a_link_weigh_at_most_1024(rt: HostRuntime) -> Result<(), AllocError> {
-    let mut tree = with_64_inodes(rt.alloc(), 64)?;
-    make_dotted(&rt, rt.alloc(), &mut tree)?;
-    expect_walks(&rt, &tree, 1, WEIGHED);
-    Ok(())
+    expect_long_links(&rt, DOTTED_LINKS, WEIGHED)
 }
 
-const DOTTED_NODES: &[Made] = &[
-    Directory(1, b"tmp", 2),
-    Directory(1, b"etc", 3),
-    File(3, b"motd", 4),
-    Link(2, b"l", 5, b"/etc/motd"),
-    Link(2, b"e", 6, b"../etc"),
+const DOTTED_NODES: &[(u16, &[u8], Kind, u16)] = &[
+    (1, b"tmp", Kind::Directory, 2),
+    (1, b"etc", Kind::Directory, 3),
+    (3, b"motd", Kind::File, 4),
+    (2, b"l", Kind::Symlink(b"/etc/motd"), 5),
+    (2, b"e", Kind::Symlink(b"../etc"), 6),
 ];
 
 const DOTTED_FROM_ROOT: &[(&[u8], Follow, Expected)] = &[
@@ -248,11 +229,8 @@ const DOTTED_FROM_TMP: &[(&[u8], Follow, Expected)] = &[
 
 #[test]
 fn dots_and_links_lead_through_the_tree(rt: HostRuntime) -> Result<(), AllocError> {
-    let mut tree = with_64_inodes(rt.alloc(), 64)?;
-    make_all(&rt, &mut tree, DOTTED_NODES);
-    expect_walks(&rt, &tree, 1, DOTTED_FROM_ROOT);
-    expect_walks(&rt, &tree, 2, DOTTED_FROM_TMP);
-    Ok(())
+    expect_paths(&rt, DOTTED_NODES, 1, DOTTED_FROM_ROOT)?;
+    expect_paths(&rt, DOTTED_NODES, 2, DOTTED_FROM_TMP)
 }
 
 // The name of a link of a chain.
@@ -262,80 +240,94 @@ fn link_name(k: u8) -> [u8; 3]
     [b'l', b'0' + k / 10, b'0' + k % 10]
 }
 
+const CHAIN_ENDS: &[(u16, &[u8], Kind, u16)] = &[
+    (1, b"f", Kind::File, 2),
+    (1, b"l32", Kind::Symlink(b"f"), 3),
+];
+
 // Each link leads to the next, and the last one to /f.
 fn make_chain(rt: &impl Abort, tree: &mut Tree) {
-    make_link(rt, tree, 1, b"l32", b"f");
+    make_all(rt, tree, CHAIN_ENDS);
     for k in 0..32u8 {
-        make_link(rt, tree, 1, &link_name(k), &link_name(k + 1));
+        let next = link_name(k + 1);
+        expect_make(
+            rt,
+            tree,
+            1,
+            &link_name(k),
+            Kind::Symlink(&next),
+            Ok(4 + u16::from(k)),
+        );
     }
 }
 
-// The path that enters e 33 times.
-fn entered(alloc: Global) -> Result<Vec<u8>, AllocError>
-    ensures { IfOk result (λ bytes. vec_len bytes ≡ 66) }
-{
-    let mut entered = repeated(alloc, b'e', 66)?;
-    for k in 0..33 {
-        entered[2 * k] = b'/';
-    }
-    Ok(entered)
-}
+// A link that leads to itself, and one to where it is.
+const TO_ITSELF: &[(u16, &[u8], Kind, u16)] = &[
+    (1, b"s", Kind::Symlink(b"s"), 36),
+    (1, b"e", Kind::Symlink(b"."), 37),
+];
+
+const CHAINED: &[(&[u8], Follow, Expected)] = &[
+    (b"/l01", Follow::Last, At(1, b"f", Some(2))),
+    (b"/l00", Follow::Last, Fault(Errno::ELOOP)),
+    (b"/s", Follow::Last, Fault(Errno::ELOOP)),
+    (
+        b"/e/e/e/e/e/e/e/e/e/e/e/e/e/e/e/e/e/e/e/e/e/e/e/e/e/e/e/e/e/e/e/e",
+        Follow::Last,
+        Node(1),
+    ),
+    (
+        b"/e/e/e/e/e/e/e/e/e/e/e/e/e/e/e/e/e/e/e/e/e/e/e/e/e/e/e/e/e/e/e/e/e",
+        Follow::Last,
+        Fault(Errno::ELOOP),
+    ),
+];
 
 #[test]
 fn a_walk_follows_32_links(rt: HostRuntime) -> Result<(), AllocError> {
-    let mut tree = with_64_inodes(rt.alloc(), 64)?;
-    let f = make_file(&rt, &mut tree, 1, b"f");
+    let mut tree = with_64_inodes(rt.alloc())?;
     make_chain(&rt, &mut tree);
-    make_link(&rt, &mut tree, 1, b"s", b"s");
-    make_link(&rt, &mut tree, 1, b"e", b".");
-    let entered = entered(rt.alloc())?;
-    let (fewer, _) = entered.split_at(64);
-    let walks: [(&[u8], Expected); 5] = [
-        (b"/l01", At(1, b"f", Some(f))),
-        (b"/l00", Fault(Errno::ELOOP)),
-        (b"/s", Fault(Errno::ELOOP)),
-        (fewer, Node(1)),
-        (&entered, Fault(Errno::ELOOP)),
-    ];
-    for (path, expected) in walks {
-        expect_walk(&rt, &tree, 1, path, Follow::Last, expected);
-    }
+    make_all(&rt, &mut tree, TO_ITSELF);
+    expect_walks(&rt, &tree, 1, CHAINED);
     Ok(())
 }
 
-// The path that goes over u and v in turn, over 33 links in all.
-fn turns(alloc: Global) -> Result<Vec<u8>, AllocError>
-    ensures { IfOk result (λ bytes. vec_len bytes ≡ 66) }
-{
-    let mut turns = repeated(alloc, b'/', 66)?;
-    for k in 0..16 {
-        turns[4 * k + 1] = b'u';
-        turns[4 * k + 3] = b'v';
-    }
-    turns[65] = b'u';
-    Ok(turns)
-}
+const TURNING_NODES: &[(u16, &[u8], Kind, u16)] = &[
+    (1, b"d", Kind::Directory, 2),
+    (1, b"u", Kind::Symlink(b"//d//"), 3),
+    (2, b"v", Kind::Symlink(b"./../d/.."), 4),
+];
+
+// Paths that go over u and v in turn: over 32 links, and over 33.
+const TURNS: &[(&[u8], Follow, Expected)] = &[
+    (
+        b"/u/v/u/v/u/v/u/v/u/v/u/v/u/v/u/v/u/v/u/v/u/v/u/v/u/v/u/v/u/v/u/v",
+        Follow::Last,
+        Node(1),
+    ),
+    (
+        b"/u/v/u/v/u/v/u/v/u/v/u/v/u/v/u/v/u/v/u/v/u/v/u/v/u/v/u/v/u/v/u/v/u",
+        Follow::Keep,
+        At(1, b"u", Some(3)),
+    ),
+    (
+        b"/u/v/u/v/u/v/u/v/u/v/u/v/u/v/u/v/u/v/u/v/u/v/u/v/u/v/u/v/u/v/u/v/u",
+        Follow::Last,
+        Fault(Errno::ELOOP),
+    ),
+];
 
 #[test]
 fn a_path_has_32_links(rt: HostRuntime) -> Result<(), AllocError> {
-    let mut tree = with_64_inodes(rt.alloc(), 64)?;
-    let d = make_directory(&rt, &mut tree, 1, b"d");
-    let u = make_link(&rt, &mut tree, 1, b"u", b"//d//");
-    make_link(&rt, &mut tree, d, b"v", b"./../d/..");
-    let turns = turns(rt.alloc())?;
-    let (fewer, _) = turns.split_at(64);
-    expect_walk(&rt, &tree, d, fewer, Follow::Last, Node(1));
-    expect_walk(&rt, &tree, d, &turns, Follow::Keep, At(1, b"u", Some(u)));
-    expect_walk(&rt, &tree, d, &turns, Follow::Last, Fault(Errno::ELOOP));
-    Ok(())
+    expect_paths(&rt, TURNING_NODES, 2, TURNS)
 }
 
-const SLASHED_NODES: &[Made] = &[
-    Directory(1, b"d", 2),
-    File(2, b"x", 3),
-    Link(1, b"l", 4, b"//d//"),
-    Link(2, b"y", 5, b"x"),
-    Link(1, b"n", 6, b"no/"),
+const SLASHED_NODES: &[(u16, &[u8], Kind, u16)] = &[
+    (1, b"d", Kind::Directory, 2),
+    (2, b"x", Kind::File, 3),
+    (1, b"l", Kind::Symlink(b"//d//"), 4),
+    (2, b"y", Kind::Symlink(b"x"), 5),
+    (1, b"n", Kind::Symlink(b"no/"), 6),
 ];
 
 const SLASHED: &[(&[u8], Follow, Expected)] = &[
@@ -352,19 +344,16 @@ const SLASHED: &[(&[u8], Follow, Expected)] = &[
 
 #[test]
 fn links_stand_between_slashes(rt: HostRuntime) -> Result<(), AllocError> {
-    let mut tree = with_64_inodes(rt.alloc(), 64)?;
-    make_all(&rt, &mut tree, SLASHED_NODES);
-    expect_walks(&rt, &tree, 1, SLASHED);
-    Ok(())
+    expect_paths(&rt, SLASHED_NODES, 1, SLASHED)
 }
 
-const ROOTED_NODES: &[Made] = &[
-    File(1, b"f", 2),
-    Directory(1, b"d", 3),
-    File(3, b"f", 4),
-    Link(3, b"a", 5, b"/f"),
-    Link(3, b"b", 6, b"f"),
-    Link(3, b"r", 7, b"/"),
+const ROOTED_NODES: &[(u16, &[u8], Kind, u16)] = &[
+    (1, b"f", Kind::File, 2),
+    (1, b"d", Kind::Directory, 3),
+    (3, b"f", Kind::File, 4),
+    (3, b"a", Kind::Symlink(b"/f"), 5),
+    (3, b"b", Kind::Symlink(b"f"), 6),
+    (3, b"r", Kind::Symlink(b"/"), 7),
 ];
 
 const ROOTED: &[(&[u8], Follow, Expected)] = &[
@@ -378,38 +367,20 @@ const ROOTED: &[(&[u8], Follow, Expected)] = &[
 
 #[test]
 fn links_lead_from_the_root(rt: HostRuntime) -> Result<(), AllocError> {
-    let mut tree = with_64_inodes(rt.alloc(), 64)?;
-    make_all(&rt, &mut tree, ROOTED_NODES);
-    expect_walks(&rt, &tree, 3, ROOTED);
-    Ok(())
+    expect_paths(&rt, ROOTED_NODES, 3, ROOTED)
 }
+
+// A path has 1,023 bytes at most, and a name of version 1 has 60.
+const LONGEST: &[(&[u8], Follow, Expected)] = &[
+    (&[b'/'; 1_023], Follow::Last, Node(1)),
+    (&[b'/'; 1_024], Follow::Last, Fault(Errno::ENAMETOOLONG)),
+    (&[b'a'; 60], Follow::Last, At(1, &[b'a'; 60], None)),
+    (&[b'a'; 61], Follow::Last, Fault(Errno::ENAMETOOLONG)),
+];
 
 #[test]
 fn paths_have_1023_bytes(rt: HostRuntime) -> Result<(), AllocError> {
-    let tree = with_64_inodes(rt.alloc(), 64)?;
-    let slashes = repeated(rt.alloc(), b'/', 1_024)?;
-    let (fewer, _) = slashes.split_at(1_023);
-    expect_walk(&rt, &tree, 1, fewer, Follow::Last, Node(1));
-    expect_walk(
-        &rt,
-        &tree,
-        1,
-        &slashes,
-        Follow::Last,
-        Fault(Errno::ENAMETOOLONG),
-    );
-    let long = repeated(rt.alloc(), b'a', 61)?;
-    let (short, _) = long.split_at(60);
-    expect_walk(&rt, &tree, 1, short, Follow::Last, At(1, short, None));
-    expect_walk(
-        &rt,
-        &tree,
-        1,
-        &long,
-        Follow::Last,
-        Fault(Errno::ENAMETOOLONG),
-    );
-    Ok(())
+    expect_paths(&rt, &[], 1, LONGEST)
 }
 
 const REMOVED: &[(&[u8], Follow, Expected)] = &[
@@ -421,8 +392,8 @@ const REMOVED: &[(&[u8], Follow, Expected)] = &[
 
 #[test]
 fn a_removed_directory_has_no_names(rt: HostRuntime) -> Result<(), AllocError> {
-    let mut tree = with_64_inodes(rt.alloc(), 64)?;
-    make(&rt, &mut tree, Directory(1, b"d", 2));
+    let mut tree = with_64_inodes(rt.alloc())?;
+    expect_make(&rt, &mut tree, 1, b"d", Kind::Directory, Ok(2));
     hold(&rt, &mut tree, 2);
     remove_directory(&rt, &mut tree, 1, b"d");
     expect_walks(&rt, &tree, 2, REMOVED);
@@ -443,11 +414,11 @@ fn expect_look(
 
 #[test]
 fn a_plain_lookup_asks_the_tree(rt: HostRuntime) -> Result<(), AllocError> {
-    let mut tree = with_64_inodes(rt.alloc(), 64)?;
+    let mut tree = with_64_inodes(rt.alloc())?;
     let mut lookup = PlainLookup;
     expect_look(&rt, &tree, &mut lookup, b"f", None);
-    let f = make_file(&rt, &mut tree, 1, b"f");
+    expect_make(&rt, &mut tree, 1, b"f", Kind::File, Ok(2));
     lookup.changed(1, b"f");
-    expect_look(&rt, &tree, &mut lookup, b"f", Some(f));
+    expect_look(&rt, &tree, &mut lookup, b"f", Some(2));
     Ok(())
 }

@@ -1,12 +1,13 @@
 //! Small tables, and what they say of the places of a small tree.
 use crate::answers::expect_same;
-use crate::trees::{expect_make, hold, of_version_2, remove_directory, with_data_blocks};
+use crate::trees::{
+    expect_find, expect_make, hold, make_all, of_version_2, remove_directory, with_data_blocks,
+};
 use pv_model::{Judgement, Kind, Name, Perms, Place, Target};
 use pv_tree::Tree;
 use pv_unveil::{AddFault, Table};
-use std::alloc::{AllocError, Global};
+use std::alloc::{AllocError, AllocGlobal, Global};
 use std::process::Abort;
-use std::test::Fail;
 
 const R: Perms = Perms {
     r: true,
@@ -26,27 +27,23 @@ fn name(rt: &impl Abort, text: &[u8]) -> Name {
     Name::new(text).expect(rt, "a short name")
 }
 
-// Takes the name of a directory without entries away, which is held from then on.
-fn remove(rt: &impl Abort, tree: &mut Tree, directory: u16, name: &[u8]) {
-    assert!(rt; tree.is_directory(directory));
-    let node = tree.find(directory, name).expect(rt, "the name is there");
-    hold(rt, tree, node);
-    assert!(rt; tree.is_directory(directory));
-    expect_same(rt, tree.find(directory, name), Some(node));
-    remove_directory(rt, tree, directory, name);
-}
+const SMALL_TREE: &[(u16, &[u8], Kind, u16)] = &[
+    (1, b"a", Kind::Directory, 2),
+    (2, b"b", Kind::Directory, 3),
+    (1, b"f", Kind::File, 4),
+    (2, b"x", Kind::File, 5),
+    (3, b"x", Kind::File, 6),
+    (3, b"r", Kind::Directory, 7),
+];
 
 // The directories /a (2) and /a/b (3), the files /f (4), /a/x (5) and /a/b/x (6), and a directory (7) that
 // was /a/b/r and is removed.
 fn small_tree(rt: &impl Abort, alloc: Global) -> Result<Tree, AllocError> {
     let mut tree = with_data_blocks(alloc, 8)?;
-    expect_make(rt, &mut tree, 1, b"a", Kind::Directory, Ok(2));
-    expect_make(rt, &mut tree, 2, b"b", Kind::Directory, Ok(3));
-    expect_make(rt, &mut tree, 1, b"f", Kind::File, Ok(4));
-    expect_make(rt, &mut tree, 2, b"x", Kind::File, Ok(5));
-    expect_make(rt, &mut tree, 3, b"x", Kind::File, Ok(6));
-    expect_make(rt, &mut tree, 3, b"r", Kind::Directory, Ok(7));
-    remove(rt, &mut tree, 3, b"r");
+    make_all(rt, &mut tree, SMALL_TREE);
+    hold(rt, &mut tree, 7);
+    expect_find(rt, &tree, 3, b"r", Some(7));
+    remove_directory(rt, &mut tree, 3, b"r");
     Ok(tree)
 }
 
@@ -79,178 +76,245 @@ fn expect_by_node(
     judgement: Judgement,
 ) {
     assert!(rt; tree.is_directory(directory));
-    let place = Place::Node(directory);
-    expect_same(rt, table.judge(tree, &place, needed), judgement);
+    expect_same(
+        rt,
+        table.judge(tree, &Place::Node(directory), needed),
+        judgement,
+    );
 }
 
-// What it answers that an entry is added.
+// What it answers that an entry is added for a directory.
 fn expect_add(
     rt: &impl Abort,
     table: &mut Table,
-    target: Target,
+    directory: u16,
     letters: Perms,
     answer: Result<u8, AddFault>,
 ) {
+    expect_same(rt, table.add(Target::Directory(directory), letters), answer);
+}
+
+// What it answers that an entry is added for a name in a directory.
+fn expect_add_name(
+    rt: &impl Abort,
+    table: &mut Table,
+    dir: u16,
+    text: &[u8],
+    letters: Perms,
+    answer: Result<u8, AddFault>,
+) {
+    let target = Target::Name {
+        dir,
+        name: name(rt, text),
+    };
     expect_same(rt, table.add(target, letters), answer);
 }
 
-// The target of a name in a directory.
-fn named(rt: &impl Abort, dir: u16, text: &[u8]) -> Target {
-    Target::Name {
-        dir,
-        name: name(rt, text),
+// What is put into a table or asked of it, and what that answers.
+#[derive(Clone, Copy)]
+enum Step<'a> {
+    // An entry is added for a directory.
+    Add(u16, Perms, Result<u8, AddFault>),
+    // An entry is added for a name in a directory.
+    AddName(u16, &'a [u8], Perms, Result<u8, AddFault>),
+    // What is said of a name in a directory that needs these letters.
+    ByName(u16, &'a [u8], Perms, Judgement),
+    // What is said of a directory without a name.
+    ByNode(u16, Perms, Judgement),
+}
+
+use Judgement::{Allowed, Denied, Hidden};
+use Step::{Add, AddName, ByName, ByNode};
+
+fn expect_step(rt: &impl Abort, table: &mut Table, tree: &Tree, step: Step) {
+    match step {
+        Add(directory, letters, answer) => expect_add(rt, table, directory, letters, answer),
+        AddName(dir, text, letters, answer) => {
+            expect_add_name(rt, table, dir, text, letters, answer);
+        }
+        ByName(dir, text, needed, judgement) => {
+            expect_by_name(rt, table, tree, dir, text, needed, judgement);
+        }
+        ByNode(directory, needed, judgement) => {
+            expect_by_node(rt, table, tree, directory, needed, judgement);
+        }
     }
 }
 
-#[test]
-fn without_entries_all_is_allowed(rt: HostRuntime) -> Result<(), Fail> {
-    let tree = small_tree(&rt, rt.alloc())?;
-    let table = Table::new();
-    expect_by_name(&rt, &table, &tree, 1, b"f", RW, Judgement::Allowed);
-    expect_by_name(&rt, &table, &tree, 3, b"new", RW, Judgement::Allowed);
-    expect_by_node(&rt, &table, &tree, 7, RW, Judgement::Allowed);
+// Steps are taken in turn.
+fn expect_steps(rt: &impl Abort, table: &mut Table, tree: &Tree, steps: &[Step]) {
+    for &step in steps {
+        expect_step(rt, table, tree, step);
+    }
+}
+
+// Steps are taken with an empty table and the small tree.
+fn expect_run<R: Abort + AllocGlobal>(rt: &R, steps: &[Step]) -> Result<(), AllocError> {
+    let tree = small_tree(rt, rt.alloc())?;
+    expect_steps(rt, &mut Table::new(), &tree, steps);
     Ok(())
 }
 
-#[test]
-fn judges_by_the_nearest_entry(rt: HostRuntime) -> Result<(), Fail> {
-    let tree = small_tree(&rt, rt.alloc())?;
-    let mut table = Table::new();
-    expect_add(&rt, &mut table, Target::Directory(2), R, Ok(0));
-    expect_by_name(&rt, &table, &tree, 3, b"x", R, Judgement::Allowed);
-    expect_add(&rt, &mut table, Target::Directory(3), Perms::NONE, Ok(1));
-    expect_by_name(&rt, &table, &tree, 2, b"x", R, Judgement::Allowed);
-    expect_by_name(&rt, &table, &tree, 2, b"x", RW, Judgement::Denied(0));
-    expect_by_name(&rt, &table, &tree, 2, b"new", RW, Judgement::Denied(0));
-    expect_by_name(&rt, &table, &tree, 3, b"x", R, Judgement::Denied(1));
-    expect_by_name(&rt, &table, &tree, 2, b"b", R, Judgement::Denied(1));
-    expect_by_name(&rt, &table, &tree, 1, b"a", R, Judgement::Allowed);
-    expect_by_node(&rt, &table, &tree, 2, R, Judgement::Allowed);
-    Ok(())
-}
+const WITHOUT_ENTRIES: &[Step] = &[
+    ByName(1, b"f", RW, Allowed),
+    ByName(3, b"new", RW, Allowed),
+    ByNode(7, RW, Allowed),
+];
 
 #[test]
-fn hides_what_no_entry_governs(rt: HostRuntime) -> Result<(), Fail> {
-    let tree = small_tree(&rt, rt.alloc())?;
-    let mut table = Table::new();
-    expect_add(&rt, &mut table, Target::Directory(2), RW, Ok(0));
-    expect_by_name(&rt, &table, &tree, 1, b"f", R, Judgement::Hidden);
-    expect_by_name(&rt, &table, &tree, 1, b"new", R, Judgement::Hidden);
-    expect_by_node(&rt, &table, &tree, 1, R, Judgement::Hidden);
-    Ok(())
+fn without_entries_all_is_allowed(rt: HostRuntime) -> Result<(), AllocError> {
+    expect_run(&rt, WITHOUT_ENTRIES)
 }
 
-#[test]
-fn a_removed_directory_has_nothing_from_above(rt: HostRuntime) -> Result<(), Fail> {
-    let tree = small_tree(&rt, rt.alloc())?;
-    let mut table = Table::new();
-    expect_add(&rt, &mut table, Target::Directory(1), RW, Ok(0));
-    expect_by_node(&rt, &table, &tree, 3, R, Judgement::Allowed);
-    expect_by_node(&rt, &table, &tree, 7, R, Judgement::Hidden);
-    expect_add(&rt, &mut table, Target::Directory(7), R, Ok(1));
-    expect_by_node(&rt, &table, &tree, 7, R, Judgement::Allowed);
-    expect_by_node(&rt, &table, &tree, 7, RW, Judgement::Denied(1));
-    Ok(())
-}
+const NEAREST: &[Step] = &[
+    Add(2, R, Ok(0)),
+    ByName(3, b"x", R, Allowed),
+    Add(3, Perms::NONE, Ok(1)),
+    ByName(2, b"x", R, Allowed),
+    ByName(2, b"x", RW, Denied(0)),
+    ByName(2, b"new", RW, Denied(0)),
+    ByName(3, b"x", R, Denied(1)),
+    ByName(2, b"b", R, Denied(1)),
+    ByName(1, b"a", R, Allowed),
+    ByNode(2, R, Allowed),
+];
 
 #[test]
-fn judges_by_a_name(rt: HostRuntime) -> Result<(), Fail> {
+fn judges_by_the_nearest_entry(rt: HostRuntime) -> Result<(), AllocError> {
+    expect_run(&rt, NEAREST)
+}
+
+const UNGOVERNED: &[Step] = &[
+    Add(2, RW, Ok(0)),
+    ByName(1, b"f", R, Hidden),
+    ByName(1, b"new", R, Hidden),
+    ByNode(1, R, Hidden),
+];
+
+#[test]
+fn hides_what_no_entry_governs(rt: HostRuntime) -> Result<(), AllocError> {
+    expect_run(&rt, UNGOVERNED)
+}
+
+const REMOVED: &[Step] = &[
+    Add(1, RW, Ok(0)),
+    ByNode(3, R, Allowed),
+    ByNode(7, R, Hidden),
+    Add(7, R, Ok(1)),
+    ByNode(7, R, Allowed),
+    ByNode(7, RW, Denied(1)),
+];
+
+#[test]
+fn a_removed_directory_has_nothing_from_above(rt: HostRuntime) -> Result<(), AllocError> {
+    expect_run(&rt, REMOVED)
+}
+
+const NAMED: &[Step] = &[
+    AddName(1, b"f", R, Ok(0)),
+    AddName(2, b"new", RW, Ok(1)),
+    ByName(1, b"f", R, Allowed),
+    ByName(1, b"f", RW, Denied(0)),
+    ByName(1, b"foo", R, Hidden),
+    ByName(2, b"f", R, Hidden),
+    // The name is not there yet; once a directory is, it goes by what is above it.
+    ByName(2, b"new", RW, Allowed),
+];
+
+const MADE: &[Step] = &[ByName(2, b"new", R, Hidden)];
+
+#[test]
+fn judges_by_a_name(rt: HostRuntime) -> Result<(), AllocError> {
     let mut tree = small_tree(&rt, rt.alloc())?;
     let mut table = Table::new();
-    let file = named(&rt, 1, b"f");
-    let new = named(&rt, 2, b"new");
-    expect_add(&rt, &mut table, file, R, Ok(0));
-    expect_add(&rt, &mut table, new, RW, Ok(1));
-    expect_by_name(&rt, &table, &tree, 1, b"f", R, Judgement::Allowed);
-    expect_by_name(&rt, &table, &tree, 1, b"f", RW, Judgement::Denied(0));
-    expect_by_name(&rt, &table, &tree, 1, b"foo", R, Judgement::Hidden);
-    expect_by_name(&rt, &table, &tree, 2, b"f", R, Judgement::Hidden);
-    // The name is not there yet; once a directory is, it goes by what is above it.
-    expect_by_name(&rt, &table, &tree, 2, b"new", RW, Judgement::Allowed);
+    expect_steps(&rt, &mut table, &tree, NAMED);
     expect_make(&rt, &mut tree, 2, b"new", Kind::Directory, Ok(8));
-    expect_by_name(&rt, &table, &tree, 2, b"new", R, Judgement::Hidden);
+    expect_steps(&rt, &mut table, &tree, MADE);
     Ok(())
 }
 
-// A name of 255 bytes, of which the last is another one.
-fn greatest(last: u8) -> [u8; 255] {
-    let mut bytes = [b'k'; 255];
-    bytes[254] = last;
-    bytes
-}
+// Two names of 255 bytes, of which only the last byte is another one.
+const KEY: &[u8; 255] = &[b'k'; 255];
+
+const OTHER: &[u8; 255] =
+    b"kkkkkkkkkkkkkkkkkkkkkkkkkkkkkkkkkkkkkkkkkkkkkkkkkkkkkkkkkkkkkkkkkkkkkkkkkkkkkkkkkkkkk\
+    kkkkkkkkkkkkkkkkkkkkkkkkkkkkkkkkkkkkkkkkkkkkkkkkkkkkkkkkkkkkkkkkkkkkkkkkkkkkkkkkkkkkk\
+    kkkkkkkkkkkkkkkkkkkkkkkkkkkkkkkkkkkkkkkkkkkkkkkkkkkkkkkkkkkkkkkkkkkkkkkkkkkkkkkkkkkkl";
+
+const GREATEST_NAMES: &[(u16, &[u8], Kind, u16)] = &[
+    (1, KEY, Kind::File, 2),
+    (1, OTHER, Kind::File, 3),
+];
+
+const BY_GREATEST_NAMES: &[Step] = &[
+    AddName(1, KEY, R, Ok(0)),
+    ByName(1, KEY, R, Allowed),
+    ByName(1, KEY, RW, Denied(0)),
+    ByName(1, OTHER, R, Hidden),
+];
 
 #[test]
-fn judges_by_a_name_of_version_2(rt: HostRuntime) -> Result<(), Fail> {
-    let mut tree = of_version_2(rt.alloc(), 20)?;
-    let key = greatest(b'k');
-    let other = greatest(b'l');
-    expect_make(&rt, &mut tree, 1, &key, Kind::File, Ok(2));
-    expect_make(&rt, &mut tree, 1, &other, Kind::File, Ok(3));
-    let mut table = Table::new();
-    let target = named(&rt, 1, &key);
-    expect_add(&rt, &mut table, target, R, Ok(0));
-    expect_by_name(&rt, &table, &tree, 1, &key, R, Judgement::Allowed);
-    expect_by_name(&rt, &table, &tree, 1, &key, RW, Judgement::Denied(0));
-    expect_by_name(&rt, &table, &tree, 1, &other, R, Judgement::Hidden);
+fn judges_by_a_name_of_version_2(rt: HostRuntime) -> Result<(), AllocError> {
+    let mut tree = of_version_2(rt.alloc())?;
+    make_all(&rt, &mut tree, GREATEST_NAMES);
+    expect_steps(&rt, &mut Table::new(), &tree, BY_GREATEST_NAMES);
     Ok(())
 }
+
+// Adds as many entries as a table may have, for the directories 1 to 64.
+fn add_64(rt: &impl Abort, table: &mut Table) {
+    for k in 0..64u8 {
+        expect_add(rt, table, 1 + u16::from(k), RW, Ok(k));
+    }
+}
+
+const MANY: &[(u16, Perms, Result<u8, AddFault>)] = &[
+    (65, R, Err(AddFault::Many)),
+    (64, R, Ok(63)),
+    (64, RW, Err(AddFault::Increase(63))),
+];
 
 #[test]
 fn adds_entries(rt: HostRuntime) {
     let mut table = Table::new();
-    for k in 0..64u8 {
-        expect_add(
-            &rt,
-            &mut table,
-            Target::Directory(1 + u16::from(k)),
-            RW,
-            Ok(k),
-        );
+    add_64(&rt, &mut table);
+    for &(directory, letters, answer) in MANY {
+        expect_add(&rt, &mut table, directory, letters, answer);
     }
-    expect_add(
-        &rt,
-        &mut table,
-        Target::Directory(65),
-        R,
-        Err(AddFault::Many),
-    );
-    expect_add(&rt, &mut table, Target::Directory(64), R, Ok(63));
-    expect_add(
-        &rt,
-        &mut table,
-        Target::Directory(64),
-        RW,
-        Err(AddFault::Increase(63)),
-    );
     expect_same(&rt, table.len(), 64);
     table.lock();
-    expect_add(
-        &rt,
-        &mut table,
-        Target::Directory(64),
-        R,
-        Err(AddFault::Locked),
+    expect_add(&rt, &mut table, 64, R, Err(AddFault::Locked));
+}
+
+// A table has so many entries, and is locked or not.
+fn expect_table(rt: &impl Abort, table: &Table, entries: usize, locked: bool) {
+    expect_same(rt, table.len(), entries);
+    expect_same(rt, table.is_locked(), locked);
+    expect_same(rt, table.is_empty(), entries == 0);
+}
+
+// The letters of a table's two entries, and of the second its directory and its name.
+fn expect_two(rt: &impl Abort, table: &Table, letters: [Perms; 2], directory: u16, text: &[u8]) {
+    assert!(rt; table.len() == 2);
+    expect_same(rt, [table.letters(0), table.letters(1)], letters);
+    assert!(rt;
+        matches!(table.target(1), Target::Name { dir, name } if *dir == directory && name.as_slice() == text)
     );
 }
 
 #[test]
 fn goes_or_stays_at_execve(rt: HostRuntime) {
     let mut table = Table::new();
-    let named = named(&rt, 1, b"f");
-    expect_add(&rt, &mut table, Target::Directory(2), RW, Ok(0));
-    expect_add(&rt, &mut table, named, R, Ok(1));
+    expect_add(&rt, &mut table, 2, RW, Ok(0));
+    expect_add_name(&rt, &mut table, 1, b"f", R, Ok(1));
     table.lock();
     let mut copy = table.copy();
-    assert!(rt; copy.is_locked());
-    assert_eq!(rt; copy.len(), 2);
-    assert!(rt; copy.letters(0) == RW && copy.letters(1) == R);
-    assert!(rt;
-        matches!(copy.target(1), Target::Name { dir: 1, name } if name.as_slice() == b"f".as_slice())
-    );
+    expect_table(&rt, &copy, 2, true);
+    expect_two(&rt, &copy, [RW, R], 1, b"f");
     copy.after_exec(true);
-    assert!(rt; copy.is_locked() && copy.len() == 2);
+    expect_table(&rt, &copy, 2, true);
     copy.after_exec(false);
-    assert!(rt; copy.is_empty() && !copy.is_locked());
-    expect_add(&rt, &mut copy, Target::Directory(3), R, Ok(0));
-    assert!(rt; table.is_locked() && table.len() == 2);
+    expect_table(&rt, &copy, 0, false);
+    expect_add(&rt, &mut copy, 3, R, Ok(0));
+    expect_table(&rt, &table, 2, true);
 }

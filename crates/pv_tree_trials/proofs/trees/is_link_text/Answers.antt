@@ -4,7 +4,7 @@ use Rattle.std.proofs.lemmas.Bool.{and_from, ltb-false, le-leb}
 use Rattle.pv_model.specs.Bytes.{Bytes, is_empty}
 use Rattle.pv_model.specs.Tree.{is_link_text}
 use Rattle.pv_namei.proofs.Steps.{empty-is}
-use Rattle.pv_tree_trials.proofs.namei.is_link_text.Goals as goal
+use Rattle.pv_tree_trials.proofs.trees.is_link_text.Goals as goal
 
 text_is : (text : Bytes) → (length text == 0) ≡ false → nat_lt 1023 (length text) ≡ false → list_all (λ b. not (b == 0)) text ≡ true → is_link_text text ≡ true
 text_is text some short all =
