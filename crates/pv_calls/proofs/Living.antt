@@ -7,7 +7,7 @@ use Rattle.pv_model.specs.declared.text.Text.{Text}
 use Rattle.pv_model.specs.CallRef.{call_of}
 use Rattle.std.specs.Borrow.{Bor}
 use Rattle.pv_model.specs.declared.call.Call.{Call}
-use Rattle.pv_model.specs.declared.call.Call.TheVariants.{Unveil, Open, OpenAt, Chdir, Stat, Lstat, Readlink, Mkdir, Symlink, Link, Unlink, Rmdir, Rename}
+use Rattle.pv_model.specs.declared.call.Call.TheVariants.{Unveil, Open, OpenAt, Chdir, Mkdir, Symlink, Link, Unlink, Rmdir, Rename}
 use Rattle.pv_model.specs.declared.call.Start.{Start}
 use Rattle.pv_model.specs.declared.call.Whence.{Whence}
 use Rattle.pv_model.specs.declared.call.Start.TheVariants.{WorkingDirectory}

@@ -1,15 +1,12 @@
 -- What rows leave: their process lives on, and names stay where no path is walked.
 use Rattle.std.proofs.Common.{rules, ◌≤◌, w32, to_z, of_z, ◌≡◌, ◌∙◌, ℕ, zero, suc, ℤ, pos, negsuc, ◌+ℤ◌, true, false, not, ◌||◌, if◌then◌else◌, nat_le, nat_lt, ◌+◌, length, take, drop, List, [], ◌∷◌, Option, None, Some, Result, Ok, Err, refl, ap, sym, subst}
-use Rattle.std.specs.Prelude.{IfOk, IsSome, MatchResult, OnErr}
-use Rattle.pv_model.specs.declared.outcome.Cause.TheVariants.{Plain}
+use Rattle.std.specs.Prelude.{IsSome, OnErr}
 use Rattle.std.proofs.lemmas.Bool.{leb-true}
 use Rattle.std.proofs.lemmas.Int.{to_z-of_z}
-use Rattle.pv_model.specs.declared.errno.Errno.{Errno}
-use Rattle.pv_laws.proofs.Replies.{IsEffect}
 use Rattle.pv_rows.specs.declared.answer.Answer.{Answer}
 use Rattle.pv_rows.specs.declared.answer.Done.{Done}
 use Rattle.pv_rows.specs.declared.answer.Refused.{Refused}
-use Rattle.pv_parts.specs.Attempts.{plainly, trimmed}
+use Rattle.pv_parts.specs.Attempts.{trimmed}
 use Rattle.pv_calls.specs.Calls.{is_process_row, is_on_processes, is_descriptor_row, is_on_descriptors}
 use Rattle.pv_rows.specs.Rows.{attempt_of, answered}
 use Rattle.pv_calls.proofs.Carrying.{find-trim}

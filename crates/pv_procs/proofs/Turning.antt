@@ -65,5 +65,5 @@ module _ (places : List Place) (programs : List Shared) (last : ℕ) (ps : Proce
   at-call same call = (
     (me, lives, call),
     ap (λ n. table_of (set places k (record place { «record» = record place.record { machine = n } })) programs last) same
-    ∙ ap (λ p. table_of (set places k p) programs last) at.is ∙ ap (λ xs. table_of xs programs last) (set-get_or places k place) ∙ seen,
+        ∙ ap (λ p. table_of (set places k p) programs last) at.is ∙ ap (λ xs. table_of xs programs last) (set-get_or places k place) ∙ seen,
   )

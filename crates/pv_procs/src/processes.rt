@@ -21,8 +21,8 @@ use crate::place::{
     live_index, make_child, spare_places,
 };
 use crate::shared::{Shared, first_programs, free_program, let_go, take_up};
-use pv_model::{CallRef, Errno};
 use pv_model::limits::{LAST_PROCESS, PROCESSES};
+use pv_model::{CallRef, Errno};
 use pv_script::Program;
 use std::alloc::{AllocError, Global};
 use std::marker::Model;

@@ -2,7 +2,7 @@
 use Rattle.std.specs.Prelude.{◌≡◌, ℕ, ◌-◌, ℤ, Bool, true, false, List, IsTrue, slice_get, Option, None, Some}
 use Rattle.pv_model.specs.declared.call_ref.CallRef.{CallRef}
 use Rattle.pv_model.specs.declared.instruction.Instruction.{Instruction}
-use Rattle.pv_model.specs.declared.instruction.Instruction.TheVariants.{Set, Add, Put, Peek, Jump, JumpIfZero, JumpIfNotZero, JumpIfNegative, Fork, Wait, GetPid, GetPpid, Exit, Close, Dup, Fstat, Getdents, Fchdir, Dup2, Read, Write, Ftruncate, Lseek, Pledge, Unveil, Execve, Chdir, Stat, Lstat, Readlink, Unlink, Mkdir, Rmdir, Open, OpenAt, Rename, Link, Symlink}
+use Rattle.pv_model.specs.declared.instruction.Instruction.TheVariants.{Set, Add, Put, Peek, Jump, JumpIfZero, JumpIfNotZero, JumpIfNegative, Fork, Wait, GetPid, GetPpid, Exit, Close, Dup, Fstat, Getdents, Fchdir, Dup2, Read, Write, Ftruncate, Lseek}
 use Rattle.pv_model.specs.Bytes.{Bytes}
 use Rattle.pv_model.specs.CallRef.{call_of}
 use Rattle.pv_model.specs.Program.{calls_for, next}

@@ -1,4 +1,4 @@
-use Rattle.std.proofs.Common.{rules, sym}
+use Rattle.std.proofs.Common.{rules}
 use Rattle.std.proofs.lemmas.List.Sorted.{answers_always}
 use Rattle.pv_procs.specs.declared.place.Place.{Place}
 use Rattle.pv_procs.proofs.Finding.{half-found, half-none}

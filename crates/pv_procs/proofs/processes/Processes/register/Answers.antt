@@ -1,4 +1,4 @@
-use Rattle.std.proofs.Common.{◌≡◌, ◌∙◌, true, false, None, ap, sym, subst, refl, slice_set, arith}
+use Rattle.std.proofs.Common.{◌≡◌, ◌∙◌, false, ap, sym, subst, refl, slice_set, arith}
 use Rattle.pv_model.specs.Program.{inside, next}
 use Rattle.pv_model.specs.State.{Program, Process}
 use Rattle.pv_script.specs.Context.{in_context, is_inside}
