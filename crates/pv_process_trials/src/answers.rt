@@ -5,7 +5,3 @@ use std::process::Abort;
 pub fn expect_same<T: Copy + Debug + PartialEq>(rt: &impl Abort, answer: T, wanted: T) {
     assert_eq!(rt; answer, wanted);
 }
-
-pub fn expect(rt: &impl Abort, holds: bool) {
-    assert!(rt; holds);
-}
