@@ -19,16 +19,6 @@ fn expect_live(rt: &impl Abort, processes: &Processes, pid: u32)
     assert!(rt; processes.live(pid));
 }
 
-fn expect_fork(rt: &impl Abort, processes: &mut Processes, pid: u32, answer: Result<u32, Errno>) {
-    expect_live(rt, processes, pid);
-    expect_same(rt, processes.fork(pid), answer);
-}
-
-fn end(rt: &impl Abort, processes: &mut Processes, pid: u32, status: u32) {
-    expect_live(rt, processes, pid);
-    processes.end(pid, status);
-}
-
 // Gives a process's record an entry of unveil, and a descriptor that execve closes.
 fn open_both(rt: &impl Abort, record: &mut Record) {
     let added = record.unveiled.add(Target::Directory(1), Perms::NONE);
@@ -37,7 +27,7 @@ fn open_both(rt: &impl Abort, record: &mut Record) {
 }
 
 // Gives a process's record something of each kind.
-fn fill_record(rt: &impl Abort, record: &mut Record) {
+fn fill(rt: &impl Abort, record: &mut Record) {
     let narrowed = record.pledge.narrow(None, Some(Promises::STDIO));
     expect_same(rt, narrowed, Ok(()));
     open_both(rt, record);
@@ -46,12 +36,12 @@ fn fill_record(rt: &impl Abort, record: &mut Record) {
     record.machine.put_front(b"ab");
 }
 
-fn fill(rt: &impl Abort, processes: &mut Processes, pid: u32) {
-    expect_live(rt, processes, pid);
-    fill_record(rt, processes.record_mut(pid));
+// These bytes are the first of a buffer.
+fn expect_front(rt: &impl Abort, record: &Record, bytes: &[u8]) {
+    expect_same(rt, record.machine.buffer().starts_with(bytes), true);
 }
 
-// A record has what the record that was filled has.
+// A record has what the one that was filled has.
 fn expect_copied(rt: &impl Abort, record: &Record) {
     expect_same(rt, record.pledge.execpromises().is_some(), true);
     expect_same(rt, record.unveiled.len(), 1);
@@ -61,30 +51,15 @@ fn expect_copied(rt: &impl Abort, record: &Record) {
     expect_front(rt, record, b"ab\0");
 }
 
-// These bytes are the first of a buffer.
-fn expect_front(rt: &impl Abort, record: &Record, bytes: &[u8]) {
-    expect_same(rt, record.machine.buffer().starts_with(bytes), true);
-}
-
-// A record has no more of what was open than execve leaves.
+// A record no longer has what execve closes.
 fn expect_closed(rt: &impl Abort, record: &Record) {
     expect_same(rt, record.unveiled.is_empty(), true);
     expect_same(rt, record.descriptors.at(0), Err(Errno::EBADF));
 }
 
-// A process opens both, and loads a program.
-fn load<R: Abort + AllocGlobal>(rt: &R, processes: &mut Processes, pid: u32) {
-    expect_live(rt, processes, pid);
-    open_both(rt, processes.record_mut(pid));
-    let program = Program::parse(rt.alloc(), b"set r0 1\ngetpid\n").expect(rt, "a program");
-    expect_live(rt, processes, pid);
-    processes.load(pid, program);
-}
-
-fn expect_loaded(rt: &impl Abort, processes: &Processes, pid: u32) {
-    expect_live(rt, processes, pid);
-    expect_same(rt, processes.program(pid).len(), 2);
-    expect_closed(rt, processes.record(pid));
+// A program of two lines.
+fn program<R: Abort + AllocGlobal>(rt: &R) -> Program {
+    Program::parse(rt.alloc(), b"set r0 1\ngetpid\n").expect(rt, "a program")
 }
 
 // The name of a call.
@@ -97,90 +72,101 @@ fn name_of(call: Option<CallRef<'_>>) -> Option<&'static str> {
     }
 }
 
-fn advance(rt: &impl Abort, processes: &mut Processes, pid: u32) {
-    expect_live(rt, processes, pid);
-    processes.advance(pid);
-}
-
-// A process is told what a call came to, and then has bytes in its buffer.
-fn tell(rt: &impl Abort, processes: &mut Processes, pid: u32) {
-    expect_live(rt, processes, pid);
-    processes.tell(pid, 2, 0);
-    expect_live(rt, processes, pid);
-    processes.put_front(pid, b"xyz");
-    expect_live(rt, processes, pid);
-    expect_front(rt, processes.record(pid), b"xyz");
-}
-
-// What is done with one process or asked of it, and what that answers.
+// What a live process does, or what becomes of it.
 #[derive(Clone, Copy)]
-enum Turn {
+enum Act {
+    // It forks, which answers this.
+    Fork(Result<u32, Errno>),
+    // It ends with a status.
+    End(u32),
     // It has something of each kind.
     Fill,
-    // It has what its parent was given.
-    Copied,
+    // It opens both that execve closes.
+    Open,
     // It loads a program.
     Load,
-    // It has what execve leaves.
-    Loaded,
-    // The call that comes next, if one does.
-    Next(Option<&'static str>),
-    // An instruction on registers is made, if one comes next.
-    Register(Ahead),
     // It goes on to its next line.
     Advance,
     // It is told what a call came to.
     Tell,
+    // It has bytes at the front of its buffer.
+    Put(&'static [u8; 3]),
 }
 
-use Turn::{Advance, Copied, Fill, Load, Loaded, Next, Register, Tell};
+use Act::{Advance, End, Fill, Fork, Load, Open, Put, Tell};
 
-fn expect_turn<R: Abort + AllocGlobal>(rt: &R, processes: &mut Processes, pid: u32, turn: Turn) {
-    match turn {
-        Fill => fill(rt, processes, pid),
-        Copied => {
-            expect_live(rt, processes, pid);
-            expect_copied(rt, processes.record(pid));
-        }
-        Load => load(rt, processes, pid),
-        Loaded => expect_loaded(rt, processes, pid),
-        Next(name) => expect_same(rt, name_of(processes.next(pid)), name),
-        Register(answer) => expect_same(rt, processes.register(pid), answer),
-        Advance => advance(rt, processes, pid),
-        Tell => tell(rt, processes, pid),
+fn perform<R: Abort + AllocGlobal>(rt: &R, processes: &mut Processes, pid: u32, act: Act) {
+    expect_live(rt, processes, pid);
+    match act {
+        Fork(answer) => expect_same(rt, processes.fork(pid), answer),
+        End(status) => processes.end(pid, status),
+        Fill => fill(rt, processes.record_mut(pid)),
+        Open => open_both(rt, processes.record_mut(pid)),
+        Load => processes.load(pid, program(rt)),
+        Advance => processes.advance(pid),
+        Tell => processes.tell(pid, 2, 0),
+        Put(bytes) => processes.put_front(pid, bytes),
+    }
+}
+
+// What a live process has.
+#[derive(Clone, Copy)]
+enum Part {
+    // What the process that was filled has.
+    Copied,
+    // Nothing of what execve closes.
+    Closed,
+    // A program of so many lines.
+    Lines(usize),
+    // These bytes at the front of its buffer.
+    Front(&'static [u8]),
+}
+
+use Part::{Closed, Copied, Front, Lines};
+
+fn expect_part(rt: &impl Abort, processes: &Processes, pid: u32, part: Part) {
+    expect_live(rt, processes, pid);
+    match part {
+        Copied => expect_copied(rt, processes.record(pid)),
+        Closed => expect_closed(rt, processes.record(pid)),
+        Lines(count) => expect_same(rt, processes.program(pid).len(), count),
+        Front(bytes) => expect_front(rt, processes.record(pid), bytes),
     }
 }
 
 // What is done with processes or asked of them, and what that answers.
 #[derive(Clone, Copy)]
 enum Step {
-    // A process forks.
-    Fork(u32, Result<u32, Errno>),
+    // What a live process does.
+    Does(u32, Act),
+    // What a live process has.
+    Has(u32, Part),
+    // Whether a process is live.
+    Live(u32, bool),
+    // The parent of a process, if it is there.
+    Parent(u32, Option<u32>),
+    // Whether a wait of a process would wait.
+    Waits(u32, bool),
     // A process waits for a child.
     Wait(u32, Reap),
-    // A process ends with a status.
-    End(u32, u32),
-    // A process is live.
-    Live(u32, bool),
-    // A process has a parent, or is not there.
-    Parent(u32, Option<u32>),
-    // A wait of a process would wait.
-    Waits(u32, bool),
-    // A process is run.
-    Run(u32, Turn),
+    // The call that comes next in a process, if one does.
+    Next(u32, Option<&'static str>),
+    // An instruction on registers is made, if one comes next.
+    Register(u32, Ahead),
 }
 
-use Step::{End, Fork, Live, Parent, Run, Wait, Waits};
+use Step::{Does, Has, Live, Next, Parent, Register, Wait, Waits};
 
 fn expect_step<R: Abort + AllocGlobal>(rt: &R, processes: &mut Processes, step: Step) {
     match step {
-        Fork(pid, answer) => expect_fork(rt, processes, pid, answer),
-        Wait(pid, answer) => expect_same(rt, processes.reap(pid), answer),
-        End(pid, status) => end(rt, processes, pid, status),
+        Does(pid, act) => perform(rt, processes, pid, act),
+        Has(pid, part) => expect_part(rt, processes, pid, part),
         Live(pid, answer) => expect_same(rt, processes.live(pid), answer),
         Parent(pid, answer) => expect_same(rt, processes.parent_of(pid), answer),
         Waits(pid, answer) => expect_same(rt, processes.waits(pid), answer),
-        Run(pid, turn) => expect_turn(rt, processes, pid, turn),
+        Wait(pid, answer) => expect_same(rt, processes.reap(pid), answer),
+        Next(pid, name) => expect_same(rt, name_of(processes.next(pid)), name),
+        Register(pid, answer) => expect_same(rt, processes.register(pid), answer),
     }
 }
 
@@ -195,9 +181,9 @@ fn expect_steps<R: Abort + AllocGlobal>(rt: &R, steps: &[Step]) {
 
 const GENERATIONS: &[Step] = &[
     // Processes 2 and 3 are children of 1, and 4 is one of 2.
-    Fork(1, Ok(2)),
-    Fork(1, Ok(3)),
-    Fork(2, Ok(4)),
+    Does(1, Fork(Ok(2))),
+    Does(1, Fork(Ok(3))),
+    Does(2, Fork(Ok(4))),
     Parent(4, Some(2)),
     // Who has a child waits for it.
     Waits(1, true),
@@ -205,7 +191,7 @@ const GENERATIONS: &[Step] = &[
     Wait(1, Reap::Blocked),
     Wait(3, Reap::NoChild),
     // Orphans have the first process as parent.
-    End(2, 6),
+    Does(2, End(6)),
     Live(2, false),
     Parent(2, Some(1)),
     Parent(4, Some(1)),
@@ -214,15 +200,15 @@ const GENERATIONS: &[Step] = &[
     Parent(2, None),
     Wait(1, Reap::Blocked),
     // The first process ends before others, which then have no parent.
-    End(1, 0),
+    Does(1, End(0)),
     Live(1, false),
     Parent(1, None),
     Parent(3, Some(0)),
     Parent(4, Some(0)),
-    End(3, 0),
+    Does(3, End(0)),
     Parent(3, None),
     Live(4, true),
-    Fork(4, Ok(5)),
+    Does(4, Fork(Ok(5))),
 ];
 
 #[test]
@@ -230,7 +216,7 @@ fn parents_wait_and_orphans_are_adopted(rt: HostRuntime) {
     expect_steps(&rt, GENERATIONS);
 }
 
-const COPY: &[Step] = &[Run(1, Fill), Fork(1, Ok(2)), Run(2, Copied)];
+const COPY: &[Step] = &[Does(1, Fill), Does(1, Fork(Ok(2))), Has(2, Copied)];
 
 #[test]
 fn child_has_a_copy(rt: HostRuntime) {
@@ -238,25 +224,29 @@ fn child_has_a_copy(rt: HostRuntime) {
 }
 
 const PROGRAMS: &[Step] = &[
-    Fork(1, Ok(2)),
-    Run(2, Load),
-    Run(2, Loaded),
-    Run(2, Next(None)),
-    Run(2, Advance),
-    Run(2, Next(Some("getpid"))),
+    Does(1, Fork(Ok(2))),
+    Does(2, Open),
+    Does(2, Load),
+    Has(2, Closed),
+    Has(2, Lines(2)),
+    Next(2, None),
+    Does(2, Advance),
+    Next(2, Some("getpid")),
     // The program that is loaded again is told something before its first step.
-    Run(2, Load),
-    Run(2, Tell),
-    Run(1, Next(Some("exit 0"))),
+    Does(2, Load),
+    Does(2, Tell),
+    Does(2, Put(b"xyz")),
+    Has(2, Front(b"xyz")),
+    Next(1, Some("exit 0")),
     // It is loaded once more, and its first instruction is made.
-    Run(2, Load),
-    Run(2, Register(Ahead::Register)),
-    Run(2, Next(Some("getpid"))),
-    Run(2, Register(Ahead::Call)),
-    Run(2, Next(Some("getpid"))),
-    End(2, 0),
-    Run(2, Register(Ahead::Gone)),
-    Run(2, Next(None)),
+    Does(2, Load),
+    Register(2, Ahead::Register),
+    Next(2, Some("getpid")),
+    Register(2, Ahead::Call),
+    Next(2, Some("getpid")),
+    Does(2, End(0)),
+    Register(2, Ahead::Gone),
+    Next(2, None),
 ];
 
 #[test]
@@ -265,43 +255,43 @@ fn programs_are_loaded_and_run(rt: HostRuntime) {
 }
 
 const FULL: &[Step] = &[
-    Fork(1, Ok(2)),
-    Fork(1, Ok(3)),
-    Fork(1, Ok(4)),
-    Fork(1, Ok(5)),
-    Fork(1, Ok(6)),
-    Fork(1, Ok(7)),
-    Fork(1, Ok(8)),
-    Fork(1, Ok(9)),
-    Fork(1, Ok(10)),
-    Fork(1, Ok(11)),
-    Fork(1, Ok(12)),
-    Fork(1, Ok(13)),
-    Fork(1, Ok(14)),
-    Fork(1, Ok(15)),
-    Fork(1, Ok(16)),
-    Fork(1, Ok(17)),
-    Fork(1, Ok(18)),
-    Fork(1, Ok(19)),
-    Fork(1, Ok(20)),
-    Fork(1, Ok(21)),
-    Fork(1, Ok(22)),
-    Fork(1, Ok(23)),
-    Fork(1, Ok(24)),
-    Fork(1, Ok(25)),
-    Fork(1, Ok(26)),
-    Fork(1, Ok(27)),
-    Fork(1, Ok(28)),
-    Fork(1, Ok(29)),
-    Fork(1, Ok(30)),
-    Fork(1, Ok(31)),
-    Fork(1, Ok(32)),
-    Fork(32, Err(Errno::EAGAIN)),
-    End(20, 256),
-    Fork(32, Err(Errno::EAGAIN)),
+    Does(1, Fork(Ok(2))),
+    Does(1, Fork(Ok(3))),
+    Does(1, Fork(Ok(4))),
+    Does(1, Fork(Ok(5))),
+    Does(1, Fork(Ok(6))),
+    Does(1, Fork(Ok(7))),
+    Does(1, Fork(Ok(8))),
+    Does(1, Fork(Ok(9))),
+    Does(1, Fork(Ok(10))),
+    Does(1, Fork(Ok(11))),
+    Does(1, Fork(Ok(12))),
+    Does(1, Fork(Ok(13))),
+    Does(1, Fork(Ok(14))),
+    Does(1, Fork(Ok(15))),
+    Does(1, Fork(Ok(16))),
+    Does(1, Fork(Ok(17))),
+    Does(1, Fork(Ok(18))),
+    Does(1, Fork(Ok(19))),
+    Does(1, Fork(Ok(20))),
+    Does(1, Fork(Ok(21))),
+    Does(1, Fork(Ok(22))),
+    Does(1, Fork(Ok(23))),
+    Does(1, Fork(Ok(24))),
+    Does(1, Fork(Ok(25))),
+    Does(1, Fork(Ok(26))),
+    Does(1, Fork(Ok(27))),
+    Does(1, Fork(Ok(28))),
+    Does(1, Fork(Ok(29))),
+    Does(1, Fork(Ok(30))),
+    Does(1, Fork(Ok(31))),
+    Does(1, Fork(Ok(32))),
+    Does(32, Fork(Err(Errno::EAGAIN))),
+    Does(20, End(256)),
+    Does(32, Fork(Err(Errno::EAGAIN))),
     Wait(1, Reap::Child(20, 256)),
-    Fork(32, Ok(33)),
-    Fork(32, Err(Errno::EAGAIN)),
+    Does(32, Fork(Ok(33))),
+    Does(32, Fork(Err(Errno::EAGAIN))),
 ];
 
 #[test]
@@ -310,10 +300,10 @@ fn has_32_places(rt: HostRuntime) {
 }
 
 // A child with this number comes and goes.
-fn pass(rt: &impl Abort, processes: &mut Processes, number: u32) {
-    expect_fork(rt, processes, 1, Ok(number));
-    end(rt, processes, number, 0);
-    expect_same(rt, processes.reap(1), Reap::Child(number, 0));
+fn pass<R: Abort + AllocGlobal>(rt: &R, processes: &mut Processes, number: u32) {
+    expect_step(rt, processes, Does(1, Fork(Ok(number))));
+    expect_step(rt, processes, Does(number, End(0)));
+    expect_step(rt, processes, Wait(1, Reap::Child(number, 0)));
 }
 
 #[test]
@@ -322,5 +312,5 @@ fn numbers_end(rt: HostRuntime) {
     for number in 2..100_000 {
         pass(&rt, &mut processes, number);
     }
-    expect_fork(&rt, &mut processes, 1, Err(Errno::EAGAIN));
+    expect_step(&rt, &mut processes, Does(1, Fork(Err(Errno::EAGAIN))));
 }

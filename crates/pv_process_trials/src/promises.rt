@@ -60,114 +60,94 @@ fn reads_keywords(rt: HostRuntime) {
     }
 }
 
-// A text that pledge(2) may be given, or none.
-type Asked = Option<&'static [u8]>;
-
-// What is done with a pledge or asked of it, and what that answers.
-#[derive(Clone, Copy)]
-enum Step {
-    // Promises and execpromises are asked for.
-    Narrow(Asked, Asked, Result<(), Promise>),
-    // A program is loaded.
-    Execve,
-    // The promises and the execpromises are those of these texts.
-    Holds(Asked, Asked),
-}
-
-use Step::{Execve, Holds, Narrow};
+// The promises and the execpromises, each as a text or none.
+type Texts = (Option<&'static str>, Option<&'static str>);
 
 // The promises of a text, where there is one.
-fn read(rt: &impl Abort, text: Asked) -> Option<Promises> {
+fn read(rt: &impl Abort, text: Option<&str>) -> Option<Promises> {
     match text {
-        Some(text) => Some(read_promises(text).expect(rt, "promises")),
+        Some(text) => Some(read_promises(text.as_bytes()).expect(rt, "promises")),
         None => None,
     }
 }
 
-fn expect_narrow(
-    rt: &impl Abort,
-    pledge: &mut Pledge,
-    promises: Option<Promises>,
-    execpromises: Option<Promises>,
+fn expect_narrow(rt: &impl Abort, pledge: &mut Pledge, asked: Texts, answer: Result<(), Promise>) {
+    let narrowed = pledge.narrow(read(rt, asked.0), read(rt, asked.1));
+    expect_same(rt, narrowed, answer);
+}
+
+fn expect_held(rt: &impl Abort, pledge: &Pledge, held: Texts) {
+    expect_same(rt, pledge.promises(), read(rt, held.0));
+    expect_same(rt, pledge.execpromises(), read(rt, held.1));
+}
+
+// A process that is not pledged narrows what it holds twice.
+#[derive(Clone, Copy)]
+struct Narrowing {
+    first: Texts,
+    second: Texts,
+    // The answer to the second.
     answer: Result<(), Promise>,
-) {
-    expect_same(rt, pledge.narrow(promises, execpromises), answer);
+    held: Texts,
+    // What is held after each execve(2).
+    after_execve: Texts,
 }
 
-fn expect_held(
-    rt: &impl Abort,
-    pledge: &Pledge,
-    promises: Option<Promises>,
-    execpromises: Option<Promises>,
-) {
-    expect_same(rt, pledge.promises(), promises);
-    expect_same(rt, pledge.execpromises(), execpromises);
-}
-
-fn expect_step(rt: &impl Abort, pledge: &mut Pledge, step: Step) {
-    match step {
-        Narrow(promises, execpromises, answer) => {
-            expect_narrow(
-                rt,
-                pledge,
-                read(rt, promises),
-                read(rt, execpromises),
-                answer,
-            );
-        }
-        Execve => pledge.after_exec(),
-        Holds(promises, execpromises) => {
-            expect_held(rt, pledge, read(rt, promises), read(rt, execpromises));
-        }
-    }
-}
-
-const NARROWED_UNDER_ERROR: &[Step] = &[
-    Narrow(Some(b"stdio error"), None, Ok(())),
-    Narrow(Some(b"stdio rpath"), Some(b"stdio rpath"), Ok(())),
-    Holds(Some(b"stdio"), Some(b"stdio rpath")),
+const NARROWINGS: &[Narrowing] = &[
+    // Under error nothing is refused.
+    Narrowing {
+        first: (Some("stdio error"), None),
+        second: (Some("stdio rpath"), Some("stdio rpath")),
+        answer: Ok(()),
+        held: (Some("stdio"), Some("stdio rpath")),
+        after_execve: (Some("stdio rpath"), Some("stdio rpath")),
+    },
+    // An increase is refused, of either.
+    Narrowing {
+        first: (Some("stdio"), Some("stdio")),
+        second: (Some("stdio wpath rpath"), None),
+        answer: Err(Promise::Rpath),
+        held: (Some("stdio"), Some("stdio")),
+        after_execve: (Some("stdio"), Some("stdio")),
+    },
+    Narrowing {
+        first: (Some("stdio"), Some("stdio")),
+        second: (None, Some("stdio wpath rpath")),
+        answer: Err(Promise::Rpath),
+        held: (Some("stdio"), Some("stdio")),
+        after_execve: (Some("stdio"), Some("stdio")),
+    },
+    // Without execpromises execve(2) leaves no promises.
+    Narrowing {
+        first: (Some("stdio exec"), None),
+        second: (None, None),
+        answer: Ok(()),
+        held: (Some("stdio exec"), None),
+        after_execve: (None, None),
+    },
+    Narrowing {
+        first: (Some("stdio exec"), None),
+        second: (None, Some("stdio rpath")),
+        answer: Ok(()),
+        held: (Some("stdio exec"), Some("stdio rpath")),
+        after_execve: (Some("stdio rpath"), Some("stdio rpath")),
+    },
 ];
 
-const INCREASE_REFUSED: &[Step] = &[
-    Narrow(Some(b"stdio"), Some(b"stdio"), Ok(())),
-    Narrow(Some(b"stdio wpath rpath"), None, Err(Promise::Rpath)),
-    Narrow(None, Some(b"stdio wpath rpath"), Err(Promise::Rpath)),
-    Holds(Some(b"stdio"), Some(b"stdio")),
-];
-
-const EXECVE_WITHOUT_EXECPROMISES: &[Step] = &[
-    Narrow(Some(b"stdio exec"), None, Ok(())),
-    Execve,
-    Holds(None, None),
-];
-
-const EXECVE_WITH_EXECPROMISES: &[Step] = &[
-    Narrow(Some(b"stdio exec"), None, Ok(())),
-    Narrow(None, Some(b"stdio rpath"), Ok(())),
-    Execve,
-    Holds(Some(b"stdio rpath"), Some(b"stdio rpath")),
-    Execve,
-    Holds(Some(b"stdio rpath"), Some(b"stdio rpath")),
-];
-
-const PLEDGES: &[&[Step]] = &[
-    NARROWED_UNDER_ERROR,
-    INCREASE_REFUSED,
-    EXECVE_WITHOUT_EXECPROMISES,
-    EXECVE_WITH_EXECPROMISES,
-];
-
-// Steps are taken in turn by a process that is not pledged.
-fn expect_steps(rt: &impl Abort, steps: &[Step]) {
+fn expect_narrowing(rt: &impl Abort, narrowing: &Narrowing) {
     let mut pledge = Pledge::new();
-    for &step in steps {
-        expect_step(rt, &mut pledge, step);
-    }
+    expect_narrow(rt, &mut pledge, narrowing.first, Ok(()));
+    expect_narrow(rt, &mut pledge, narrowing.second, narrowing.answer);
+    expect_held(rt, &pledge, narrowing.held);
+    pledge.after_exec();
+    expect_held(rt, &pledge, narrowing.after_execve);
+    pledge.after_exec();
+    expect_held(rt, &pledge, narrowing.after_execve);
 }
 
 #[test]
 fn pledges_narrow_and_change_by_execve(rt: HostRuntime) {
-    for &steps in PLEDGES {
-        expect_steps(&rt, steps);
+    for narrowing in NARROWINGS {
+        expect_narrowing(&rt, narrowing);
     }
 }
