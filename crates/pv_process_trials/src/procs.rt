@@ -134,6 +134,30 @@ fn expect_part(rt: &impl Abort, processes: &Processes, pid: u32, part: Part) {
     }
 }
 
+// What is told of a process, whether or not it is live.
+#[derive(Clone, Copy)]
+enum Sight {
+    // Whether it is live.
+    Live(bool),
+    // Its parent, if it is there.
+    Parent(Option<u32>),
+    // Whether a wait of it would wait.
+    Waits(bool),
+    // The call that comes next, if one does.
+    Next(Option<&'static str>),
+}
+
+use Sight::{Live, Next, Parent, Waits};
+
+fn expect_sight(rt: &impl Abort, processes: &Processes, pid: u32, sight: Sight) {
+    match sight {
+        Live(live) => expect_same(rt, processes.live(pid), live),
+        Parent(parent) => expect_same(rt, processes.parent_of(pid), parent),
+        Waits(waits) => expect_same(rt, processes.waits(pid), waits),
+        Next(name) => expect_same(rt, name_of(processes.next(pid)), name),
+    }
+}
+
 // What is done with processes or asked of them, and what that answers.
 #[derive(Clone, Copy)]
 enum Step {
@@ -141,31 +165,22 @@ enum Step {
     Does(u32, Act),
     // What a live process has.
     Has(u32, Part),
-    // Whether a process is live.
-    Live(u32, bool),
-    // The parent of a process, if it is there.
-    Parent(u32, Option<u32>),
-    // Whether a wait of a process would wait.
-    Waits(u32, bool),
+    // What is told of a process.
+    Is(u32, Sight),
     // A process waits for a child.
     Wait(u32, Reap),
-    // The call that comes next in a process, if one does.
-    Next(u32, Option<&'static str>),
     // An instruction on registers is made, if one comes next.
     Register(u32, Ahead),
 }
 
-use Step::{Does, Has, Live, Next, Parent, Register, Wait, Waits};
+use Step::{Does, Has, Is, Register, Wait};
 
 fn expect_step<R: Abort + AllocGlobal>(rt: &R, processes: &mut Processes, step: Step) {
     match step {
         Does(pid, act) => perform(rt, processes, pid, act),
         Has(pid, part) => expect_part(rt, processes, pid, part),
-        Live(pid, answer) => expect_same(rt, processes.live(pid), answer),
-        Parent(pid, answer) => expect_same(rt, processes.parent_of(pid), answer),
-        Waits(pid, answer) => expect_same(rt, processes.waits(pid), answer),
+        Is(pid, sight) => expect_sight(rt, processes, pid, sight),
         Wait(pid, answer) => expect_same(rt, processes.reap(pid), answer),
-        Next(pid, name) => expect_same(rt, name_of(processes.next(pid)), name),
         Register(pid, answer) => expect_same(rt, processes.register(pid), answer),
     }
 }
@@ -179,82 +194,68 @@ fn expect_steps<R: Abort + AllocGlobal>(rt: &R, steps: &[Step]) {
     processes.facts();
 }
 
-const GENERATIONS: &[Step] = &[
+const PARENTS_AND_ORPHANS: &[Step] = &[
     // Processes 2 and 3 are children of 1, and 4 is one of 2.
     Does(1, Fork(Ok(2))),
     Does(1, Fork(Ok(3))),
     Does(2, Fork(Ok(4))),
-    Parent(4, Some(2)),
+    Is(4, Parent(Some(2))),
     // Who has a child waits for it.
-    Waits(1, true),
-    Waits(3, false),
+    Is(1, Waits(true)),
+    Is(3, Waits(false)),
     Wait(1, Reap::Blocked),
     Wait(3, Reap::NoChild),
     // Orphans have the first process as parent.
     Does(2, End(6)),
-    Live(2, false),
-    Parent(2, Some(1)),
-    Parent(4, Some(1)),
-    Waits(1, false),
+    Is(2, Live(false)),
+    Is(2, Parent(Some(1))),
+    Is(4, Parent(Some(1))),
+    Is(1, Waits(false)),
     Wait(1, Reap::Child(2, 6)),
-    Parent(2, None),
+    Is(2, Parent(None)),
     Wait(1, Reap::Blocked),
     // The first process ends before others, which then have no parent.
     Does(1, End(0)),
-    Live(1, false),
-    Parent(1, None),
-    Parent(3, Some(0)),
-    Parent(4, Some(0)),
+    Is(1, Live(false)),
+    Is(1, Parent(None)),
+    Is(3, Parent(Some(0))),
+    Is(4, Parent(Some(0))),
     Does(3, End(0)),
-    Parent(3, None),
-    Live(4, true),
+    Is(3, Parent(None)),
+    Is(4, Live(true)),
     Does(4, Fork(Ok(5))),
 ];
 
-#[test]
-fn parents_wait_and_orphans_are_adopted(rt: HostRuntime) {
-    expect_steps(&rt, GENERATIONS);
-}
+const CHILD_HAS_A_COPY: &[Step] = &[Does(1, Fill), Does(1, Fork(Ok(2))), Has(2, Copied)];
 
-const COPY: &[Step] = &[Does(1, Fill), Does(1, Fork(Ok(2))), Has(2, Copied)];
-
-#[test]
-fn child_has_a_copy(rt: HostRuntime) {
-    expect_steps(&rt, COPY);
-}
-
-const PROGRAMS: &[Step] = &[
+const LOADED_PROGRAMS: &[Step] = &[
     Does(1, Fork(Ok(2))),
     Does(2, Open),
     Does(2, Load),
     Has(2, Closed),
     Has(2, Lines(2)),
-    Next(2, None),
+    Is(2, Next(None)),
     Does(2, Advance),
-    Next(2, Some("getpid")),
+    Is(2, Next(Some("getpid"))),
     // The program that is loaded again is told something before its first step.
     Does(2, Load),
     Does(2, Tell),
     Does(2, Put(b"xyz")),
     Has(2, Front(b"xyz")),
-    Next(1, Some("exit 0")),
+    Is(1, Next(Some("exit 0"))),
     // It is loaded once more, and its first instruction is made.
     Does(2, Load),
     Register(2, Ahead::Register),
-    Next(2, Some("getpid")),
+    Is(2, Next(Some("getpid"))),
     Register(2, Ahead::Call),
-    Next(2, Some("getpid")),
+    Is(2, Next(Some("getpid"))),
     Does(2, End(0)),
     Register(2, Ahead::Gone),
-    Next(2, None),
+    Is(2, Next(None)),
 ];
 
-#[test]
-fn programs_are_loaded_and_run(rt: HostRuntime) {
-    expect_steps(&rt, PROGRAMS);
-}
-
-const FULL: &[Step] = &[
+// There are 32 places.
+const FULL_TABLE: &[Step] = &[
     Does(1, Fork(Ok(2))),
     Does(1, Fork(Ok(3))),
     Does(1, Fork(Ok(4))),
@@ -294,9 +295,18 @@ const FULL: &[Step] = &[
     Does(32, Fork(Err(Errno::EAGAIN))),
 ];
 
+const STORIES: &[&[Step]] = &[
+    PARENTS_AND_ORPHANS,
+    CHILD_HAS_A_COPY,
+    LOADED_PROGRAMS,
+    FULL_TABLE,
+];
+
 #[test]
-fn has_32_places(rt: HostRuntime) {
-    expect_steps(&rt, FULL);
+fn processes_come_run_and_go(rt: HostRuntime) {
+    for &steps in STORIES {
+        expect_steps(&rt, steps);
+    }
 }
 
 // A child with this number comes and goes.
