@@ -8,11 +8,6 @@ use pv_procs::{Ahead, Processes, Reap, Record};
 use pv_script::Program;
 use std::process::Abort;
 
-// Process 1, with a program of no lines.
-fn first<R: Abort + AllocGlobal>(rt: &R) -> Processes {
-    Processes::new(rt.alloc(), Program::empty(rt.alloc())).expect(rt, "memory")
-}
-
 fn expect_live(rt: &impl Abort, processes: &Processes, pid: u32)
     ensures { IsSome (process_in processes.now pid) }
 {
@@ -59,7 +54,10 @@ fn expect_closed(rt: &impl Abort, record: &Record) {
 
 // A program of two lines.
 fn program<R: Abort + AllocGlobal>(rt: &R) -> Program {
-    Program::parse(rt.alloc(), b"set r0 1\ngetpid\n").expect(rt, "a program")
+    match Program::parse(rt.alloc(), b"set r0 1\ngetpid\n") {
+        Ok(program) => program,
+        Err(_) => panic!(rt; "no program"),
+    }
 }
 
 // The name of a call.
@@ -171,9 +169,19 @@ enum Step {
     Wait(u32, Reap),
     // An instruction on registers is made, if one comes next.
     Register(u32, Ahead),
+    // Children of process 1 come and go, from number 2 to below this one.
+    Pass(u32),
 }
 
-use Step::{Does, Has, Is, Register, Wait};
+use Step::{Does, Has, Is, Pass, Register, Wait};
+
+fn pass<R: Abort + AllocGlobal>(rt: &R, processes: &mut Processes, below: u32) {
+    for number in 2..below {
+        perform(rt, processes, 1, Fork(Ok(number)));
+        perform(rt, processes, number, End(0));
+        expect_same(rt, processes.reap(1), Reap::Child(number, 0));
+    }
+}
 
 fn expect_step<R: Abort + AllocGlobal>(rt: &R, processes: &mut Processes, step: Step) {
     match step {
@@ -182,12 +190,14 @@ fn expect_step<R: Abort + AllocGlobal>(rt: &R, processes: &mut Processes, step: 
         Is(pid, sight) => expect_sight(rt, processes, pid, sight),
         Wait(pid, answer) => expect_same(rt, processes.reap(pid), answer),
         Register(pid, answer) => expect_same(rt, processes.register(pid), answer),
+        Pass(below) => pass(rt, processes, below),
     }
 }
 
-// Steps are taken in turn, the first where there is process 1 alone.
+// Steps are taken in turn, the first where there is process 1 alone, with a program of no lines.
 fn expect_steps<R: Abort + AllocGlobal>(rt: &R, steps: &[Step]) {
-    let mut processes = first(rt);
+    let program = Program::empty(rt.alloc());
+    let mut processes = Processes::new(rt.alloc(), program).expect(rt, "memory");
     for &step in steps {
         expect_step(rt, &mut processes, step);
     }
@@ -295,11 +305,15 @@ const FULL_TABLE: &[Step] = &[
     Does(32, Fork(Err(Errno::EAGAIN))),
 ];
 
+// The last number is 99,999.
+const NUMBERS_END: &[Step] = &[Pass(100_000), Does(1, Fork(Err(Errno::EAGAIN)))];
+
 const STORIES: &[&[Step]] = &[
     PARENTS_AND_ORPHANS,
     CHILD_HAS_A_COPY,
     LOADED_PROGRAMS,
     FULL_TABLE,
+    NUMBERS_END,
 ];
 
 #[test]
@@ -307,20 +321,4 @@ fn processes_come_run_and_go(rt: HostRuntime) {
     for &steps in STORIES {
         expect_steps(&rt, steps);
     }
-}
-
-// A child with this number comes and goes.
-fn pass<R: Abort + AllocGlobal>(rt: &R, processes: &mut Processes, number: u32) {
-    expect_step(rt, processes, Does(1, Fork(Ok(number))));
-    expect_step(rt, processes, Does(number, End(0)));
-    expect_step(rt, processes, Wait(1, Reap::Child(number, 0)));
-}
-
-#[test]
-fn numbers_end(rt: HostRuntime) {
-    let mut processes = first(&rt);
-    for number in 2..100_000 {
-        pass(&rt, &mut processes, number);
-    }
-    expect_step(&rt, &mut processes, Does(1, Fork(Err(Errno::EAGAIN))));
 }
