@@ -1,4 +1,4 @@
-//! Families of processes, what a child has and what execve leaves, and full tables.
+//! Families of processes, what a child has and what execve leaves, and full tables: stories, each a table of steps.
 ghost use Rattle.std.specs.Prelude.{IsSome};
 ghost use Rattle.pv_procs.specs.ProcessTable.{process_in};
 
@@ -54,10 +54,7 @@ fn expect_closed(rt: &impl Abort, record: &Record) {
 
 // A program of two lines.
 fn program<R: Abort + AllocGlobal>(rt: &R) -> Program {
-    match Program::parse(rt.alloc(), b"set r0 1\ngetpid\n") {
-        Ok(program) => program,
-        Err(_) => panic!(rt; "no program"),
-    }
+    Program::parse(rt.alloc(), b"set r0 1\ngetpid\n").expect(rt, "a program")
 }
 
 // The name of a call.
