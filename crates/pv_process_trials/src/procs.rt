@@ -1,202 +1,321 @@
-//! Families of processes, what a child has and what execve leaves, and full tables.
-use pv_model::{CallRef, Errno, Perms, Target};
-use pv_procs::{Processes, Reap, Record};
-use pv_promises::read_promises;
+//! Families of processes, what a child has and what execve leaves, and full tables: stories, each a table of steps.
+ghost use Rattle.std.specs.Prelude.{IsSome};
+ghost use Rattle.pv_procs.specs.ProcessTable.{process_in};
+
+use crate::answers::expect_same;
+use pv_model::{CallRef, Errno, Perms, Promises, Target};
+use pv_procs::{Ahead, Processes, Reap, Record};
 use pv_script::Program;
 use std::process::Abort;
 
-fn first<R: Abort + AllocGlobal>(rt: &R) -> Processes {
-    Processes::new(rt.alloc(), Program::empty(rt.alloc())).expect(rt, "memory")
-}
-
-fn fork(rt: &impl Abort, processes: &mut Processes, pid: u32) -> Result<u32, Errno> {
+fn expect_live(rt: &impl Abort, processes: &Processes, pid: u32)
+    ensures { IsSome (process_in processes.now pid) }
+{
     assert!(rt; processes.live(pid));
-    processes.fork(pid)
-}
-
-fn end(rt: &impl Abort, processes: &mut Processes, pid: u32, status: u32) {
-    assert!(rt; processes.live(pid));
-    processes.end(pid, status);
-}
-
-// A fork by a process answers this.
-fn expect_fork(rt: &impl Abort, processes: &mut Processes, pid: u32, wanted: Result<u32, Errno>) {
-    assert_eq!(rt; fork(rt, processes, pid), wanted);
-}
-
-// A wait by a process answers this.
-fn expect_reap(rt: &impl Abort, processes: &mut Processes, pid: u32, wanted: Reap) {
-    assert_eq!(rt; processes.reap(pid), wanted);
-}
-
-// A process has this parent, or is not there.
-fn expect_parent(rt: &impl Abort, processes: &Processes, pid: u32, parent: Option<u32>) {
-    assert_eq!(rt; processes.parent_of(pid), parent);
-}
-
-// Processes 1, 2 and 3, children of 1, and 4, a child of 2.
-fn family<R: Abort + AllocGlobal>(rt: &R) -> Processes {
-    let mut processes = first(rt);
-    expect_fork(rt, &mut processes, 1, Ok(2));
-    expect_fork(rt, &mut processes, 1, Ok(3));
-    expect_fork(rt, &mut processes, 2, Ok(4));
-    processes
-}
-
-// The family once 1 has waited and 2 has ended.
-fn orphans<R: Abort + AllocGlobal>(rt: &R) -> Processes {
-    let mut processes = family(rt);
-    expect_reap(rt, &mut processes, 1, Reap::Blocked);
-    expect_reap(rt, &mut processes, 3, Reap::NoChild);
-    end(rt, &mut processes, 2, 6);
-    processes
-}
-
-#[test]
-fn waits_for_children(rt: HostRuntime) {
-    let mut processes = family(&rt);
-    expect_parent(&rt, &processes, 4, Some(2));
-    assert!(rt; processes.waits(1) && !processes.waits(3));
-    expect_reap(&rt, &mut processes, 1, Reap::Blocked);
-    expect_reap(&rt, &mut processes, 3, Reap::NoChild);
-}
-
-#[test]
-fn orphans_have_the_first_process_as_parent(rt: HostRuntime) {
-    let mut processes = orphans(&rt);
-    assert!(rt; !processes.live(2));
-    expect_parent(&rt, &processes, 2, Some(1));
-    expect_parent(&rt, &processes, 4, Some(1));
-    assert!(rt; !processes.waits(1));
-    expect_reap(&rt, &mut processes, 1, Reap::Child(2, 6));
-    expect_parent(&rt, &processes, 2, None);
-    expect_reap(&rt, &mut processes, 1, Reap::Blocked);
-}
-
-#[test]
-fn first_process_ends_before_others(rt: HostRuntime) {
-    let mut processes = orphans(&rt);
-    expect_reap(&rt, &mut processes, 1, Reap::Child(2, 6));
-    end(&rt, &mut processes, 1, 0);
-    assert!(rt; !processes.live(1));
-    expect_parent(&rt, &processes, 1, None);
-    expect_parent(&rt, &processes, 3, Some(0));
-    expect_parent(&rt, &processes, 4, Some(0));
-    end(&rt, &mut processes, 3, 0);
-    expect_parent(&rt, &processes, 3, None);
-    assert!(rt; processes.live(4));
-    expect_fork(&rt, &mut processes, 4, Ok(5));
-    processes.facts();
-}
-
-#[test]
-fn has_32_places(rt: HostRuntime) {
-    let mut processes = first(&rt);
-    for number in 2..33 {
-        expect_fork(&rt, &mut processes, 1, Ok(number));
-    }
-    expect_fork(&rt, &mut processes, 32, Err(Errno::EAGAIN));
-    end(&rt, &mut processes, 20, 256);
-    expect_fork(&rt, &mut processes, 32, Err(Errno::EAGAIN));
-    expect_reap(&rt, &mut processes, 1, Reap::Child(20, 256));
-    expect_fork(&rt, &mut processes, 32, Ok(33));
-    expect_fork(&rt, &mut processes, 32, Err(Errno::EAGAIN));
-}
-
-#[test]
-fn numbers_end(rt: HostRuntime) {
-    let mut processes = first(&rt);
-    for number in 2..100_000 {
-        expect_fork(&rt, &mut processes, 1, Ok(number));
-        end(&rt, &mut processes, number, 0);
-        expect_reap(&rt, &mut processes, 1, Reap::Child(number, 0));
-    }
-    expect_fork(&rt, &mut processes, 1, Err(Errno::EAGAIN));
 }
 
 // Gives a process's record an entry of unveil, and a descriptor that execve closes.
-fn open_both<R: Abort>(rt: &R, record: &mut Record) {
-    assert_eq!(rt;
-        record.unveiled.add(Target::Directory(1), Perms::NONE),
-        Ok(0)
-    );
-    assert_eq!(rt; record.descriptors.give(5, true), Ok(0));
+fn open_both(rt: &impl Abort, record: &mut Record) {
+    let added = record.unveiled.add(Target::Directory(1), Perms::NONE);
+    expect_same(rt, added, Ok(0));
+    expect_same(rt, record.descriptors.give(5, true), Ok(0));
 }
 
-// Process 1, which has something of each kind, and its child 2.
-fn parent_and_child<R: Abort + AllocGlobal>(rt: &R) -> Processes {
-    let mut processes = first(rt);
-    assert!(rt; processes.live(1));
-    let record = processes.record_mut(1);
-    let promises = read_promises(b"stdio").expect(rt, "promises");
-    assert_eq!(rt; record.pledge.narrow(None, Some(promises)), Ok(()));
+// Gives a process's record something of each kind.
+fn fill(rt: &impl Abort, record: &mut Record) {
+    let narrowed = record.pledge.narrow(None, Some(Promises::STDIO));
+    expect_same(rt, narrowed, Ok(()));
     open_both(rt, record);
     record.directory = 7;
-    assert_eq!(rt; record.descriptors.give(6, false), Ok(1));
+    expect_same(rt, record.descriptors.give(6, false), Ok(1));
     record.machine.put_front(b"ab");
-    expect_fork(rt, &mut processes, 1, Ok(2));
-    processes
 }
+
+// These bytes are the first of a buffer.
+fn expect_front(rt: &impl Abort, record: &Record, bytes: &[u8]) {
+    expect_same(rt, record.machine.buffer().starts_with(bytes), true);
+}
+
+// A record has what the one that was filled has.
+fn expect_copied(rt: &impl Abort, record: &Record) {
+    expect_same(rt, record.pledge.execpromises().is_some(), true);
+    expect_same(rt, record.unveiled.len(), 1);
+    expect_same(rt, record.directory, 7);
+    expect_same(rt, record.descriptors.at(0), Ok(5));
+    expect_same(rt, record.descriptors.marked(0), true);
+    expect_front(rt, record, b"ab\0");
+}
+
+// A record no longer has what execve closes.
+fn expect_closed(rt: &impl Abort, record: &Record) {
+    expect_same(rt, record.unveiled.is_empty(), true);
+    expect_same(rt, record.descriptors.at(0), Err(Errno::EBADF));
+}
+
+// A program of two lines.
+fn program<R: Abort + AllocGlobal>(rt: &R) -> Program {
+    Program::parse(rt.alloc(), b"set r0 1\ngetpid\n").expect(rt, "a program")
+}
+
+// The name of a call.
+fn name_of(call: Option<CallRef<'_>>) -> Option<&'static str> {
+    match call {
+        Some(CallRef::GetPid) => Some("getpid"),
+        Some(CallRef::Exit(0)) => Some("exit 0"),
+        Some(_) => Some("another"),
+        None => None,
+    }
+}
+
+// What a live process does, or what becomes of it.
+#[derive(Clone, Copy)]
+enum Act {
+    // It forks, which answers this.
+    Fork(Result<u32, Errno>),
+    // It ends with a status.
+    End(u32),
+    // It has something of each kind.
+    Fill,
+    // It opens both that execve closes.
+    Open,
+    // It loads a program.
+    Load,
+    // It goes on to its next line.
+    Advance,
+    // It is told what a call came to.
+    Tell,
+    // It has bytes at the front of its buffer.
+    Put(&'static [u8; 3]),
+}
+
+use Act::{Advance, End, Fill, Fork, Load, Open, Put, Tell};
+
+fn perform<R: Abort + AllocGlobal>(rt: &R, processes: &mut Processes, pid: u32, act: Act) {
+    expect_live(rt, processes, pid);
+    match act {
+        Fork(answer) => expect_same(rt, processes.fork(pid), answer),
+        End(status) => processes.end(pid, status),
+        Fill => fill(rt, processes.record_mut(pid)),
+        Open => open_both(rt, processes.record_mut(pid)),
+        Load => processes.load(pid, program(rt)),
+        Advance => processes.advance(pid),
+        Tell => processes.tell(pid, 2, 0),
+        Put(bytes) => processes.put_front(pid, bytes),
+    }
+}
+
+// What a live process has.
+#[derive(Clone, Copy)]
+enum Part {
+    // What the process that was filled has.
+    Copied,
+    // Nothing of what execve closes.
+    Closed,
+    // A program of so many lines.
+    Lines(usize),
+    // These bytes at the front of its buffer.
+    Front(&'static [u8]),
+}
+
+use Part::{Closed, Copied, Front, Lines};
+
+fn expect_part(rt: &impl Abort, processes: &Processes, pid: u32, part: Part) {
+    expect_live(rt, processes, pid);
+    match part {
+        Copied => expect_copied(rt, processes.record(pid)),
+        Closed => expect_closed(rt, processes.record(pid)),
+        Lines(count) => expect_same(rt, processes.program(pid).len(), count),
+        Front(bytes) => expect_front(rt, processes.record(pid), bytes),
+    }
+}
+
+// What is told of a process, whether or not it is live.
+#[derive(Clone, Copy)]
+enum Sight {
+    // Whether it is live.
+    Live(bool),
+    // Its parent, if it is there.
+    Parent(Option<u32>),
+    // Whether a wait of it would wait.
+    Waits(bool),
+    // The call that comes next, if one does.
+    Next(Option<&'static str>),
+}
+
+use Sight::{Live, Next, Parent, Waits};
+
+fn expect_sight(rt: &impl Abort, processes: &Processes, pid: u32, sight: Sight) {
+    match sight {
+        Live(live) => expect_same(rt, processes.live(pid), live),
+        Parent(parent) => expect_same(rt, processes.parent_of(pid), parent),
+        Waits(waits) => expect_same(rt, processes.waits(pid), waits),
+        Next(name) => expect_same(rt, name_of(processes.next(pid)), name),
+    }
+}
+
+// What is done with processes or asked of them, and what that answers.
+#[derive(Clone, Copy)]
+enum Step {
+    // What a live process does.
+    Does(u32, Act),
+    // What a live process has.
+    Has(u32, Part),
+    // What is told of a process.
+    Is(u32, Sight),
+    // A process waits for a child.
+    Wait(u32, Reap),
+    // An instruction on registers is made, if one comes next.
+    Register(u32, Ahead),
+    // Children of process 1 come and go, from number 2 to below this one.
+    Pass(u32),
+}
+
+use Step::{Does, Has, Is, Pass, Register, Wait};
+
+fn pass<R: Abort + AllocGlobal>(rt: &R, processes: &mut Processes, below: u32) {
+    for number in 2..below {
+        perform(rt, processes, 1, Fork(Ok(number)));
+        perform(rt, processes, number, End(0));
+        expect_same(rt, processes.reap(1), Reap::Child(number, 0));
+    }
+}
+
+fn expect_step<R: Abort + AllocGlobal>(rt: &R, processes: &mut Processes, step: Step) {
+    match step {
+        Does(pid, act) => perform(rt, processes, pid, act),
+        Has(pid, part) => expect_part(rt, processes, pid, part),
+        Is(pid, sight) => expect_sight(rt, processes, pid, sight),
+        Wait(pid, answer) => expect_same(rt, processes.reap(pid), answer),
+        Register(pid, answer) => expect_same(rt, processes.register(pid), answer),
+        Pass(below) => pass(rt, processes, below),
+    }
+}
+
+// Steps are taken in turn, the first where there is process 1 alone, with a program of no lines.
+fn expect_steps<R: Abort + AllocGlobal>(rt: &R, steps: &[Step]) {
+    let program = Program::empty(rt.alloc());
+    let mut processes = Processes::new(rt.alloc(), program).expect(rt, "memory");
+    for &step in steps {
+        expect_step(rt, &mut processes, step);
+    }
+    processes.facts();
+}
+
+const PARENTS_AND_ORPHANS: &[Step] = &[
+    // Processes 2 and 3 are children of 1, and 4 is one of 2.
+    Does(1, Fork(Ok(2))),
+    Does(1, Fork(Ok(3))),
+    Does(2, Fork(Ok(4))),
+    Is(4, Parent(Some(2))),
+    // Who has a child waits for it.
+    Is(1, Waits(true)),
+    Is(3, Waits(false)),
+    Wait(1, Reap::Blocked),
+    Wait(3, Reap::NoChild),
+    // Orphans have the first process as parent.
+    Does(2, End(6)),
+    Is(2, Live(false)),
+    Is(2, Parent(Some(1))),
+    Is(4, Parent(Some(1))),
+    Is(1, Waits(false)),
+    Wait(1, Reap::Child(2, 6)),
+    Is(2, Parent(None)),
+    Wait(1, Reap::Blocked),
+    // The first process ends before others, which then have no parent.
+    Does(1, End(0)),
+    Is(1, Live(false)),
+    Is(1, Parent(None)),
+    Is(3, Parent(Some(0))),
+    Is(4, Parent(Some(0))),
+    Does(3, End(0)),
+    Is(3, Parent(None)),
+    Is(4, Live(true)),
+    Does(4, Fork(Ok(5))),
+];
+
+const CHILD_HAS_A_COPY: &[Step] = &[Does(1, Fill), Does(1, Fork(Ok(2))), Has(2, Copied)];
+
+const LOADED_PROGRAMS: &[Step] = &[
+    Does(1, Fork(Ok(2))),
+    Does(2, Open),
+    Does(2, Load),
+    Has(2, Closed),
+    Has(2, Lines(2)),
+    Is(2, Next(None)),
+    Does(2, Advance),
+    Is(2, Next(Some("getpid"))),
+    // The program that is loaded again is told something before its first step.
+    Does(2, Load),
+    Does(2, Tell),
+    Does(2, Put(b"xyz")),
+    Has(2, Front(b"xyz")),
+    Is(1, Next(Some("exit 0"))),
+    // It is loaded once more, and its first instruction is made.
+    Does(2, Load),
+    Register(2, Ahead::Register),
+    Is(2, Next(Some("getpid"))),
+    Register(2, Ahead::Call),
+    Is(2, Next(Some("getpid"))),
+    Does(2, End(0)),
+    Register(2, Ahead::Gone),
+    Is(2, Next(None)),
+];
+
+// There are 32 places.
+const FULL_TABLE: &[Step] = &[
+    Does(1, Fork(Ok(2))),
+    Does(1, Fork(Ok(3))),
+    Does(1, Fork(Ok(4))),
+    Does(1, Fork(Ok(5))),
+    Does(1, Fork(Ok(6))),
+    Does(1, Fork(Ok(7))),
+    Does(1, Fork(Ok(8))),
+    Does(1, Fork(Ok(9))),
+    Does(1, Fork(Ok(10))),
+    Does(1, Fork(Ok(11))),
+    Does(1, Fork(Ok(12))),
+    Does(1, Fork(Ok(13))),
+    Does(1, Fork(Ok(14))),
+    Does(1, Fork(Ok(15))),
+    Does(1, Fork(Ok(16))),
+    Does(1, Fork(Ok(17))),
+    Does(1, Fork(Ok(18))),
+    Does(1, Fork(Ok(19))),
+    Does(1, Fork(Ok(20))),
+    Does(1, Fork(Ok(21))),
+    Does(1, Fork(Ok(22))),
+    Does(1, Fork(Ok(23))),
+    Does(1, Fork(Ok(24))),
+    Does(1, Fork(Ok(25))),
+    Does(1, Fork(Ok(26))),
+    Does(1, Fork(Ok(27))),
+    Does(1, Fork(Ok(28))),
+    Does(1, Fork(Ok(29))),
+    Does(1, Fork(Ok(30))),
+    Does(1, Fork(Ok(31))),
+    Does(1, Fork(Ok(32))),
+    Does(32, Fork(Err(Errno::EAGAIN))),
+    Does(20, End(256)),
+    Does(32, Fork(Err(Errno::EAGAIN))),
+    Wait(1, Reap::Child(20, 256)),
+    Does(32, Fork(Ok(33))),
+    Does(32, Fork(Err(Errno::EAGAIN))),
+];
+
+// The last number is 99,999.
+const NUMBERS_END: &[Step] = &[Pass(100_000), Does(1, Fork(Err(Errno::EAGAIN)))];
+
+const STORIES: &[&[Step]] = &[
+    PARENTS_AND_ORPHANS,
+    CHILD_HAS_A_COPY,
+    LOADED_PROGRAMS,
+    FULL_TABLE,
+    NUMBERS_END,
+];
 
 #[test]
-fn child_has_a_copy(rt: HostRuntime) {
-    let processes = parent_and_child(&rt);
-    assert!(rt; processes.live(2));
-    let child = processes.record(2);
-    assert_eq!(rt; child.directory, 7);
-    assert!(rt; child.descriptors.at(0) == Ok(5) && child.descriptors.marked(0));
-    assert!(rt; child.machine.buffer().starts_with(b"ab\0"));
-}
-
-#[test]
-fn child_has_the_restraints(rt: HostRuntime) {
-    let processes = parent_and_child(&rt);
-    assert!(rt; processes.live(2));
-    let child = processes.record(2);
-    assert!(rt; child.unveiled.len() == 1 && child.pledge.execpromises().is_some());
-}
-
-// Process 1, and its child 2, which has loaded a program.
-fn loaded<R: Abort + AllocGlobal>(rt: &R) -> Processes {
-    let program = Program::parse(rt.alloc(), b"set r0 1\ngetpid\n").expect(rt, "a program");
-    let mut processes = first(rt);
-    expect_fork(rt, &mut processes, 1, Ok(2));
-    assert!(rt; processes.live(2));
-    open_both(rt, processes.record_mut(2));
-    assert!(rt; processes.live(2));
-    processes.load(2, program);
-    processes
-}
-
-#[test]
-fn loads_programs(rt: HostRuntime) {
-    let processes = loaded(&rt);
-    assert!(rt; processes.live(2));
-    assert_eq!(rt; processes.program(2).len(), 2);
-    assert!(rt; processes.record(2).unveiled.is_empty());
-    assert_eq!(rt; processes.record(2).descriptors.at(0), Err(Errno::EBADF));
-}
-
-#[test]
-fn makes_loaded_programs(rt: HostRuntime) {
-    let mut processes = loaded(&rt);
-    assert!(rt; processes.live(2));
-    assert!(rt; processes.next(2).is_none());
-    processes.advance(2);
-    assert!(rt; processes.live(2));
-    assert!(rt; matches!(processes.next(2), Some(CallRef::GetPid)));
-}
-
-#[test]
-fn tells_loaded_programs(rt: HostRuntime) {
-    let mut processes = loaded(&rt);
-    assert!(rt; processes.live(2));
-    processes.tell(2, 2, 0);
-    assert!(rt; processes.live(2));
-    processes.put_front(2, b"xyz");
-    assert!(rt; processes.live(2));
-    assert!(rt; processes.record(2).machine.buffer().starts_with(b"xyz"));
-    assert!(rt; processes.live(1));
-    assert!(rt; matches!(processes.next(1), Some(CallRef::Exit(0))));
-    end(&rt, &mut processes, 2, 0);
+fn processes_come_run_and_go(rt: HostRuntime) {
+    for &steps in STORIES {
+        expect_steps(&rt, steps);
+    }
 }

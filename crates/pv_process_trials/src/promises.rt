@@ -1,121 +1,153 @@
 //! Texts of promises, and what becomes of them.
 
+use crate::answers::expect_same;
 use bitflags::Flags;
 use pv_model::{Errno, Promise, Promises};
 use pv_promises::{Pledge, read_promises};
 use std::process::Abort;
 
-// The promises that a text names.
-fn read<R: Abort>(rt: &R, text: &str) -> Promises {
-    read_promises(text.as_bytes()).expect(rt, "promises")
-}
-
-// A narrowing is taken.
-fn narrow<R: Abort>(
-    rt: &R,
-    pledge: &mut Pledge,
-    promises: Option<Promises>,
-    execpromises: Option<Promises>,
-) {
-    assert_eq!(rt; pledge.narrow(promises, execpromises), Ok(()));
-}
-
-#[test]
-fn reads_keywords(rt: HostRuntime) {
-    assert_eq!(rt;
-        read_promises("  stdio  stdio ".as_bytes()),
-        Ok(Promises::STDIO)
-    );
-    assert_eq!(rt; read_promises("".as_bytes()), Ok(Promises::empty()));
-    assert_eq!(rt; read_promises("stdio foo".as_bytes()), Err(Errno::EINVAL));
-    assert_eq!(rt;
-        read_promises("stdio\x09rpath".as_bytes()),
-        Err(Errno::EINVAL)
-    );
-}
-
-#[test]
-fn reads_each_keyword(rt: HostRuntime) {
-    let words = [
-        "stdio",
-        "rpath",
-        "wpath",
-        "cpath",
-        "proc",
-        "exec",
-        "unveil",
-        "error",
-        "dpath",
-        "fattr",
-        "chown",
-        "flock",
-        "unix",
-        "inet",
-        "mcast",
-        "dns",
-        "getpw",
-        "sendfd",
-        "recvfd",
-        "tape",
-        "tty",
-        "prot_exec",
-        "settime",
-        "ps",
-        "vminfo",
-        "id",
-        "pf",
-        "route",
-        "wroute",
-        "audio",
-        "video",
-        "bpf",
-    ];
-    let mut bit = 1u32;
-    for word in words {
-        assert_eq!(rt;
-            read_promises(word.as_bytes()),
-            Ok(Promises::from_bits_retain(bit))
-        );
-        bit = bit.wrapping_mul(2);
+// The bits of the promises that a text names.
+fn bits_of(text: &[u8]) -> Result<u32, Errno> {
+    match read_promises(text) {
+        Ok(promises) => Ok(promises.bits()),
+        Err(errno) => Err(errno),
     }
 }
 
+const TEXTS: &[(&[u8], Result<u32, Errno>)] = &[
+    (b"  stdio  stdio ", Ok(1)),
+    (b"", Ok(0)),
+    (b"stdio foo", Err(Errno::EINVAL)),
+    (b"stdio\x09rpath", Err(Errno::EINVAL)),
+    (b"stdio", Ok(1)),
+    (b"rpath", Ok(2)),
+    (b"wpath", Ok(4)),
+    (b"cpath", Ok(8)),
+    (b"proc", Ok(16)),
+    (b"exec", Ok(32)),
+    (b"unveil", Ok(64)),
+    (b"error", Ok(128)),
+    (b"dpath", Ok(256)),
+    (b"fattr", Ok(512)),
+    (b"chown", Ok(1_024)),
+    (b"flock", Ok(2_048)),
+    (b"unix", Ok(4_096)),
+    (b"inet", Ok(8_192)),
+    (b"mcast", Ok(16_384)),
+    (b"dns", Ok(32_768)),
+    (b"getpw", Ok(65_536)),
+    (b"sendfd", Ok(131_072)),
+    (b"recvfd", Ok(262_144)),
+    (b"tape", Ok(524_288)),
+    (b"tty", Ok(1_048_576)),
+    (b"prot_exec", Ok(2_097_152)),
+    (b"settime", Ok(4_194_304)),
+    (b"ps", Ok(8_388_608)),
+    (b"vminfo", Ok(16_777_216)),
+    (b"id", Ok(33_554_432)),
+    (b"pf", Ok(67_108_864)),
+    (b"route", Ok(134_217_728)),
+    (b"wroute", Ok(268_435_456)),
+    (b"audio", Ok(536_870_912)),
+    (b"video", Ok(1_073_741_824)),
+    (b"bpf", Ok(2_147_483_648)),
+];
+
 #[test]
-fn narrows_under_error(rt: HostRuntime) {
+fn reads_keywords(rt: HostRuntime) {
+    for &(text, bits) in TEXTS {
+        expect_same(&rt, bits_of(text), bits);
+    }
+}
+
+// The promises and the execpromises, each as a text or none.
+type Texts = (Option<&'static str>, Option<&'static str>);
+
+// The promises of a text, where there is one.
+fn read(rt: &impl Abort, text: Option<&str>) -> Option<Promises> {
+    match text {
+        Some(text) => Some(read_promises(text.as_bytes()).expect(rt, "promises")),
+        None => None,
+    }
+}
+
+fn expect_narrow(rt: &impl Abort, pledge: &mut Pledge, asked: Texts, answer: Result<(), Promise>) {
+    let narrowed = pledge.narrow(read(rt, asked.0), read(rt, asked.1));
+    expect_same(rt, narrowed, answer);
+}
+
+fn expect_held(rt: &impl Abort, pledge: &Pledge, held: Texts) {
+    expect_same(rt, pledge.promises(), read(rt, held.0));
+    expect_same(rt, pledge.execpromises(), read(rt, held.1));
+}
+
+// A process that is not pledged narrows what it holds twice.
+#[derive(Clone, Copy)]
+struct Narrowing {
+    first: Texts,
+    second: Texts,
+    // The answer to the second.
+    answer: Result<(), Promise>,
+    held: Texts,
+    // What is held after each execve(2).
+    after_execve: Texts,
+}
+
+const NARROWINGS: &[Narrowing] = &[
+    // Under error nothing is refused.
+    Narrowing {
+        first: (Some("stdio error"), None),
+        second: (Some("stdio rpath"), Some("stdio rpath")),
+        answer: Ok(()),
+        held: (Some("stdio"), Some("stdio rpath")),
+        after_execve: (Some("stdio rpath"), Some("stdio rpath")),
+    },
+    // An increase is refused, of either.
+    Narrowing {
+        first: (Some("stdio"), Some("stdio")),
+        second: (Some("stdio wpath rpath"), None),
+        answer: Err(Promise::Rpath),
+        held: (Some("stdio"), Some("stdio")),
+        after_execve: (Some("stdio"), Some("stdio")),
+    },
+    Narrowing {
+        first: (Some("stdio"), Some("stdio")),
+        second: (None, Some("stdio wpath rpath")),
+        answer: Err(Promise::Rpath),
+        held: (Some("stdio"), Some("stdio")),
+        after_execve: (Some("stdio"), Some("stdio")),
+    },
+    // Without execpromises execve(2) leaves no promises.
+    Narrowing {
+        first: (Some("stdio exec"), None),
+        second: (None, None),
+        answer: Ok(()),
+        held: (Some("stdio exec"), None),
+        after_execve: (None, None),
+    },
+    Narrowing {
+        first: (Some("stdio exec"), None),
+        second: (None, Some("stdio rpath")),
+        answer: Ok(()),
+        held: (Some("stdio exec"), Some("stdio rpath")),
+        after_execve: (Some("stdio rpath"), Some("stdio rpath")),
+    },
+];
+
+fn expect_narrowing(rt: &impl Abort, narrowing: &Narrowing) {
     let mut pledge = Pledge::new();
-    let first = read(&rt, "stdio error");
-    narrow(&rt, &mut pledge, Some(first), None);
-    let second = read(&rt, "stdio rpath");
-    narrow(&rt, &mut pledge, Some(second), Some(second));
-    assert_eq!(rt; pledge.promises(), Some(Promises::STDIO));
-    assert_eq!(rt; pledge.execpromises(), Some(second));
+    expect_narrow(rt, &mut pledge, narrowing.first, Ok(()));
+    expect_narrow(rt, &mut pledge, narrowing.second, narrowing.answer);
+    expect_held(rt, &pledge, narrowing.held);
+    pledge.after_exec();
+    expect_held(rt, &pledge, narrowing.after_execve);
+    pledge.after_exec();
+    expect_held(rt, &pledge, narrowing.after_execve);
 }
 
 #[test]
-fn refuses_an_increase(rt: HostRuntime) {
-    let mut pledge = Pledge::new();
-    let held = read(&rt, "stdio");
-    narrow(&rt, &mut pledge, Some(held), Some(held));
-    let asked = read(&rt, "stdio wpath rpath");
-    assert_eq!(rt; pledge.narrow(Some(asked), None), Err(Promise::Rpath));
-    assert_eq!(rt; pledge.narrow(None, Some(asked)), Err(Promise::Rpath));
-    assert_eq!(rt; pledge.promises(), Some(held));
-}
-
-#[test]
-fn changes_by_execve(rt: HostRuntime) {
-    let mut pledge = Pledge::new();
-    let promises = read(&rt, "stdio exec");
-    let execpromises = read(&rt, "stdio rpath");
-    narrow(&rt, &mut pledge, Some(promises), None);
-    let mut without = pledge;
-    without.after_exec();
-    assert_eq!(rt; without.promises(), None);
-    assert_eq!(rt; without.execpromises(), None);
-    narrow(&rt, &mut pledge, None, Some(execpromises));
-    for _execve in 0..2 {
-        pledge.after_exec();
-        assert_eq!(rt; pledge.promises(), Some(execpromises));
-        assert_eq!(rt; pledge.execpromises(), Some(execpromises));
+fn pledges_narrow_and_change_by_execve(rt: HostRuntime) {
+    for narrowing in NARROWINGS {
+        expect_narrowing(&rt, narrowing);
     }
 }
