@@ -305,17 +305,27 @@ const FULL_TABLE: &[Step] = &[
 // The last number is 99,999.
 const NUMBERS_END: &[Step] = &[Pass(100_000), Does(1, Fork(Err(Errno::EAGAIN)))];
 
-const STORIES: &[&[Step]] = &[
-    PARENTS_AND_ORPHANS,
-    CHILD_HAS_A_COPY,
-    LOADED_PROGRAMS,
-    FULL_TABLE,
-    NUMBERS_END,
-];
+#[test]
+fn parents_wait_and_orphans_have_another(rt: HostRuntime) {
+    expect_steps(&rt, PARENTS_AND_ORPHANS);
+}
 
 #[test]
-fn processes_come_run_and_go(rt: HostRuntime) {
-    for &steps in STORIES {
-        expect_steps(&rt, steps);
-    }
+fn a_child_has_a_copy(rt: HostRuntime) {
+    expect_steps(&rt, CHILD_HAS_A_COPY);
+}
+
+#[test]
+fn loaded_programs_begin_anew(rt: HostRuntime) {
+    expect_steps(&rt, LOADED_PROGRAMS);
+}
+
+#[test]
+fn a_full_table_has_32_places(rt: HostRuntime) {
+    expect_steps(&rt, FULL_TABLE);
+}
+
+#[test]
+fn numbers_end_at_99_999(rt: HostRuntime) {
+    expect_steps(&rt, NUMBERS_END);
 }
