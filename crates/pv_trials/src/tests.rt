@@ -1,9 +1,9 @@
 //! Each call once, as two lookups answer it, full tables, and memory that is refused.
 use crate::store_of;
 use pv_calls::Kernel;
-use pv_procs::Ahead;
 use pv_model::{CallTexts, Cause, Errno, Outcome, StepFault, Taken};
 use pv_namei::Lookup;
+use pv_procs::Ahead;
 use pv_tree::Tree;
 use std::alloc::Global;
 use std::process::Abort;
