@@ -1,6 +1,7 @@
 -- Blocks, and which of them are free.
 use Rattle.std.specs.Prelude.{◌≡◌, ℕ, ◌*◌, ◌<◌, ◌≤◌, Bool, true, false, not, ◌&&◌, nat_le, List, map, length, count_by, slice_get, slice_set, Some}
 use Rattle.std.specs.List.{range_with_len}
+use Rattle.pv_model.specs.declared.limits.TheConstants.{BLOCK}
 use Rattle.pv_model.specs.Bytes.{Bytes}
 use Rattle.pv_model.specs.Image.{block}
 use Rattle.pv_blocks.specs.declared.block_set.BlockSet.{BlockSet}
@@ -50,7 +51,7 @@ with_block s k bytes = record s { blocks = slice_set s.blocks k bytes }
 
 -- what the fields of a store of blocks keep
 pub record IsKept (bytes : Bytes) (taken : BlockSet) (first count free least : ℕ) : Type 0 where
-  pub whole : length bytes ≡ 512 * count
+  pub whole : length bytes ≡ BLOCK * count
   pub first_within : first ≤ count
   pub reserved : (k : ℕ) → k < first → is_member taken k ≡ true
   pub counted : free ≡ count_by (λ is_free. is_free) (free_outside taken count)

@@ -3,6 +3,7 @@ use Rattle.std.specs.Prelude.{◌≡◌, ℕ, ◌&&◌, ◌⊎◌, Bool, length,
 use Rattle.std.specs.Cmp.Lexicographic.{pointwise}
 use Rattle.std.specs.Map.{lookup}
 use Rattle.lru.specs.LruCache.{LruCache, lru_cache, put_entries}
+use Rattle.pv_model.specs.declared.limits.TheConstants.{NAME_V2}
 use Rattle.pv_model.specs.Bytes.{Bytes}
 use Rattle.pv_cache.specs.declared.cached.Pair.{Pair}
 
@@ -15,7 +16,7 @@ pair_of directory name = record { directory = directory; name = record { items =
 
 -- what is kept of a directory and a name; of a name of more than 255 bytes it is nothing
 abbrev pub kept_of : LruCache Pair (Option ℕ) → ℕ → Bytes → Option (Option ℕ)
-kept_of kept directory name = if nat_lt 255 (length name) then None else lookup (is_same (pair_of directory name)) kept.entries
+kept_of kept directory name = if nat_lt NAME_V2 (length name) then None else lookup (is_same (pair_of directory name)) kept.entries
 
 -- each answer that is kept is a map's
 abbrev pub FitsMap : LruCache Pair (Option ℕ) → (ℕ → Bytes → Option ℕ) → Type 0

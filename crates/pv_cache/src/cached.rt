@@ -1,5 +1,6 @@
 //! A lookup that keeps the tree's answers.
 ghost use Rattle.std.specs.Prelude.{◌≡◌, ◌⊎◌, ℕ, List, Option, Some, None, [], IsTrue, IfOk, ◌≤◌, length};
+ghost use Rattle.pv_cache.specs.declared.cached.TheConstants.{MOST};
 ghost use Rattle.pv_model.specs.Tree.{is_directory_at, find_entry};
 ghost use Rattle.pv_tree_laws.specs.Found.{AlikeBut};
 ghost use Rattle.pv_cache.specs.Cached.{kept_of, IsPut, FitsMap};
@@ -63,7 +64,7 @@ pub struct CachedLookup {
     answers: LruCache<Pair, Option<u16>>,
     // What was asked last: each next question takes its place.
     asked: Pair,
-    ghost capacity: { answers.cap ≡ 512 },
+    ghost capacity: { answers.cap ≡ MOST },
 }
 
 impl CachedLookup {

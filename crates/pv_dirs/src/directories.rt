@@ -1,7 +1,7 @@
 //! The directories of an image.
 ghost use Rattle.std.specs.Prelude.{◌≡◌, ◌+◌, ◌-◌, ◌*◌, ◌<◌, ◌≤◌, ◌↔◌, suc, min, false, [], ◌++◌, length, take, drop, replicate, vec_len, All, IsTrue, None, Some, IsSome, IsNone, IfNone, IfSome, OnOk, OnErr, option_map};
 ghost use Rattle.std.specs.Option.{option_copied};
-ghost use Rattle.pv_model.specs.declared.limits.TheConstants.{INODES};
+ghost use Rattle.pv_model.specs.declared.limits.TheConstants.{BLOCK, INODES};
 ghost use Rattle.pv_model.specs.Calls.Descriptors.{next_name};
 ghost use Rattle.pv_model.specs.Effect.{size_of};
 ghost use Rattle.pv_model.specs.Image.{inode_blocks, greatest_blocks};
@@ -46,7 +46,7 @@ impl Model for Directories {
 impl Directories {
     /// The tree of an image of so many blocks and inodes over zeros: it has no node, and no root either.
     pub fn empty(zeros: Vec<u8>, blocks: u16, inodes: u16, version: Version) -> Directories
-        requires whole { vec_len zeros ≡ 512 * blocks }
+        requires whole { vec_len zeros ≡ BLOCK * blocks }
         requires zeros { All (λ byte. byte ≡ 0) zeros.items }
         requires some_inodes { 1 ≤ inodes }
         requires few_inodes { inodes ≤ INODES }

@@ -7,6 +7,7 @@ use Rattle.pv_model.specs.declared.instruction.Operand.{Operand}
 use Rattle.pv_model.specs.declared.instruction.Operand.TheVariants.{Number, Register}
 use Rattle.pv_model.specs.declared.instruction.Origin.{Origin}
 use Rattle.pv_model.specs.declared.instruction.Origin.TheVariants.{WorkingDirectory, Descriptor}
+use Rattle.pv_model.specs.declared.limits.TheConstants.{BUFFER, REGISTERS, TEXT}
 use Rattle.pv_model.specs.Bytes.{Bytes}
 use Rattle.pv_model.specs.Grammar.Forms.{Argument, operand, register, number, line, place, text, text_or_null, flags, whence, origin, form_of}
 use Rattle.pv_model.specs.Grammar.Manifests.{with_line_end}
@@ -56,7 +57,7 @@ IsOrigin (Descriptor d) = IsOperand d
 
 -- a text's bytes are not 0, and at most 1,100
 abbrev pub IsText : Bytes → Type 0
-IsText value = AllByRecursion (λ b. (0 < b) × (b < 256)) value × (length value ≤ 1100)
+IsText value = AllByRecursion (λ b. (0 < b) × (b < 256)) value × (length value ≤ TEXT)
 
 abbrev pub IsTextOrNull : Option Bytes → Type 0
 IsTextOrNull None = Unit {0}
@@ -65,10 +66,10 @@ IsTextOrNull (Some value) = IsText value
 -- an argument is in its range, in a program of so many lines
 abbrev pub IsArgument : ℕ → Argument → Type 0
 IsArgument lines (operand value) = IsOperand value
-IsArgument lines (register value) = value < 8
+IsArgument lines (register value) = value < REGISTERS
 IsArgument lines (number value) = IsNumber value
 IsArgument lines (line value) = (1 ≤ value) × (value ≤ lines)
-IsArgument lines (place value) = value < 4096
+IsArgument lines (place value) = value < BUFFER
 IsArgument lines (text value) = IsText value
 IsArgument lines (text_or_null value) = IsTextOrNull value
 IsArgument lines (flags value) = Unit {0}

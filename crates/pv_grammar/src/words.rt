@@ -5,6 +5,7 @@ ghost use Rattle.std.specs.Fmt.{decimal};
 ghost use Rattle.pv_model.specs.declared.call.Whence.{Whence};
 ghost use Rattle.pv_model.specs.declared.instruction.Operand.{Operand};
 ghost use Rattle.pv_model.specs.declared.instruction.Origin.{Origin};
+ghost use Rattle.pv_model.specs.declared.limits.TheConstants.{TEXT};
 ghost use Rattle.pv_model.specs.declared.open_flags.OpenFlags.{OpenFlags};
 ghost use Rattle.pv_model.specs.Bytes.{Bytes};
 ghost use Rattle.pv_model.specs.Grammar.Arguments.{number_of, register_of, operand_of, flags_of, whence_of, origin_of, text_at, text_or_null_at};
@@ -40,5 +41,5 @@ pub fn texts_are_read_as_they_are_spelled()
 
 /// The form of a text in a trace, its shortest, spells it.
 pub fn shortest_form_spells_the_text()
-    ensures { (value : Bytes) → AllByRecursion (λ b. (0 < b) × (b < 256)) value → length value ≤ 1100 → SpellsText value (quote value) }
+    ensures { (value : Bytes) → AllByRecursion (λ b. (0 < b) × (b < 256)) value → length value ≤ TEXT → SpellsText value (quote value) }
 {}

@@ -2,6 +2,7 @@
 use Rattle.std.specs.Prelude.{ℕ, ◌+◌, ◌-◌, ◌/◌, ◌<◌, ◌≤◌, if◌then◌else◌, ◌==◌, List, ◌∷◌, map, length, flat_map, Option, None, Some}
 use Rattle.std.specs.List.{AllByRecursion, IsDistinct, range_with_len}
 use Rattle.pv_model.specs.declared.version.Version.{Version}
+use Rattle.pv_model.specs.declared.limits.TheConstants.{BLOCK}
 use Rattle.pv_model.specs.Bytes.{Bytes}
 use Rattle.pv_model.specs.Image.{inode_blocks, size, content}
 use Rattle.pv_model.specs.Mount.{kind, is_free, used_by}
@@ -17,7 +18,7 @@ all_used v bytes inodes = flat_map (used_by v bytes) (range_with_len 1 inodes)
 pub record AreInodes (v : Version) (bytes : Bytes) (inodes : ℕ) : Type 0 where
   pub kinds : (n : ℕ) → 1 ≤ n → n ≤ inodes → kind v bytes n ≤ 4
   pub sizes : (n : ℕ) → 1 ≤ n → n ≤ inodes → 0 < kind v bytes n → size v bytes n ≤ greatest_length v
-  pub in_data : AllByRecursion (λ k. (inode_blocks v inodes < k) × (k < length bytes / 512)) (all_used v bytes inodes)
+  pub in_data : AllByRecursion (λ k. (inode_blocks v inodes < k) × (k < length bytes / BLOCK)) (all_used v bytes inodes)
   pub used_once : IsDistinct ◌==◌ (all_used v bytes inodes)
 
 -- what an inode holds, if it is not free
@@ -29,5 +30,5 @@ unfoldable pub files_in : Version → Bytes → ℕ → Files
 files_in v bytes inodes = record {
   version = v;
   nodes = None ∷ map (contained v bytes) (range_with_len 1 inodes);
-  blocks = length bytes / 512 - (inode_blocks v inodes + 1);
+  blocks = length bytes / BLOCK - (inode_blocks v inodes + 1);
 }

@@ -3,6 +3,7 @@ use Rattle.std.specs.Prelude.{ℕ, ◌+◌, ◌-◌, ◌*◌, ◌/◌, ◌%◌, 
 use Rattle.std.specs.List.{range_with_len}
 use Rattle.byteorder.specs.Endian.{little_from, little_bytes}
 use Rattle.pv_model.specs.declared.version.Version.{Version}
+use Rattle.pv_model.specs.declared.limits.TheConstants.{BLOCK}
 use Rattle.pv_model.specs.Bytes.{Bytes}
 use Rattle.pv_model.specs.Image.{inode_length, index_pointers}
 use Rattle.pv_inodes.specs.Files.{Contained, sort_of}
@@ -21,11 +22,11 @@ splice bs k at new = slice_set bs k (take at (block_at bs k) ++ (new ++ drop (at
 
 -- the block in which inode s stands
 unfoldable pub home : Version → ℕ → ℕ
-home version s = s / (512 / inode_length version) + 1
+home version s = s / (BLOCK / inode_length version) + 1
 
 -- where in that block it begins
 unfoldable pub offset : Version → ℕ → ℕ
-offset version s = inode_length version * (s % (512 / inode_length version))
+offset version s = inode_length version * (s % (BLOCK / inode_length version))
 
 -- what inode s is, by a number; 0 is free
 unfoldable pub kind_at : Version → List Bytes → ℕ → ℕ
@@ -79,7 +80,7 @@ place_of j = j + (j + 246) / 256
 
 -- a byte of the content of inode s
 unfoldable pub content_byte : Version → List Bytes → ℕ → ℕ → ℕ
-content_byte version bs s x = slice_index (block_at bs (owned_at version bs s (place_of (x / 512)))) (x % 512)
+content_byte version bs s x = slice_index (block_at bs (owned_at version bs s (place_of (x / BLOCK)))) (x % BLOCK)
 
 -- the content of inode s
 unfoldable pub content_at : Version → List Bytes → ℕ → Bytes
@@ -106,4 +107,4 @@ with_owned version bs s i k =
 
 -- a block of zeros
 unfoldable pub zeros : Bytes
-zeros = replicate 512 0
+zeros = replicate BLOCK 0

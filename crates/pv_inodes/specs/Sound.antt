@@ -3,6 +3,7 @@ use Rattle.std.specs.Prelude.{◌≡◌, ℕ, suc, ◌+◌, ◌-◌, ◌<◌, �
 use Rattle.pv_model.specs.Room.{greatest_length}
 use Rattle.pv_model.specs.Image.{inode_blocks}
 use Rattle.pv_model.specs.declared.version.Version.{Version}
+use Rattle.pv_model.specs.declared.limits.TheConstants.{BLOCK}
 use Rattle.pv_model.specs.Bytes.{Bytes}
 use Rattle.pv_blocks.specs.BlockStore.{BlockStore}
 use Rattle.pv_inodes.specs.Files.{Files, IsUsed}
@@ -18,7 +19,7 @@ pub record IsShaped (version : Version) (st : BlockStore) (inodes : ℕ) : Type 
   pub first : st.first ≡ first_data version inodes
   pub first_within : st.first ≤ length st.blocks
   pub flags : length st.free ≡ length st.blocks
-  pub whole : (k : ℕ) → k < length st.blocks → length (block_at st.blocks k) ≡ 512
+  pub whole : (k : ℕ) → k < length st.blocks → length (block_at st.blocks k) ≡ BLOCK
   pub free_from : (k : ℕ) → slice_index_or st.free k false ≡ true → st.first ≤ k
 
 -- what the blocks keep

@@ -1,5 +1,6 @@
 //! Files on blocks.
 ghost use Rattle.std.specs.Prelude.{◌≡◌, ◌+◌, ◌-◌, ◌*◌, ◌/◌, ◌%◌, ◌<◌, ◌≤◌, ◌≢◌, ◌↔◌, suc, min, false, length, replicate, vec_len, All, take, drop, ◌++◌, IsTrue, None, Some, IsNone, IfNone, IfSome, OnOk, OnErr};
+ghost use Rattle.pv_model.specs.declared.limits.TheConstants.{BLOCK};
 ghost use Rattle.pv_model.specs.Effect.{overwrite, resize};
 ghost use Rattle.pv_model.specs.Image.{inode_blocks, greatest_blocks};
 ghost use Rattle.pv_model.specs.Room.{greatest_length};
@@ -43,7 +44,7 @@ impl Inodes {
 
     /// The inodes of an image of so many blocks and inodes over zeros: no inode is in use.
     pub fn empty(zeros: Vec<u8>, blocks: u16, inodes: u16, version: Version) -> Inodes
-        requires whole { vec_len zeros ≡ 512 * blocks }
+        requires whole { vec_len zeros ≡ BLOCK * blocks }
         requires zeros { All (λ byte. byte ≡ 0) zeros.items }
         requires some_inodes { 1 ≤ inodes }
         requires few_inodes { inodes ≤ INODES }
@@ -118,7 +119,7 @@ impl Inodes {
     pub fn lend(&self, inode: u16, at: u32) -> &[u8]
         requires used { IsUsed self.now inode }
         requires within { at < length (bytes_at self.now inode) }
-        ensures { result.now ≡ take (512 - at % 512) (drop at (bytes_at self.now inode)) }
+        ensures { result.now ≡ take (BLOCK - at % BLOCK) (drop at (bytes_at self.now inode)) }
     {
         let slot = self.slot(inode);
         let left = size_of(&self.blocks, self.version, slot) - at;
@@ -292,7 +293,7 @@ impl Inodes {
     fn read_part(&self, inode: u16, at: u32, part: &mut [u8])
         requires used { IsUsed self.now inode }
         requires some { 0 < length part.old }
-        requires block { at % 512 + length part.old ≤ 512 }
+        requires block { at % BLOCK + length part.old ≤ BLOCK }
         requires within { at + length part.old ≤ length (bytes_at self.now inode) }
         ensures { part.new ≡ take (length part.old) (drop at (bytes_at self.now inode)) }
     {
@@ -312,8 +313,8 @@ impl Inodes {
     fn grow_within(&mut self, inode: u16, size: u32)
         requires used { IsUsed self.old inode }
         requires longer { length (bytes_at self.old inode) < size }
-        requires partly { 0 < length (bytes_at self.old inode) % 512 }
-        requires within { size ≤ 512 * (length (bytes_at self.old inode) / 512 + 1) }
+        requires partly { 0 < length (bytes_at self.old inode) % BLOCK }
+        requires within { size ≤ BLOCK * (length (bytes_at self.old inode) / BLOCK + 1) }
         requires allowed { size ≤ greatest_length self.old.version }
         ensures { self.new ≡ with_bytes self.old inode (resize (bytes_at self.old inode) size) }
     {
@@ -333,10 +334,10 @@ impl Inodes {
     // Lengthens a content that fills its blocks by zeros in one block more.
     fn grow_by_block(&mut self, inode: u16, size: u32)
         requires used { IsUsed self.old inode }
-        requires full { length (bytes_at self.old inode) % 512 ≡ 0 }
+        requires full { length (bytes_at self.old inode) % BLOCK ≡ 0 }
         requires longer { length (bytes_at self.old inode) < size }
-        requires within { size ≤ length (bytes_at self.old inode) + 512 }
-        requires next { wanted (length (bytes_at self.old inode)) ≡ place_of (length (bytes_at self.old inode) / 512) }
+        requires within { size ≤ length (bytes_at self.old inode) + BLOCK }
+        requires next { wanted (length (bytes_at self.old inode)) ≡ place_of (length (bytes_at self.old inode) / BLOCK) }
         requires allowed { size ≤ greatest_length self.old.version }
         requires room { HasRoom (with_bytes self.old inode (resize (bytes_at self.old inode) size)) }
         ensures { self.new ≡ with_bytes self.old inode (resize (bytes_at self.old inode) size) }
@@ -351,10 +352,10 @@ impl Inodes {
     // block that is taken is the index block.
     fn grow_by_index(&mut self, inode: u16, size: u32)
         requires used { IsUsed self.old inode }
-        requires full { length (bytes_at self.old inode) % 512 ≡ 0 }
+        requires full { length (bytes_at self.old inode) % BLOCK ≡ 0 }
         requires longer { length (bytes_at self.old inode) < size }
-        requires within { size ≤ length (bytes_at self.old inode) + 512 }
-        requires next { suc (wanted (length (bytes_at self.old inode))) ≡ place_of (length (bytes_at self.old inode) / 512) }
+        requires within { size ≤ length (bytes_at self.old inode) + BLOCK }
+        requires next { suc (wanted (length (bytes_at self.old inode))) ≡ place_of (length (bytes_at self.old inode) / BLOCK) }
         requires allowed { size ≤ greatest_length self.old.version }
         requires room { HasRoom (with_bytes self.old inode (resize (bytes_at self.old inode) size)) }
         ensures { self.new ≡ with_bytes self.old inode (resize (bytes_at self.old inode) size) }
@@ -370,7 +371,7 @@ impl Inodes {
     fn grow_step(&mut self, inode: u16, size: u32)
         requires used { IsUsed self.old inode }
         requires longer { length (bytes_at self.old inode) < size }
-        requires within { size ≤ 512 * (length (bytes_at self.old inode) / 512 + 1) }
+        requires within { size ≤ BLOCK * (length (bytes_at self.old inode) / BLOCK + 1) }
         requires allowed { size ≤ greatest_length self.old.version }
         requires room { HasRoom (with_bytes self.old inode (resize (bytes_at self.old inode) size)) }
         ensures { self.new ≡ with_bytes self.old inode (resize (bytes_at self.old inode) size) }
@@ -405,7 +406,7 @@ impl Inodes {
     fn write_part(&mut self, inode: u16, at: u32, part: &[u8])
         requires used { IsUsed self.old inode }
         requires some { 0 < length part.now }
-        requires block { at % 512 + length part.now ≤ 512 }
+        requires block { at % BLOCK + length part.now ≤ BLOCK }
         requires within { at + length part.now ≤ length (bytes_at self.old inode) }
         ensures { self.new ≡ with_bytes self.old inode (overwrite (bytes_at self.old inode) at part.now) }
     {

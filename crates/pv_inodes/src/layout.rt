@@ -1,5 +1,6 @@
 //! Where an inode stands and has what, and the row in which the blocks that it owns stand.
 ghost use Rattle.std.specs.Prelude.{◌≡◌, ◌+◌, ◌*◌, ◌/◌, ◌≤◌};
+ghost use Rattle.pv_model.specs.declared.limits.TheConstants.{BLOCK};
 ghost use Rattle.pv_model.specs.declared.version.Version.TheVariants.{V2};
 ghost use Rattle.pv_model.specs.Room.{greatest_length};
 ghost use Rattle.pv_inodes.specs.Layout.{home, offset, pointer_count, behind_index, pointer_of, place_of, wanted};
@@ -20,7 +21,7 @@ pub(crate) const SIZE: usize = 4;
 pub(crate) const POINTERS: usize = 8;
 
 /// Bytes of a block, as a length of a content.
-pub(crate) const BLOCK_LENGTH: u32 = 512;
+pub(crate) const BLOCK_LENGTH: u32 = BLOCK as u32;
 
 // Inodes of a block.
 const INODES_V1: u16 = 16;
@@ -42,7 +43,7 @@ pub(crate) fn home(version: Version, slot: u16) -> u16
 #[tactic(auto, unfolding(crate::specs::Layout::offset))]
 pub(crate) fn offset(version: Version, slot: u16) -> usize
     ensures value { result ≡ offset version slot }
-    ensures fits { result + 8 + 2 * pointer_count version ≤ 512 }
+    ensures fits { result + 8 + 2 * pointer_count version ≤ BLOCK }
 {
     match version {
         Version::V1 => Layout::V1.inode_length * (slot % INODES_V1) as usize,

@@ -1,5 +1,6 @@
 //! Bytes whose sizes are in order, and the fields of their inodes.
 ghost use Rattle.std.specs.Prelude.{◌≡◌, ◌+◌, ◌*◌, ◌<◌, ◌≤◌, length, IfOk, IfErr};
+ghost use Rattle.pv_model.specs.declared.limits.TheConstants.{BLOCK, INODES};
 ghost use Rattle.pv_model.specs.Image.{block, greatest_blocks, inode, inode_blocks, inode_length, size, stored_count};
 ghost use Rattle.pv_model.specs.Mount.{are_image_sizes, block_number, has_sizes, inode_number, is_data_block, kind, version_of, HasSizes, IsFaultOf};
 ghost use Rattle.pv_mount.specs.Numbers.{IsNumber};
@@ -61,8 +62,8 @@ pub(crate) struct Image<'a> {
     pub(crate) inodes: u16,
     ghost are_blocks: { blocks ≡ block_number bytes.now },
     ghost are_inodes: { inodes ≡ inode_number bytes.now },
-    ghost are_whole: { length bytes.now ≡ 512 * blocks },
-    ghost few_inodes: { inodes ≤ 4096 },
+    ghost are_whole: { length bytes.now ≡ BLOCK * blocks },
+    ghost few_inodes: { inodes ≤ INODES },
     ghost inodes_within: { inode_blocks version inodes + 1 ≤ blocks },
 }
 
@@ -132,7 +133,7 @@ impl<'a> Image<'a> {
     pub(crate) fn block(&self, k: u16) -> &'a [u8]
         requires { k < block_number self.now.bytes.now }
         ensures bytes { result.now ≡ block self.now.bytes.now k }
-        ensures length { length result.now ≡ 512 }
+        ensures length { length result.now ≡ BLOCK }
     {
         let start = BLOCK * k as usize;
         &self.bytes[start..start + BLOCK]

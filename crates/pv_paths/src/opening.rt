@@ -1,7 +1,7 @@
 //! open(2) and openat(2).
 ghost use Rattle.std.specs.Prelude.{◌≡◌, ◌≤◌, ◌<◌, IfOk, IfErr, IsSome, IsTrue, OnErr, None, Some, false};
 ghost use Rattle.pv_laws.specs.States.{IsFinePlace, IsWhole, is_text};
-ghost use Rattle.pv_model.specs.declared.limits.TheConstants.{NUMBER};
+ghost use Rattle.pv_model.specs.declared.limits.TheConstants.{DESCRIPTORS, NUMBER, OPEN_FILES};
 ghost use Rattle.pv_model.specs.declared.outcome.Cause.TheVariants.{Plain};
 ghost use Rattle.pv_model.specs.declared.place.Place.{Place};
 ghost use Rattle.pv_model.specs.Attempt.{after_walks, give, refused};
@@ -95,8 +95,8 @@ fn open_there(parts: &mut Parts, pid: u32, node: u16, flags: OpenFlags) -> Resul
     requires live { IsSome (process_at parts.old pid) }
     requires there { IsSome (node_at parts.old.tree node) }
     requires flags { contradicts flags ≡ false }
-    requires descriptor { (me : Process) → process_at parts.old pid ≡ Some me → least_free me.descriptors < 16 }
-    requires file { least_free parts.old.files < 128 }
+    requires descriptor { (me : Process) → process_at parts.old pid ≡ Some me → least_free me.descriptors < DESCRIPTORS }
+    requires file { least_free parts.old.files < OPEN_FILES }
     ensures row { (me : Process) (place : Place) → process_at parts.old pid ≡ Some me → node_of place ≡ Some node
         → trimmed (after_walks 1 (open_place parts.old pid me flags place)) ≡ attempt_of parts.new result }
     ensures unchanged { OnErr result (parts.new ≡ parts.old) }
@@ -136,8 +136,8 @@ fn create_there<L: Lookup>(
     requires fine { IsFinePlace parts.old.tree place.now }
     requires absent { node_of place.now ≡ None }
     requires flags { contradicts flags ≡ false }
-    requires descriptor { (me : Process) → process_at parts.old pid ≡ Some me → least_free me.descriptors < 16 }
-    requires file { least_free parts.old.files < 128 }
+    requires descriptor { (me : Process) → process_at parts.old pid ≡ Some me → least_free me.descriptors < DESCRIPTORS }
+    requires file { least_free parts.old.files < OPEN_FILES }
     requires agrees { L.agrees lookup.old (find_entry parts.old.tree) }
     ensures row { (me : Process) → process_at parts.old pid ≡ Some me → trimmed (after_walks 1 (open_place parts.old pid me flags place.now)) ≡ attempt_of parts.new result }
     ensures unchanged { OnErr result (parts.new ≡ parts.old) }

@@ -1,5 +1,6 @@
 //! Runs of the machine, whose lines are written step by step.
 ghost use Rattle.std.specs.Prelude.{◌≡◌, ◌*◌, ◌≤◌, length, IfOk, IfErr, OnOk, OnErr};
+ghost use Rattle.pv_model.specs.declared.limits.TheConstants.{SCHEDULE_LINES};
 ghost use Rattle.pv_model.specs.Step.{steps_of};
 ghost use Rattle.pv_session.specs.Running.{BeginsLines, FailsBy, ToldLines, stepped, turn, run_of};
 
@@ -43,7 +44,7 @@ pub fn run_schedule<W: Sink>(
     schedule: &[(u32, u32)],
     trace: &mut W,
 ) -> Result<u64, Stop>
-    requires { length schedule.now ≤ 65536 }
+    requires { length schedule.now ≤ SCHEDULE_LINES }
     ensures after { OnOk result (session.new ≡ (run_of session.old schedule.now).final) }
     ensures whole { OnOk result (ToldLines (run_of session.old schedule.now).lines (W.told trace.old) (W.told trace.new)) }
     ensures lines { IfOk result (λ n. n ≡ length (run_of session.old schedule.now).lines) }
@@ -88,7 +89,7 @@ pub fn pass_schedule(
 
 /// How many steps a schedule makes.
 pub fn step_count(schedule: &[(u32, u32)]) -> u64
-    requires { length schedule.now ≤ 65536 }
+    requires { length schedule.now ≤ SCHEDULE_LINES }
     ensures { result ≡ length (steps_of schedule.now) }
 {
     let mut steps = 0;

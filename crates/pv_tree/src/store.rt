@@ -1,6 +1,6 @@
 //! A tree before boot.
 ghost use Rattle.std.specs.Prelude.{◌≡◌, ◌+◌, ◌-◌, ◌*◌, ◌≤◌, vec_len, All};
-ghost use Rattle.pv_model.specs.declared.limits.TheConstants.{INODES};
+ghost use Rattle.pv_model.specs.declared.limits.TheConstants.{BLOCK, INODES};
 ghost use Rattle.pv_model.specs.Image.{inode_blocks, greatest_blocks, IsImageOf};
 ghost use Rattle.pv_model.specs.Tree.{Tree as Nodes};
 ghost use Rattle.pv_dirs.specs.Images.{IsImage};
@@ -33,7 +33,7 @@ impl Store {
     /// The tree of the root alone, in an image of this version, of so many blocks and inodes, over as many
     /// blocks of zeros. No memory is taken.
     pub fn empty(zeros: Vec<u8>, blocks: u16, inodes: u16, version: Version) -> Store
-        requires whole { vec_len zeros ≡ 512 * blocks }
+        requires whole { vec_len zeros ≡ BLOCK * blocks }
         requires zeros { All (λ byte. byte ≡ 0) zeros.items }
         requires some_inodes { 1 ≤ inodes }
         requires few_inodes { inodes ≤ INODES }

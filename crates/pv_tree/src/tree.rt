@@ -7,6 +7,7 @@ ghost use Rattle.pv_model.specs.Image.{inode_blocks, greatest_blocks};
 ghost use Rattle.pv_model.specs.Room.{greatest_length};
 ghost use Rattle.pv_model.specs.Tree.{node_at, entries_at, is_directory_at, find_entry, names_of, parent, ancestors_within};
 ghost use Rattle.std.specs.List.{list_any};
+ghost use Rattle.pv_model.specs.declared.limits.TheConstants.{BLOCK};
 ghost use Rattle.pv_model.specs.Calls.Paths.{contains_directory};
 ghost use Rattle.pv_dirs.specs.Listing.{IsNextName};
 ghost use Rattle.pv_dirs.specs.Trees.{sort_of, bytes_at};
@@ -89,7 +90,7 @@ fn no_holds() -> [u16; NUMBERS]
 impl Tree {
     /// The tree of the root alone, in an image of so many blocks and inodes over zeros; nothing is held.
     pub(crate) fn empty(zeros: Vec<u8>, blocks: u16, inodes: u16, version: Version) -> Tree
-        requires whole { vec_len zeros ≡ 512 * blocks }
+        requires whole { vec_len zeros ≡ BLOCK * blocks }
         requires zeros { All (λ byte. byte ≡ 0) zeros.items }
         requires some_inodes { 1 ≤ inodes }
         requires few_inodes { inodes ≤ INODES }

@@ -1,5 +1,6 @@
 //! The inodes of an image that was written before.
 ghost use Rattle.std.specs.Prelude.{◌≡◌, ◌+◌, ◌*◌, ◌/◌, ◌%◌, ◌≤◌, vec_len};
+ghost use Rattle.pv_model.specs.declared.limits.TheConstants.{BLOCK, BLOCKS_V2};
 ghost use Rattle.pv_model.specs.Image.{inode_blocks};
 ghost use Rattle.pv_inodes.specs.Images.{AreInodes, files_in};
 
@@ -13,10 +14,10 @@ impl Inodes {
     /// The inodes of an image that these bytes are, with what they hold. The bytes are its blocks, at most
     /// 65,535 of 512, so nothing is copied.
     pub fn of_image(bytes: Vec<u8>, inodes: u16, version: Version) -> Inodes
-        requires whole { vec_len bytes % 512 ≡ 0 }
-        requires few_blocks { vec_len bytes ≤ 512 * 65535 }
+        requires whole { vec_len bytes % BLOCK ≡ 0 }
+        requires few_blocks { vec_len bytes ≤ BLOCK * BLOCKS_V2 }
         requires few_inodes { inodes ≤ INODES }
-        requires some_blocks { inode_blocks version inodes + 1 ≤ vec_len bytes / 512 }
+        requires some_blocks { inode_blocks version inodes + 1 ≤ vec_len bytes / BLOCK }
         requires inodes { AreInodes version bytes.items inodes }
         ensures { result ≡ files_in version bytes.items inodes }
     {

@@ -2,6 +2,7 @@
 ghost use Rattle.std.specs.Prelude.{◌≡◌, ◌≢◌, ℕ, ◌+◌, ◌<◌, [], ◌∷◌, if◌then◌else◌, IsSome, IsTrue, IfOk, IfErr, OnOk, OnErr, Some, None, IfSome, MatchOption, option_map};
 ghost use Rattle.pv_files.specs.Counted.{with_opened};
 ghost use Rattle.pv_laws.specs.States.{IsWhole};
+ghost use Rattle.pv_model.specs.declared.limits.TheConstants.{DESCRIPTORS, OPEN_FILES};
 ghost use Rattle.pv_model.specs.Calls.Descriptors.{close, dup, dup2, new_open_file, with_content, within};
 ghost use Rattle.pv_model.specs.Held.{trim};
 ghost use Rattle.pv_model.specs.Numbered.{at_number, least_free};
@@ -144,8 +145,8 @@ impl Parts {
         requires live { IsSome (process_at self.old pid) }
         requires there { IsSome (node_at self.old.tree node) }
         requires cuts_a_file { IsTrue flags.truncate → IsTrue (is_file (node_at self.old.tree node)) }
-        requires descriptor { (me : Process) → process_at self.old pid ≡ Some me → least_free me.descriptors < 16 }
-        requires file { least_free self.old.files < 128 }
+        requires descriptor { (me : Process) → process_at self.old pid ≡ Some me → least_free me.descriptors < DESCRIPTORS }
+        requires file { least_free self.old.files < OPEN_FILES }
         ensures number { (me : Process) → process_at self.old pid ≡ Some me → least_free me.descriptors ≡ result }
         ensures opened { (me : Process) → process_at self.old pid ≡ Some me → self.new ≡ trim (with_node_opened self.old pid me flags node) }
     {
@@ -183,8 +184,8 @@ impl Parts {
         requires directory { Stands self.old.tree directory }
         requires name { IsTrue (is_name self.old.tree.version name.now) }
         requires absent { find_entry self.old.tree directory name.now ≡ None }
-        requires descriptor { (me : Process) → process_at self.old pid ≡ Some me → least_free me.descriptors < 16 }
-        requires file { least_free self.old.files < 128 }
+        requires descriptor { (me : Process) → process_at self.old pid ≡ Some me → least_free me.descriptors < DESCRIPTORS }
+        requires file { least_free self.old.files < OPEN_FILES }
         ensures number { IfOk result (λ d. (me : Process) → process_at self.old pid ≡ Some me → least_free me.descriptors ≡ d) }
         ensures opened { OnOk result ((me : Process) → process_at self.old pid ≡ Some me → self.new ≡ trim (with_file_made self.old pid me flags directory name.now)) }
         ensures refused { IfErr result (λ why. (me : Process) → process_at self.old pid ≡ Some me → refusal (trim (with_file_made self.old pid me flags directory name.now)).tree ≡ Some why) }
@@ -233,8 +234,8 @@ fn open_node(
     requires live { IsSome (process_in processes.old pid) }
     requires there { IsSome (node_at tree.old.tree node) }
     requires few { holds_at tree.old node < 65535 }
-    requires descriptor { (me : Process) → process_in processes.old pid ≡ Some me → least_free me.descriptors < 16 }
-    requires file { least_free files.old.files < 128 }
+    requires descriptor { (me : Process) → process_in processes.old pid ≡ Some me → least_free me.descriptors < DESCRIPTORS }
+    requires file { least_free files.old.files < OPEN_FILES }
     ensures tree { tree.new.tree ≡ tree.old.tree }
     ensures more { holds_at tree.new node ≡ holds_at tree.old node + 1 }
     ensures others { (other : ℕ) → other ≢ node → holds_at tree.new other ≡ holds_at tree.old other }
