@@ -1,7 +1,12 @@
 //! Audits tried on whole machines: what is found of files as processes go on, and that runs tell nothing of a sealed one.
 //!
-//! It has tests alone: they start sessions on manifests, make steps, and audit.
+//! It has tests alone: they start sessions on manifests, make steps, and audit; `audits` asks for one file at a time, and
+//! `reports` writes what is found of all, to the sinks of `streams`.
 #![tactic(auto)]
 
 #[cfg(test)]
-mod tests;
+mod audits;
+#[cfg(test)]
+mod reports;
+#[cfg(test)]
+mod streams;

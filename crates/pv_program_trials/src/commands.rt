@@ -195,6 +195,12 @@ fn expect_refused(rt: &(impl Abort + AllocGlobal), command: Command<'_>, fault: 
     expect_left(rt, file, ("none", b""), command, Err(fault), b"");
 }
 
+fn expect_all_refused(rt: &(impl Abort + AllocGlobal), rows: &[(Command<'_>, Fault)]) {
+    for (command, fault) in rows {
+        expect_refused(rt, *command, *fault);
+    }
+}
+
 // An audit under a schedule of the image whose secret is locked away ends so.
 fn expect_audit(
     rt: &(impl Abort + AllocGlobal),
@@ -239,7 +245,6 @@ fn a_bundle_is_read_where_its_name_says(rt: HostRuntime) {
     expect_left(&rt, file, dash, command, Ok(()), MOTD_TRACE);
     let command = Command::RunTree("-");
     expect_left(&rt, file, dash, command, Ok(()), SMALL_TRACE);
-    expect_refused(&rt, Command::RunTree("no"), Fault::Run(RunFault::Read));
 }
 
 #[test]
@@ -306,81 +311,104 @@ fn a_path_of_no_file_is_not_audited(rt: HostRuntime) {
     expect_audit(&rt, b"1\n0\n", Some("/no"), refused, b"");
 }
 
+// Commands on files of which one is not there, and why each is refused.
+const ON_NO_FILE: &[(Command<'static>, Fault)] = &[
+    (Command::RunTree("no"), Fault::Run(RunFault::Read)),
+    (
+        Command::MakeImage {
+            manifest: "no",
+            image: "out",
+        },
+        Fault::Run(RunFault::Read),
+    ),
+    (Command::ListImage("no"), Fault::Listing(ListFault::Read)),
+    (
+        Command::RunImage {
+            image: "no",
+            schedule: "motd",
+            out: "out",
+        },
+        Fault::Run(RunFault::Read),
+    ),
+    (
+        Command::RunImage {
+            image: "motd",
+            schedule: "no",
+            out: "out",
+        },
+        Fault::Run(RunFault::Read),
+    ),
+    (
+        Command::AuditImage {
+            image: "no",
+            schedule: "motd",
+            path: None,
+        },
+        Fault::Auditing(AuditStop::Machine(RunFault::Read)),
+    ),
+    (
+        Command::AuditImage {
+            image: "motd",
+            schedule: "no",
+            path: None,
+        },
+        Fault::Auditing(AuditStop::Machine(RunFault::Read)),
+    ),
+    (
+        Command::MigrateImage {
+            image: "no",
+            out: "out",
+            blocks: 8,
+            inodes: 16,
+        },
+        Fault::Migrating(MigrateStop::Read),
+    ),
+];
+
 #[test]
 fn a_file_that_does_not_open_is_a_failed_read(rt: HostRuntime) {
-    let (manifest, image, out) = ("no", "no", "out");
-    let read = Fault::Run(RunFault::Read);
-    expect_refused(
-        &rt,
-        Command::MakeImage {
-            manifest,
-            image: out,
-        },
-        read,
-    );
-    expect_refused(
-        &rt,
-        Command::ListImage(image),
-        Fault::Listing(ListFault::Read),
-    );
-    for (image, schedule) in [("no", "motd"), ("motd", "no")] {
-        let command = Command::RunImage {
-            image,
-            schedule,
-            out,
-        };
-        expect_refused(&rt, command, read);
-        let path = None;
-        let command = Command::AuditImage {
-            image,
-            schedule,
-            path,
-        };
-        let stop = AuditStop::Machine(RunFault::Read);
-        expect_refused(&rt, command, Fault::Auditing(stop));
-    }
-    let (blocks, inodes) = (8, 16);
-    let command = Command::MigrateImage {
-        image,
-        out,
-        blocks,
-        inodes,
-    };
-    expect_refused(&rt, command, Fault::Migrating(MigrateStop::Read));
+    expect_all_refused(&rt, ON_NO_FILE);
 }
+
+// Commands on files that are no image, no manifest and no bundle, and why each is refused.
+const ON_NO_IMAGE: &[(Command<'static>, Fault)] = &[
+    (
+        Command::MakeImage {
+            manifest: "none",
+            image: "out",
+        },
+        Fault::Run(RunFault::Manifest(ManifestFault::Form(1))),
+    ),
+    (
+        Command::RunTree("none"),
+        Fault::Run(RunFault::Manifest(ManifestFault::Form(1))),
+    ),
+    (
+        Command::ListImage("none"),
+        Fault::Listing(ListFault::Image(ImageFault::Short)),
+    ),
+    (
+        Command::RunImage {
+            image: "motd",
+            schedule: "motd",
+            out: "out",
+        },
+        Fault::Run(RunFault::Image(ImageFault::Short)),
+    ),
+    (
+        Command::MigrateImage {
+            image: "motd",
+            out: "out",
+            blocks: 8,
+            inodes: 16,
+        },
+        Fault::Migrating(MigrateStop::Refused(MigrateFault::Image(ImageFault::Short))),
+    ),
+];
 
 #[test]
 fn refused_input_makes_no_file(rt: HostRuntime) {
-    let (motd, out) = ("motd", "out");
-    let short = ImageFault::Short;
-    let form = Fault::Run(RunFault::Manifest(ManifestFault::Form(1)));
-    expect_refused(
-        &rt,
-        Command::MakeImage {
-            manifest: "none",
-            image: out,
-        },
-        form,
-    );
-    let command = Command::RunTree("none");
-    expect_refused(&rt, command, form);
-    let command = Command::ListImage("none");
-    expect_refused(&rt, command, Fault::Listing(ListFault::Image(short)));
-    let command = Command::RunImage {
-        image: motd,
-        schedule: motd,
-        out,
-    };
-    expect_refused(&rt, command, Fault::Run(RunFault::Image(short)));
-    let (blocks, inodes) = (8, 16);
-    let command = Command::MigrateImage {
-        image: motd,
-        out,
-        blocks,
-        inodes,
-    };
-    let stop = MigrateStop::Refused(MigrateFault::Image(short));
-    expect_refused(&rt, command, Fault::Migrating(stop));
+    expect_all_refused(&rt, ON_NO_IMAGE);
 }
 
 // Performs a command over a standard input that fails and an output that gathers, and whose sink takes nothing.
@@ -400,180 +428,205 @@ fn answer_of_broken(rt: &(impl Abort + AllocGlobal), command: Command<'_>) -> Re
     perform(rt.alloc(), command, &mut system)
 }
 
-#[test]
-fn a_standard_input_that_fails_is_a_failed_read(rt: HostRuntime) {
-    let answer = answer_of_broken(&rt, Command::RunTree("-"));
-    assert!(rt; answer == Err(Fault::Run(RunFault::Read)));
-}
+// Commands whose standard input fails, or whose standard output at the end.
+const ON_BROKEN: &[(Command<'static>, Fault)] = &[
+    (Command::RunTree("-"), Fault::Run(RunFault::Read)),
+    (
+        Command::ListImage("image"),
+        Fault::Listing(ListFault::Write),
+    ),
+    (
+        Command::RunImage {
+            image: "image",
+            schedule: "turns",
+            out: "out",
+        },
+        Fault::Run(RunFault::WriteTrace),
+    ),
+    (
+        Command::AuditImage {
+            image: "image",
+            schedule: "turns",
+            path: None,
+        },
+        Fault::Auditing(AuditStop::Write),
+    ),
+    (
+        Command::AuditImage {
+            image: "image",
+            schedule: "turns",
+            path: Some("/secret"),
+        },
+        Fault::Auditing(AuditStop::Write),
+    ),
+];
 
 #[test]
-fn an_output_that_fails_at_the_end_is_a_failed_write(rt: HostRuntime) {
-    let (image, schedule, out) = ("image", "turns", "out");
-    let answer = answer_of_broken(&rt, Command::ListImage(image));
-    assert!(rt; answer == Err(Fault::Listing(ListFault::Write)));
-    let command = Command::RunImage {
-        image,
-        schedule,
-        out,
-    };
-    let answer = answer_of_broken(&rt, command);
-    assert!(rt; answer == Err(Fault::Run(RunFault::WriteTrace)));
-    for path in [None, Some("/secret")] {
-        let command = Command::AuditImage {
-            image,
-            schedule,
-            path,
-        };
-        let answer = answer_of_broken(&rt, command);
-        assert!(rt; answer == Err(Fault::Auditing(AuditStop::Write)));
+fn a_stream_that_fails_is_a_failed_read_or_write(rt: HostRuntime) {
+    for (command, fault) in ON_BROKEN {
+        assert!(rt; answer_of_broken(&rt, *command) == Err(*fault));
     }
 }
 
-fn of_image(fault: ImageFault) -> Fault {
-    Fault::Run(RunFault::Image(fault))
-}
-
-fn of_manifest(fault: ManifestFault) -> Fault {
-    Fault::Run(RunFault::Manifest(fault))
-}
+// What each fault tells, and its status.
+const TEXTS: &[(Fault, &str, u8)] = &[
+    (
+        Fault::Run(RunFault::Image(ImageFault::Short)),
+        "pvsim: image: short\n",
+        1,
+    ),
+    (
+        Fault::Run(RunFault::Image(ImageFault::Magic)),
+        "pvsim: image: magic\n",
+        1,
+    ),
+    (
+        Fault::Run(RunFault::Image(ImageFault::Size)),
+        "pvsim: image: size\n",
+        1,
+    ),
+    (
+        Fault::Run(RunFault::Image(ImageFault::Inode(4096))),
+        "pvsim: image: inode 4096\n",
+        1,
+    ),
+    (
+        Fault::Run(RunFault::Image(ImageFault::Block(7))),
+        "pvsim: image: block 7\n",
+        1,
+    ),
+    (
+        Fault::Run(RunFault::Image(ImageFault::Dir(1))),
+        "pvsim: image: directory 1\n",
+        1,
+    ),
+    (
+        Fault::Run(RunFault::Image(ImageFault::Tree(12))),
+        "pvsim: image: tree 12\n",
+        1,
+    ),
+    (
+        Fault::Run(RunFault::Image(ImageFault::Memory)),
+        "pvsim: memory\n",
+        3,
+    ),
+    (
+        Fault::Run(RunFault::Manifest(ManifestFault::Size)),
+        "pvsim: manifest: size\n",
+        1,
+    ),
+    (
+        Fault::Run(RunFault::Manifest(ManifestFault::Form(1))),
+        "pvsim: manifest: line 1: form\n",
+        1,
+    ),
+    (
+        Fault::Run(RunFault::Manifest(ManifestFault::Parent(20))),
+        "pvsim: manifest: line 20: parent\n",
+        1,
+    ),
+    (
+        Fault::Run(RunFault::Manifest(ManifestFault::Exists(3))),
+        "pvsim: manifest: line 3: exists\n",
+        1,
+    ),
+    (
+        Fault::Run(RunFault::Manifest(ManifestFault::Source(4))),
+        "pvsim: manifest: line 4: source\n",
+        1,
+    ),
+    (
+        Fault::Run(RunFault::Manifest(ManifestFault::Room(5))),
+        "pvsim: manifest: line 5: room\n",
+        1,
+    ),
+    (
+        Fault::Run(RunFault::Manifest(ManifestFault::Memory)),
+        "pvsim: memory\n",
+        3,
+    ),
+    (
+        Fault::Run(RunFault::Schedule(65537)),
+        "pvsim: schedule: line 65537\n",
+        1,
+    ),
+    (Fault::Run(RunFault::Init(0)), "pvsim: init: line 0\n", 1),
+    (Fault::Run(RunFault::Memory), "pvsim: memory\n", 3),
+    (Fault::Run(RunFault::Read), "pvsim: read\n", 4),
+    (Fault::Run(RunFault::WriteTrace), "pvsim: write\n", 4),
+    (Fault::Run(RunFault::WriteImage), "pvsim: write\n", 4),
+    (
+        Fault::Listing(ListFault::Image(ImageFault::Tree(12))),
+        "pvsim: image: tree 12\n",
+        1,
+    ),
+    (
+        Fault::Listing(ListFault::Image(ImageFault::Memory)),
+        "pvsim: memory\n",
+        3,
+    ),
+    (Fault::Listing(ListFault::Memory), "pvsim: memory\n", 3),
+    (Fault::Listing(ListFault::Read), "pvsim: read\n", 4),
+    (Fault::Listing(ListFault::Write), "pvsim: write\n", 4),
+    (
+        Fault::Migrating(MigrateStop::Refused(MigrateFault::Small)),
+        "pvsim: migrate: too small\n",
+        1,
+    ),
+    (
+        Fault::Migrating(MigrateStop::Refused(MigrateFault::Image(ImageFault::Magic))),
+        "pvsim: image: magic\n",
+        1,
+    ),
+    (
+        Fault::Migrating(MigrateStop::Refused(MigrateFault::Image(ImageFault::Memory))),
+        "pvsim: memory\n",
+        3,
+    ),
+    (
+        Fault::Migrating(MigrateStop::Refused(MigrateFault::Memory)),
+        "pvsim: memory\n",
+        3,
+    ),
+    (Fault::Migrating(MigrateStop::Read), "pvsim: read\n", 4),
+    (Fault::Migrating(MigrateStop::Write), "pvsim: write\n", 4),
+    (
+        Fault::Auditing(AuditStop::Machine(RunFault::Image(ImageFault::Magic))),
+        "pvsim: image: magic\n",
+        1,
+    ),
+    (
+        Fault::Auditing(AuditStop::Machine(RunFault::Schedule(2))),
+        "pvsim: schedule: line 2\n",
+        1,
+    ),
+    (
+        Fault::Auditing(AuditStop::Machine(RunFault::Memory)),
+        "pvsim: memory\n",
+        3,
+    ),
+    (
+        Fault::Auditing(AuditStop::Machine(RunFault::Read)),
+        "pvsim: read\n",
+        4,
+    ),
+    (
+        Fault::Auditing(AuditStop::Path(AuditFault::Walk(Errno::EPERM))),
+        "pvsim: audit: errno 1 EPERM\n",
+        1,
+    ),
+    (
+        Fault::Auditing(AuditStop::Path(AuditFault::NotFile)),
+        "pvsim: audit: not a file\n",
+        1,
+    ),
+    (Fault::Auditing(AuditStop::Write), "pvsim: write\n", 4),
+];
 
 #[test]
-fn faults_of_images_have_their_texts(rt: HostRuntime) -> Result<(), Fail> {
-    let faults = [
-        (ImageFault::Short, "pvsim: image: short\n"),
-        (ImageFault::Magic, "pvsim: image: magic\n"),
-        (ImageFault::Size, "pvsim: image: size\n"),
-        (ImageFault::Inode(4096), "pvsim: image: inode 4096\n"),
-        (ImageFault::Block(7), "pvsim: image: block 7\n"),
-        (ImageFault::Dir(1), "pvsim: image: directory 1\n"),
-        (ImageFault::Tree(12), "pvsim: image: tree 12\n"),
-    ];
-    for (fault, text) in faults {
-        expect_fault(&rt, of_image(fault), text, 1)?;
-    }
-    expect_fault(&rt, of_image(ImageFault::Memory), "pvsim: memory\n", 3)
-}
-
-#[test]
-fn faults_of_manifests_have_their_texts(rt: HostRuntime) -> Result<(), Fail> {
-    let faults = [
-        (ManifestFault::Size, "pvsim: manifest: size\n"),
-        (ManifestFault::Form(1), "pvsim: manifest: line 1: form\n"),
-        (
-            ManifestFault::Parent(20),
-            "pvsim: manifest: line 20: parent\n",
-        ),
-        (
-            ManifestFault::Exists(3),
-            "pvsim: manifest: line 3: exists\n",
-        ),
-        (
-            ManifestFault::Source(4),
-            "pvsim: manifest: line 4: source\n",
-        ),
-        (ManifestFault::Room(5), "pvsim: manifest: line 5: room\n"),
-    ];
-    for (fault, text) in faults {
-        expect_fault(&rt, of_manifest(fault), text, 1)?;
-    }
-    let memory = of_manifest(ManifestFault::Memory);
-    expect_fault(&rt, memory, "pvsim: memory\n", 3)
-}
-
-#[test]
-fn faults_of_runs_have_their_texts(rt: HostRuntime) -> Result<(), Fail> {
-    let faults = [
-        (
-            RunFault::Schedule(65537),
-            "pvsim: schedule: line 65537\n",
-            1,
-        ),
-        (RunFault::Init(0), "pvsim: init: line 0\n", 1),
-        (RunFault::Memory, "pvsim: memory\n", 3),
-        (RunFault::Read, "pvsim: read\n", 4),
-        (RunFault::WriteTrace, "pvsim: write\n", 4),
-        (RunFault::WriteImage, "pvsim: write\n", 4),
-    ];
-    for (fault, text, status) in faults {
-        expect_fault(&rt, Fault::Run(fault), text, status)?;
-    }
-    Ok(())
-}
-
-#[test]
-fn faults_of_listings_have_their_texts(rt: HostRuntime) -> Result<(), Fail> {
-    let faults = [
-        (
-            ListFault::Image(ImageFault::Tree(12)),
-            "pvsim: image: tree 12\n",
-            1,
-        ),
-        (ListFault::Image(ImageFault::Memory), "pvsim: memory\n", 3),
-        (ListFault::Memory, "pvsim: memory\n", 3),
-        (ListFault::Read, "pvsim: read\n", 4),
-        (ListFault::Write, "pvsim: write\n", 4),
-    ];
-    for (fault, text, status) in faults {
-        expect_fault(&rt, Fault::Listing(fault), text, status)?;
-    }
-    Ok(())
-}
-
-#[test]
-fn ends_of_migrations_have_their_texts(rt: HostRuntime) -> Result<(), Fail> {
-    let refusals = [
-        (MigrateFault::Small, "pvsim: migrate: too small\n", 1),
-        (
-            MigrateFault::Image(ImageFault::Magic),
-            "pvsim: image: magic\n",
-            1,
-        ),
-        (
-            MigrateFault::Image(ImageFault::Memory),
-            "pvsim: memory\n",
-            3,
-        ),
-        (MigrateFault::Memory, "pvsim: memory\n", 3),
-    ];
-    for (fault, text, status) in refusals {
-        let stop = MigrateStop::Refused(fault);
-        expect_fault(&rt, Fault::Migrating(stop), text, status)?;
-    }
-    let read = Fault::Migrating(MigrateStop::Read);
-    expect_fault(&rt, read, "pvsim: read\n", 4)?;
-    let write = Fault::Migrating(MigrateStop::Write);
-    expect_fault(&rt, write, "pvsim: write\n", 4)
-}
-
-#[test]
-fn ends_of_audits_have_their_texts(rt: HostRuntime) -> Result<(), Fail> {
-    let ends = [
-        (
-            AuditStop::Machine(RunFault::Image(ImageFault::Magic)),
-            "pvsim: image: magic\n",
-            1,
-        ),
-        (
-            AuditStop::Machine(RunFault::Schedule(2)),
-            "pvsim: schedule: line 2\n",
-            1,
-        ),
-        (AuditStop::Machine(RunFault::Memory), "pvsim: memory\n", 3),
-        (AuditStop::Machine(RunFault::Read), "pvsim: read\n", 4),
-        (
-            AuditStop::Path(AuditFault::Walk(Errno::EPERM)),
-            "pvsim: audit: errno 1 EPERM\n",
-            1,
-        ),
-        (
-            AuditStop::Path(AuditFault::NotFile),
-            "pvsim: audit: not a file\n",
-            1,
-        ),
-        (AuditStop::Write, "pvsim: write\n", 4),
-    ];
-    for (stop, text, status) in ends {
-        expect_fault(&rt, Fault::Auditing(stop), text, status)?;
+fn faults_have_their_texts(rt: HostRuntime) -> Result<(), Fail> {
+    for (fault, text, status) in TEXTS {
+        expect_fault(&rt, *fault, text, *status)?;
     }
     Ok(())
 }

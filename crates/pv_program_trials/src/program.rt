@@ -156,19 +156,26 @@ fn what_was_asked_for_goes_to_the_output(rt: HostRuntime) {
     expect_help(&rt, &["pvsim", "help"]);
 }
 
+// Words that are no command line.
+const REFUSED: &[&[&str]] = &[
+    &["pvsim", "run", "motd"],
+    &["pvsim", "--trace", "motd"],
+    &["pvsim", "run-tree"],
+    &["pvsim", "run-tree", "motd", "motd"],
+    &["pvsim", "mkimg", "motd"],
+    &["pvsim", "ls"],
+    &["pvsim", "ls", "motd", "motd"],
+    &["pvsim", "run", "motd", "motd"],
+    &["pvsim", "migrate", "motd", "out", "8"],
+    &["pvsim", "audit", "motd"],
+    &["pvsim", "audit", "i", "s", "p", "q"],
+];
+
 #[test]
 fn refused_words_are_told_on_the_errors(rt: HostRuntime) {
-    expect_refused_words(&rt, &["pvsim", "run", "motd"]);
-    expect_refused_words(&rt, &["pvsim", "--trace", "motd"]);
-    expect_refused_words(&rt, &["pvsim", "run-tree"]);
-    expect_refused_words(&rt, &["pvsim", "run-tree", "motd", "motd"]);
-    expect_refused_words(&rt, &["pvsim", "mkimg", "motd"]);
-    expect_refused_words(&rt, &["pvsim", "ls"]);
-    expect_refused_words(&rt, &["pvsim", "ls", "motd", "motd"]);
-    expect_refused_words(&rt, &["pvsim", "run", "motd", "motd"]);
-    expect_refused_words(&rt, &["pvsim", "migrate", "motd", "out", "8"]);
-    expect_refused_words(&rt, &["pvsim", "audit", "motd"]);
-    expect_refused_words(&rt, &["pvsim", "audit", "i", "s", "p", "q"]);
+    for words in REFUSED {
+        expect_refused_words(&rt, words);
+    }
 }
 
 #[test]
@@ -178,56 +185,57 @@ fn an_output_that_takes_nothing_is_a_failed_write(rt: HostRuntime) {
     expect_failed_write(&rt, &["pvsim", "run-tree", "motd"], b"pvsim: write\n");
 }
 
-#[test]
-fn a_command_has_its_texts(rt: HostRuntime) -> Result<(), Fail> {
-    let words = ["pvsim", "run-tree", "a b"];
-    expect_command(&rt, &words, Command::RunTree("a b"))?;
-    let words = ["pvsim", "run-tree", "--", "-x"];
-    expect_command(&rt, &words, Command::RunTree("-x"))?;
-    let words = ["pvsim", "mkimg", "m", "i"];
-    let (manifest, image) = ("m", "i");
-    expect_command(&rt, &words, Command::MakeImage { manifest, image })?;
-    expect_command(&rt, &["pvsim", "ls", "i"], Command::ListImage("i"))
-}
+// Words, and the commands for which they ask.
+const COMMANDS: &[(&[&str], Command<'static>)] = &[
+    (&["pvsim", "run-tree", "a b"], Command::RunTree("a b")),
+    (&["pvsim", "run-tree", "--", "-x"], Command::RunTree("-x")),
+    (
+        &["pvsim", "mkimg", "m", "i"],
+        Command::MakeImage {
+            manifest: "m",
+            image: "i",
+        },
+    ),
+    (&["pvsim", "ls", "i"], Command::ListImage("i")),
+    (
+        &["pvsim", "run", "i", "s", "o"],
+        Command::RunImage {
+            image: "i",
+            schedule: "s",
+            out: "o",
+        },
+    ),
+    (
+        &["pvsim", "migrate", "i", "o", "0", "4294967295"],
+        Command::MigrateImage {
+            image: "i",
+            out: "o",
+            blocks: 0,
+            inodes: 4_294_967_295,
+        },
+    ),
+    (
+        &["pvsim", "audit", "i", "s"],
+        Command::AuditImage {
+            image: "i",
+            schedule: "s",
+            path: None,
+        },
+    ),
+    (
+        &["pvsim", "audit", "i", "s", "/p"],
+        Command::AuditImage {
+            image: "i",
+            schedule: "s",
+            path: Some("/p"),
+        },
+    ),
+];
 
 #[test]
-fn a_run_of_an_image_has_its_texts(rt: HostRuntime) -> Result<(), Fail> {
-    let words = ["pvsim", "run", "i", "s", "o"];
-    let (image, schedule, out) = ("i", "s", "o");
-    let command = Command::RunImage {
-        image,
-        schedule,
-        out,
-    };
-    expect_command(&rt, &words, command)
-}
-
-#[test]
-fn a_migration_has_its_texts_and_numbers(rt: HostRuntime) -> Result<(), Fail> {
-    let words = ["pvsim", "migrate", "i", "o", "0", "4294967295"];
-    let (image, out, blocks, inodes) = ("i", "o", 0, 4_294_967_295);
-    let command = Command::MigrateImage {
-        image,
-        out,
-        blocks,
-        inodes,
-    };
-    expect_command(&rt, &words, command)
-}
-
-#[test]
-fn an_audit_may_lack_its_path(rt: HostRuntime) -> Result<(), Fail> {
-    let (image, schedule) = ("i", "s");
-    for (words, path) in [
-        (["pvsim", "audit", "i", "s"].as_slice(), None),
-        (["pvsim", "audit", "i", "s", "/p"].as_slice(), Some("/p")),
-    ] {
-        let command = Command::AuditImage {
-            image,
-            schedule,
-            path,
-        };
-        expect_command(&rt, words, command)?;
+fn words_ask_for_commands_with_their_texts_and_numbers(rt: HostRuntime) -> Result<(), Fail> {
+    for (words, command) in COMMANDS {
+        expect_command(&rt, words, *command)?;
     }
     Ok(())
 }

@@ -4,7 +4,5 @@
 #![tactic(auto)]
 
 mod report;
-#[cfg(test)]
-mod tests;
 
 pub use report::write_report;

@@ -1,6 +1,6 @@
 //! Images that are made, migrated and run.
 use pv_images::{MigrateStop, list, make_image, migrate_image};
-use pv_model::{Failed, ImageFault, MigrateFault, Sink, Source};
+use pv_model::{ImageFault, MigrateFault};
 use pv_run::run;
 use pv_run::stream::{Bytes, Gathered};
 use std::alloc::AllocError;
@@ -19,50 +19,6 @@ pub(crate) const MOTD_TRACE: &[u8] =
 // A program that writes at the end of the longest file.
 const LONGEST: &[u8] =
     b"image 310 16\nexec \"/init\" 4\nopen \"/f\" w+create\nlseek 0 660479 set\nwrite 0 1\nwrite 0 1\n";
-
-// A source that fails.
-#[derive(Drop)]
-struct Broken {
-    failures: u64,
-}
-
-impl Source for Broken {
-    ghost use Rattle.std.specs.Prelude.{None};
-
-    ghost remaining = { λ _. None };
-
-    ghost failures = { λ source. source.failures };
-
-    fn read(&mut self, _buffer: &mut [u8]) -> Result<usize, Failed> {
-        self.failures = self.failures.saturating_add(1);
-        Err(Failed)
-    }
-}
-
-// A sink that takes nothing.
-#[derive(Drop)]
-struct Full {
-    failures: u64,
-}
-
-impl Sink for Full {
-    ghost use Rattle.std.specs.Prelude.{None};
-
-    ghost told = { λ _. None };
-
-    ghost waits = { λ _. 0 };
-
-    ghost failures = { λ sink. sink.failures };
-
-    fn write(&mut self, _buffer: &[u8]) -> Result<usize, Failed> {
-        self.failures = self.failures.saturating_add(1);
-        Err(Failed)
-    }
-
-    fn flush(&mut self) -> Result<(), Failed> {
-        Ok(())
-    }
-}
 
 // The image of a manifest.
 pub(crate) fn made(rt: &(impl Abort + AllocGlobal), manifest: &[u8]) -> Gathered {
@@ -106,9 +62,9 @@ fn trace_of(rt: &(impl Abort + AllocGlobal), image: &Gathered, schedule: &[u8]) 
     trace
 }
 
-// The trace ends with this.
-fn expect_end(rt: &(impl Abort + AllocGlobal), trace: &Gathered, end: &[u8]) {
-    assert!(rt; trace.bytes.ends_with(end));
+// The trace of so many steps ends with this.
+fn expect_end(rt: &(impl Abort + AllocGlobal), image: &Gathered, schedule: &[u8], end: &[u8]) {
+    assert!(rt; trace_of(rt, image, schedule).bytes.ends_with(end));
 }
 
 // The manifest of an image of 32 blocks and 16 inodes, whose program makes a directory of so many letters for each
@@ -133,46 +89,49 @@ fn name_maker(
     Ok(manifest)
 }
 
+// An image of so many bytes has the listing and the trace of the first manifest.
+fn expect_motd(rt: &(impl Abort + AllocGlobal), image: &Gathered, length: usize) {
+    assert_eq!(rt; image.bytes.len(), length);
+    expect_listing(rt, image, MOTD_LISTING);
+    assert!(rt; trace_of(rt, image, b"1 5\n").bytes.as_slice() == MOTD_TRACE);
+}
+
 #[test]
 fn a_migrated_image_lists_and_runs_alike(rt: HostRuntime) {
-    let old = made(&rt, MOTD);
-    assert_eq!(rt; old.bytes.len(), 8_192);
-    let new = migrated(&rt, MOTD, 87, 16);
-    assert_eq!(rt; new.bytes.len(), 512 * 87);
-    expect_listing(&rt, &old, MOTD_LISTING);
-    expect_listing(&rt, &new, MOTD_LISTING);
-    assert!(rt; trace_of(&rt, &old, b"1 5\n").bytes.as_slice() == MOTD_TRACE);
-    assert!(rt; trace_of(&rt, &new, b"1 5\n").bytes.as_slice() == MOTD_TRACE);
+    expect_motd(&rt, &made(&rt, MOTD), 8_192);
+    expect_motd(&rt, &migrated(&rt, MOTD, 87, 16), 512 * 87);
 }
 
 #[test]
 fn the_longest_file_wants_all_its_blocks(rt: HostRuntime) {
-    let whole = trace_of(&rt, &migrated(&rt, LONGEST, 1_301, 16), b"1 4\n");
     expect_end(
         &rt,
-        &whole,
+        &migrated(&rt, LONGEST, 1_301, 16),
+        b"1 4\n",
         b"    1 NAMI  \"/f\"\n    1 RET   open 0\n    1 CALL  lseek(0, 660479, set)\n    1 RET   lseek 660479\n    1 CALL  write(0, 1)\n    1 GIO   wrote 1 00\n    1 RET   write 1\n    1 CALL  write(0, 1)\n    1 RET   write -1 errno 27 EFBIG\n",
     );
-    let less = trace_of(&rt, &migrated(&rt, LONGEST, 1_300, 16), b"1 4\n");
     expect_end(
         &rt,
-        &less,
+        &migrated(&rt, LONGEST, 1_300, 16),
+        b"1 4\n",
         b"    1 CALL  write(0, 1)\n    1 RET   write -1 errno 28 ENOSPC\n    1 CALL  write(0, 1)\n    1 RET   write -1 errno 28 ENOSPC\n",
     );
 }
 
+const MADE: &[u8] = b"    1 RET   mkdir 0\n";
+
+const TOO_LONG: &[u8] = b"    1 RET   mkdir -1 errno 63 ENAMETOOLONG\n";
+
 #[test]
 fn names_are_longer_on_a_migrated_image(rt: HostRuntime) -> Result<(), Fail> {
-    let made_one = b"    1 RET   mkdir 0\n";
-    let too_long = b"    1 RET   mkdir -1 errno 63 ENAMETOOLONG\n";
-    let new = migrated(&rt, &name_maker(&rt, b"", b"a", 255)?, 32, 16);
-    expect_end(&rt, &trace_of(&rt, &new, b"1\n"), made_one);
-    let new = migrated(&rt, &name_maker(&rt, b"", b"a", 256)?, 32, 16);
-    expect_end(&rt, &trace_of(&rt, &new, b"1\n"), too_long);
-    let old = made(&rt, &name_maker(&rt, b"", b"a", 60)?);
-    expect_end(&rt, &trace_of(&rt, &old, b"1\n"), made_one);
-    let old = made(&rt, &name_maker(&rt, b"", b"a", 61)?);
-    expect_end(&rt, &trace_of(&rt, &old, b"1\n"), too_long);
+    for (length, end) in [(60, MADE), (61, TOO_LONG)] {
+        let manifest = name_maker(&rt, b"", b"a", length)?;
+        expect_end(&rt, &made(&rt, &manifest), b"1\n", end);
+    }
+    for (length, end) in [(255, MADE), (256, TOO_LONG)] {
+        let manifest = name_maker(&rt, b"", b"a", length)?;
+        expect_end(&rt, &migrated(&rt, &manifest, 32, 16), b"1\n", end);
+    }
     Ok(())
 }
 
@@ -180,12 +139,11 @@ fn names_are_longer_on_a_migrated_image(rt: HostRuntime) -> Result<(), Fail> {
 #[test]
 fn eight_longest_names_take_five_blocks(rt: HostRuntime) -> Result<(), Fail> {
     let manifest = name_maker(&rt, b"/d/", b"abcdefgh", 255)?;
-    let whole = trace_of(&rt, &migrated(&rt, &manifest, 3 + 12, 16), b"1 8\n");
-    expect_end(&rt, &whole, b"    1 RET   mkdir 0\n");
-    let less = trace_of(&rt, &migrated(&rt, &manifest, 3 + 11, 16), b"1 8\n");
-    expect_end(&rt, &less, b"    1 RET   mkdir -1 errno 28 ENOSPC\n");
-    let seven = trace_of(&rt, &migrated(&rt, &manifest, 3 + 11, 16), b"1 7\n");
-    expect_end(&rt, &seven, b"    1 RET   mkdir 0\n");
+    expect_end(&rt, &migrated(&rt, &manifest, 3 + 12, 16), b"1 8\n", MADE);
+    let less = migrated(&rt, &manifest, 3 + 11, 16);
+    expect_end(&rt, &less, b"1 7\n", MADE);
+    let no_room = b"    1 RET   mkdir -1 errno 28 ENOSPC\n";
+    expect_end(&rt, &less, b"1 8\n", no_room);
     Ok(())
 }
 
@@ -202,22 +160,4 @@ fn a_refused_migration_writes_nothing(rt: HostRuntime) {
     let old = made(&rt, MOTD);
     expect_refused(&rt, &old.bytes, MigrateFault::Small);
     expect_refused(&rt, b"", MigrateFault::Image(ImageFault::Short));
-}
-
-#[test]
-fn broken_streams_are_told(rt: HostRuntime) {
-    let mut out = Gathered::new(rt.alloc());
-    let mut broken = Broken { failures: 0 };
-    let read = migrate_image(rt.alloc(), &mut broken, 8, 16, &mut out);
-    assert_eq!(rt; read.err(), Some(MigrateStop::Read));
-    assert!(rt; out.bytes.is_empty());
-}
-
-#[test]
-fn a_broken_sink_is_told(rt: HostRuntime) {
-    let old = made(&rt, MOTD);
-    let mut image = Bytes::new(&old.bytes);
-    let mut full = Full { failures: 0 };
-    let write = migrate_image(rt.alloc(), &mut image, 8, 16, &mut full);
-    assert_eq!(rt; write.err(), Some(MigrateStop::Write));
 }

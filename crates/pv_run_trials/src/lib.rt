@@ -1,7 +1,7 @@
 //! Runs tried from bytes to bytes: bundles, and images that are made, migrated, listed, audited and run.
 //!
 //! It has tests alone: `bundles` runs whole bundles, `images` makes images and runs them, `damaged` mounts images of which a
-//! byte is another, and `failing` has streams that fail.
+//! byte is another, and `failing` breaks off what they read and write, by the `streams` that fail.
 #![tactic(auto)]
 
 #[cfg(test)]
@@ -12,3 +12,5 @@ mod damaged;
 mod failing;
 #[cfg(test)]
 mod images;
+#[cfg(test)]
+mod streams;
