@@ -53,21 +53,3 @@ impl<'a> Along<'a> {
         Some(piece)
     }
 }
-
-#[cfg(test)]
-mod tests {
-    use super::Along;
-
-    #[test]
-    fn pieces_come_in_order(rt: HostRuntime) {
-        let mut rest = Along::new(b"//a/./bc///..//");
-        assert!(rt; rest.take_first() == Some(b"a"));
-        assert!(rt; rest.take_first() == Some(b"."));
-        assert!(rt; rest.take_first() == Some(b"bc"));
-        assert!(rt; !rest.is_empty());
-        assert!(rt; rest.take_first() == Some(b".."));
-        assert!(rt; rest.as_slice() == b"//".as_slice());
-        assert!(rt; rest.is_empty());
-        assert!(rt; rest.take_first().is_none());
-    }
-}

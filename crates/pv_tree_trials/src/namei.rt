@@ -206,6 +206,28 @@ fn pieces_behind_a_link_weigh_at_most_1024(rt: HostRuntime) -> Result<(), AllocE
     expect_long_links(&rt, DOTTED_LINKS, WEIGHED)
 }
 
+// Links to directories whose names have one letter and two.
+const SHORT_LINKS: &[(u16, &[u8], Kind, u16)] = &[
+    (1, b"b", Kind::Directory, 2),
+    (1, b"bc", Kind::Directory, 3),
+    (1, b"k", Kind::Symlink(b"b"), 4),
+    (1, b"u", Kind::Symlink(b"bc"), 5),
+];
+
+// Behind a link stand 511 dots, with 510 slashes between them.
+#[test]
+fn dots_behind_a_link_weigh_too(rt: HostRuntime) -> Result<(), AllocError> {
+    let mut tree = with_64_inodes(rt.alloc())?;
+    make_all(&rt, &mut tree, SHORT_LINKS);
+    let dots = b"/.".repeat(rt.alloc(), 511)?;
+    for (name, expected) in [(b"k", Node(2)), (b"u", Fault(Errno::ENAMETOOLONG))] {
+        let mut path = Vec::from_slice(rt.alloc(), name)?;
+        path.extend_from_slice(&dots)?;
+        expect_walk(&rt, &tree, 1, &path, Follow::Last, expected);
+    }
+    Ok(())
+}
+
 const DOTTED_NODES: &[(u16, &[u8], Kind, u16)] = &[
     (1, b"tmp", Kind::Directory, 2),
     (1, b"etc", Kind::Directory, 3),
