@@ -57,10 +57,10 @@ const AT_LAST: &[u8] =
 
 #[test]
 fn each_name_of_a_file_has_its_line(rt: HostRuntime) -> Result<(), Fail> {
-    let first = session_behind(&rt, rt.alloc(), SHUT_OUT, 0)?;
-    expect_report(&rt, &first, 1_000, AT_FIRST);
-    let last = session_behind(&rt, rt.alloc(), SHUT_OUT, 3)?;
-    expect_report(&rt, &last, 1_000, AT_LAST);
+    for (steps, report) in [(0, AT_FIRST), (3, AT_LAST)] {
+        let session = session_behind(&rt, rt.alloc(), SHUT_OUT, steps)?;
+        expect_report(&rt, &session, 1_000, report);
+    }
     Ok(())
 }
 
