@@ -1,8 +1,8 @@
 //! Each kind of line, and sinks that take little.
-ghost use Rattle.std.specs.Prelude.{None};
 ghost use Rattle.pv_trace.specs.Words.{HasFewBytes};
 
 use crate::answers::expect_equal;
+use crate::streams::{Narrow, sink_of};
 use pv_model::{
     Call, CallRef, Cause, Errno, Failed, Mode, OpenFlags, Outcome, Perms, Promise, Sink, Start,
     Taken, Text, Whence,
@@ -23,50 +23,6 @@ const FOR_READING: OpenFlags = OpenFlags {
     directory: false,
     close_on_exec: false,
 };
-
-// A sink that takes so many bytes, at most so many a write, and counts its writes.
-#[derive(Drop)]
-struct Narrow {
-    bytes: Vec<u8>,
-    room: usize,
-    width: usize,
-    writes: u64,
-    failures: u64,
-}
-
-impl Sink for Narrow {
-    ghost told = { λ _. None };
-
-    ghost waits = { λ _. 0 };
-
-    ghost failures = { λ s. s.failures };
-
-    fn write(&mut self, buffer: &[u8]) -> Result<usize, Failed> {
-        self.writes = self.writes.saturating_add(1);
-        let count = buffer.len().min(self.room).min(self.width);
-        if count > 0 && self.bytes.extend_from_slice(&buffer[..count]).is_ok() {
-            self.room -= count;
-            return Ok(count);
-        }
-        self.failures = self.failures.saturating_add(1);
-        Err(Failed)
-    }
-
-    fn flush(&mut self) -> Result<(), Failed> {
-        Ok(())
-    }
-}
-
-// A sink with room for so many bytes, at most so many a write.
-fn sink_of<R: AllocGlobal>(rt: &R, room: usize, width: usize) -> Narrow {
-    Narrow {
-        bytes: Vec::new(rt.alloc()),
-        room,
-        width,
-        writes: 0,
-        failures: 0,
-    }
-}
 
 // A text of these bytes.
 fn text<R: Abort>(rt: &R, bytes: &[u8]) -> Text {

@@ -1,48 +1,14 @@
 //! Lines of audits, written to sinks of all sizes.
-ghost use Rattle.std.specs.Prelude.{None};
 
-use pv_model::{Failed, Leak, Sink, Verdict, Why};
+use crate::streams::sink_of;
+use pv_model::{Leak, Verdict, Why};
 use pv_verdicts::write_verdict;
 use std::process::Abort;
-
-// A sink that takes so many bytes.
-#[derive(Drop)]
-struct Narrow {
-    bytes: Vec<u8>,
-    room: usize,
-    failures: u64,
-}
-
-impl Sink for Narrow {
-    ghost told = { λ _. None };
-
-    ghost waits = { λ _. 0 };
-
-    ghost failures = { λ s. s.failures };
-
-    fn write(&mut self, buffer: &[u8]) -> Result<usize, Failed> {
-        let count = buffer.len().min(self.room);
-        if count > 0 && self.bytes.extend_from_slice(&buffer[..count]).is_ok() {
-            self.room -= count;
-            return Ok(count);
-        }
-        self.failures = self.failures.saturating_add(1);
-        Err(Failed)
-    }
-
-    fn flush(&mut self) -> Result<(), Failed> {
-        Ok(())
-    }
-}
 
 // Writes a verdict to a sink of each size: a beginning of the line stands in each.
 fn expect_line<R: AllocGlobal + Abort>(rt: &R, verdict: Verdict, line: &[u8]) {
     for room in 0..line.len() + 1 {
-        let mut out = Narrow {
-            bytes: Vec::new(rt.alloc()),
-            room,
-            failures: 0,
-        };
+        let mut out = sink_of(rt, room, line.len());
         let written = write_verdict(&mut out, &verdict);
         assert!(rt; written.is_ok() == (room == line.len()));
         assert!(rt; out.bytes.as_slice() == &line[..room]);
