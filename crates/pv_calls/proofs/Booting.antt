@@ -1,5 +1,5 @@
 -- The first state of the kernel, and what comes next in a live process.
-use Rattle.std.proofs.Common.{◌≡◌, ◌∙◌, ap, sym, subst, refl, ℕ, true, false, ◌⊎◌, inl, inr, [], ◌∷◌, Option, None, Some, Result, Ok, Err}
+use Rattle.std.proofs.Common.{◌≡◌, ◌∙◌, ap, sym, subst, refl, ℕ, zero, suc, true, false, ◌⊎◌, inl, inr, [], ◌∷◌, Option, None, Some, Result, Ok, Err}
 use Rattle.std.specs.Prelude.{is_some}
 use Rattle.pv_model.specs.declared.fault.ParseFault.{ParseFault}
 use Rattle.pv_model.specs.declared.fault.ParseFault.TheVariants.{Line, Memory as ParseMemory}
@@ -10,17 +10,18 @@ use Rattle.pv_model.specs.Grammar.Programs.{read_program}
 use Rattle.pv_model.specs.Program.{inside, calls_for, next}
 use Rattle.pv_model.specs.RunFault.{of_init}
 use Rattle.pv_model.specs.Start.{and_then, program_in, init_of, booted}
-use Rattle.pv_model.specs.State.{Program, Process, State, first_state, process_at, with_process}
+use Rattle.pv_model.specs.State.{Program, Process, State, first_state, process_at}
 use Rattle.pv_model.specs.Tree.{Tree, Node, directory_node, file_node, link_node}
-use Rattle.pv_parts.specs.Changes.{IsRegistered}
+use Rattle.pv_parts.specs.Changes.{IsRegistered, MovesInside, PassesInside}
 use Rattle.pv_parts.specs.Counts.{processes_of}
-use Rattle.pv_parts.proofs.Alone.{some-at}
+use Rattle.pv_parts.proofs.Alone.{passes-same, some-at}
 use Rattle.pv_procs.specs.declared.processes.Ahead.{Ahead}
 use Rattle.pv_procs.specs.declared.processes.Ahead.TheVariants.{Gone, Register, Call as AtCall}
 use Rattle.pv_procs.specs.ProcessTable.{ProcessTable, process_in}
-use Rattle.pv_laws.specs.States.{IsFirstTree, IsWhole, is_program, is_call}
+use Rattle.pv_laws.specs.States.{IsFirstTree, IsRunning, IsWhole, is_program, is_call}
 use Rattle.pv_laws.proofs.BySteps.{IsGoodNext, good-next, first-whole}
-use Rattle.pv_laws.proofs.Running.{whole-inside}
+use Rattle.pv_laws.proofs.Running.{SameHolds, whole-inside}
+use Rattle.pv_script.specs.Passing.{Passes}
 use Rattle.pv_runs.proofs.Ranges.{program_of-spells}
 use Rattle.std.specs.Result.{result_ok}
 
@@ -28,11 +29,17 @@ use Rattle.std.specs.Result.{result_ok}
 pub callable : (s : State) (pid : ℕ) (me : Process) (call : Call) → IsWhole s → process_at s pid ≡ Some me → next me ≡ calls_for call → is_call call ≡ true
 callable s pid me call whole at is = subst (IsGoodNext me) is (good-next me (whole.processes.running pid me at))
 
--- an instruction inside a process leaves the state whole
-pub inside-whole : (s : State) (pid : ℕ) (me after : Process) → IsWhole s → process_at s pid ≡ Some me → next me ≡ inside after → IsWhole (with_process s pid after)
-inside-whole s pid me after whole at is =
-    let good : IsGoodNext me (inside after) = subst (IsGoodNext me) is (good-next me (whole.processes.running pid me at)) in
-    whole-inside s pid me after whole at good.1 good.0
+-- an instruction inside a process leaves it in its ranges, and using and holding what it did
+stays-running : (p q : Process) → IsRunning p → next p ≡ inside q → IsRunning q × SameHolds p q
+stays-running p q running is = subst (IsGoodNext p) is (good-next p running)
+
+-- so do several
+all-running : (n : ℕ) (p q : Process) → IsRunning p → Passes n p q → IsRunning q × SameHolds p q
+all-running n p q running made = (ran n p q running made, passes-same n p q made)
+  where
+    ran : (n : ℕ) (p q : Process) → IsRunning p → Passes n p q → IsRunning q
+    ran zero p q running same = subst IsRunning (sym same) running
+    ran (suc n) p q running made = (stays-running made.0 q (ran n p made.0 running made.1) made.2).0
 
 -- the process that is live, as the tables of processes have it
 pub live-in : (s : State) (ps qs : ProcessTable) (pid : ℕ) → ps ≡ processes_of s → qs ≡ processes_of s → true ≡ is_some (process_in ps pid)
@@ -41,16 +48,37 @@ live-in s ps qs pid one two live =
     let found = some-at (process_at s pid) (ap (λ x. is_some (process_in x pid)) (sym one) ∙ sym live) in
     (found.0, found.1, ap (λ x. process_in x pid) two ∙ found.1)
 
--- what came next in a process and was made leaves the state whole, and the tree as it was
-pub registered-whole : (s t : State) (ahead : Ahead) (pid : ℕ) → IsWhole s → IsRegistered ahead pid s t → IsWhole t
-registered-whole s t Gone pid whole same = subst IsWhole (sym same.1) whole
-registered-whole s t Register pid whole made = subst IsWhole (sym made.only) (inside-whole s pid made.me made.after whole made.lives made.step)
-registered-whole s t AtCall pid whole same = subst IsWhole (sym same.1) whole
+-- ---- a process that changes by its instructions
 
-pub registered-tree : (s t : State) (ahead : Ahead) (pid : ℕ) → IsRegistered ahead pid s t → t.tree ≡ s.tree
-registered-tree s t Gone pid same = ap (λ (x : State). x.tree) same.1
-registered-tree s t Register pid made = ap (λ (x : State). x.tree) made.only
-registered-tree s t AtCall pid same = ap (λ (x : State). x.tree) same.1
+module _ (s t : State) (pid : ℕ) where
+  -- the state stays whole, and the tree as it was
+  moved-whole : (by : Process → Process → Type 0) → ((p q : Process) → IsRunning p → by p q → IsRunning q × SameHolds p q) → IsWhole s → MovesInside by s pid t → IsWhole t
+  moved-whole by stays whole made =
+      let good = stays made.me made.after (whole.processes.running pid made.me made.lives) made.step in
+      subst IsWhole (sym made.only) (whole-inside s pid made.me made.after whole made.lives good.1 good.0)
+
+  moved-tree : (by : Process → Process → Type 0) → MovesInside by s pid t → t.tree ≡ s.tree
+  moved-tree by made = ap (λ (x : State). x.tree) made.only
+
+  -- what came next in a process and was made
+  pub registered-whole : (ahead : Ahead) → IsWhole s → IsRegistered ahead pid s t → IsWhole t
+  registered-whole Gone whole same = subst IsWhole (sym same.1) whole
+  registered-whole Register whole made = moved-whole (λ me after. next me ≡ inside after) stays-running whole made
+  registered-whole AtCall whole same = subst IsWhole (sym same.1) whole
+
+  pub registered-tree : (ahead : Ahead) → IsRegistered ahead pid s t → t.tree ≡ s.tree
+  registered-tree Gone same = ap (λ (x : State). x.tree) same.1
+  registered-tree Register made = moved-tree (λ me after. next me ≡ inside after) made
+  registered-tree AtCall same = ap (λ (x : State). x.tree) same.1
+
+  -- several, one after another
+  pub passed-whole : (n : ℕ) → IsWhole s → PassesInside n pid s t → IsWhole t
+  passed-whole zero whole same = subst IsWhole (sym same) whole
+  passed-whole (suc n) whole made = moved-whole (Passes (suc n)) (all-running (suc n)) whole made
+
+  pub passed-tree : (n : ℕ) → PassesInside n pid s t → t.tree ≡ s.tree
+  passed-tree zero same = ap (λ (x : State). x.tree) same
+  passed-tree (suc n) made = moved-tree (Passes (suc n)) made
 
 -- ---- the first state
 

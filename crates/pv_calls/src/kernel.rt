@@ -1,5 +1,5 @@
 //! The kernel: the parts of the system, and the calls on them.
-ghost use Rattle.std.specs.Prelude.{◌≡◌, ◌⊎◌, ◌≤◌, ℕ, IfOk, IfErr, OnErr, IsOk, IsTrue, Ok, Err, Some, length, List, Option};
+ghost use Rattle.std.specs.Prelude.{◌≡◌, ◌⊎◌, ◌<◌, ◌≤◌, ℕ, IfOk, IfErr, OnErr, IsOk, IsTrue, Ok, Err, Some, length, List, Option};
 ghost use Rattle.pv_laws.specs.States.{IsFirstTree, IsWhole, is_call};
 ghost use Rattle.pv_model.specs.declared.limits.TheConstants.{BUFFER};
 ghost use Rattle.pv_model.specs.Answer.{answer};
@@ -9,8 +9,8 @@ ghost use Rattle.pv_model.specs.Start.{booted};
 ghost use Rattle.pv_model.specs.State.{Process, process_at};
 ghost use Rattle.pv_model.specs.Trace.{buffer_of};
 ghost use Rattle.pv_model.specs.Tree.{find_entry};
-ghost use Rattle.pv_parts.specs.Changes.{IsRegistered};
-ghost use Rattle.pv_procs.specs.Turns.{CallsNext, IsAtCall};
+ghost use Rattle.pv_parts.specs.Changes.{IsRegistered, PassesInside};
+ghost use Rattle.pv_procs.specs.Turns.{AwaitsCall, CallsNext, IsAtCall};
 
 use crate::carry::carry_out;
 use pv_cache::CachedLookup;
@@ -109,6 +109,17 @@ impl<L: Lookup + Drop> Kernel<L> {
         ensures walks { self.new.walks ≡ self.old.walks }
     {
         self.parts.register(pid)
+    }
+
+    /// Makes the instructions on registers and the jumps that come next in a process, at most so many, one after
+    /// another: answers how many. Where the process is not live, they are none.
+    pub fn pass(&mut self, pid: u32, most: u32) -> u32
+        ensures few { result ≤ most }
+        ensures state { PassesInside result pid self.old.state self.new.state }
+        ensures whole { result < most → AwaitsCall (process_at self.new.state pid) }
+        ensures walks { self.new.walks ≡ self.old.walks }
+    {
+        self.parts.pass(pid, most)
     }
 
     /// Makes a call of a process: what it answers. `walks` then tells how many walks it began, and the bytes that an

@@ -13,13 +13,14 @@ use Rattle.pv_model.specs.Held.{held_by_process, held_by_table}
 use Rattle.pv_model.specs.Numbered.{Numbered, at_number, with_number}
 use Rattle.pv_model.specs.Program.{Next, inside, calls_for, perform, next_by, next, at_line, jump_if, with_register, register, clamp}
 use Rattle.pv_model.specs.State.{OpenFile, Process, State, process_at, with_process as with_process_at}
-use Rattle.pv_parts.specs.Changes.{IsRegistered}
+use Rattle.pv_parts.specs.Changes.{IsRegistered, MovesInside, PassesInside}
 use Rattle.pv_procs.specs.declared.processes.Ahead.{Ahead}
 use Rattle.pv_procs.specs.declared.processes.Ahead.TheVariants.{Gone, Register, Call}
-use Rattle.pv_procs.specs.Turns.{Registered}
+use Rattle.pv_procs.specs.Turns.{Moves, PassesIn, Registered}
 use Rattle.pv_procs.specs.ProcessTable.{ProcessTable, process_in, with_process, update_live, update}
 use Rattle.pv_procs.specs.Parts.{record_of, with_record}
 use Rattle.pv_procs.specs.declared.record.Record.{Record}
+use Rattle.pv_script.specs.Passing.{Passes}
 use Rattle.pv_tree.specs.Holding.{HeldTree}
 
 module _ (tree : HeldTree) (c : Counted) (ps : ProcessTable) (up : IsCountedUp tree c ps) (sorted : is_sorted nat_cmp ps.processes ≡ true) (pid : ℕ) where
@@ -118,28 +119,55 @@ inside-same p q is = subst (HoldsNext p) is (by (slice_get p.program (p.line - 1
     by None = refl
     by (Some i) = performs p i
 
--- an instruction that came next and was made uses and holds what was used and held
-pub counted-registered : (tree : HeldTree) (c : Counted) (ps qs : ProcessTable) (ahead : Ahead) (pid : ℕ) → IsCountedUp tree c ps → is_sorted nat_cmp ps.processes ≡ true
-    → Registered ahead pid ps qs → IsCountedUp tree c qs
-counted-registered tree c ps qs Gone pid up sorted same = subst (IsCountedUp tree c) (sym same.1) up
-counted-registered tree c ps qs Register pid up sorted made =
-    subst (IsCountedUp tree c) (sym made.only) (counted-with tree c ps up sorted pid made.me made.after made.lives (inside-same made.me made.after made.step))
-counted-registered tree c ps qs Call pid up sorted same = subst (IsCountedUp tree c) (sym same.1) up
+both-same : (p mid q : Process) → SameHolds p mid → SameHolds mid q → SameHolds p q
+both-same p mid q one two =
+    stays p q (two.directory ∙ one.directory) (two.table ∙ one.table) (two.descriptors ∙ one.descriptors) (two.parent ∙ one.parent)
 
--- and is what the state makes of it
-pub registered-is : (tree : HeldTree) (c : Counted) (ps qs : ProcessTable) (s : State) (ahead : Ahead) (pid : ℕ) → state_of tree c ps ≡ s
-    → Registered ahead pid ps qs → IsRegistered ahead pid s (state_of tree c qs)
-registered-is tree c ps qs s Gone pid seen same =
-    (sym (ap (λ (t : State). process_at t pid) seen) ∙ same.0, ap (state_of tree c) same.1 ∙ seen)
-registered-is tree c ps qs s Register pid seen made = record {
-  me = made.me;
-  lives = sym (ap (λ (t : State). process_at t pid) seen) ∙ made.lives;
-  after = made.after;
-  step = made.step;
-  only = ap (state_of tree c) made.only ∙ ap (λ (t : State). with_process_at t pid made.after) seen;
-}
-registered-is tree c ps qs s Call pid seen same =
-    ((same.0.0, sym (ap (λ (t : State). process_at t pid) seen) ∙ same.0.1, same.0.2), ap (state_of tree c) same.1 ∙ seen)
+-- nor do several
+pub passes-same : (n : ℕ) (p q : Process) → Passes n p q → SameHolds p q
+passes-same zero p q same = subst (SameHolds p) (sym same) (stays p p refl refl refl refl)
+passes-same (suc n) p q made = both-same p made.0 q (passes-same n p made.0 made.1) (inside-same made.0 q made.2)
+
+-- ---- a process that changes by its instructions
+
+module _ (tree : HeldTree) (c : Counted) (ps qs : ProcessTable) (pid : ℕ) where
+  -- where it uses and holds what it did
+  counted-moved : (by : Process → Process → Type 0) → ((p q : Process) → by p q → SameHolds p q) → IsCountedUp tree c ps → is_sorted nat_cmp ps.processes ≡ true
+      → Moves by pid ps qs → IsCountedUp tree c qs
+  counted-moved by same up sorted made =
+      subst (IsCountedUp tree c) (sym made.only) (counted-with tree c ps up sorted pid made.me made.after made.lives (same made.me made.after made.step))
+
+  -- what the state makes of it
+  moved-is : (by : Process → Process → Type 0) (s : State) → state_of tree c ps ≡ s → Moves by pid ps qs → MovesInside by s pid (state_of tree c qs)
+  moved-is by s seen made = record {
+    me = made.me;
+    lives = sym (ap (λ (t : State). process_at t pid) seen) ∙ made.lives;
+    after = made.after;
+    step = made.step;
+    only = ap (state_of tree c) made.only ∙ ap (λ (t : State). with_process_at t pid made.after) seen;
+  }
+
+  -- an instruction that came next and was made
+  pub counted-registered : (ahead : Ahead) → IsCountedUp tree c ps → is_sorted nat_cmp ps.processes ≡ true → Registered ahead pid ps qs → IsCountedUp tree c qs
+  counted-registered Gone up sorted same = subst (IsCountedUp tree c) (sym same.1) up
+  counted-registered Register up sorted made = counted-moved (λ me after. next me ≡ inside after) inside-same up sorted made
+  counted-registered Call up sorted same = subst (IsCountedUp tree c) (sym same.1) up
+
+  pub registered-is : (s : State) (ahead : Ahead) → state_of tree c ps ≡ s → Registered ahead pid ps qs → IsRegistered ahead pid s (state_of tree c qs)
+  registered-is s Gone seen same =
+      (sym (ap (λ (t : State). process_at t pid) seen) ∙ same.0, ap (state_of tree c) same.1 ∙ seen)
+  registered-is s Register seen made = moved-is (λ me after. next me ≡ inside after) s seen made
+  registered-is s Call seen same =
+      ((same.0.0, sym (ap (λ (t : State). process_at t pid) seen) ∙ same.0.1, same.0.2), ap (state_of tree c) same.1 ∙ seen)
+
+  -- several, one after another
+  pub counted-passed : (n : ℕ) → IsCountedUp tree c ps → is_sorted nat_cmp ps.processes ≡ true → PassesIn n pid ps qs → IsCountedUp tree c qs
+  counted-passed zero up sorted same = subst (IsCountedUp tree c) (sym same) up
+  counted-passed (suc n) up sorted made = counted-moved (Passes (suc n)) (passes-same (suc n)) up sorted made
+
+  pub passed-is : (s : State) (n : ℕ) → state_of tree c ps ≡ s → PassesIn n pid ps qs → PassesInside n pid s (state_of tree c qs)
+  passed-is s zero seen same = ap (state_of tree c) same ∙ seen
+  passed-is s (suc n) seen made = moved-is (Passes (suc n)) s seen made
 
 -- ---- open files
 

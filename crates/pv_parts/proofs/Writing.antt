@@ -13,9 +13,11 @@ use Rattle.pv_model.specs.Effect.{bytes_of, overwrite, with_file}
 use Rattle.pv_model.specs.Held.{trim}
 use Rattle.pv_model.specs.Numbered.{at_number, with_number}
 use Rattle.pv_model.specs.Sealed.{is_file}
-use Rattle.pv_model.specs.State.{OpenFile, State, with_tree}
+use Rattle.pv_model.specs.State.{OpenFile, Process, State, process_at, with_tree}
 use Rattle.pv_model.specs.Tree.{file_node, Tree, node_at, with_node, IsWellFormed}
-use Rattle.pv_procs.specs.ProcessTable.{ProcessTable}
+use Rattle.pv_procs.specs.declared.record.Record.{Record}
+use Rattle.pv_procs.specs.Parts.{record_of}
+use Rattle.pv_procs.specs.ProcessTable.{ProcessTable, process_in}
 use Rattle.pv_tree.specs.Changes.{overwritten}
 use Rattle.pv_tree.specs.Holding.{HeldTree, trimmed, with_tree as with_held}
 use Rattle.pv_tree.specs.Rooms.{refusal}
@@ -25,7 +27,7 @@ use Rattle.pv_tree.proofs.Rooms.{refusal-none}
 use Rattle.pv_tree_laws.proofs.Changes.{node_at-same}
 use Rattle.pv_tree_laws.proofs.Numbered.{at_number-below, length-with_number, with_number-same, with_number-other}
 use Rattle.pv_tree_laws.proofs.Rooms.{length-within}
-use Rattle.pv_parts.proofs.Alone.{counted-file, some-at}
+use Rattle.pv_parts.proofs.Alone.{counted-file, lent-is, some-at}
 use Rattle.pv_parts.proofs.Growing.{kept-content, kept-seen, ordered-seen}
 use Rattle.pv_parts.proofs.Trimming.{trim-parts}
 
@@ -49,6 +51,12 @@ write-fits t n at bytes some is allowed =
     let here : node_at u n ≡ Some (file_node file.0 new) = node_at-same t n (file_node file.0 new) (at_number-below t.nodes n (file_node file.0 file.1) file.2) in
     let within = length-within u n (file_node file.0 new) here (refusal-none u (ap refusal (sym same) ∙ allowed)).0 in
     omega (arith, within, greatest-low t.version, length-overwrite file.1 at bytes)
+
+-- what is read out of a live process's record is its buffer
+pub own-buffer : (h : HeldTree) (c : Counted) (ps : ProcessTable) (s : State) → state_of h c ps ≡ s → (pid : ℕ) (me : Process) (r : Record) (buffer : Bytes) → process_at s pid ≡ Some me
+    → option_map record_of (process_in ps pid) ≡ Some r → buffer ≡ r.machine.buffer → buffer ≡ me.buffer
+own-buffer h c ps s view pid me r buffer lives owned is =
+    is ∙ ap (λ x. x.machine.buffer) (lent-is (process_in ps pid) me r owned (ap (λ x. process_at x pid) view ∙ lives))
 
 -- ---- open files
 

@@ -1,29 +1,40 @@
 -- What the parts come to.
-use Rattle.std.specs.Prelude.{◌≡◌, ℕ, if◌then◌else◌, [], Bool, false, None, Some}
+use Rattle.std.specs.Prelude.{◌≡◌, ℕ, zero, suc, if◌then◌else◌, [], take, drop, Bool, false, None, Some}
 use Rattle.pv_model.specs.declared.open_flags.OpenFlags.{OpenFlags}
 use Rattle.pv_model.specs.declared.perms.Perms.{Perms}
 use Rattle.pv_model.specs.declared.target.Target.{Target}
 use Rattle.pv_model.specs.Attempt.{give}
 use Rattle.pv_model.specs.Bytes.{Bytes}
 use Rattle.pv_model.specs.Calls.Descriptors.{with_content, with_open_file}
+use Rattle.pv_model.specs.Effect.{bytes_of}
 use Rattle.pv_model.specs.Program.{inside, next}
 use Rattle.pv_model.specs.Numbered.{Numbered, with_number, least_free}
 use Rattle.pv_model.specs.State.{Descriptor, Process, State, process_at, with_process}
-use Rattle.pv_model.specs.Tree.{Tree, file_node, new_number, with_new_node}
+use Rattle.pv_model.specs.Tree.{Tree, file_node, new_number, node_at, with_new_node}
 use Rattle.pv_model.specs.Unveil.{Table}
 use Rattle.pv_procs.specs.declared.processes.Ahead.{Ahead}
 use Rattle.pv_procs.specs.declared.processes.Ahead.TheVariants.{Gone, Register, Call}
 use Rattle.pv_procs.specs.Turns.{IsAtCall}
+use Rattle.pv_script.specs.Passing.{Passes}
 use Rattle.pv_unveil.specs.Added.{add_to}
 use Rattle.pv_unveil.specs.Unveiled.{Unveiled}
 
--- the instruction inside a live process that comes next was made
-pub record StepsInside (s : State) (pid : ℕ) (new : State) : Type 0 where
+-- a live process alone changed, to one that stands to it in this relation
+pub record MovesInside (by : Process → Process → Type 0) (s : State) (pid : ℕ) (new : State) : Type 0 where
   pub me : Process
   pub lives : process_at s pid ≡ Some me
   pub after : Process
-  pub step : next me ≡ inside after
+  pub step : by me after
   pub only : new ≡ with_process s pid after
+
+-- the instruction inside a live process that comes next was made
+abbrev pub StepsInside : State → ℕ → State → Type 0
+StepsInside s pid new = MovesInside (λ me after. next me ≡ inside after) s pid new
+
+-- so many instructions inside a live process were made, one after another, and nothing changed where they are none
+abbrev pub PassesInside : ℕ → ℕ → State → State → Type 0
+PassesInside zero pid s new = new ≡ s
+PassesInside (suc n) pid s new = MovesInside (Passes (suc n)) s pid new
 
 -- what came next in a process was made, if it is an instruction inside it, and else nothing changed
 abbrev pub IsRegistered : Ahead → ℕ → State → State → Type 0
@@ -68,3 +79,7 @@ with_node_opened s pid me f n = with_open_file s pid me f n (tree_for_open s.tre
 -- the state with a new file under a name, opened
 abbrev pub with_file_made : State → ℕ → Process → OpenFlags → ℕ → Bytes → State
 with_file_made s pid me f d name = with_open_file s pid me f (new_number s.tree) (with_new_node s.tree d name (file_node false []))
+
+-- at most so many bytes of a file, from a place on
+abbrev pub bytes_read : Tree → ℕ → ℕ → ℕ → Bytes
+bytes_read t n at count = take count (drop at (bytes_of (node_at t n)))

@@ -52,9 +52,16 @@ fn expect_closed(rt: &impl Abort, record: &Record) {
     expect_same(rt, record.descriptors.at(0), Err(Errno::EBADF));
 }
 
-// A program of two lines.
-fn program<R: Abort + AllocGlobal>(rt: &R) -> Program {
-    Program::parse(rt.alloc(), b"set r0 1\ngetpid\n").expect(rt, "a program")
+const TWO_LINES: &[u8] = b"set r0 1\ngetpid\n";
+
+// It counts down in seven steps, and then makes a call.
+const COUNTDOWN: &[u8] = b"set r0 3\nadd r0 -1\njnz r0 2\ngetpid\n";
+
+// Its jump, the last line, is not taken.
+const JUMP_AT_THE_END: &[u8] = b"set r0 1\njz r0 1\n";
+
+fn program<R: Abort + AllocGlobal>(rt: &R, text: &[u8]) -> Program {
+    Program::parse(rt.alloc(), text).expect(rt, "a program")
 }
 
 // The name of a call.
@@ -78,8 +85,8 @@ enum Act {
     Fill,
     // It opens both that execve closes.
     Open,
-    // It loads a program.
-    Load,
+    // It loads the program of a text.
+    Load(&'static [u8]),
     // It goes on to its next line.
     Advance,
     // It is told what a call came to.
@@ -97,7 +104,7 @@ fn perform<R: Abort + AllocGlobal>(rt: &R, processes: &mut Processes, pid: u32, 
         End(status) => processes.end(pid, status),
         Fill => fill(rt, processes.record_mut(pid)),
         Open => open_both(rt, processes.record_mut(pid)),
-        Load => processes.load(pid, program(rt)),
+        Load(text) => processes.load(pid, program(rt, text)),
         Advance => processes.advance(pid),
         Tell => processes.tell(pid, 2, 0),
         Put(bytes) => processes.put_front(pid, bytes),
@@ -166,11 +173,13 @@ enum Step {
     Wait(u32, Reap),
     // An instruction on registers is made, if one comes next.
     Register(u32, Ahead),
+    // At most so many of them are made in one piece, which answers how many.
+    Registers(u32, u32, u32),
     // Children of process 1 come and go, from number 2 to below this one.
     Pass(u32),
 }
 
-use Step::{Does, Has, Is, Pass, Register, Wait};
+use Step::{Does, Has, Is, Pass, Register, Registers, Wait};
 
 fn pass<R: Abort + AllocGlobal>(rt: &R, processes: &mut Processes, below: u32) {
     for number in 2..below {
@@ -187,6 +196,7 @@ fn expect_step<R: Abort + AllocGlobal>(rt: &R, processes: &mut Processes, step: 
         Is(pid, sight) => expect_sight(rt, processes, pid, sight),
         Wait(pid, answer) => expect_same(rt, processes.reap(pid), answer),
         Register(pid, answer) => expect_same(rt, processes.register(pid), answer),
+        Registers(pid, most, made) => expect_same(rt, processes.pass(pid, most), made),
         Pass(below) => pass(rt, processes, below),
     }
 }
@@ -238,20 +248,20 @@ const CHILD_HAS_A_COPY: &[Step] = &[Does(1, Fill), Does(1, Fork(Ok(2))), Has(2, 
 const LOADED_PROGRAMS: &[Step] = &[
     Does(1, Fork(Ok(2))),
     Does(2, Open),
-    Does(2, Load),
+    Does(2, Load(TWO_LINES)),
     Has(2, Closed),
     Has(2, Lines(2)),
     Is(2, Next(None)),
     Does(2, Advance),
     Is(2, Next(Some("getpid"))),
     // The program that is loaded again is told something before its first step.
-    Does(2, Load),
+    Does(2, Load(TWO_LINES)),
     Does(2, Tell),
     Does(2, Put(b"xyz")),
     Has(2, Front(b"xyz")),
     Is(1, Next(Some("exit 0"))),
     // It is loaded once more, and its first instruction is made.
-    Does(2, Load),
+    Does(2, Load(TWO_LINES)),
     Register(2, Ahead::Register),
     Is(2, Next(Some("getpid"))),
     Register(2, Ahead::Call),
@@ -259,6 +269,41 @@ const LOADED_PROGRAMS: &[Step] = &[
     Does(2, End(0)),
     Register(2, Ahead::Gone),
     Is(2, Next(None)),
+];
+
+// Process 2 makes its instructions in pieces, and process 3 the same ones each for itself.
+const PIECES: &[Step] = &[
+    Does(1, Fork(Ok(2))),
+    Does(1, Fork(Ok(3))),
+    Does(2, Load(COUNTDOWN)),
+    Does(3, Load(COUNTDOWN)),
+    Registers(2, 0, 0),
+    // A piece ends in the middle of the loop.
+    Registers(2, 4, 4),
+    Register(3, Ahead::Register),
+    Register(3, Ahead::Register),
+    Register(3, Ahead::Register),
+    Register(3, Ahead::Register),
+    Is(2, Next(None)),
+    Is(3, Next(None)),
+    // The next one ends before the call.
+    Registers(2, 100, 3),
+    Register(3, Ahead::Register),
+    Register(3, Ahead::Register),
+    Register(3, Ahead::Register),
+    Is(2, Next(Some("getpid"))),
+    Is(3, Next(Some("getpid"))),
+    Registers(2, 100, 0),
+    Register(3, Ahead::Call),
+    // Behind the last line an exit comes.
+    Does(2, Load(JUMP_AT_THE_END)),
+    Registers(2, 100, 2),
+    Is(2, Next(Some("exit 0"))),
+    Registers(2, 100, 0),
+    // A process that has ended makes none.
+    Does(2, End(0)),
+    Registers(2, 100, 0),
+    Registers(4, 100, 0),
 ];
 
 // There are 32 places.
@@ -318,6 +363,11 @@ fn a_child_has_a_copy(rt: HostRuntime) {
 #[test]
 fn loaded_programs_begin_anew(rt: HostRuntime) {
     expect_steps(&rt, LOADED_PROGRAMS);
+}
+
+#[test]
+fn instructions_are_made_in_pieces(rt: HostRuntime) {
+    expect_steps(&rt, PIECES);
 }
 
 #[test]

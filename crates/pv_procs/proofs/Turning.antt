@@ -1,17 +1,23 @@
 -- The machine of a live process turns, on the places.
-use Rattle.std.proofs.Common.{◌≡◌, ℕ, zero, suc, ◌<◌, true, false, List, [], ◌∷◌, length, Option, None, Some, IsTrue, IsSome, is_some, refl, sym, subst, ap, ◌∙◌, arith}
+use Rattle.std.proofs.Common.{◌≡◌, ℕ, zero, suc, ◌<◌, ◌==◌, cond, position, true, false, List, [], ◌∷◌, length, Option, None, Some, IsTrue, IsSome, is_some, refl, sym, subst, ap, ◌∙◌, arith}
 use Rattle.std.proofs.Math.ListN.{get_or, set}
+use Rattle.std.proofs.lemmas.Cmp.{nat_cmp_total}
 use Rattle.std.proofs.lemmas.List.{set-get_or}
+use Rattle.std.specs.Cmp.{tied_itself}
+use Rattle.std.specs.FinMap.Entries.{find, find-put}
+use Rattle.std.specs.List.{HoldsAt}
+use Rattle.std.specs.Ordering.{is_eq, nat_cmp}
 use Rattle.pv_model.specs.declared.call_ref.CallRef.{CallRef}
-use Rattle.pv_model.specs.Program.{inside, next}
-use Rattle.pv_model.specs.State.{Process}
+use Rattle.pv_model.specs.State.{Process, live, live_process}
 use Rattle.pv_script.specs.Context.{Context, IsNext, in_context, is_inside}
+use Rattle.pv_script.specs.Passing.{Passes}
 use Rattle.pv_procs.specs.declared.place.Place.{Place}
 use Rattle.pv_procs.specs.declared.shared.Shared.{Shared}
-use Rattle.pv_procs.specs.Places.{process_of, ascends, program_at, table_of}
+use Rattle.pv_procs.specs.Places.{IsKept, process_of, ascends, program_at, table_of}
 use Rattle.pv_procs.specs.ProcessTable.{ProcessTable, process_in, with_process, update, update_live}
-use Rattle.pv_procs.specs.Turns.{CallsNext, IsAtCall, Performs, context_of}
-use Rattle.pv_procs.proofs.Finding.{IsAt, living, status-at, process-at, changed-at}
+use Rattle.pv_procs.specs.Turns.{AwaitsCall, CallsNext, IsAtCall, Moves, PassesIn, context_of}
+use Rattle.pv_procs.proofs.Finding.{IsAt, found-at, living, status-at, process-at, changed-at}
+use Rattle.pv_procs.proofs.Ends.{program-within}
 
 pub program-read : (programs : List Shared) (k : ℕ) (s : Shared) → k < length programs → s ≡ get_or programs k s → program_at programs k ≡ s.program
 program-read [] k s within is = absurd (omega arith)
@@ -34,6 +40,27 @@ module _ (places : List Place) (programs : List Shared) (last : ℕ) (ps : Proce
   machine-put m =
       machine-changed m (λ p. in_context own own.program m) refl ∙ ap (update_live ps pid (λ p. in_context own own.program m)) (process-at places programs last ps seen pid asc k place at there)
 
+-- where a live process stands, and the program that it shares
+pub record Stands (places : List Place) (programs : List Shared) (pid k : ℕ) (place : Place) (shared : Shared) : Type 0 where
+  pub at : IsAt places pid k place
+  pub live : place.status ≡ None
+  pub program : program_at programs place.program ≡ shared.program
+
+pub stands : (places : List Place) (programs : List Shared) (last : ℕ) → IsKept places programs last → (pid k : ℕ) (place : Place) (shared : Shared)
+    → position (λ (p : Place). p.number == pid) places ≡ Some k → HoldsAt (λ (p : Place). p.status ≡ None) places k → place ≡ get_or places k place
+    → shared ≡ get_or programs place.program shared → Stands places programs pid k place shared
+stands places programs last kept pid k place shared found lives is same =
+    let at = found-at places pid k place found is in
+    let none = ap (λ (p : Place). p.status) is ∙ lives place in
+    let below = program-within places programs last kept pid k place at none in
+    let table = kept.table in
+    record { at = at; live = none; program = program-read programs place.program shared (omega (arith, below, table)) same }
+
+-- what a process became that changed alone
+put-there : (ps : ProcessTable) (pid : ℕ) (p : Process) → process_in (with_process ps pid p) pid ≡ Some p
+put-there ps pid p =
+    ap live_process (find-put nat_cmp nat_cmp_total pid pid (live p) ps.processes ∙ ap (λ o. cond (is_eq o) (Some (live p)) (find nat_cmp pid ps.processes)) (tied_itself nat_cmp_total pid))
+
 -- what comes next in the process that is live
 pub calls-next : (me : Process) (lives : Option Process) → lives ≡ Some me → (call : Option CallRef) → IsNext me.program (context_of me) call → CallsNext call lives
 calls-next me lives is None within = λ found at.
@@ -49,9 +76,9 @@ module _ (places : List Place) (programs : List Shared) (last : ℕ) (ps : Proce
   lives : process_in ps pid ≡ Some me
   lives = living places programs last ps seen pid asc k place at none
 
-  -- the machine made the instruction that comes next
-  pub performed : next me ≡ inside (in_context me me.program m) → Performs pid ps (table_of (set places k (record place { «record» = record place.record { machine = m } })) programs last)
-  performed step = record {
+  -- the machine changed as its process does
+  pub moved : (by : Process → Process → Type 0) → by me (in_context me me.program m) → Moves by pid ps (table_of (set places k (record place { «record» = record place.record { machine = m } })) programs last)
+  moved by step = record {
     me = me;
     lives = lives;
     after = in_context me me.program m;
@@ -59,11 +86,25 @@ module _ (places : List Place) (programs : List Shared) (last : ℕ) (ps : Proce
     only = machine-put places programs last ps seen pid asc k place at (ap is_some lives) m;
   }
 
-  -- it made none
+  -- it stopped before a call
+  pub awaiting : is_inside me.program m ≡ false → AwaitsCall (process_in (table_of (set places k (record place { «record» = record place.record { machine = m } })) programs last) pid)
+  awaiting call = λ found is.
+      let there = ap (λ t. process_in t pid) (machine-put places programs last ps seen pid asc k place at (ap is_some lives) m) ∙ put-there ps pid (in_context me me.program m) in
+      let same : in_context me me.program m ≡ found = cc in
+      subst (λ (p : Process). is_inside p.program (context_of p) ≡ false) same call
+
+  -- it is as it was
+  unchanged : m ≡ place.record.machine → table_of (set places k (record place { «record» = record place.record { machine = m } })) programs last ≡ ps
+  unchanged same =
+      ap (λ n. table_of (set places k (record place { «record» = record place.record { machine = n } })) programs last) same
+      ∙ ap (λ p. table_of (set places k p) programs last) at.is ∙ ap (λ xs. table_of xs programs last) (set-get_or places k place) ∙ seen
+
+  -- it made no instruction
   pub at-call : m ≡ place.record.machine → is_inside me.program place.record.machine ≡ false
       → IsAtCall (process_in ps pid) × (table_of (set places k (record place { «record» = record place.record { machine = m } })) programs last ≡ ps)
-  at-call same call = (
-    (me, lives, call),
-    ap (λ n. table_of (set places k (record place { «record» = record place.record { machine = n } })) programs last) same
-        ∙ ap (λ p. table_of (set places k p) programs last) at.is ∙ ap (λ xs. table_of xs programs last) (set-get_or places k place) ∙ seen,
-  )
+  at-call same call = ((me, lives, call), unchanged same)
+
+  -- it made so many
+  pub passed : (n : ℕ) → Passes n me (in_context me me.program m) → PassesIn n pid ps (table_of (set places k (record place { «record» = record place.record { machine = m } })) programs last)
+  passed zero same = unchanged (ap context_of same)
+  passed (suc n) steps = moved (Passes (suc n)) steps

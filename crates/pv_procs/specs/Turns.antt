@@ -1,10 +1,11 @@
 -- What comes next in a process.
-use Rattle.std.specs.Prelude.{◌≡◌, ℕ, false, IsTrue, Option, None, Some}
+use Rattle.std.specs.Prelude.{◌≡◌, ℕ, zero, suc, false, IsTrue, Option, None, Some}
 use Rattle.pv_model.specs.declared.call_ref.CallRef.{CallRef}
 use Rattle.pv_model.specs.CallRef.{call_of}
 use Rattle.pv_model.specs.Program.{inside, calls_for, next}
 use Rattle.pv_model.specs.State.{Process}
 use Rattle.pv_script.specs.Context.{Context, is_inside}
+use Rattle.pv_script.specs.Passing.{Passes}
 use Rattle.pv_procs.specs.declared.processes.Ahead.{Ahead}
 use Rattle.pv_procs.specs.declared.processes.Ahead.TheVariants.{Gone, Register, Call}
 use Rattle.pv_procs.specs.ProcessTable.{ProcessTable, process_in, with_process}
@@ -21,13 +22,26 @@ CallsNext None lives = (me : Process) → lives ≡ Some me → IsTrue (is_insid
 abbrev pub IsAtCall : Option Process → Type 0
 IsAtCall lives = (me : Process) × (lives ≡ Some me) × (is_inside me.program (context_of me) ≡ false)
 
--- the instruction inside a live process that comes next was made
-pub record Performs (pid : ℕ) (old new : ProcessTable) : Type 0 where
+-- whether a process that is live has a call next
+abbrev pub AwaitsCall : Option Process → Type 0
+AwaitsCall lives = (me : Process) → lives ≡ Some me → is_inside me.program (context_of me) ≡ false
+
+-- a live process alone changed, to one that stands to it in this relation
+pub record Moves (by : Process → Process → Type 0) (pid : ℕ) (old new : ProcessTable) : Type 0 where
   pub me : Process
   pub lives : process_in old pid ≡ Some me
   pub after : Process
-  pub step : next me ≡ inside after
+  pub step : by me after
   pub only : new ≡ with_process old pid after
+
+-- the instruction inside a live process that comes next was made
+abbrev pub Performs : ℕ → ProcessTable → ProcessTable → Type 0
+Performs pid old new = Moves (λ me after. next me ≡ inside after) pid old new
+
+-- so many instructions inside a live process were made, one after another, and nothing changed where they are none
+abbrev pub PassesIn : ℕ → ℕ → ProcessTable → ProcessTable → Type 0
+PassesIn zero pid old new = new ≡ old
+PassesIn (suc n) pid old new = Moves (Passes (suc n)) pid old new
 
 -- what came next in a process was made, if it is an instruction inside it, and else nothing changed
 abbrev pub Registered : Ahead → ℕ → ProcessTable → ProcessTable → Type 0

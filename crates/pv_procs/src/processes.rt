@@ -78,7 +78,7 @@ impl Processes {
     ghost use Rattle.pv_procs.specs.Parts.{record_of};
     ghost use Rattle.pv_procs.specs.ProcessTable.{IsProcessTable, state_with, process_in, with_process, update, first_processes, after_inside};
     ghost use Rattle.pv_procs.specs.Reaping.{waited};
-    ghost use Rattle.pv_procs.specs.Turns.{CallsNext, Registered};
+    ghost use Rattle.pv_procs.specs.Turns.{AwaitsCall, CallsNext, PassesIn, Registered};
 
     /// Process 1 alone, with its program, before its first step.
     ///
@@ -280,6 +280,21 @@ impl Processes {
         } else {
             Ahead::Call
         }
+    }
+
+    /// Makes the instructions on registers and the jumps that come next in a process, at most so many, one after
+    /// another: answers how many. Where the process is not live, they are none.
+    pub fn pass(&mut self, pid: u32, most: u32) -> u32
+        ensures few { result ≤ most }
+        ensures made { PassesIn result pid self.old self.new }
+        ensures whole { result < most → AwaitsCall (process_in self.new pid) }
+    {
+        let Some(k) = index_of_live(&self.places, pid) else {
+            return 0;
+        };
+        let place = &mut self.places[k];
+        let shared = &self.programs[place.program];
+        place.record.get_mut().machine.pass(&shared.program, most)
     }
 
     /// A live process goes on to its next line, at most to the one behind the last.

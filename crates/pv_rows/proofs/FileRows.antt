@@ -1,9 +1,8 @@
 -- Rows on open files and their bytes.
-use Rattle.std.proofs.Common.{◌≡◌, ℕ, zero, suc, ◌<◌, ◌+◌, ℤ, pos, ◌+ℤ◌, Bool, true, false, ◌||◌, [], ◌∷◌, ◌++◌, length, take, drop, Option, None, Some, is_some, refl, ap, ap₂, sym, ◌∙◌, arith}
+use Rattle.std.proofs.Common.{◌≡◌, ℕ, zero, suc, ◌<◌, ◌+◌, ℤ, pos, ◌+ℤ◌, Bool, true, false, ◌||◌, [], length, take, drop, Option, None, Some, is_some, refl, ap, ap₂, sym, ◌∙◌, arith}
 use Rattle.std.specs.Prelude.{IsSome, option_map}
 use Rattle.pv_rows.specs.Space.{space_errno, write_some}
 use Rattle.pv_parts.specs.Attempts.{trimmed}
-use Rattle.pv_dirs.specs.Trees.{bytes_at}
 use Rattle.pv_parts.proofs.Attempts.{after_none, given, passed, refused_before, refused_first}
 use Rattle.pv_rows.proofs.Room.{roomy, crowded}
 use Rattle.pv_inodes.specs.declared.space.Space.{Space}
@@ -12,6 +11,7 @@ use Rattle.pv_model.specs.declared.call.Whence.{Whence}
 use Rattle.pv_model.specs.declared.errno.Errno.TheVariants.{EFBIG, EINVAL}
 use Rattle.pv_model.specs.declared.limits.TheConstants.{BUFFER, OFFSET}
 use Rattle.pv_model.specs.declared.outcome.Cause.TheVariants.{Plain}
+use Rattle.pv_model.specs.Answer.{update, update_live, with_front}
 use Rattle.pv_model.specs.Attempt.{done, refused, demand, refuse_if, ◌>>=◌}
 use Rattle.pv_model.specs.Bytes.{Bytes}
 use Rattle.pv_model.specs.Calls.Descriptors.{fstat, getdents, is_past_greatest, lseek, next_name, read, seek_base, within, with_bytes_written, write, write_end, write_place, after_write}
@@ -19,8 +19,9 @@ use Rattle.pv_model.specs.Effect.{answers, bytes_of, open_file, returns, returns
 use Rattle.pv_model.specs.Held.{trim}
 use Rattle.pv_model.specs.Numbered.{Numbered, at_number}
 use Rattle.pv_model.specs.Sealed.{is_file}
-use Rattle.pv_model.specs.State.{OpenFile, Process, State, reads, writes}
+use Rattle.pv_model.specs.State.{OpenFile, Process, State, process_at, reads, writes}
 use Rattle.pv_model.specs.Tree.{Node, directory_node, file_node, link_node, Tree, node_at, entries_at, is_directory, is_directory_at}
+use Rattle.pv_laws.proofs.Processes.{files-update}
 use Rattle.pv_tree.specs.Rooms.{refusal}
 
 -- a part of a value that is there
@@ -44,12 +45,6 @@ plain-file None is plain = cc
 plain-file (Some (directory_node es)) is plain = cc
 plain-file (Some (file_node executable bytes)) is plain = refl
 plain-file (Some (link_node text)) is plain = cc
-
-same-bytes : (o : Option Node) → is_file o ≡ true → Rattle.pv_dirs.specs.Trees.bytes_of o ≡ bytes_of o
-same-bytes None is = cc
-same-bytes (Some (directory_node es)) is = cc
-same-bytes (Some (file_node executable bytes)) is = refl
-same-bytes (Some (link_node text)) is = cc
 
 sized : (o : Option Node) (n : ℕ) → is_file o ≡ true → option_map size_of o ≡ Some n → n ≡ length (bytes_of o)
 sized None n is has = cc
@@ -84,23 +79,6 @@ module _ (s : State) (whole : IsWhole s) (k : ℕ) where
     size-is t n size tree node plain is =
         sized (node_at s.tree f.node) size (is-plain plain) (ap₂ (λ u m. option_map size_of (node_at u m)) (sym tree) (sym node) ∙ is)
 
-    pub bytes-are : (t : Tree) (n : ℕ) → t ≡ s.tree → n ≡ f.node → is_directory_at s.tree f.node ≡ false → bytes_at t n ≡ bytes_of (node_at s.tree f.node)
-    bytes-are t n tree node plain = ap₂ (λ u m. bytes_at u m) tree node ∙ same-bytes (node_at s.tree f.node) (is-plain plain)
-
--- ---- the front of a list
-
-pub take-length : (n m : ℕ) (xs : Bytes) → m ≡ length (take n xs) → take m xs ≡ take n xs
-take-length zero m xs is = ap (λ k. take k xs) is
-take-length (suc n) m [] is = ap (λ k. take k []) is
-take-length (suc n) zero (x ∷ xs) is = absurd (omega (arith, is))
-take-length (suc n) (suc m) (x ∷ xs) is = let rest : m ≡ length (take n xs) = omega (arith, is) in ap (λ ys. x ∷ ys) (take-length n m xs rest)
-
-pub take-front : (n : ℕ) (xs ys zs : Bytes) → n ≡ length xs → take n ((xs ++ ys) ++ zs) ≡ xs
-take-front zero [] ys zs is = refl
-take-front (suc n) [] ys zs is = absurd (omega (arith, is))
-take-front zero (x ∷ xs) ys zs is = absurd (omega (arith, is))
-take-front (suc n) (x ∷ xs) ys zs is = let rest : n ≡ length xs = omega (arith, is) in ap (λ bs. x ∷ bs) (take-front n xs ys zs rest)
-
 -- ---- rows
 
 module _ (s : State) (pid : ℕ) (me : Process) (d : ℤ) (k : ℕ) (f : OpenFile) (opened : open_file s me d ≡ Some (k, f)) where
@@ -133,16 +111,33 @@ module _ (s : State) (pid : ℕ) (me : Process) (d : ℤ) (k : ℕ) (f : OpenFil
   write-is n count may low =
       rw (opened, may, low) (after_none (demand EINVAL (Some count) >>= (λ m. write_some s pid me k f m)) ∙ given (demand EINVAL (Some count)) count (λ m. write_some s pid me k f m) refl)
 
+-- ---- reads
+
+-- a process that changes, and an open file, in either order
+with_file-update : (s : State) (pid : ℕ) (change : Process → Process) (k : ℕ) (f : OpenFile) → with_file (update s pid change) k f ≡ update (with_file s k f) pid change
+with_file-update s pid change k f = by (process_at s pid) refl
+  where
+    by : (o : Option Process) → process_at s pid ≡ o → with_file (update s pid change) k f ≡ update (with_file s k f) pid change
+    by None at = ap (λ o. with_file (update_live s pid change o) k f) at ∙ sym (ap (update_live (with_file s k f) pid change) at)
+    by (Some p) at = ap (λ o. with_file (update_live s pid change o) k f) at ∙ sym (ap (update_live (with_file s k f) pid change) at)
+
+-- a file's offset behind bytes that came to the front of a process's buffer
+pub offset-moved : (s mid new : State) (pid k : ℕ) (f : OpenFile) (bytes : Bytes) (offset : ℕ) → at_number s.files k ≡ Some f → mid ≡ update s pid (with_front bytes)
+    → option_map (λ f. with_file mid k (record f { offset = offset })) (at_number mid.files k) ≡ Some new → new ≡ update (with_file s k (record f { offset = offset })) pid (with_front bytes)
+offset-moved s mid new pid k f bytes offset at front moved =
+    let here : at_number mid.files k ≡ Some f = ap (λ (x : State). at_number x.files k) front ∙ ap (λ fs. at_number fs k) (files-update s pid (with_front bytes)) ∙ at in
+    part-is (λ (f : OpenFile). with_file mid k (record f { offset = offset })) (at_number mid.files k) f new moved here
+    ∙ ap (λ x. with_file x k (record f { offset = offset })) front ∙ with_file-update s pid (with_front bytes) k (record f { offset = offset })
+
 -- ---- writes
 
 end-at : (s : State) (pid : ℕ) (me : Process) (f : OpenFile) (count at : ℕ) → 0 < count → at ≡ write_place s pid me f → write_end s pid me f count ≡ at + count
 end-at s pid me f zero at some place = absurd (omega (arith, some))
 end-at s pid me f (suc n) at some place = ap (λ m. m + suc n) (sym place)
 
-after-at : (s : State) (pid : ℕ) (me : Process) (k : ℕ) (f : OpenFile) (count at : ℕ) (bytes : Bytes) → 0 < count → at ≡ write_place s pid me f → bytes ≡ take count me.buffer
-    → after_write s pid me k f count ≡ with_bytes_written s pid me k f at bytes
-after-at s pid me k f zero at bytes some place is = absurd (omega (arith, some))
-after-at s pid me k f (suc n) at bytes some place is = ap₂ (λ m bs. with_bytes_written s pid me k f m bs) (sym place) (sym is)
+after-at : (s : State) (pid : ℕ) (me : Process) (k : ℕ) (f : OpenFile) (count at : ℕ) → 0 < count → at ≡ write_place s pid me f → after_write s pid me k f count ≡ with_bytes_written s pid me k f at (take count me.buffer)
+after-at s pid me k f zero at some place = absurd (omega (arith, some))
+after-at s pid me k f (suc n) at some place = ap (λ m. with_bytes_written s pid me k f m (take (suc n) me.buffer)) (sym place)
 
 module _ (s : State) (pid : ℕ) (me : Process) (k : ℕ) (f : OpenFile) (count at : ℕ) (some : 0 < count) (place : at ≡ write_place s pid me f) where
   past : (b : Bool) → is_past_greatest s.tree (at + count) ≡ b → is_past_greatest s.tree (write_end s pid me f count) ≡ b
@@ -152,20 +147,23 @@ module _ (s : State) (pid : ℕ) (me : Process) (k : ℕ) (f : OpenFile) (count 
   pub some-past : is_past_greatest s.tree (at + count) ≡ true → write_some s pid me k f count ≡ refused 0 EFBIG Plain
   some-past is = refused_before (refuse_if EFBIG (is_past_greatest s.tree (write_end s pid me f count))) _ 0 EFBIG Plain (ap (refuse_if EFBIG) (past true is))
 
-  module _ (short : is_past_greatest s.tree (at + count) ≡ false) (bytes : Bytes) (front : bytes ≡ take count me.buffer) where
-    after-is : after_write s pid me k f count ≡ with_bytes_written s pid me k f at bytes
-    after-is = after-at s pid me k f count at bytes some place front
+  abbrev written : State
+  written = with_bytes_written s pid me k f at (take count me.buffer)
+
+  module _ (short : is_past_greatest s.tree (at + count) ≡ false) where
+    after-is : after_write s pid me k f count ≡ written
+    after-is = after-at s pid me k f count at some place
 
     rest : write_some s pid me k f count ≡ (with_room (after_write s pid me k f count) >>= (λ s. answers s count))
     rest = passed (refuse_if EFBIG (is_past_greatest s.tree (write_end s pid me f count))) tt _ (ap (refuse_if EFBIG) (past false short))
 
     -- bytes that have no room
-    pub some-crowded : (why : Space) → refusal (trim (with_bytes_written s pid me k f at bytes)).tree ≡ Some why → write_some s pid me k f count ≡ refused 0 (space_errno why) Plain
+    pub some-crowded : (why : Space) → refusal (trim written).tree ≡ Some why → write_some s pid me k f count ≡ refused 0 (space_errno why) Plain
     some-crowded why is =
         rest ∙ refused_first (with_room (after_write s pid me k f count)) _ 0 (space_errno why) Plain
         (crowded (after_write s pid me k f count) why (ap (λ x. refusal (trim x).tree) after-is ∙ is))
 
-    pub some-written : (new : State) → new ≡ trim (with_bytes_written s pid me k f at bytes) → refusal new.tree ≡ None
+    pub some-written : (new : State) → new ≡ trim written → refusal new.tree ≡ None
         → trimmed (write_some s pid me k f count) ≡ done 0 (new, returns count)
     some-written new is room =
         let same : trim (after_write s pid me k f count) ≡ new = ap trim after-is ∙ sym is in

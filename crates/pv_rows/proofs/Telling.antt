@@ -20,8 +20,8 @@ use Rattle.pv_laws.proofs.Trim.{processes-trim}
 same-result : (value : ℤ) (error : ℕ) (p : Process) → SameHolds p (with_result p value error)
 same-result value error p = record { directory = refl; table = refl; descriptors = refl; parent = refl }
 
-same-front : (value : ℤ) (bytes : Bytes) (p : Process) → SameHolds p (with_front bytes (with_result p value 0))
-same-front value bytes p = record { directory = refl; table = refl; descriptors = refl; parent = refl }
+pub same-front : (bytes : Bytes) (p : Process) → SameHolds p (with_front bytes p)
+same-front bytes p = record { directory = refl; table = refl; descriptors = refl; parent = refl }
 
 pub process_at-trim : (s : State) (pid : ℕ) → process_at (trim s) pid ≡ process_at s pid
 process_at-trim s pid = ap (λ ps. live_process (find nat_cmp pid ps)) (processes-trim s)
@@ -43,7 +43,7 @@ trim-update s after pid f same sorted is = by (process_at s pid) refl
         ap trim (update-is s pid f p at) ∙ trim-same s pid p (f p) ascending at (same p) ∙ ap (λ x. with_process x pid (f p)) is
         ∙ sym (update-is after pid f p (there (Some p) at))
 
--- a value is told before and bytes behind, or both at once
+-- a process is changed by one step and another, or by both at once
 pub update-twice : (s : State) (pid : ℕ) (f g : Process → Process) → update (update s pid f) pid g ≡ update s pid (λ p. g (f p))
 update-twice s pid f g = by (process_at s pid) refl
   where
@@ -86,12 +86,11 @@ module _ (before s old : State) (pid : ℕ) (me : Process) (sorted : is_sorted n
       let reply : waits ≡ returns d.value = ap (λ (x : Effect). x.1) pair in cc
   told_value d (refused walks errno cause) value new is same told = cc
 
-  pub told_bytes : (d : Done) (bytes : Bytes) (after : State) (value : ℤ) (new : State) → trim after ≡ old → value ≡ pos d.value
-      → new ≡ update (update old pid (λ p. with_result p value 0)) pid (with_front bytes)
-      → answer_by_attempt before s pid me (done d.walks (after, returns_bytes d.value bytes))
-      ≡ record { after = new; outcome = Text (record { value = d.value; len = length bytes }); walks = d.walks }
-  told_bytes d bytes after value new left same told =
-      let behind = trim-update after old pid (λ p. with_front bytes (with_result p (pos d.value) 0)) (same-front (pos d.value) bytes) sorted left in
-      ap (λ x. let a : Answered = record { after = x; outcome = Text (record { value = d.value; len = length bytes }); walks = d.walks } in a)
-      (behind ∙ sym (update-twice old pid (λ p. with_result p (pos d.value) 0) (with_front bytes))
-      ∙ ap (λ v. update (update old pid (λ p. with_result p v 0)) pid (with_front bytes)) (sym same) ∙ sym told)
+  pub told_front : (d : Done) (bytes : Bytes) (after : State) (value : ℤ) (new : State) (len : ℕ) → trim (update after pid (with_front bytes)) ≡ old → value ≡ pos d.value → len ≡ length bytes
+      → new ≡ update old pid (λ p. with_result p value 0)
+      → answer_by_attempt before s pid me (done d.walks (after, returns_bytes d.value bytes)) ≡ record { after = new; outcome = Text (record { value = d.value; len = len }); walks = d.walks }
+  told_front d bytes after value new len left same size told =
+      let behind = trim-update (update after pid (with_front bytes)) old pid (λ p. with_result p (pos d.value) 0) (same-result (pos d.value) 0) sorted left in
+      ap₂ (λ x n. let a : Answered = record { after = x; outcome = Text (record { value = d.value; len = n }); walks = d.walks } in a)
+      (ap trim (sym (update-twice after pid (with_front bytes) (λ p. with_result p (pos d.value) 0)))
+      ∙ behind ∙ ap (λ v. update old pid (λ p. with_result p v 0)) (sym same) ∙ sym told) (sym size)

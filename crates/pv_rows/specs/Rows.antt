@@ -1,8 +1,9 @@
 -- What a row of a call comes to in code, and how its process is told.
-use Rattle.std.specs.Prelude.{◌≡◌, ℕ, ℤ, Some, Result, Ok, Err}
-use Rattle.pv_model.specs.Answer.{Answered, answer_by_attempt}
+use Rattle.std.specs.Prelude.{◌≡◌, ℕ, ℤ, length, Some, Result, Ok, Err}
+use Rattle.pv_model.specs.Answer.{Answered, answer_by_attempt, update, with_front}
 use Rattle.pv_model.specs.Attempt.{Attempt, done, refused}
-use Rattle.pv_model.specs.Effect.{Effect, returns, open_file}
+use Rattle.pv_model.specs.Bytes.{Bytes}
+use Rattle.pv_model.specs.Effect.{Effect, returns, returns_bytes, open_file}
 use Rattle.pv_model.specs.Numbered.{at_number}
 use Rattle.pv_model.specs.State.{OpenFile, Process, State, process_at}
 use Rattle.pv_rows.specs.declared.answer.Answer.{Answer}
@@ -28,3 +29,11 @@ pub record IsOn (s : State) (me : Process) (d : ℤ) (k : ℕ) : Type 0 where
   pub file : OpenFile
   pub opened : open_file s me d ≡ Some (k, file)
   pub there : at_number s.files k ≡ Some file
+
+-- a row gave so many bytes, and they stand at the front of the process's buffer already
+pub record GivesFront (row : Attempt Effect) (pid count : ℕ) (new : State) : Type 0 where
+  pub after : State
+  pub bytes : Bytes
+  pub long : count ≡ length bytes
+  pub gives : row ≡ done 0 (after, returns_bytes count bytes)
+  pub front : new ≡ update after pid (with_front bytes)

@@ -2,8 +2,9 @@
 ghost use Rattle.std.specs.Prelude.{◌≡◌, ◌+◌, ◌≤◌, length, IsSome, IfOk, OnErr, Some, Ok};
 ghost use Rattle.pv_model.specs.declared.limits.TheConstants.{NUMBER};
 ghost use Rattle.pv_model.specs.declared.outcome.Cause.TheVariants.{Plain};
-ghost use Rattle.pv_model.specs.Answer.{answer_by_attempt};
+ghost use Rattle.pv_model.specs.Answer.{answer_by_attempt, update, with_front};
 ghost use Rattle.pv_model.specs.Attempt.{Attempt, done as done_attempt};
+ghost use Rattle.pv_model.specs.Bytes.{Bytes};
 ghost use Rattle.pv_model.specs.Effect.{Effect, returns_bytes};
 ghost use Rattle.pv_model.specs.Held.{trim};
 ghost use Rattle.pv_model.specs.State.{Process, State, process_at};
@@ -115,12 +116,24 @@ pub fn tell_bytes(parts: &mut Parts, pid: u32, told: Done, bytes: &[u8]) -> Answ
         → answer_by_attempt before s pid me (done_attempt told.walks (after, returns_bytes told.value bytes.now)) ≡ answered parts.new result }
 {
     parts.facts();
-    parts.tell(pid, told.value as i32, 0);
     parts.put_front(pid, bytes);
+    tell_front(parts, pid, told, bytes.len())
+}
+
+/// Tells a live process a value, where so many bytes stand at the front of its buffer already, and gives the answer.
+pub fn tell_front(parts: &mut Parts, pid: u32, told: Done, len: usize) -> Answer
+    requires live { IsSome (process_at parts.old pid) }
+    requires small { told.value ≤ NUMBER }
+    requires size { len ≤ BUFFER }
+    ensures { (before s after : State) (me : Process) (bytes : Bytes) → len ≡ length bytes → trim (update after pid (with_front bytes)) ≡ parts.old
+        → answer_by_attempt before s pid me (done_attempt told.walks (after, returns_bytes told.value bytes)) ≡ answered parts.new result }
+{
+    parts.facts();
+    parts.tell(pid, told.value as i32, 0);
     Answer {
         outcome: Outcome::Text(Taken {
             value: told.value,
-            len: bytes.len() as u16,
+            len: len as u16,
         }),
         walks: told.walks,
     }

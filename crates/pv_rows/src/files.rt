@@ -1,29 +1,27 @@
 //! What is done with open files: read(2), write(2), lseek(2), fstat(2), ftruncate(2), getdents(2).
-ghost use Rattle.std.specs.Prelude.{ℕ, pos, ◌≡◌, ◌≤◌, ◌<◌, ◌+ℤ◌, false, length, take, IfOk, IsSome, IsTrue, MatchResult, OnErr, Some};
+ghost use Rattle.std.specs.Prelude.{ℕ, pos, ◌≡◌, ◌≤◌, ◌<◌, ◌+ℤ◌, false, length, IfOk, IsSome, IsTrue, MatchResult, OnErr, Some};
 ghost use Rattle.pv_laws.specs.States.{IsWhole};
 ghost use Rattle.pv_model.specs.declared.limits.TheConstants.{NUMBER};
 ghost use Rattle.pv_model.specs.declared.outcome.Cause.TheVariants.{Plain};
-ghost use Rattle.pv_model.specs.Attempt.{done, refused};
+ghost use Rattle.pv_model.specs.Attempt.{refused};
 ghost use Rattle.pv_model.specs.Calls.Descriptors.{fstat, ftruncate, getdents, is_past_greatest, lseek, next_name, read, seek_base, within, write, write_place};
-ghost use Rattle.pv_model.specs.Effect.{returns_bytes};
 ghost use Rattle.pv_model.specs.Numbered.{at_number};
 ghost use Rattle.pv_model.specs.Sealed.{is_file};
 ghost use Rattle.pv_model.specs.State.{OpenFile, Process, process_at, reads, writes};
 ghost use Rattle.pv_model.specs.Tree.{entries_at, is_directory_at, node_at};
 ghost use Rattle.pv_parts.specs.Attempts.{trimmed};
 ghost use Rattle.pv_rows.specs.Space.{write_some};
-ghost use Rattle.pv_rows.specs.Rows.{IsAnswered, attempt_of};
+ghost use Rattle.pv_rows.specs.Rows.{GivesFront, IsAnswered, attempt_of};
 
-use crate::answer::{Answer, Done, Refused, answer_of, refusal, space_errno, tell, tell_bytes};
+use crate::answer::{
+    Answer, Done, Refused, answer_of, refusal, space_errno, tell, tell_bytes, tell_front,
+};
 use crate::descriptors::open_file;
 use crate::status::status;
 use pv_model::limits::{BUFFER, OFFSET};
 use pv_model::{Errno, Mode, Name, Whence};
 use pv_parts::Parts;
 use pv_tree::Tree;
-
-// How many bytes a short read takes at most.
-const SHORT: usize = 256;
 
 // A number from 0 to a limit.
 fn within(limit: usize, n: i32) -> Option<usize>
@@ -66,24 +64,16 @@ fn is_past_greatest(tree: &Tree, length: u32) -> bool
     length > tree.sizes().version.layout().greatest_length
 }
 
-// Reads to the front of a buffer what a read(2) takes, and moves the offset behind it.
-fn read_bytes(
-    parts: &mut Parts,
-    pid: u32,
-    d: i32,
-    n: i32,
-    buffer: &mut [u8],
-) -> Result<usize, Errno>
+// Reads to the front of the process's buffer what a read(2) takes, and moves the offset behind it: answers how many.
+fn read_front(parts: &mut Parts, pid: u32, d: i32, n: i32) -> Result<usize, Errno>
     requires whole { IsWhole parts.old }
     requires live { IsSome (process_at parts.old pid) }
-    requires room { (count : ℕ) → within BUFFER n ≡ Some count → count ≤ length buffer.old }
     ensures row { (me : Process) → process_at parts.old pid ≡ Some me → MatchResult result
-        (λ count. read parts.old pid me d n ≡ done 0 (parts.new, returns_bytes count (take count buffer.new)))
+        (λ count. GivesFront (read parts.old pid me d n) pid count parts.new)
         (λ errno. read parts.old pid me d n ≡ refused 0 errno Plain) }
-    ensures processes { parts.new.processes ≡ parts.old.processes }
+    ensures live { IsSome (process_at parts.new pid) }
     ensures unchanged { OnErr result (parts.new ≡ parts.old) }
     ensures within { IfOk result (λ count. count ≤ BUFFER) }
-    ensures fits { IfOk result (λ count. count ≤ length buffer.new) }
 {
     let Some(file) = open_file(parts, pid, d) else {
         return Err(Errno::EBADF);
@@ -99,29 +89,9 @@ fn read_bytes(
         return Err(Errno::EISDIR);
     }
     let offset = parts.files().offset(file);
-    let taken = parts.tree().read_at(node, offset, &mut buffer[..count]);
+    let taken = parts.read_front(pid, node, offset, count);
     parts.set_offset(file, offset + taken as u32);
     Ok(taken)
-}
-
-// Reads by way of a buffer that has room for so many bytes, and tells the process.
-fn read_by(parts: &mut Parts, pid: u32, d: i32, n: i32, buffer: &mut [u8]) -> Answer
-    requires whole { IsWhole parts.old }
-    requires live { IsSome (process_at parts.old pid) }
-    requires room { (count : ℕ) → within BUFFER n ≡ Some count → count ≤ length buffer.old }
-    ensures row { IsAnswered (λ s me. read s pid me d n) parts.old pid parts.new result }
-{
-    match read_bytes(parts, pid, d, n, buffer) {
-        Ok(count) => {
-            parts.facts();
-            let told = Done {
-                walks: 0,
-                value: count as u32,
-            };
-            tell_bytes(parts, pid, told, &buffer[..count])
-        }
-        Err(errno) => tell(parts, pid, Err(refusal(0, errno))),
-    }
 }
 
 /// Reads at most so many bytes from the offset on to the front of the process's buffer, read(2): the answer is how
@@ -134,22 +104,17 @@ pub fn read(parts: &mut Parts, pid: u32, d: i32, n: i32) -> Answer
     requires live { IsSome (process_at parts.old pid) }
     ensures row { IsAnswered (λ s me. read s pid me d n) parts.old pid parts.new result }
 {
-    // A buffer is zeroed when it is made, so a short read takes a short one.
-    if n <= SHORT as i32 {
-        read_by(parts, pid, d, n, &mut [0; SHORT])
-    } else {
-        read_long(parts, pid, d, n)
+    match read_front(parts, pid, d, n) {
+        Ok(count) => {
+            parts.facts();
+            let told = Done {
+                walks: 0,
+                value: count as u32,
+            };
+            tell_front(parts, pid, told, count)
+        }
+        Err(errno) => tell(parts, pid, Err(refusal(0, errno))),
     }
-}
-
-// The same of any count. It stands apart, so that no other call pays for its buffer.
-#[inline(never)]
-fn read_long(parts: &mut Parts, pid: u32, d: i32, n: i32) -> Answer
-    requires whole { IsWhole parts.old }
-    requires live { IsSome (process_at parts.old pid) }
-    ensures row { IsAnswered (λ s me. read s pid me d n) parts.old pid parts.new result }
-{
-    read_by(parts, pid, d, n, &mut [0; BUFFER])
 }
 
 // Where a write through an open file begins: at the end where it is open for appending.
@@ -196,8 +161,7 @@ pub fn write(parts: &mut Parts, pid: u32, d: i32, n: i32) -> Result<Done, Refuse
     write_bytes(parts, pid, file, count)
 }
 
-// Writes some bytes, at least one, through an open file. It stands apart, so that no other call pays for its buffer.
-#[inline(never)]
+// Writes the first bytes of the process's buffer, at least one, through an open file.
 fn write_bytes(parts: &mut Parts, pid: u32, file: usize, count: usize) -> Result<Done, Refused>
     requires whole { IsWhole parts.old }
     requires live { IsSome (process_at parts.old pid) }
@@ -214,9 +178,7 @@ fn write_bytes(parts: &mut Parts, pid: u32, file: usize, count: usize) -> Result
     if is_past_greatest(parts.tree(), at + count as u32) {
         return Err(refusal(0, Errno::EFBIG));
     }
-    let mut bytes = [0; BUFFER];
-    bytes.copy_from_slice(parts.record(pid).machine.buffer());
-    match parts.write(file, at, &bytes[..count]) {
+    match parts.write_front(pid, file, at, count) {
         Ok(()) => {
             let _ = parts.tree().sizes();
             answer_of(0, count as u32)

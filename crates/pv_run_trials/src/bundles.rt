@@ -4,7 +4,7 @@ use crate::streams::{Cut, expect_cut, expect_front, front_of, sink_of, slow_fron
 use pv_model::{ManifestFault, RunFault};
 use pv_run::stream::{Bytes, Gathered};
 use pv_run::{Summary, run_tree};
-use std::alloc::Global;
+use std::alloc::{AllocError, Global};
 use std::process::Abort;
 use std::test::Fail;
 
@@ -90,6 +90,78 @@ fn summary_counts_steps_and_lines(rt: HostRuntime) {
                 lines: 11
             })
     );
+}
+
+// Trees whose programs compute, turns, and the trace: that of the same steps in turns of one step too.
+type Turns = &'static [(u32, u32)];
+
+const TURNS: &[(&str, &str, Turns, &str)] = &[
+    (
+        "a turn ends in the middle of a loop",
+        "image 16 16\nexec \"/init\" 4\nset r2 3\nadd r2 -1\njnz r2 2\nexit r2\n",
+        &[(1, 4), (1, 3), (1, 2)],
+        "    1 CALL  exit(0)\n    1 GONE  no such process\n",
+    ),
+    (
+        "two processes take turns",
+        "image 16 16\nexec \"/init\" 6\nfork\nset r2 2\nadd r2 -1\njnz r2 3\ngetpid\njmp 2\n",
+        &[
+            (1, 1),
+            (1, 3),
+            (2, 4),
+            (1, 4),
+            (2, 5),
+            (1, 5),
+            (2, 2),
+            (1, 1),
+            (2, 2),
+        ],
+        "    1 CALL  fork()\n    1 RET   fork 2\n    1 CALL  getpid()\n    1 RET   getpid 1\n    2 CALL  getpid()\n    2 RET   getpid 2\n    1 CALL  getpid()\n    1 RET   getpid 1\n    2 CALL  getpid()\n    2 RET   getpid 2\n",
+    ),
+    (
+        "behind the last line, a jump that is not taken, an exit comes",
+        "image 16 16\nexec \"/init\" 2\nset r0 1\njz r0 1\n",
+        &[(1, 5)],
+        "    1 CALL  exit(0)\n    1 GONE  no such process\n    1 GONE  no such process\n",
+    ),
+    (
+        "a process ends beside one that computes",
+        "image 16 16\nexec \"/init\" 5\nfork\njz r0 5\nadd r2 1\njmp 3\nexit 7\n",
+        &[(1, 4), (2, 3), (1, 5), (2, 2)],
+        "    1 CALL  fork()\n    1 RET   fork 2\n    2 CALL  exit(7)\n    2 GONE  no such process\n    2 GONE  no such process\n    2 GONE  no such process\n",
+    ),
+];
+
+// A bundle of a tree and a schedule of turns.
+fn bundle_of(alloc: Global, tree: &str, turns: &[(u32, u32)]) -> Result<String, Fail> {
+    let mut bundle = format!(in alloc; "{tree}schedule\n")?;
+    for (pid, count) in turns {
+        bundle.push_str(&format!(in alloc; "{pid} {count}\n")?)?;
+    }
+    Ok(bundle)
+}
+
+// As many turns of one step.
+fn apart(alloc: Global, turns: &[(u32, u32)]) -> Result<Vec<(u32, u32)>, AllocError> {
+    let mut steps = Vec::new(alloc);
+    for (pid, count) in turns {
+        for _step in 0..*count {
+            steps.push((*pid, 1))?;
+        }
+    }
+    Ok(steps)
+}
+
+#[test]
+fn long_turns_are_many_short_ones(rt: HostRuntime) -> Result<(), Fail> {
+    let alloc = rt.alloc();
+    for (case, tree, turns, trace) in TURNS {
+        let whole = bundle_of(alloc, tree, turns)?;
+        expect_trace(&rt, case, whole.as_bytes(), trace.as_bytes());
+        let steps = bundle_of(alloc, tree, &apart(alloc, turns)?)?;
+        expect_trace(&rt, case, steps.as_bytes(), trace.as_bytes());
+    }
+    Ok(())
 }
 
 // A bundle that unveils /n0, /n1 and so on, so many names of which none is there.

@@ -118,6 +118,20 @@ fn the_longest_file_wants_all_its_blocks(rt: HostRuntime) {
     );
 }
 
+// A program that reads a whole buffer from the third byte of its file on.
+const WHOLE_BUFFER: &[u8] =
+    b"image 64 16\nexec \"/init\" 7\nopen \"/f\" rw+create\nput \"abc\"\nwrite 0 4096\nput \"xyz\"\nwrite 0 3\nlseek 0 2 set\nread 0 4096\n";
+
+#[test]
+fn a_whole_buffer_is_read_on_a_migrated_image(rt: HostRuntime) {
+    expect_end(
+        &rt,
+        &migrated(&rt, WHOLE_BUFFER, 96, 16),
+        b"1 7\n",
+        b"00007879\n    1 RET   read 4096\n",
+    );
+}
+
 const MADE: &[u8] = b"    1 RET   mkdir 0\n";
 
 const TOO_LONG: &[u8] = b"    1 RET   mkdir -1 errno 63 ENAMETOOLONG\n";

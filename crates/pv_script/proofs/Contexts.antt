@@ -1,5 +1,5 @@
 -- What an instruction on registers, or a jump, makes of a context.
-use Rattle.std.proofs.Common.{◌≡◌, ◌∙◌, ap, sym, ℕ, ℤ, pos, negsuc, ◌+ℤ◌, Bool, true, false, not, ltb, inl, inr, arith}
+use Rattle.std.proofs.Common.{◌≡◌, ◌∙◌, ◌+◌, ap, sym, subst, add-one, ℕ, ℤ, pos, negsuc, ◌+ℤ◌, Bool, true, false, not, ltb, inl, inr, arith}
 use Rattle.std.specs.Prelude.{slice_index, replicate}
 use Rattle.std.specs.Int.{w32, saturate_signed}
 use Rattle.std.proofs.lemmas.Bool.{cases_lt, lt-ltb, le-ltb}
@@ -7,9 +7,10 @@ use Rattle.pv_model.specs.declared.instruction.Instruction.{Instruction}
 use Rattle.pv_model.specs.declared.instruction.Instruction.TheVariants.{Set, Add, Put, Peek, JumpIfZero, JumpIfNotZero, JumpIfNegative}
 use Rattle.pv_model.specs.Answer.{at_next_line, with_front}
 use Rattle.pv_model.specs.Bytes.{Bytes}
-use Rattle.pv_model.specs.Program.{clamp, is_zero, is_negative, register, with_register, jump_if, inside, perform}
+use Rattle.pv_model.specs.Program.{clamp, is_zero, is_negative, register, with_register, jump_if, inside, perform, next}
 use Rattle.pv_model.specs.State.{Program, Process, no_registers}
 use Rattle.pv_script.specs.Context.{Context, first_context, in_context, Changes}
+use Rattle.pv_script.specs.Passing.{Passes}
 
 -- a sum that stops at the ends of 32 bits
 pub clamped : (z : ℤ) → saturate_signed w32 z ≡ clamp z
@@ -73,3 +74,9 @@ module _ (program : Program) (old new : Context) (i : Instruction) where
       → Changes (λ p. jump_if holds p line) program old new → (p : Process) → perform (in_context p program old) i ≡ inside (in_context p program new)
   unfolding perform
   jump_if_negative_made r line holds is same made p = rw is (jumped holds line made (is_negative (register (in_context p program old) r)) (same p) p)
+
+-- one instruction more inside each process with this program
+pub pass-more : (program : Program) (old mid new : Context) (n : ℕ) → ((p : Process) → Passes n (in_context p program old) (in_context p program mid))
+    → ((p : Process) → next (in_context p program mid) ≡ inside (in_context p program new)) → (p : Process) → Passes (n + 1) (in_context p program old) (in_context p program new)
+pass-more program old mid new n passed step p =
+    subst (λ k. Passes k (in_context p program old) (in_context p program new)) (sym (add-one n)) (in_context p program mid, passed p, step p)

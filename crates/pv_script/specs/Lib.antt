@@ -1,2 +1,4 @@
 pub mod Context
+pub mod Lent
+pub mod Passing
 pub mod Reading

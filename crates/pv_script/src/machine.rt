@@ -1,5 +1,6 @@
 //! What runs a program: the line that comes next, eight registers, and a buffer of 4,096 bytes.
-ghost use Rattle.std.specs.Prelude.{◌≡◌, ◌≤◌, ◌+ℤ◌, ◌++◌, true, false, Some, length, drop, slice_index, IfOk};
+ghost use Rattle.std.specs.Prelude.{◌≡◌, ◌<◌, ◌≤◌, ◌+ℤ◌, ◌++◌, true, false, Some, length, drop, take, slice_index, IfOk};
+ghost use Rattle.std.specs.Borrow.{sem};
 ghost use Rattle.pv_model.specs.Answer.{at_next_line, with_front};
 ghost use Rattle.pv_model.specs.CallRef.{call_of};
 ghost use Rattle.pv_model.specs.Calls.Processes.{with_result};
@@ -88,8 +89,11 @@ fn is_on_registers(instruction: &Instruction) -> bool
 }
 
 ghost use Rattle.pv_script.specs.Context.{first_context, in_context, Changes, is_on_registers, is_inside, IsNext, is_plain};
+ghost use Rattle.pv_script.specs.Passing.{Passes};
 
 impl Machine {
+    ghost use Rattle.pv_script.specs.Lent.{LendsBuffer};
+
     /// A machine at line 1, its registers and its buffer zero. Nothing else of it allocates.
     ///
     /// `Err` says that memory was refused for the buffer.
@@ -147,6 +151,15 @@ impl Machine {
     {
         self.registers[0] = value;
         self.registers[1] = i32::from(error);
+    }
+
+    /// The 4,096 bytes of the buffer, to be changed.
+    pub fn buffer_mut(&mut self) -> &mut [u8]
+        ensures* writes_back { sem 𝓛 (LendsBuffer self.entry result) }
+        ensures value { result.now ≡ self.old.buffer }
+        ensures size { length result.now ≡ BUFFER }
+    {
+        &mut self.buffer
     }
 
     /// Puts bytes, at most 4,096, to the front of the buffer.
@@ -330,5 +343,18 @@ impl Machine {
             }
             _ => false,
         }
+    }
+
+    /// Makes the instructions on registers and the jumps as they come, at most so many: answers how many.
+    pub fn pass(&mut self, program: &Program, most: u32) -> u32
+        ensures few { result ≤ most }
+        ensures made { (p : Process) → Passes result (in_context p program.now self.old) (in_context p program.now self.new) }
+        ensures whole { result < most → is_inside program.now self.new ≡ false }
+    {
+        let mut made = 0;
+        while made < most && self.register(program) {
+            made += 1;
+        }
+        made
     }
 }

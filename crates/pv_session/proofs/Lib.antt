@@ -1,4 +1,5 @@
 pub mod Audited
+pub mod Passing
 pub mod Stepping
 pub mod Turns
 pub mod Writes

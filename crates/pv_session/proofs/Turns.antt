@@ -24,7 +24,7 @@ behind first next = record { lines = first.lines ++ next.lines; final = next.fin
 abbrev pub one_step : State → ℕ → Run
 one_step s pid = record { lines = (stepped s pid).lines; final = (stepped s pid).after }
 
-single : (s : State) (pid : ℕ) → run program_of (pid ∷ []) s ≡ one_step s pid
+pub single : (s : State) (pid : ℕ) → run program_of (pid ∷ []) s ≡ one_step s pid
 single s pid = ap (λ ls. let it : Run = record { lines = ls; final = (stepped s pid).after } in it) (append-nil (stepped s pid).lines)
 
 -- one step more of a process
@@ -70,12 +70,25 @@ module _ (first next : Run) where
   begun_before before after begun =
       subst (λ (bs : Bytes). TellsBeginning bs before after) (sym text_of_both) (begins_first (trace_bytes first.lines) (trace_bytes next.lines) before after begun)
 
--- some steps of a process, and then the others
+-- some steps of a process, and then others
+pub turn_then : (s mid : State) (pid n k : ℕ) → mid ≡ (turn s pid n).final → turn s pid (n + k) ≡ behind (turn s pid n) (turn mid pid k)
+turn_then s mid pid n k at =
+    ap (λ pids. run program_of pids s) (sym (replicate-append-replicate n k pid))
+    ∙ run-append program_of (replicate n pid) (replicate k pid) s ∙ ap (λ m. behind (turn s pid n) (turn m pid k)) (sym at)
+
 pub turn_rest : (s : State) (pid n count : ℕ) → n ≤ count → turn s pid count ≡ behind (turn s pid n) (turn (turn s pid n).final pid (count - n))
 turn_rest s pid n count within =
     let all : count ≡ n + (count - n) = omega arith in
-    ap (λ k. turn s pid k) all ∙ ap (λ pids. run program_of pids s) (sym (replicate-append-replicate n (count - n) pid))
-    ∙ run-append program_of (replicate n pid) (replicate (count - n) pid) s
+    ap (λ k. turn s pid k) all ∙ turn_then s (turn s pid n).final pid n (count - n) refl
+
+-- some steps of a process, and then others that have no lines
+pub turn_passed : (s mid new : State) (pid n k : ℕ) → mid ≡ (turn s pid n).final → new ≡ (turn mid pid k).final → (turn mid pid k).lines ≡ []
+    → turn s pid (n + k) ≡ record { lines = (turn s pid n).lines; final = new }
+turn_passed s mid new pid n k at after none =
+    turn_then s mid pid n k at
+    ∙ ap (λ ls. let it : Run = record { lines = (turn s pid n).lines ++ ls; final = (turn mid pid k).final } in it) none
+    ∙ ap (λ ls. let it : Run = record { lines = ls; final = (turn mid pid k).final } in it) (append-nil (turn s pid n).lines)
+    ∙ ap (λ t. let it : Run = record { lines = (turn s pid n).lines; final = t } in it) (sym after)
 
 -- some turns of a schedule, and then the others
 pub schedule_rest : (s : State) (schedule : Schedule) (n : ℕ) → run_of s schedule ≡ behind (run_of_first s n schedule) (run_of (run_of_first s n schedule).final (drop n schedule))

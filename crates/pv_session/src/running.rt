@@ -8,7 +8,8 @@ use crate::session::{Session, Stop};
 use pv_model::{Sink, StepFault};
 use std::alloc::Global;
 
-// Makes so many steps of a process and writes the lines of each before the next: answers how many.
+// Makes so many steps of a process and writes the lines of each before the next: answers how many. Those on registers
+// that follow one another are made in one piece.
 fn run_turn<W: Sink>(
     alloc: Global,
     session: &mut Session,
@@ -25,8 +26,14 @@ fn run_turn<W: Sink>(
     ensures quiet { OnOk result (W.failures trace.new ≡ W.failures trace.old) }
 {
     let mut lines = 0;
-    for made in 0..count {
-        lines += u64::from(session.trace_step(alloc, pid, trace)?);
+    let mut made = 0;
+    while made < count {
+        let told = session.trace_step(alloc, pid, trace)?;
+        made += 1;
+        if told == 0 {
+            made += session.pass(pid, count - made);
+        }
+        lines += u64::from(told);
     }
     Ok(lines)
 }
@@ -59,12 +66,15 @@ pub fn run_schedule<W: Sink>(
     Ok(lines)
 }
 
-// Makes so many steps of a process, whose lines nobody reads.
+// Makes so many steps of a process, whose lines nobody reads: those on registers that follow one another in one piece.
 fn pass_turn(alloc: Global, session: &mut Session, pid: u32, count: u32) -> Result<(), StepFault>
     ensures { OnOk result (session.new ≡ (turn session.old pid count).final) }
 {
-    for made in 0..count {
+    let mut made = 0;
+    while made < count {
         session.step(alloc, pid)?;
+        made += 1;
+        made += session.pass(pid, count - made);
     }
     Ok(())
 }

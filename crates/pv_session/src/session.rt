@@ -1,5 +1,5 @@
 //! The machine, step by step.
-ghost use Rattle.std.specs.Prelude.{◌≡◌, ◌⊎◌, ◌≤◌, IfOk, IfErr, IsTrue, OnOk, OnErr, Ok, Err, Some, length};
+ghost use Rattle.std.specs.Prelude.{◌≡◌, ◌⊎◌, ◌<◌, ◌≤◌, IfOk, IfErr, IsTrue, OnOk, OnErr, Ok, Err, Some, [], length};
 ghost use Rattle.pv_laws.specs.States.{IsFirstTree, is_call};
 ghost use Rattle.pv_model.specs.CallRef.{call_of};
 ghost use Rattle.pv_model.specs.declared.limits.TheConstants.{BUFFER};
@@ -7,10 +7,10 @@ ghost use Rattle.pv_model.specs.Sealed.{audit as audit_by_definition, audit_node
 ghost use Rattle.pv_model.specs.Start.{booted};
 ghost use Rattle.pv_model.specs.Trace.{buffer_of};
 ghost use Rattle.pv_model.specs.State.{process_at};
-ghost use Rattle.pv_procs.specs.Turns.{CallsNext};
+ghost use Rattle.pv_procs.specs.Turns.{AwaitsCall, CallsNext};
 ghost use Rattle.pv_session.specs.Audits.{KeepsSecret, KeepsSecretAt};
 ghost use Rattle.pv_session.specs.declared.session.Stop.TheVariants.{Memory, Write};
-ghost use Rattle.pv_session.specs.Running.{BeginsLines, FailsBy, ToldLines, stepped};
+ghost use Rattle.pv_session.specs.Running.{BeginsLines, FailsBy, ToldLines, stepped, turn};
 
 use pv_audit::{audit, audit_node};
 use pv_cache::CachedLookup;
@@ -133,6 +133,17 @@ impl Session {
                 self.kernel.call(alloc, pid, call)
             }
         }
+    }
+
+    /// Makes the steps on registers that come next in a process, at most so many, one after another: answers how many.
+    /// They write no lines. Where the process is not live, they are none.
+    pub fn pass(&mut self, pid: u32, most: u32) -> u32
+        ensures few { result ≤ most }
+        ensures after { self.new ≡ (turn self.old pid result).final }
+        ensures no_lines { (turn self.old pid result).lines ≡ [] }
+        ensures whole { result < most → AwaitsCall (process_at self.new pid) }
+    {
+        self.kernel.pass(pid, most)
     }
 
     /// The 4,096 bytes of a process's buffer: none where it is not live. The bytes that an outcome tells stand at its

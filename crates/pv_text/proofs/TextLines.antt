@@ -1,11 +1,13 @@
 -- Lines and words, by where their ends stand.
-use Rattle.std.proofs.Common.{◌≡◌, ◌∙◌, ap, ℕ, suc, ◌+◌, ◌-◌, ◌≤◌, ◌<◌, Bool, true, false, not, cond, eqb, ltb, [], ◌∷◌, ◌++◌, length, take, drop, None, Some, refl, sym, inl, inr, arith}
+use Rattle.std.proofs.Common.{◌≡◌, ◌∙◌, ap, ℕ, suc, ◌+◌, ◌-◌, ◌≤◌, ◌<◌, Bool, true, false, not, cond, eqb, ltb, [], ◌∷◌, ◌++◌, length, take, drop, Option, None, Some, refl, sym, inl, inr, arith}
 use Rattle.std.specs.Prelude.{◌==◌, unwrap_or}
 use Rattle.std.specs.List.{position, position_or_len}
-use Rattle.std.proofs.lemmas.Bool.{cases_lt, lt-ltb, le-ltb}
+use Rattle.std.proofs.lemmas.Bool.{cases_lt, lt-ltb, le-ltb, false≢true}
 use Rattle.std.proofs.lemmas.Bool.Decides.{eqb_tells}
 use Rattle.std.proofs.lemmas.List.{drop-drop, length-drop, take_all}
-use Rattle.std.proofs.lemmas.List.Sums.{prefix_len-le-length}
+use Rattle.std.proofs.lemmas.List.Quantifiers.{position-Some}
+use Rattle.std.proofs.lemmas.List.Sums.{fails_before_first, prefix_len-le-length}
+use Rattle.memchr.specs.Find.{IsFirstByte}
 use Rattle.pv_model.specs.Bytes.{Bytes, onto_first}
 use Rattle.pv_model.specs.Grammar.Lines.{lines_of, word_of, behind_word}
 use Rattle.pv_text.specs.Lines.{IsSplit}
@@ -23,6 +25,30 @@ or_length n m le =
 
 pub position_or_length : (p : ℕ → Bool) (bs : Bytes) → unwrap_or (position p bs) (length bs) ≡ position_or_len p bs
 position_or_length p bs = or_length (position_or_len p bs) (length bs) (position_or_len-within p bs)
+
+-- the first byte that passes stands at the first place that passes
+pub first_is_position : (p : ℕ → Bool) (bs : Bytes) (r : Option ℕ) → IsFirstByte p bs r → r ≡ position p bs
+first_is_position p bs None none =
+    elim (cases_lt (position_or_len p bs) (length bs)) [
+      | inl within ↦
+          let t : ltb (position_or_len p bs) (length bs) ≡ true = lt-ltb _ _ within in
+          let passes = position-Some p bs (position_or_len p bs) 0 (rw t refl) in
+          absurd (none (position_or_len p bs) (omega arith) within passes.1)
+      | inr past ↦ let t : ltb (position_or_len p bs) (length bs) ≡ false = le-ltb _ _ past in rw t refl
+    ]
+first_is_position p bs (Some k) first =
+    let n = position_or_len p bs in
+    elim (cases_lt k n) [
+      | inl below ↦ absurd (false≢true (sym (fails_before_first p bs k 0 below) ∙ first.1))
+      | inr from ↦
+          let within : n < length bs = omega (arith, first.0.high) in
+          let t : ltb n (length bs) ≡ true = lt-ltb _ _ within in
+          let passes = position-Some p bs n 0 (rw t refl) in
+          elim (cases_lt n k) [
+            | inl before ↦ absurd (first.0.before n (omega arith) before passes.1)
+            | inr same ↦ let is : k ≡ n = omega arith in rw t (ap (λ i. Some i) is)
+          ]
+    ]
 
 abbrev pub end_of_line : Bytes → ℕ
 end_of_line bs = position_or_len (λ b. b == 10) bs

@@ -1,16 +1,19 @@
 -- Arguments, as their readers meet them.
-use Rattle.std.proofs.Common.{◌≡◌, ◌∙◌, ap, ℕ, ◌+◌, ◌-◌, ◌*◌, ◌≤◌, ◌<◌, Bool, true, false, not, cond, eqb, leb, min, [], ◌∷◌, ◌++◌, length, get_or, take, drop, Option, None, Some, refl, sym, inl, inr, arith, append_assoc, negsuc}
-use Rattle.std.specs.Prelude.{◌==◌, ◌&&◌, ◌||◌, option_map}
-use Rattle.std.specs.List.{list_all}
+use Rattle.std.proofs.Common.{◌≡◌, ◌∙◌, ap, ℕ, zero, suc, ◌+◌, ◌-◌, ◌*◌, ◌≤◌, ◌<◌, Bool, true, false, not, cond, eqb, leb, min, [], ◌∷◌, ◌++◌, length, get_or, take, drop, Option, None, Some, refl, sym, inl, inr, arith, append_assoc, negsuc}
+use Rattle.std.specs.Prelude.{◌==◌, ◌&&◌, ◌||◌, nat_le, option_map}
+use Rattle.std.specs.List.{list_all, position_or_len}
 use Rattle.std.proofs.lemmas.Bool.{cases_lt, lt-leb, le-leb, ne_eqb, eq-eqb}
 use Rattle.std.proofs.lemmas.List.{length-append, append-nil, drop_more, drop_all, take_all}
 use Rattle.std.proofs.lemmas.Bool.Decides.{eqb_tells}
+use Rattle.std.proofs.lemmas.List.Sums.{fails_before_first}
 use Rattle.std.specs.Cmp.Lexicographic.{pointwise}
 use Rattle.pv_model.specs.declared.open_flags.OpenFlags.{OpenFlags}
 use Rattle.pv_model.specs.Bytes.{Bytes, is_empty}
 use Rattle.pv_model.specs.Grammar.Arguments.{Parsed, outside, behind_backslash, behind_x, hex_value, first_digit, onto_text, if_short, text_rest, in_range, negative_of, number_of, without_front, if_nothing_left}
+use Rattle.pv_model.specs.Trace.{is_plain}
 use Rattle.pv_model.specs.Grammar.Lines.{value_from, is_digit, is_decimal, decimal_of, has_leading_zero}
-use Rattle.pv_text.specs.Reading.{text_end, up_to_greatest}
+use Rattle.pv_text.proofs.TextLines.{position_or_len-within}
+use Rattle.pv_text.specs.Reading.{onto_front, IsFront, text_end, up_to_greatest}
 
 no_first_digit : (o : Option ℕ) → first_digit (text_rest []) o ≡ None
 no_first_digit None = refl
@@ -23,18 +26,9 @@ short_escape (a ∷ []) short = elim (a == 120) as (λ t. cond t (text_rest [] b
 short_escape (a ∷ b ∷ []) short = elim (a == 120) as (λ t. cond t (text_rest (b ∷ []) behind_x) None ≡ None) [ true ↦ no_first_digit (hex_value b) | false ↦ refl ]
 short_escape (a ∷ b ∷ c ∷ bs) short = absurd (omega arith)
 
--- a text whose front was read before
-abbrev pub onto_front : Bytes → Parsed Bytes → Parsed Bytes
-onto_front front None = None
-onto_front front (Some p) = Some (front ++ p.0, p.1)
-
 onto_more : (front : Bytes) (b : ℕ) (parsed : Parsed Bytes) → onto_front front (onto_text b parsed) ≡ onto_front (front ++ b ∷ []) parsed
 onto_more front b None = refl
 onto_more front b (Some p) = ap (λ (text : Bytes). Some (text, p.1)) (sym (append_assoc front (b ∷ []) p.0))
-
--- what a loop over a text keeps
-abbrev pub IsFront : Bytes → Bytes → Bytes → Type 0
-IsFront front rest bytes = onto_front front (text_rest rest outside) ≡ text_rest bytes outside
 
 pub IsFront-start : (bytes : Bytes) → IsFront [] bytes bytes
 IsFront-start bytes = whole (text_rest bytes outside)
@@ -46,6 +40,42 @@ IsFront-start bytes = whole (text_rest bytes outside)
 pub IsFront-step : (front rest bytes after : Bytes) (b : ℕ) → text_rest rest outside ≡ onto_text b (text_rest after outside) → IsFront front rest bytes → IsFront (front ++ b ∷ []) after bytes
 IsFront-step front rest bytes after b read kept = sym (onto_more front b (text_rest after outside)) ∙ ap (onto_front front) (sym read) ∙ kept
 
+-- a byte that stands for itself is read as it is
+plain_step : (b : ℕ) (bs : Bytes) → is_plain b ≡ true → text_rest (b ∷ bs) outside ≡ onto_text b (text_rest bs outside)
+plain_step b bs plain = go (b == 34) (b == 92) (is_plain b) (nat_le 32 b && nat_le b 126) refl plain
+  where
+    go : (quote slash is front : Bool) → is ≡ (front && not quote && not slash) → is ≡ true
+        → cond quote (Some ([], bs)) (cond slash (text_rest bs behind_backslash) (cond is (onto_text b (text_rest bs outside)) None)) ≡ onto_text b (text_rest bs outside)
+    go false false true front same t = refl
+    go false true true true same t = absurd cc
+    go false true true false same t = absurd cc
+    go true slash true true same t = absurd cc
+    go true slash true false same t = absurd cc
+    go quote slash false front same t = absurd cc
+
+onto_longer : (b : ℕ) (front : Bytes) (parsed : Parsed Bytes) → onto_front (b ∷ front) parsed ≡ onto_text b (onto_front front parsed)
+onto_longer b front None = refl
+onto_longer b front (Some p) = refl
+
+-- bytes that stand for themselves are read as they are
+pub IsFront-plain : (n : ℕ) (bs : Bytes) → n ≤ length bs → ((k : ℕ) → k < n → is_plain (get_or bs k 0) ≡ true) → IsFront (take n bs) (drop n bs) bs
+IsFront-plain zero bs within plain = IsFront-start bs
+IsFront-plain (suc n) [] within plain = absurd (omega arith)
+IsFront-plain (suc n) (b ∷ bs) within plain =
+    onto_longer b (take n bs) (text_rest (drop n bs) outside)
+    ∙ ap (onto_text b) (IsFront-plain n bs (omega arith) (λ k below. plain (suc k) (omega arith)))
+    ∙ sym (plain_step b bs (plain 0 (omega arith)))
+
+not_false : (b : Bool) → not b ≡ false → b ≡ true
+not_false true e = refl
+not_false false e = absurd cc
+
+-- and so are those before the first that does not
+pub IsFront-split : (bs : Bytes) (end : ℕ) → end ≡ position_or_len (λ b. not (is_plain b)) bs → IsFront (take end bs) (drop end bs) bs
+IsFront-split bs end is =
+    IsFront-plain end bs (omega (arith, is, position_or_len-within (λ b. not (is_plain b)) bs))
+    (λ k below. not_false (is_plain (get_or bs k 0)) (fails_before_first (λ b. not (is_plain b)) bs k 0 (omega (arith, is))))
+
 past_limit : (front : Bytes) (b : ℕ) (parsed : Parsed Bytes) → length front ≡ 1100 → if_short (onto_front front (onto_text b parsed)) ≡ None
 past_limit front b None full = refl
 past_limit front b (Some p) full =
@@ -54,6 +84,14 @@ past_limit front b (Some p) full =
 -- a text that is read past its limit is none
 pub IsFront-full : (front rest bytes after : Bytes) (b : ℕ) → text_rest rest outside ≡ onto_text b (text_rest after outside) → length front ≡ 1100 → IsFront front rest bytes → if_short (text_rest bytes outside) ≡ None
 IsFront-full front rest bytes after b read full kept = ap if_short (sym kept ∙ ap (onto_front front) read) ∙ past_limit front b (text_rest after outside) full
+
+too_long : (front : Bytes) (parsed : Parsed Bytes) → 1100 < length front → if_short (onto_front front parsed) ≡ None
+too_long front None long = refl
+too_long front (Some p) long = let t : leb (length (front ++ p.0)) 1100 ≡ false = lt-leb _ _ (omega (arith, length-append front p.0)) in rw t refl
+
+-- nor is one whose front is longer
+pub IsFront-long : (front rest bytes : Bytes) → 1100 < length front → IsFront front rest bytes → if_short (text_rest bytes outside) ≡ None
+IsFront-long front rest bytes long kept = ap if_short (sym kept) ∙ too_long front (text_rest rest outside) long
 
 pub IsFront-ended : (front rest bytes behind : Bytes) → text_rest rest outside ≡ text_end rest → text_end rest ≡ Some ([], behind) → length front ≤ 1100 → IsFront front rest bytes → if_short (text_rest bytes outside) ≡ Some (front, behind)
 IsFront-ended front rest bytes behind read ended short kept =

@@ -1,14 +1,23 @@
 -- What a reader that was given bytes answers, by what the bytes spell.
-use Rattle.std.specs.Prelude.{◌≡◌, ℕ, if◌then◌else◌, ◌==◌, min, [], ◌∷◌, option_map, Option, None, Some}
+use Rattle.std.specs.Prelude.{◌≡◌, ℕ, if◌then◌else◌, ◌==◌, min, [], ◌∷◌, ◌++◌, option_map, Option, None, Some}
 use Rattle.std.specs.Borrow.{Bor}
 use Rattle.pv_model.specs.Bytes.{Bytes}
-use Rattle.pv_model.specs.Grammar.Arguments.{Parsed}
+use Rattle.pv_model.specs.Grammar.Arguments.{Parsed, outside, text_rest}
 use Rattle.pv_model.specs.Grammar.Lines.{decimal_of}
 
 -- a value and the bytes behind it are what was to be read, or nothing was to be read
 abbrev pub Reads : {A : Type 0} → Option (A × Bor Bytes) → Parsed A → Type 0
 Reads None parsed = parsed ≡ None
 Reads (Some p) parsed = parsed ≡ Some (p.0, p.1.now)
+
+-- a text whose front was read before
+abbrev pub onto_front : Bytes → Parsed Bytes → Parsed Bytes
+onto_front front None = None
+onto_front front (Some p) = Some (front ++ p.0, p.1)
+
+-- a text's front was read, and is that of the bytes before the rest
+abbrev pub IsFront : Bytes → Bytes → Bytes → Type 0
+IsFront front rest bytes = onto_front front (text_rest rest outside) ≡ text_rest bytes outside
 
 -- the end of a text: its quotation mark
 abbrev pub text_end : Bytes → Parsed Bytes

@@ -4,11 +4,13 @@ ghost use Rattle.std.specs.List.{position, position_or_len};
 ghost use Rattle.pv_model.specs.Grammar.Lines.{lines_of, word_of, behind_word, behind_space};
 ghost use Rattle.pv_text.specs.Lines.{IsSplit};
 
+use memchr::memchr;
+
 // Where a byte stands first, if it does.
 fn position_of(bytes: &[u8], byte: u8) -> Option<usize>
     ensures { result ≡ position (λ b. b == byte) bytes.now }
 {
-    bytes.iter().position(|b| *b == byte)
+    memchr(byte, bytes)
 }
 
 /// Where a byte stands first, or how many bytes there are.

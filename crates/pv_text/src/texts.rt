@@ -1,7 +1,8 @@
 //! Texts in quotation marks.
-ghost use Rattle.std.specs.Prelude.{◌≡◌, ◌<◌, length, None, MatchOption, IfSome};
+ghost use Rattle.std.specs.Prelude.{◌≡◌, ◌<◌, length, not, position, None, MatchOption, IfSome};
 ghost use Rattle.pv_model.specs.Grammar.Arguments.{text_at, text_or_null_at, hex_value, text_rest, if_short, onto_text, outside, behind_backslash};
-ghost use Rattle.pv_text.specs.Reading.{Reads, text_end};
+ghost use Rattle.pv_model.specs.Trace.{is_plain};
+ghost use Rattle.pv_text.specs.Reading.{IsFront, Reads, text_end};
 
 use crate::lines::split_word;
 use pv_model::Text;
@@ -37,6 +38,27 @@ fn escape(bytes: &[u8]) -> Option<(u8, &[u8])>
     Some((byte, rest))
 }
 
+// Whether a byte of a text stands for itself.
+fn is_plain(byte: u8) -> bool
+    ensures { result ≡ is_plain byte }
+{
+    (b' '..=b'~').contains(&byte) && byte != b'"' && byte != b'\\'
+}
+
+// Where the first byte stands that does not stand for itself, if there is one.
+fn plain_end(bytes: &[u8]) -> Option<usize>
+    ensures { result ≡ position (λ byte. not (is_plain byte)) bytes.now }
+{
+    bytes.iter().position(|byte| !is_plain(*byte))
+}
+
+// The bytes at the front that stand for themselves, and what follows them.
+fn split_plain(bytes: &[u8]) -> (&[u8], &[u8])
+    ensures { IsFront result.0.now result.1.now bytes.now }
+{
+    bytes.split_at(plain_end(bytes).unwrap_or(bytes.len()))
+}
+
 // A character of a text, and what follows it; nothing at the text's end, and where there is none.
 fn character(bytes: &[u8]) -> Option<(u8, &[u8])>
     ensures read { MatchOption result (text_rest bytes.now outside ≡ text_end bytes.now) (λ p. text_rest bytes.now outside ≡ onto_text p.0 (text_rest p.1.now outside)) }
@@ -53,12 +75,13 @@ fn character(bytes: &[u8]) -> Option<(u8, &[u8])>
     }
 }
 
-// The rest of a text behind its quotation mark, up to the one that ends it.
+// The rest of a text behind its quotation mark, up to the one that ends it. What stands for itself up to the first
+// byte that does not is taken in one piece.
 fn text_behind(bytes: &[u8]) -> Option<(Text, &[u8])>
     ensures { Reads result (if_short (text_rest bytes.now outside)) }
 {
-    let mut text = Text::empty();
-    let mut rest = bytes;
+    let (plain, mut rest) = split_plain(bytes);
+    let mut text = Text::new(plain)?;
     while let Some((byte, behind)) = character(rest) {
         if text.len() == TEXT {
             return None;

@@ -163,8 +163,8 @@ fn arguments_that_an_openat_lacks(rt: HostRuntime) {
 
 #[test]
 fn texts_with_escapes(rt: HostRuntime) {
-    let (read, rest) = text(b"\"a\\x22\\xff\" b").expect(&rt, "a text");
-    expect_equal(&rt, read.as_slice(), b"a\"\xff");
+    let (read, rest) = text(b"\"a\\x22\\xffb~\" b").expect(&rt, "a text");
+    expect_equal(&rt, read.as_slice(), b"a\"\xffb~");
     expect_equal(&rt, rest, b" b");
 }
 
@@ -191,10 +191,12 @@ fn expect_text_of(rt: &impl Abort, bytes: &[u8], length: usize) {
 
 #[test]
 fn texts_up_to_their_limit(rt: HostRuntime) {
-    let longest = quoted(rt.alloc(), b"\\x61", 1_100).expect(&rt, "memory");
-    expect_text_of(&rt, &longest, 1_100);
-    let longer = quoted(rt.alloc(), b"a", 1_101).expect(&rt, "memory");
-    expect_no_text(&rt, &longer);
+    for byte in [b"\\x61".as_slice(), b"a".as_slice()] {
+        let longest = quoted(rt.alloc(), byte, 1_100).expect(&rt, "memory");
+        expect_text_of(&rt, &longest, 1_100);
+        let longer = quoted(rt.alloc(), byte, 1_101).expect(&rt, "memory");
+        expect_no_text(&rt, &longer);
+    }
 }
 
 // Bytes are not one space and a text.

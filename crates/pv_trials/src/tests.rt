@@ -54,6 +54,27 @@ const WANTED: &[(u32, Outcome)] = &[
     (1, Outcome::Gone),
 ];
 
+// A process that reads what it wrote.
+const READER: &[u8] =
+    b"image 64 32\nexec \"/init\" 13\nopen \"/f\" rw+append+create\nput \"abcdefgh\"\nwrite 0 4\nput \"WXYZ\"\nread 0 8\nlseek 0 2 set\nread 0 8\nlseek 0 1 set\nwrite 0 3\nlseek 0 0 set\nread 0 4096\nlseek 0 100 set\nread 0 1\n";
+
+// What each of its steps answers, and what its buffer then begins with.
+const FRONTS: &[(Outcome, &[u8])] = &[
+    (Outcome::Value(0), b"\0\0\0\0\0\0\0\0\0"),
+    (Outcome::Value(0), b"abcdefgh\0"),
+    (Outcome::Value(4), b"abcdefgh\0"),
+    (Outcome::Value(0), b"WXYZefgh\0"),
+    (Outcome::Text(Taken { value: 0, len: 0 }), b"WXYZefgh\0"),
+    (Outcome::Value(2), b"WXYZefgh\0"),
+    (Outcome::Text(Taken { value: 2, len: 2 }), b"cdYZefgh\0"),
+    (Outcome::Value(1), b"cdYZefgh\0"),
+    (Outcome::Value(3), b"cdYZefgh\0"),
+    (Outcome::Value(0), b"cdYZefgh\0"),
+    (Outcome::Text(Taken { value: 7, len: 7 }), b"abcdcdYh\0"),
+    (Outcome::Value(100), b"abcdcdYh\0"),
+    (Outcome::Text(Taken { value: 0, len: 0 }), b"abcdcdYh\0"),
+];
+
 // A lookup that asks the tree each time, and counts how often.
 #[derive(Drop)]
 struct Counting {
@@ -135,6 +156,17 @@ fn each_call_as_two_lookups_answer(rt: HostRuntime) -> Result<(), Fail> {
         expect_both(&rt, alloc, &mut kernel, &mut other, *pid, *outcome);
     }
     assert!(rt; kernel.tree().sizes().inodes == other.tree().sizes().inodes);
+    Ok(())
+}
+
+#[test]
+fn a_read_leaves_what_stands_behind_its_bytes(rt: HostRuntime) -> Result<(), Fail> {
+    let alloc = rt.alloc();
+    let mut kernel = Kernel::boot(alloc, store_of(alloc, READER)?)?;
+    for (outcome, front) in FRONTS {
+        expect(&rt, alloc, &mut kernel, 1, *outcome);
+        assert!(rt; kernel.buffer(1).starts_with(front));
+    }
     Ok(())
 }
 

@@ -1,5 +1,5 @@
 //! What a call does with an open file and its bytes.
-ghost use Rattle.std.specs.Prelude.{ℕ, ◌≡◌, ◌≤◌, ◌<◌, length, IsSome, IsTrue, IfErr, OnOk, OnErr, Some, option_map};
+ghost use Rattle.std.specs.Prelude.{ℕ, ◌≡◌, ◌≤◌, ◌<◌, take, IsSome, IsTrue, IfErr, OnOk, OnErr, Some, option_map};
 ghost use Rattle.pv_laws.specs.States.{IsWhole};
 ghost use Rattle.pv_model.specs.declared.limits.TheConstants.{BUFFER};
 ghost use Rattle.pv_model.specs.Calls.Descriptors.{with_bytes_written};
@@ -7,7 +7,7 @@ ghost use Rattle.pv_model.specs.Effect.{with_file};
 ghost use Rattle.pv_model.specs.Held.{trim};
 ghost use Rattle.pv_model.specs.Numbered.{at_number};
 ghost use Rattle.pv_model.specs.Sealed.{is_file};
-ghost use Rattle.pv_model.specs.State.{OpenFile, Process, with_tree};
+ghost use Rattle.pv_model.specs.State.{OpenFile, Process, process_at, with_tree};
 ghost use Rattle.pv_model.specs.Tree.{node_at};
 ghost use Rattle.pv_tree.specs.Changes.{resized};
 ghost use Rattle.pv_tree.specs.Rooms.{refusal};
@@ -33,30 +33,32 @@ impl Parts {
         self.files.set_last_name(file, name);
     }
 
-    /// Writes bytes through an open file, from `at` on, and moves its offset behind them. A gap past the end is filled
-    /// with zeros.
+    /// Writes the first bytes of a live process's buffer, at least one and at most 4,096, through an open file, from
+    /// `at` on, and moves its offset behind them. A gap past the end is filled with zeros.
     ///
     /// # Errors
     ///
     /// `TooBig` where the file would be longer than any may be, else `Full` where the image has not the blocks;
     /// nothing has then changed.
-    pub fn write(&mut self, file: usize, at: u32, bytes: &[u8]) -> Result<(), Space>
+    pub fn write_front(&mut self, pid: u32, file: usize, at: u32, count: usize) -> Result<(), Space>
         requires whole { IsWhole self.old }
-        requires some { 0 < length bytes.now }
-        requires few { length bytes.now ≤ BUFFER }
+        requires live { IsSome (process_at self.old pid) }
+        requires some { 0 < count }
+        requires few { count ≤ BUFFER }
         requires opened { (f : OpenFile) → at_number self.old.files file ≡ Some f → IsTrue (is_file (node_at self.old.tree f.node)) }
         requires there { IsSome (at_number self.old.files file) }
-        ensures written { OnOk result ((pid : ℕ) (me : Process) (f : OpenFile) → at_number self.old.files file ≡ Some f
-            → self.new ≡ trim (with_bytes_written self.old pid me file f at bytes.now)) }
-        ensures refused { IfErr result (λ why. (pid : ℕ) (me : Process) (f : OpenFile) → at_number self.old.files file ≡ Some f
-            → refusal (trim (with_bytes_written self.old pid me file f at bytes.now)).tree ≡ Some why) }
+        ensures written { OnOk result ((me : Process) (f : OpenFile) → process_at self.old pid ≡ Some me → at_number self.old.files file ≡ Some f
+            → self.new ≡ trim (with_bytes_written self.old pid me file f at (take count me.buffer))) }
+        ensures refused { IfErr result (λ why. (me : Process) (f : OpenFile) → process_at self.old pid ≡ Some me → at_number self.old.files file ≡ Some f
+            → refusal (trim (with_bytes_written self.old pid me file f at (take count me.buffer))).tree ≡ Some why) }
         ensures unchanged { OnErr result (self.new ≡ self.old) }
     {
         let _ = self.tree.sizes();
         self.files.facts();
         let node = self.files.node(file);
-        self.tree.write_at(node, at, bytes)?;
-        self.files.set_offset(file, at + bytes.len() as u32);
+        let buffer = self.processes.record(pid).machine.buffer();
+        self.tree.write_at(node, at, &buffer[..count])?;
+        self.files.set_offset(file, at + count as u32);
         Ok(())
     }
 
@@ -64,7 +66,7 @@ impl Parts {
     ///
     /// # Errors
     ///
-    /// As `write`.
+    /// As `write_front`.
     pub fn resize(&mut self, node: u16, size: u32) -> Result<(), Space>
         requires whole { IsWhole self.old }
         requires file { IsTrue (is_file (node_at self.old.tree node)) }

@@ -1,13 +1,10 @@
-use Rattle.std.proofs.Common.{◌≡◌, ◌∙◌, ◌+◌, ap, ap₂, sym, take, Some}
+use Rattle.std.proofs.Common.{◌≡◌, ◌∙◌, ◌+◌, ap, sym}
 use Rattle.pv_parts.specs.Attempts.{trimmed}
 use Rattle.pv_rows.specs.Rows.{attempt_of}
 use Rattle.pv_model.specs.Calls.Descriptors.{is_past_greatest}
-use Rattle.pv_model.specs.State.{process_at}
-use Rattle.pv_procs.specs.declared.record.Record.{Record}
-use Rattle.pv_procs.specs.Parts.{record_of}
 use Rattle.pv_tree.specs.Rooms.{refusal}
 use Rattle.pv_tree.proofs.Rooms.{refusal-fits}
-use Rattle.pv_rows.proofs.FileRows.{part-is, some-past, some-crowded, some-written}
+use Rattle.pv_rows.proofs.FileRows.{some-past, some-crowded, some-written}
 use Rattle.pv_rows.proofs.files.write_bytes.Goals as goal
 
 pub returns-then-is_past_greatest-clause-row : goal.returns-then-is_past_greatest-clause-row
@@ -21,25 +18,19 @@ returns-then-is_past_greatest-clause-row c = λ me f proc at.
 pub returns-in-Ok-clause-row : goal.returns-in-Ok-clause-row
 returns-in-Ok-clause-row c = λ me f proc at.
     let s = c.args.parts.now in
-    let new = c.write.new.self in
+    let new = c.write_front.new.self in
     let first = c.write_place-at.result in
-    let bytes = take c.args.count c.copy_from_slice.new.self in
     let place = c.write_place-at.ensures.place c.args.pid me f at in
     let short = ap (λ t. is_past_greatest t (first + c.args.count)) (sym c.tree.ensures) ∙ sym c.is_past_greatest.ensures ∙ c.if-is_past_greatest.false in
-    let mine = part-is record_of (process_at s c.args.pid) me c.record.result.now c.record.ensures proc in
-    let front : bytes ≡ take c.args.count me.buffer = ap (take c.args.count) (c.copy_from_slice.ensures.after ∙ c.buffer.ensures.value ∙ ap (λ (r : Record). r.machine.buffer) mine) in
     let room = ap refusal (sym c.tree-in-Ok.ensures) ∙ refusal-fits c.tree-in-Ok.result.now.tree c.sizes.ensures.standing.short c.sizes.ensures.standing.fits in
-    some-written s c.args.pid me c.args.file f c.args.count first c.requires.some place short bytes front new (c.in-Ok.ensures.written c.args.pid me f at) room
+    some-written s c.args.pid me c.args.file f c.args.count first c.requires.some place short new (c.in-Ok.ensures.written me f proc at) room
     ∙ ap (attempt_of new) (sym c.answer_of.ensures)
 
 pub returns-in-Err-clause-row : goal.returns-in-Err-clause-row
 returns-in-Err-clause-row c = λ me f proc at.
     let s = c.args.parts.now in
     let first = c.write_place-at.result in
-    let bytes = take c.args.count c.copy_from_slice.new.self in
     let place = c.write_place-at.ensures.place c.args.pid me f at in
     let short = ap (λ t. is_past_greatest t (first + c.args.count)) (sym c.tree.ensures) ∙ sym c.is_past_greatest.ensures ∙ c.if-is_past_greatest.false in
-    let mine = part-is record_of (process_at s c.args.pid) me c.record.result.now c.record.ensures proc in
-    let front : bytes ≡ take c.args.count me.buffer = ap (take c.args.count) (c.copy_from_slice.ensures.after ∙ c.buffer.ensures.value ∙ ap (λ (r : Record). r.machine.buffer) mine) in
     rw (c.refusal-in-Err.ensures, c.space_errno.ensures)
-    (ap trimmed (some-crowded s c.args.pid me c.args.file f c.args.count first c.requires.some place short bytes front c.in-Err.why (c.in-Err.ensures.refused c.args.pid me f at)))
+    (ap trimmed (some-crowded s c.args.pid me c.args.file f c.args.count first c.requires.some place short c.in-Err.why (c.in-Err.ensures.refused me f proc at)))

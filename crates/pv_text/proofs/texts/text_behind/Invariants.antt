@@ -1,5 +1,5 @@
 use Rattle.std.proofs.Common.{◌≤◌, length}
-use Rattle.pv_text.proofs.WordsAndTexts.{IsFront}
+use Rattle.pv_text.specs.Reading.{IsFront}
 use Rattle.pv_text.proofs.texts.text_behind.Given as goal
 
 abbrev pub invariant-loop-byte : goal.invariant-loop-byte
