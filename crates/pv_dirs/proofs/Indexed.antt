@@ -1,5 +1,5 @@
 -- An index of the entries of files that change.
-use Rattle.std.proofs.Common.{◌≡◌, ◌≢◌, ℕ, suc, ◌*◌, ◌<◌, ◌≤◌, true, [], ◌∷◌, ◌++◌, length, replicate, None, Some, refl, sym, ap, subst, ◌∙◌, inl, inr, arith}
+use Rattle.std.proofs.Common.{◌≡◌, ◌≢◌, ℕ, suc, ◌*◌, ◌<◌, ◌≤◌, Bool, true, [], ◌∷◌, ◌++◌, length, replicate, None, Some, refl, sym, ap, subst, ◌∙◌, inl, inr, arith}
 use Rattle.std.specs.FinMap.Entries.{find}
 use Rattle.std.proofs.lemmas.Bool.{cases_eq, cases_lt}
 use Rattle.pv_model.specs.declared.sort.Sort.{Sort}
@@ -14,7 +14,7 @@ use Rattle.pv_inodes.specs.Files.{Contained, Files, held, bytes_at, with_bytes, 
 use Rattle.pv_inodes.proofs.Edits.{with_bytes-is}
 use Rattle.pv_inodes.proofs.Numbers.{at_number-within}
 use Rattle.pv_dirs.specs.declared.index.Index.{Index}
-use Rattle.pv_dirs.specs.Index.{Leads, AreLed, IsIndexed}
+use Rattle.pv_dirs.specs.Index.{known, Leads, AscendTo, AreLed, IsIndexed}
 use Rattle.pv_dirs.specs.Slots.{slot_at, slot_count, slot_name, slot_entries}
 use Rattle.pv_dirs.specs.Trees.{tree_of, IsHolding}
 use Rattle.pv_dirs.proofs.Adding.{written_end}
@@ -41,36 +41,55 @@ absent_unled v bytes d name ix led none =
     absent_from name (slot_entries v bytes) (λ k e within same.
     let below : k < slot_count v bytes = omega arith in
     let named : slot_name (slot_at v bytes k) ≡ name = ap (λ (x : Bytes × ℕ). x.0) (sym (get_or-slot_entries v bytes k e below)) ∙ same in
-    none k below named (subst (λ (q : Bytes). Leads ix d q k) named (led k below)))
+    none k below named (subst (λ (q : Bytes). Leads ix d q k) named (led.slots k below)))
 
-indexed-with_number : (f : Files) (n : ℕ) (c : Contained) (ix new : Index) → n < length f.nodes → IsIndexed f ix → ((m k : ℕ) (name : Bytes) → m ≢ n → Leads ix m name k → Leads new m name k) → (c.sort ≡ Directory → AreLed new f.version n c.bytes) → IsIndexed (record f { nodes = with_number f.nodes n c }) new
+-- an index that leads to what a first one leads to, and knows no more, but of directory n
+pub record IsLikeBeside (n : ℕ) (ix new : Index) : Type 0 where
+  pub leads : (m k : ℕ) (name : Bytes) → m ≢ n → Leads ix m name k → Leads new m name k
+  pub known_before : (m : ℕ) → m ≢ n → known new m ≡ true → known ix m ≡ true
+
+like_itself : (n : ℕ) (ix : Index) → IsLikeBeside n ix ix
+like_itself n ix = record { leads = λ m k name other leads. leads; known_before = λ m other is. is }
+
+-- what one is led to, the other leads to
+pub led_like : (n m : ℕ) (ix new : Index) (v : Version) (bytes : Bytes) → IsLikeBeside n ix new → m ≢ n → AreLed ix v m bytes → AreLed new v m bytes
+led_like n m ix new v bytes like other led = record {
+  slots = λ k below. like.leads m k (slot_name (slot_at v bytes k)) other (led.slots k below);
+  ordered = λ is. led.ordered (like.known_before m other is);
+}
+
+indexed-with_number : (f : Files) (n : ℕ) (c : Contained) (ix new : Index) → n < length f.nodes → IsIndexed f ix → IsLikeBeside n ix new → (c.sort ≡ Directory → AreLed new f.version n c.bytes) → IsIndexed (record f { nodes = with_number f.nodes n c }) new
 unfolding IsLed
 indexed-with_number f n c ix new within indexed others this =
     each-with_number (IsLed new f.version) f.nodes n c within
-    (λ m y other there is k below. others m k (slot_name (slot_at f.version y.bytes k)) other (indexed m y there is k below))
+    (λ m y other there is. led_like n m ix new f.version y.bytes others other (indexed m y there is))
     (λ y is. let same : c ≡ y = cc in subst (IsLed new f.version n) same this)
 
-pub indexed-with_bytes : (f : Files) (n : ℕ) (c : Contained) (xs : Bytes) (ix new : Index) → held f n ≡ Some c → IsIndexed f ix → ((m k : ℕ) (name : Bytes) → m ≢ n → Leads ix m name k → Leads new m name k) → (c.sort ≡ Directory → AreLed new f.version n xs) → IsIndexed (with_bytes f n xs) new
+pub indexed-with_bytes : (f : Files) (n : ℕ) (c : Contained) (xs : Bytes) (ix new : Index) → held f n ≡ Some c → IsIndexed f ix → IsLikeBeside n ix new → (c.sort ≡ Directory → AreLed new f.version n xs) → IsIndexed (with_bytes f n xs) new
 indexed-with_bytes f n c xs ix new there indexed others this = rw (with_bytes-is f n c xs there) (indexed-with_number f n (record c { bytes = xs }) ix new (at_number-within f.nodes n c there) indexed others this)
 
 pub indexed-without : (f : Files) (n : ℕ) (ix : Index) → IsIndexed f ix → IsIndexed (without f n) ix
 unfolding IsLed
 indexed-without f n ix indexed = each-without_number (IsLed ix f.version) f.nodes n indexed
 
+-- a directory without slots
+led-none : (v : Version) (d : ℕ) (ix : Index) → AreLed ix v d []
+led-none v d ix = record {
+  slots = λ k below. absurd (omega (arith, none_counted v));
+  ordered = λ _ j k less below. absurd (omega (arith, none_counted v));
+}
+
 pub indexed-with_new : (f : Files) (n : ℕ) (sort : Sort) (ix : Index) → n < length f.nodes → IsIndexed f ix → IsIndexed (with_new f n sort) ix
-indexed-with_new f n sort ix within indexed = indexed-with_number f n (record { sort = sort; bytes = [] }) ix ix within indexed (λ m k name other leads. leads) (λ e k below. absurd (omega (arith, none_counted f.version)))
+indexed-with_new f n sort ix within indexed = indexed-with_number f n (record { sort = sort; bytes = [] }) ix ix within indexed (like_itself n ix) (λ e. led-none f.version n ix)
 
 pub indexed-empty : (f : Files) (k : ℕ) (ix : Index) → f.nodes ≡ None ∷ replicate k None → IsIndexed f ix
 indexed-empty f k ix none = λ n c there. let nothing = ap (λ (xs : Numbered Contained). at_number xs n) none ∙ at_number-none (suc k) n in absurd (cc)
-
-pub indexed-any : (f : Files) (ix : Index) → ((d k : ℕ) (name : Bytes) → Leads ix d name k) → IsIndexed f ix
-indexed-any f ix any = λ n c there is k below. any n k (slot_name (slot_at f.version c.bytes k))
 
 -- ---- files and links
 
 module _ (f : Files) (n : ℕ) (c : Contained) (is : IsContent f n c) (ix : Index) (indexed : IsIndexed f ix) where
   pub indexed-content : (xs : Bytes) → IsIndexed (with_bytes f n xs) ix
-  indexed-content xs = indexed-with_bytes f n c xs ix ix is.there indexed (λ m k name other leads. leads) (λ e. absurd (is.other e))
+  indexed-content xs = indexed-with_bytes f n c xs ix ix is.there indexed (like_itself n ix) (λ e. absurd (is.other e))
 
   pub indexed-written : (at : ℕ) (bytes : Bytes) → IsIndexed (written f n at bytes) ix
   indexed-written at [] = indexed
@@ -83,43 +102,79 @@ module _ (f : Files) (b d : ℕ) (h : IsHolding f b) (is : is_directory_at (tree
   led = directory_led f d ix indexed is
 
   -- one entry more
-  pub indexed-added : (slot : Bytes) (name : Bytes) (count : ℕ) (new : Index) → length slot ≡ entry_length f.version → slot_name slot ≡ name → count ≡ slot_count f.version (bytes_at f d)
-      → Leads new d name count → ((e k : ℕ) (other : Bytes) → Leads ix e other k → Leads new e other k) → IsIndexed (written f d (length (bytes_at f d)) slot) new
-  indexed-added slot name count new long named counted this others =
-      let s = directory_slotted f b d h is in
-      let bytes = bytes_at f d in
-      rw (written_end f d slot long) (indexed-with_bytes f d (record { sort = Directory; bytes = bytes }) (bytes ++ slot) ix new (directory_held f d is) indexed (λ m k other apart. others m k other)
-      (λ e k below. elim (cases_lt k (slot_count f.version bytes)) [
-        | inl less ↦ rw (slot_at-append_before f.version bytes slot s.whole long k less) (others d k (slot_name (slot_at f.version bytes k)) (led k less))
-        | inr not_less ↦
-            let last : k ≡ slot_count f.version bytes = omega (arith, slot_count-append f.version bytes slot s.whole long) in
-            rw (slot_at-append_last f.version bytes slot s.whole long k last, named, last ∙ sym counted) this
-      ]))
+  module _ (slot name : Bytes) (count : ℕ) (new : Index) (ascends : Bool) (long : length slot ≡ entry_length f.version) (named : slot_name slot ≡ name) (counted : count ≡ slot_count f.version (bytes_at f d))
+      (this : Leads new d name count) (others : (e k : ℕ) (other : Bytes) → Leads ix e other k → Leads new e other k)
+      (allowed : ascends ≡ true → AscendTo f.version (bytes_at f d) count name)
+      (said : known new d ≡ true → ascends ≡ true) (kept : (e : ℕ) → e ≢ d → known new e ≡ known ix e) where
+    added_led : AreLed new f.version d (bytes_at f d ++ slot)
+    added_led =
+        let s = directory_slotted f b d h is in
+        let bytes = bytes_at f d in
+        let v = f.version in
+        let more = slot_count-append v bytes slot s.whole long in
+        record {
+          slots = λ k below. elim (cases_lt k (slot_count v bytes)) [
+            | inl less ↦ rw (slot_at-append_before v bytes slot s.whole long k less) (others d k (slot_name (slot_at v bytes k)) (led.slots k less))
+            | inr not_less ↦
+                let last : k ≡ slot_count v bytes = omega arith in
+                rw (slot_at-append_last v bytes slot s.whole long k last, named, last ∙ sym counted) this
+          ];
+          ordered = λ is j k less below.
+              let to = allowed (said is) in
+              let first : j < slot_count v bytes = omega arith in
+              rw (slot_at-append_before v bytes slot s.whole long j first) (elim (cases_lt k (slot_count v bytes)) [
+                | inl before ↦ rw (slot_at-append_before v bytes slot s.whole long k before) (to.ascend j k less (omega arith))
+                | inr not_before ↦
+                    let last : k ≡ slot_count v bytes = omega arith in
+                    rw (slot_at-append_last v bytes slot s.whole long k last, named) (to.before j (omega arith))
+              ]);
+        }
+
+    pub indexed-added : IsIndexed (written f d (length (bytes_at f d)) slot) new
+    indexed-added =
+        rw (written_end f d slot long) (indexed-with_bytes f d (record { sort = Directory; bytes = bytes_at f d }) (bytes_at f d ++ slot) ix new (directory_held f d is) indexed (record {
+          leads = λ m k other apart. others m k other;
+          known_before = λ m apart is. sym (kept m apart) ∙ is;
+        }) (λ e. added_led))
 
   -- a hole closed by the last entry
   module _ (hole last : ℕ) (long : length (bytes_at f d) ≡ entry_length f.version * suc last) (within : hole ≤ last) (less new : Index)
-      (removed : (e k : ℕ) (other : Bytes) → (e ≡ d → k ≢ hole) → Leads ix e other k → Leads less e other k)
+      (removed : (e k : ℕ) (other : Bytes) → (e ≡ d → k ≢ hole) → Leads ix e other k → Leads less e other k) (left : (e : ℕ) → known less e ≡ known ix e)
       (moved : Leads less d (slot_name (slot_at f.version (bytes_at f d) last)) last → Leads new d (slot_name (slot_at f.version (bytes_at f d) last)) hole)
-      (changed : (e k : ℕ) (other : Bytes) → (e ≡ d → k ≢ last) → Leads less e other k → Leads new e other k) where
+      (changed : (e k : ℕ) (other : Bytes) → (e ≡ d → k ≢ last) → Leads less e other k → Leads new e other k)
+      (stays : known new d ≡ true → last ≡ hole) (kept : (e : ℕ) → known new e ≡ true → known less e ≡ true) where
     closed_led : AreLed new f.version d (closed_bytes f.version (bytes_at f d) hole last)
-    closed_led k below =
+    closed_led =
         let bytes = bytes_at f d in
         let v = f.version in
-        let in_front : k < last = omega (arith, slot_count-closed v bytes hole last long within) in
+        let all = slot_count-closed v bytes hole last long within in
         let count = slot_count-old v bytes hole last long within in
-        elim (cases_eq k hole) [
-          | inl here ↦
-              let apart : hole < last = omega arith in
-              rw (here, slot_at-closed_hole v bytes hole last long within apart)
-              (moved (removed d last (slot_name (slot_at v bytes last)) (λ e same. omega arith) (led last (omega arith))))
-          | inr there ↦
-              rw (slot_at-closed_other v bytes hole last long within k in_front there)
-              (changed d k (slot_name (slot_at v bytes k)) (λ e same. omega arith) (removed d k (slot_name (slot_at v bytes k)) (λ e. there) (led k (omega arith))))
-        ]
+        record {
+          slots = λ k below.
+              let in_front : k < last = omega arith in
+              elim (cases_eq k hole) [
+                | inl here ↦
+                    let apart : hole < last = omega arith in
+                    rw (here, slot_at-closed_hole v bytes hole last long within apart)
+                    (moved (removed d last (slot_name (slot_at v bytes last)) (λ e same. omega arith) (led.slots last (omega arith))))
+                | inr there ↦
+                    rw (slot_at-closed_other v bytes hole last long within k in_front there)
+                    (changed d k (slot_name (slot_at v bytes k)) (λ e same. omega arith) (removed d k (slot_name (slot_at v bytes k)) (λ e. there) (led.slots k (omega arith))))
+              ];
+          ordered = λ is j k below_k below.
+              let same : last ≡ hole = stays is in
+              let in_front : k < last = omega arith in
+              let first : j < last = omega arith in
+              let apart_j : j ≢ hole = λ e. omega arith in
+              let apart_k : k ≢ hole = λ e. omega arith in
+              rw (slot_at-closed_other v bytes hole last long within j first apart_j, slot_at-closed_other v bytes hole last long within k in_front apart_k)
+              (led.ordered (sym (left d) ∙ kept d is) j k below_k (omega arith));
+        }
 
     pub indexed-removed : IsIndexed (shortened f d hole (slot_at f.version (bytes_at f d) last) last) new
     indexed-removed =
         rw (shortened_is f b d h is hole last long within)
-        (indexed-with_bytes f d (record { sort = Directory; bytes = bytes_at f d }) (closed_bytes f.version (bytes_at f d) hole last) ix new (directory_held f d is) indexed
-        (λ m k other apart leads. changed m k other (λ same. absurd (apart same)) (removed m k other (λ same. absurd (apart same)) leads))
-        (λ e. closed_led))
+        (indexed-with_bytes f d (record { sort = Directory; bytes = bytes_at f d }) (closed_bytes f.version (bytes_at f d) hole last) ix new (directory_held f d is) indexed (record {
+          leads = λ m k other apart leads. changed m k other (λ same. absurd (apart same)) (removed m k other (λ same. absurd (apart same)) leads);
+          known_before = λ m apart is. sym (left m) ∙ kept m is;
+        }) (λ e. closed_led))

@@ -1,12 +1,12 @@
 -- To which entries an index leads.
-use Rattle.std.proofs.Common.{◌≡◌, ◌≢◌, ℕ, ◌<◌, length, get_or, set, replicate, refl, sym, ap, ◌∙◌, inl, inr, arith, List}
+use Rattle.std.proofs.Common.{◌≡◌, ◌≢◌, ℕ, ◌<◌, ◌≤◌, Bool, false, length, get_or, set, replicate, refl, sym, ap, ◌∙◌, inl, inr, arith, List}
 use Rattle.std.proofs.lemmas.Bool.{cases_eq}
-use Rattle.std.proofs.lemmas.List.{get_or-replicate, get_or-set_same, get_or-set_other}
+use Rattle.std.proofs.lemmas.List.{get_or_default, get_or_past, get_or-replicate, get_or-set_same, get_or-set_other}
 use Rattle.pv_model.specs.Bytes.{Bytes}
 use Rattle.pv_dirs.specs.declared.index.Index.{Index}
 use Rattle.pv_dirs.specs.declared.index.Place.{Place}
 use Rattle.pv_dirs.specs.declared.index.Place.TheVariants.{Empty, Slot}
-use Rattle.pv_dirs.specs.Index.{place_of, said, Leads}
+use Rattle.pv_dirs.specs.Index.{place_of, said, known, Leads}
 
 pub place_of-within : (d : ℕ) (name : Bytes) → place_of d name < 8192
 unfolding place_of
@@ -36,6 +36,39 @@ leads-slot ix d name k e j is leads = elim leads [
       (directory, number)
   | inr shared ↦ let no = sym shared ∙ is in cc
 ]
+
+-- an index that differs in nothing but what it knows leads to the same entries
+pub leads-same : (old new : Index) (d : ℕ) (name : Bytes) (k : ℕ) → new.places ≡ old.places → Leads old d name k → Leads new d name k
+leads-same old new d name k is leads =
+    let same : said new d name ≡ said old d name = said-is new d name ∙ ap (λ (ps : List Place). get_or ps (place_of d name) Empty) is ∙ sym (said-is old d name) in
+    elim leads [
+      | inl slot ↦ inl (same ∙ slot)
+      | inr shared ↦ inr (same ∙ shared)
+    ]
+
+-- ---- of which directories the names are known to ascend
+
+pub known-within : (ix : Index) (d : ℕ) (is : Bool) → d < length ix.ascending → known ix d ≡ get_or ix.ascending d is
+unfolding known
+known-within ix d is within = get_or_default ix.ascending d false is within
+
+pub known-past : (ix : Index) (d : ℕ) → length ix.ascending ≤ d → known ix d ≡ false
+unfolding known
+known-past ix d past = get_or_past ix.ascending d false past
+
+module _ (old new : Index) (d : ℕ) (b : Bool) (is : new.ascending ≡ set old.ascending d b) where
+  pub known-here : d < length old.ascending → known new d ≡ b
+  unfolding known
+  known-here within = ap (λ (bs : List Bool). get_or bs d false) is ∙ get_or-set_same old.ascending d b false within
+
+  pub known-there : (e : ℕ) → e ≢ d → known new e ≡ known old e
+  unfolding known
+  known-there e there = ap (λ (bs : List Bool). get_or bs e false) is ∙ get_or-set_other old.ascending d e b false there
+
+-- an index that differs in nothing but its places knows the same
+pub known-same : (old new : Index) (d : ℕ) → new.ascending ≡ old.ascending → known new d ≡ known old d
+unfolding known
+known-same old new d is = ap (λ (bs : List Bool). get_or bs d false) is
 
 -- an index of places that all say the same
 pub said-replicate : (ix : Index) (p : Place) (d : ℕ) (name : Bytes) → ix.places ≡ replicate 8192 p → said ix d name ≡ p

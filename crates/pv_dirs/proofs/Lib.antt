@@ -1,4 +1,5 @@
 pub mod Adding
+pub mod Ascending
 pub mod Between
 pub mod Closing
 pub mod Contents

@@ -19,7 +19,7 @@ less_from Less is = refl
 less_from Equal is = cc
 less_from Greater is = cc
 
-greater_from : (a b : Bytes) → by_name a b ≡ Less → by_name b a ≡ Greater
+pub greater_from : (a b : Bytes) → by_name a b ≡ Less → by_name b a ≡ Greater
 greater_from a b is = total.antisymm b a ∙ ap ordering_reverse is
 
 -- what is behind a name behind the last one is behind the last one
@@ -96,14 +96,14 @@ listed_first e es = ap (λ b. is_some (cond b (Some e.1) (find by_name e.0 es)))
 listed_later : (e : Bytes × ℕ) (es : Entries) (name : Bytes) → IsListed es name → IsListed (e ∷ es) name
 listed_later e es name listed = elim (tied name e.0) as (λ b. is_some (cond b (Some e.1) (find by_name name es)) ≡ true) [ true ↦ refl | false ↦ listed ]
 
-listed_cases : (e : Bytes × ℕ) (es : Entries) (name : Bytes) (P : Type 0) → (name ≡ e.0 → P) → (IsListed es name → P) → IsListed (e ∷ es) name → P
+pub listed_cases : (e : Bytes × ℕ) (es : Entries) (name : Bytes) (P : Type 0) → (name ≡ e.0 → P) → (IsListed es name → P) → IsListed (e ∷ es) name → P
 listed_cases e es name P first later listed =
     elim (tied name e.0) as (λ b. tied name e.0 ≡ b → is_some (cond b (Some e.1) (find by_name name es)) ≡ true → P) [
       | true ↦ λ is there. first (tied-same name e.0 is)
       | false ↦ λ is there. later there
     ] refl listed
 
-same_Equal : (a : Bytes) → by_name a a ≡ Equal
+pub same_Equal : (a : Bytes) → by_name a a ≡ Equal
 same_Equal a = elim (by_name a a) as (λ r. by_name a a ≡ r → r ≡ Equal) [
   | Less ↦ λ is. let back = total.antisymm a a ∙ ap ordering_reverse is in cc
   | Equal ↦ λ is. refl

@@ -79,16 +79,17 @@ no_better false last es name next is listed best = refl
 no_better true last es name None is listed best = absurd (best name listed is)
 no_better true last es name (Some e) is listed best = sym (better_least true name e (not_less (by_name name e) (best.least name listed is)))
 
-module _ (v : Version) (last : Option Bytes) (bytes : Bytes) (k : ℕ) (start : Option Bytes) (d : IsDistinct (slot_entries v bytes)) (within : k < slot_count v bytes) (start_is : start ≡ better_of last (slot_name (slot_at v bytes k)) None) where
-  listed : IsListed (in_order (slot_entries v bytes)) (slot_name (slot_at v bytes k))
-  listed =
-      let entry = slot_entry v bytes k in
-      ap is_some (find-in_order entry.0 (slot_entries v bytes)
-      ∙ find_at (slot_entries v bytes) k entry d (omega (arith, length-slot_entries v bytes)) (get_or-slot_entries v bytes k entry within))
+-- the name of a slot is listed
+pub slot_listed : (v : Version) (bytes : Bytes) (k : ℕ) → IsDistinct (slot_entries v bytes) → k < slot_count v bytes → IsListed (in_order (slot_entries v bytes)) (slot_name (slot_at v bytes k))
+slot_listed v bytes k d within =
+    let entry = slot_entry v bytes k in
+    ap is_some (find-in_order entry.0 (slot_entries v bytes)
+    ∙ find_at (slot_entries v bytes) k entry d (omega (arith, length-slot_entries v bytes)) (get_or-slot_entries v bytes k entry within))
 
+module _ (v : Version) (last : Option Bytes) (bytes : Bytes) (k : ℕ) (start : Option Bytes) (d : IsDistinct (slot_entries v bytes)) (within : k < slot_count v bytes) (start_is : start ≡ better_of last (slot_name (slot_at v bytes k)) None) where
   -- a pass that begins with a name of the directory ends with the next name all the same
   pub next_name-start : lesser start (next_name last (in_order (slot_entries v bytes))) ≡ next_name last (in_order (slot_entries v bytes))
   next_name-start =
       let name = slot_name (slot_at v bytes k) in
       ap (λ (s : Option Bytes). lesser s (next_name last (in_order (slot_entries v bytes)))) (start_is ∙ sym (better-is (is_behind last name) name None))
-      ∙ no_better (is_behind last name) last (in_order (slot_entries v bytes)) name (next_name last (in_order (slot_entries v bytes))) refl listed (next_name_in_order last (slot_entries v bytes))
+      ∙ no_better (is_behind last name) last (in_order (slot_entries v bytes)) name (next_name last (in_order (slot_entries v bytes))) refl (slot_listed v bytes k d within) (next_name_in_order last (slot_entries v bytes))

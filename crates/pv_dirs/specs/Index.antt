@@ -1,5 +1,8 @@
 -- What an index says of the entries of directories.
-use Rattle.std.specs.Prelude.{◌≡◌, ◌⊎◌, ℕ, ◌+◌, ◌*◌, ◌%◌, ◌<◌, [], ◌∷◌, slice_index_or, Some}
+use Rattle.std.specs.Prelude.{◌≡◌, ◌⊎◌, ℕ, ◌+◌, ◌-◌, ◌*◌, ◌%◌, ◌<◌, ◌≤◌, [], ◌∷◌, slice_index_or, Bool, true, false, Option, None, Some}
+use Rattle.std.specs.Cmp.Lexicographic.{slice_cmp}
+use Rattle.std.specs.Ordering.{nat_cmp}
+use Rattle.std.specs.declared.cmp.Ordering.TheVariants.{Less}
 use Rattle.pv_model.specs.declared.sort.Sort.TheVariants.{Directory}
 use Rattle.pv_model.specs.declared.version.Version.{Version}
 use Rattle.pv_model.specs.Bytes.{Bytes}
@@ -28,9 +31,32 @@ said ix d name = slice_index_or ix.places (place_of d name) Empty
 abbrev pub Leads : Index → ℕ → Bytes → ℕ → Type 0
 Leads ix d name k = (said ix d name ≡ Slot d k) ⊎ (said ix d name ≡ Shared)
 
--- an index leads to each entry of a directory with these bytes
+-- whether an index knows that the names of directory d ascend
+unfoldable pub known : Index → ℕ → Bool
+known ix d = slice_index_or ix.ascending d false
+
+-- the names of the first slots ascend in byte order
+abbrev pub Ascend : Version → Bytes → ℕ → Type 0
+Ascend v bytes count = (j k : ℕ) → j < k → k < count → slice_cmp nat_cmp (slot_name (slot_at v bytes j)) (slot_name (slot_at v bytes k)) ≡ Less
+
+-- they do, and this name comes behind them
+pub record AscendTo (v : Version) (bytes : Bytes) (count : ℕ) (name : Bytes) : Type 0 where
+  pub ascend : Ascend v bytes count
+  pub before : (k : ℕ) → k < count → slice_cmp nat_cmp (slot_name (slot_at v bytes k)) name ≡ Less
+
+-- an index leads to each entry in the first slots of directory d, and where it knows that the names ascend, they do
+pub record AreLedUpTo (ix : Index) (v : Version) (d : ℕ) (bytes : Bytes) (count : ℕ) : Type 0 where
+  pub slots : (k : ℕ) → k < count → Leads ix d (slot_name (slot_at v bytes k)) k
+  pub ordered : known ix d ≡ true → Ascend v bytes count
+
+-- the same of each entry of a directory with these bytes
 abbrev pub AreLed : Index → Version → ℕ → Bytes → Type 0
-AreLed ix v d bytes = (k : ℕ) → k < slot_count v bytes → Leads ix d (slot_name (slot_at v bytes k)) k
+AreLed ix v d bytes = AreLedUpTo ix v d bytes (slot_count v bytes)
+
+-- slot k is the one behind that of the last name, or the first one without a last name
+abbrev pub IsSlotBehind : Option Bytes → Version → Bytes → ℕ → Type 0
+IsSlotBehind None v bytes k = k ≡ 0
+IsSlotBehind (Some last) v bytes k = (1 ≤ k) × (slot_name (slot_at v bytes (k - 1)) ≡ last)
 
 -- an index leads to each entry of each directory
 abbrev pub IsIndexed : Files → Index → Type 0

@@ -1,5 +1,5 @@
 -- Slots: where the bytes of a directory have its entries.
-use Rattle.std.specs.Prelude.{◌≡◌, ℕ, ◌*◌, ◌/◌, ◌%◌, ◌<◌, IsTrue, map, length, take, drop, slice_index, [], ◌∷◌, None}
+use Rattle.std.specs.Prelude.{◌≡◌, ℕ, ◌*◌, ◌/◌, ◌%◌, ◌<◌, IsTrue, map, length, take, drop, slice_index, [], ◌∷◌, if◌then◌else◌, nat_lt, Option, None, Some}
 use Rattle.std.specs.Cmp.Lexicographic.{slice_cmp}
 use Rattle.std.specs.FinMap.Entries.{find, put}
 use Rattle.std.specs.List.{range_with_len}
@@ -29,6 +29,10 @@ slot_number slot = little_number 2 slot
 -- the name in a slot, whose length stands before it
 unfoldable pub slot_name : Bytes → Bytes
 slot_name slot = take (slice_index slot 2) (drop 4 slot)
+
+-- the name in slot k, if there is such a slot
+abbrev pub name_at : Version → Bytes → ℕ → Option Bytes
+name_at v bytes k = if nat_lt k (slot_count v bytes) then Some (slot_name (slot_at v bytes k)) else None
 
 -- the entry in slot k
 abbrev pub slot_entry : Version → Bytes → ℕ → Bytes × ℕ

@@ -14,6 +14,7 @@ mod counting;
 mod image;
 
 use crate::index::Index;
+use crate::indexing::ascends;
 use crate::scan::{count, find, least_behind, number, slot, start};
 use crate::slot::Slot;
 use pv_inodes::{Inodes, Space};
@@ -171,10 +172,11 @@ impl Directories {
     {
         let end = self.inodes.size(directory);
         let number = count(&self.inodes, directory);
+        let ascends = ascends(&self.inodes, &self.index, directory, number, name);
         let slot = Slot::new(self.inodes.version(), name, inode);
         let added = self.inodes.write_at(directory, end, slot.as_bytes());
         if added.is_ok() {
-            self.index.add(directory, name, number as u16);
+            self.index.add(directory, name, number as u16, ascends);
         }
         added
     }

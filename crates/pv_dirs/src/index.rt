@@ -1,8 +1,10 @@
 //! Where the entries of directories stand, by their names.
-ghost use Rattle.std.specs.Prelude.{◌≡◌, ◌≢◌, ◌↔◌, ◌<◌, ℕ, IsTrue};
+ghost use Rattle.std.specs.Prelude.{◌≡◌, ◌≢◌, ◌↔◌, ◌<◌, ℕ, true, IsTrue};
 ghost use Rattle.pv_model.specs.Bytes.{Bytes};
 ghost use Rattle.pv_dirs.specs.declared.index.TheConstants.{PLACES};
-ghost use Rattle.pv_dirs.specs.Index.{place_of, said, Leads};
+ghost use Rattle.pv_dirs.specs.Index.{place_of, said, known, Leads};
+
+use pv_model::limits::INODES;
 
 /// How many places an index has.
 const PLACES: usize = 8_192;
@@ -50,6 +52,8 @@ fn place_of(directory: u16, name: &[u8]) -> usize
 #[derive(Drop)]
 pub(crate) struct Index {
     places: [Place; PLACES],
+    // Of which directories the names are known to ascend in byte order from slot to slot.
+    ascending: [bool; INODES + 1],
 }
 
 impl Index {
@@ -57,15 +61,27 @@ impl Index {
     pub(crate) fn empty() -> Index {
         Index {
             places: [Place::Empty; PLACES],
+            ascending: [false; INODES + 1],
         }
     }
 
-    /// The index that leads to any entry, since it says nothing.
-    pub(crate) fn of_any() -> Index
-        ensures { (d k : ℕ) (name : Bytes) → Leads result d name k }
+    /// Whether the names of a directory are known to ascend from slot to slot.
+    pub(crate) fn ascends(&self, directory: u16) -> bool
+        ensures { result ≡ known self.now directory }
     {
-        Index {
-            places: [Place::Shared; PLACES],
+        let at = directory as usize;
+        at <= INODES && self.ascending[at]
+    }
+
+    // Says of a directory whether its names ascend.
+    fn know(&mut self, directory: u16, ascends: bool)
+        ensures places { self.new.places ≡ self.old.places }
+        ensures this { known self.new directory ≡ true → ascends ≡ true }
+        ensures others { (d : ℕ) → d ≢ directory → known self.new d ≡ known self.old d }
+    {
+        let at = directory as usize;
+        if at <= INODES {
+            self.ascending[at] = ascends;
         }
     }
 
@@ -76,11 +92,15 @@ impl Index {
         self.places[place_of(directory, name)]
     }
 
-    /// Puts an entry into the index, and leads to the others as before.
-    pub(crate) fn add(&mut self, directory: u16, name: &[u8], slot: u16)
+    /// Puts an entry into the index, and leads to the others as before. The names of the directory ascend with
+    /// this one or not.
+    pub(crate) fn add(&mut self, directory: u16, name: &[u8], slot: u16, ascends: bool)
         ensures this { Leads self.new directory name.now slot }
         ensures others { (d k : ℕ) (other : Bytes) → Leads self.old d other k → Leads self.new d other k }
+        ensures ascends { known self.new directory ≡ true → ascends ≡ true }
+        ensures known { (d : ℕ) → d ≢ directory → known self.new d ≡ known self.old d }
     {
+        self.know(directory, ascends);
         let at = place_of(directory, name);
         self.places[at] = match self.places[at] {
             Place::Empty => Place::Slot(directory, slot),
@@ -90,7 +110,8 @@ impl Index {
 
     /// Takes an entry out of the index, and leads to the others as before.
     pub(crate) fn remove(&mut self, directory: u16, name: &[u8], slot: u16)
-        ensures { (d k : ℕ) (other : Bytes) → (d ≡ directory → k ≢ slot) → Leads self.old d other k → Leads self.new d other k }
+        ensures others { (d k : ℕ) (other : Bytes) → (d ≡ directory → k ≢ slot) → Leads self.old d other k → Leads self.new d other k }
+        ensures known { (d : ℕ) → known self.new d ≡ known self.old d }
     {
         let at = place_of(directory, name);
         if self.places[at].is_slot(directory, slot) {
@@ -98,11 +119,16 @@ impl Index {
         }
     }
 
-    /// Leads to an entry in another slot of its directory, and to the others as before.
+    /// Leads to an entry in another slot of its directory, and to the others as before. Where it is another one,
+    /// the names of the directory may no longer ascend.
     pub(crate) fn change(&mut self, directory: u16, name: &[u8], from: u16, to: u16)
         ensures this { Leads self.old directory name.now from → Leads self.new directory name.now to }
         ensures others { (d k : ℕ) (other : Bytes) → (d ≡ directory → k ≢ from) → Leads self.old d other k → Leads self.new d other k }
+        ensures stays { known self.new directory ≡ true → from ≡ to }
+        ensures known { (d : ℕ) → known self.new d ≡ true → known self.old d ≡ true }
     {
+        let ascends = from == to && self.ascends(directory);
+        self.know(directory, ascends);
         let at = place_of(directory, name);
         if self.places[at].is_slot(directory, from) {
             self.places[at] = Place::Slot(directory, to);

@@ -2,14 +2,17 @@
 //!
 //! A directory is slots of 64 bytes, or of 260 in an image of version 2, each with a name and the number
 //! of an inode; a slot of 260 bytes may stand across two blocks. A contract sees the definitions' `Tree`:
-//! a directory as its entries in the order of their names, a file or a link as its bytes. Slots, their order, and the length of a directory's bytes stand
-//! in the invariant alone, and so does an index that leads from names to slots. `slot` has a slot's bytes,
-//! `scan` goes over the slots of a directory, `index` has the index, `directories` has `Directories`, and
-//! `law` says that slots spell their entries as an image's format does.
+//! a directory as its entries in the order of their names, a file or a link as its bytes. Slots, their
+//! order, and the length of a directory's bytes stand in the invariant alone, and so does an index that
+//! leads from names to slots and knows of which directories the names ascend from slot to slot. `slot` has
+//! a slot's bytes, `scan` goes over the slots of a directory, `index` has the index, `indexing` puts slots
+//! into it, `directories` has `Directories`, and `law` says that slots spell their entries as an image's
+//! format does.
 #![tactic(auto)]
 
 mod directories;
 mod index;
+mod indexing;
 pub mod law;
 mod scan;
 mod slot;

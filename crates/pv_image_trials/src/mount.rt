@@ -1,9 +1,10 @@
-//! Images that are judged.
-use crate::answers::expect_same_of;
+//! Images that are judged, and mounted.
+use crate::answers::{expect, expect_same_of};
 use crate::bytes::{front, put_all};
-use pv_model::{ImageFault, Version};
-use pv_mount::check;
-use std::alloc::Global;
+use pv_model::{ImageFault, Name, Version};
+use pv_mount::{check, mount};
+use pv_tree::Tree;
+use std::alloc::{AllocError, AllocGlobal, Global};
 use std::process::Abort;
 
 // Bytes of an image, so many, in which some were changed, and how they are judged.
@@ -156,4 +157,82 @@ fn looped_images_are_judged(rt: HostRuntime) {
     for case in LOOPED_CASES {
         expect_verdict(&rt, rt.alloc(), LOOPED, case);
     }
+}
+
+// An image whose root has three slots, for three files.
+const THREE_FILES: &[(usize, &[u8])] = &[
+    (0, b"PVIMAGE1\x03\x00\x04\x00"),
+    (512, &[1, 0, 0, 0, 0xc0, 0, 0, 0, 2]),
+    (544, &[2, 0, 1]),
+    (576, &[2, 0, 1]),
+    (608, &[2, 0, 1]),
+];
+
+// What stands in the three slots, and the entries in the order of their names.
+struct Slots {
+    name: &'static str,
+    slots: &'static [(usize, &'static [u8])],
+    entries: &'static [(&'static [u8], u16)],
+}
+
+const SLOTS: &[Slots] = &[
+    Slots {
+        name: "slots in order",
+        slots: &[
+            (1_024, b"\x02\x00\x01\x00a"),
+            (1_088, b"\x03\x00\x01\x00b"),
+            (1_152, b"\x04\x00\x01\x00c"),
+        ],
+        entries: &[(b"a", 2), (b"b", 3), (b"c", 4)],
+    },
+    Slots {
+        name: "the first two slots out of order",
+        slots: &[
+            (1_024, b"\x02\x00\x01\x00b"),
+            (1_088, b"\x03\x00\x01\x00a"),
+            (1_152, b"\x04\x00\x01\x00c"),
+        ],
+        entries: &[(b"a", 3), (b"b", 2), (b"c", 4)],
+    },
+    Slots {
+        name: "the least name in the last slot",
+        slots: &[
+            (1_024, b"\x02\x00\x01\x00b"),
+            (1_088, b"\x03\x00\x01\x00c"),
+            (1_152, b"\x04\x00\x01\x00a"),
+        ],
+        entries: &[(b"a", 4), (b"b", 2), (b"c", 3)],
+    },
+];
+
+// The root has these entries, in this order, and no others.
+fn expect_entries(rt: &impl Abort, tree: &Tree, entries: &[(&[u8], u16)], case: &str) {
+    let mut last: Option<Name> = None;
+    for &(name, node) in entries {
+        assert!(rt; tree.is_directory(1));
+        expect_same_of(rt, tree.find(1, name), Some(node), case);
+        assert!(rt; tree.is_directory(1));
+        last = tree.next_after(1, last.as_ref().map(|last| last.as_slice()));
+        expect(
+            rt,
+            last.as_ref().is_some_and(|last| last.as_slice() == name),
+        );
+    }
+    assert!(rt; tree.is_directory(1));
+    assert!(rt;
+        tree.next_after(1, last.as_ref().map(|last| last.as_slice()))
+            .is_none()
+    );
+}
+
+#[test]
+fn mounted_directories_are_listed_and_searched(rt: HostRuntime) -> Result<(), AllocError> {
+    for case in SLOTS {
+        let mut bytes = vec![in rt.alloc(); 0; 1_536]?;
+        put_all(&mut bytes, THREE_FILES);
+        put_all(&mut bytes, case.slots);
+        let store = mount(rt.alloc(), bytes).expect(&rt, "it is an image");
+        expect_entries(&rt, store.tree(), case.entries, case.name);
+    }
+    Ok(())
 }

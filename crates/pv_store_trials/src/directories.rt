@@ -188,10 +188,52 @@ const BYTE_ORDER: &[Step] = &[
     Find(b"a", None),
 ];
 
+// The second name comes before the first.
+const OUT_OF_ORDER: &[Step] = &[
+    Add(b"b", 2, Ok(())),
+    Add(b"a", 3, Ok(())),
+    Lists(&[b"a", b"b"]),
+    Add(b"c", 4, Ok(())),
+    Lists(&[b"a", b"b", b"c"]),
+    Remove(b"c"),
+    Lists(&[b"a", b"b"]),
+    Remove(b"b"),
+    Lists(&[b"a"]),
+];
+
+// Names in order, of which one in the middle is removed, whose place the last one takes; then names behind the others.
+const MIDDLE_REMOVED: &[Step] = &[
+    Add(b"a", 2, Ok(())),
+    Add(b"b", 3, Ok(())),
+    Add(b"c", 4, Ok(())),
+    Add(b"d", 5, Ok(())),
+    Lists(&[b"a", b"b", b"c", b"d"]),
+    Remove(b"b"),
+    Add(b"e", 6, Ok(())),
+    Lists(&[b"a", b"c", b"d", b"e"]),
+    Find(b"d", Some(5)),
+    Find(b"e", Some(6)),
+];
+
+// Names in order, of which the last is removed; then one behind the others, and one before them.
+const LAST_REMOVED: &[Step] = &[
+    Add(b"b", 2, Ok(())),
+    Add(b"c", 3, Ok(())),
+    Add(b"e", 4, Ok(())),
+    Remove(b"e"),
+    Lists(&[b"b", b"c"]),
+    Add(b"d", 5, Ok(())),
+    Lists(&[b"b", b"c", b"d"]),
+    Add(b"a", 6, Ok(())),
+    Lists(&[b"a", b"b", b"c", b"d"]),
+];
+
 #[test]
 fn names_come_in_byte_order(rt: HostRuntime) -> Result<(), AllocError> {
-    let mut files = with_data_blocks(&rt, rt.alloc(), 2)?;
-    expect_steps(&rt, &mut files, BYTE_ORDER);
+    for &steps in &[BYTE_ORDER, OUT_OF_ORDER, MIDDLE_REMOVED, LAST_REMOVED] {
+        let mut files = with_data_blocks(&rt, rt.alloc(), 2)?;
+        expect_steps(&rt, &mut files, steps);
+    }
     Ok(())
 }
 

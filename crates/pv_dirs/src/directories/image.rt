@@ -5,7 +5,7 @@ ghost use Rattle.pv_model.specs.Tree.{Tree};
 ghost use Rattle.pv_dirs.specs.Images.{IsImage};
 
 use super::Directories;
-use crate::index::Index;
+use crate::indexing::index_of;
 use pv_inodes::Inodes;
 use pv_model::Version;
 use pv_model::limits::BLOCK;
@@ -19,10 +19,12 @@ impl Directories {
     {
         let table = inodes as usize * version.layout().inode_length;
         let block_count = (bytes.len() / BLOCK - table.div_ceil(BLOCK) - 1) as u16;
+        let inodes = Inodes::of_image(bytes, inodes, version);
+        let index = index_of(&inodes);
         Directories {
-            inodes: Inodes::of_image(bytes, inodes, version),
+            inodes,
             block_count,
-            index: Index::of_any(),
+            index,
         }
     }
 }

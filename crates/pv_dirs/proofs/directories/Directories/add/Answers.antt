@@ -5,11 +5,12 @@ use Rattle.pv_model.specs.Room.{entry_length, greatest_length}
 use Rattle.pv_model.specs.Tree.{is_name, Tree, find_entry, with_entry}
 use Rattle.pv_inodes.specs.declared.space.Space.TheVariants.{TooBig, Full}
 use Rattle.pv_inodes.specs.Files.{Files, bytes_at, written}
+use Rattle.pv_dirs.specs.Index.{Ascend}
 use Rattle.pv_dirs.specs.Slots.{slot_name, slot_number}
 use Rattle.pv_dirs.specs.Trees.{tree_of, IsHolding, LacksRoom, grown_length}
 use Rattle.pv_dirs.proofs.Adding.{grown_length-tree_of, tree_of-added, holding-added}
 use Rattle.pv_dirs.proofs.Contents.{lacks_room, lacks_room_back}
-use Rattle.pv_dirs.proofs.Indexed.{indexed-added}
+use Rattle.pv_dirs.proofs.Indexed.{directory_led, indexed-added}
 use Rattle.pv_dirs.proofs.Outcomes.{on_ok, ok_is}
 use Rattle.pv_dirs.proofs.Strides.{name_length, slot_some}
 use Rattle.pv_dirs.proofs.Viewed.{viewed_version, viewed_directory, viewed_directory_used}
@@ -21,6 +22,15 @@ size-end-requires c = viewed_directory_used c.self.inside.inodes c.args.self.now
 
 pub count-number-requires : goal.count-number-requires
 count-number-requires c = viewed_directory_used c.self.inside.inodes c.args.self.now c.args.directory c.self.view_is c.requires.directory
+
+pub ascends-ascends-requires-clause-used : goal.ascends-ascends-requires-clause-used
+ascends-ascends-requires-clause-used c = viewed_directory_used c.self.inside.inodes c.args.self.now c.args.directory c.self.view_is c.requires.directory
+
+pub ascends-ascends-requires-clause-ordered : goal.ascends-ascends-requires-clause-ordered
+ascends-ascends-requires-clause-ordered c =
+    let is = viewed_directory c.self.inside.inodes c.args.self.now c.args.directory c.self.view_is c.requires.directory in
+    let led = directory_led c.self.inside.inodes c.args.directory c.self.inside.index c.self.invariant.indexed is in
+    λ ordered. subst (Ascend c.self.inside.inodes.version (bytes_at c.self.inside.inodes c.args.directory)) (sym c.count-number.ensures.value) (led.ordered ordered)
 
 pub write_at-added-requires : goal.write_at-added-requires
 write_at-added-requires c = viewed_directory_used c.self.inside.inodes c.args.self.now c.args.directory c.self.view_is c.requires.directory
@@ -75,8 +85,8 @@ invariant_of-self c =
       holding = rw (is_written c) (holding start);
       indexed = rw (is_written c ∙ sym (at_end start))
           (indexed-added c.self.inside.inodes c.self.inside.block_count c.args.directory c.self.invariant.holding is c.self.inside.index c.self.invariant.indexed
-          c.as_bytes.result.now c.args.name.now c.count-number.result c.add.new.self (whole start) (ap slot_name c.as_bytes.ensures.value ∙ c.new-slot.ensures.name) c.count-number.ensures.value
-          c.add.ensures.this c.add.ensures.others);
+          c.as_bytes.result.now c.args.name.now c.count-number.result c.add.new.self c.ascends-ascends.result (whole start) (ap slot_name c.as_bytes.ensures.value ∙ c.new-slot.ensures.name) c.count-number.ensures.value
+          c.add.ensures.this c.add.ensures.others c.ascends-ascends.ensures c.add.ensures.ascends c.add.ensures.known);
     }
 
 pub returns-then-is_ok-clause-ok : goal.returns-then-is_ok-clause-ok

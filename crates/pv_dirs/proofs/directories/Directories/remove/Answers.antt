@@ -94,9 +94,9 @@ invariant_of-self c =
       holding = rw (shortened_is done) (holding-removed c.self.inside.inodes c.self.inside.block_count c.args.directory c.self.invariant.holding is c.in_ok-hole.hole (c.count-last.result - 1) (long start) (within start));
       indexed = rw (shortened_is done)
           (indexed-removed c.self.inside.inodes c.self.inside.block_count c.args.directory c.self.invariant.holding is c.self.inside.index c.self.invariant.indexed c.in_ok-hole.hole (c.count-last.result - 1) (long start) (within start)
-          c.remove.new.self c.change.new.self c.remove.ensures
+          c.remove.new.self c.change.new.self c.remove.ensures.others c.remove.ensures.known
           (subst (λ (q : Bytes). Leads c.remove.new.self c.args.directory q (c.count-last.result - 1) → Leads c.change.new.self c.args.directory q c.in_ok-hole.hole) named c.change.ensures.this)
-          c.change.ensures.others);
+          c.change.ensures.others c.change.ensures.stays c.change.ensures.known);
     }
 
 pub returns-in_err-hole-clause-gone : goal.returns-in_err-hole-clause-gone

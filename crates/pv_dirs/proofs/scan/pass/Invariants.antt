@@ -6,7 +6,7 @@ use Rattle.pv_inodes.specs.Files.{bytes_at}
 use Rattle.pv_dirs.specs.Listing.{IsShared}
 use Rattle.pv_dirs.specs.Slots.{IsRun, slot_entries, in_order}
 use Rattle.pv_dirs.proofs.Passes.{lesser}
-use Rattle.pv_dirs.proofs.scan.least_behind.Given as goal
+use Rattle.pv_dirs.proofs.scan.pass.Given as goal
 
 -- the best is the next name of the slots so far, or the name that the pass began with, and the mark is one of the names between it and the last
 abbrev pub invariant-loop-k : goal.invariant-loop-k

@@ -1,0 +1,129 @@
+-- Names that ascend from slot to slot.
+use Rattle.std.proofs.Common.{◌≡◌, ◌≢◌, ℕ, suc, ◌+◌, ◌-◌, ◌<◌, ◌≤◌, length, get_or, true, cond, [], ◌∷◌, Option, None, Some, is_some, refl, ap, sym, ◌∙◌, arith, inl, inr}
+use Rattle.std.proofs.lemmas.Bool.{cases_eq, cases_lt, lt-ltb, le-ltb}
+use Rattle.std.specs.Ordering.{is_lt, ordering_reverse}
+use Rattle.std.specs.declared.cmp.Ordering.TheVariants.{Less, Equal, Greater}
+use Rattle.pv_model.specs.declared.version.Version.{Version}
+use Rattle.pv_model.specs.Bytes.{Bytes}
+use Rattle.pv_model.specs.Calls.Descriptors.{is_behind, next_name}
+use Rattle.pv_model.specs.Tree.{Entries}
+use Rattle.pv_dirs.specs.Index.{Ascend, AscendTo, IsSlotBehind}
+use Rattle.pv_dirs.specs.Listing.{IsListed, IsLeastBehind, IsNextName}
+use Rattle.pv_dirs.specs.Slots.{slot_at, slot_count, slot_name, slot_entries, name_at, in_order, IsDistinct}
+use Rattle.pv_dirs.proofs.Entries.{by_name, total, same_name, find-in_order}
+use Rattle.pv_dirs.proofs.Next.{less_from, greater_from, listed_cases, same_Equal, next_name_in_order}
+use Rattle.pv_dirs.proofs.Passes.{slot_listed}
+use Rattle.pv_dirs.proofs.SlotBytes.{length-slot_entries, get_or-slot_entries}
+
+module _ (v : Version) (bytes : Bytes) where
+  abbrev name_of : ℕ → Bytes
+  name_of k = slot_name (slot_at v bytes k)
+
+  -- no slots
+  pub ascend_to_none : (count : ℕ) (name : Bytes) → count ≡ 0 → AscendTo v bytes count name
+  ascend_to_none count name none = record {
+    ascend = λ j k less below. absurd (omega arith);
+    before = λ k below. absurd (omega arith);
+  }
+
+  -- a name behind the last of them
+  pub ascend_to : (count : ℕ) (name : Bytes) → 1 ≤ count → Ascend v bytes count → by_name (name_of (count - 1)) name ≡ Less → AscendTo v bytes count name
+  ascend_to count name some up last = record {
+    ascend = up;
+    before = λ k below. elim (cases_eq k (count - 1)) [
+      | inl same ↦ ap (λ i. by_name (name_of i) name) same ∙ last
+      | inr other ↦ total.trans (name_of k) (name_of (count - 1)) name (up k (count - 1) (omega arith) (omega arith)) last
+    ];
+  }
+
+  -- one slot more
+  pub ascend_more : (count : ℕ) → AscendTo v bytes count (name_of count) → Ascend v bytes (count + 1)
+  ascend_more count to j k less below = elim (cases_eq k count) [
+    | inl same ↦ ap (λ i. by_name (name_of j) (name_of i)) same ∙ to.before j (omega arith)
+    | inr other ↦ to.ascend j k less (omega arith)
+  ]
+
+-- ---- the name in a slot
+
+pub name_within : (v : Version) (bytes : Bytes) (k : ℕ) → k < slot_count v bytes → name_at v bytes k ≡ Some (slot_name (slot_at v bytes k))
+name_within v bytes k below = ap (λ b. cond b (Some (slot_name (slot_at v bytes k))) None) (lt-ltb k (slot_count v bytes) below)
+
+pub name_past : (v : Version) (bytes : Bytes) (k : ℕ) → slot_count v bytes ≤ k → name_at v bytes k ≡ None
+name_past v bytes k past = ap (λ b. cond b (Some (slot_name (slot_at v bytes k))) None) (le-ltb k (slot_count v bytes) past)
+
+-- ---- the next name
+
+-- a listed name stands somewhere
+listed_at : (es : Entries) (q : Bytes) → IsListed es q → (j : ℕ) × (j < length es) × ((d : Bytes × ℕ) → (get_or es j d).0 ≡ q)
+listed_at [] q listed = cc
+listed_at (e ∷ es) q listed =
+    listed_cases e es q ((j : ℕ) × (j < length (e ∷ es)) × ((d : Bytes × ℕ) → (get_or (e ∷ es) j d).0 ≡ q)) (λ same. (0, omega arith, λ d. sym same))
+    (λ there. let at = listed_at es q there in (suc at.0, omega arith, λ d. at.2 d)) listed
+
+neither_less : (a b : Bytes) → by_name b a ≢ Less → by_name a b ≢ Less → a ≡ b
+neither_less a b not_back not_forth = elim (by_name a b) as (λ o. by_name a b ≡ o → a ≡ b) [
+  | Less ↦ λ is. absurd (not_forth is)
+  | Equal ↦ λ is. same_name a b is
+  | Greater ↦ λ is. absurd (not_back (total.antisymm b a ∙ ap ordering_reverse is))
+] refl
+
+-- there is one next name
+next_once : (last : Option Bytes) (es : Entries) (a b : Option Bytes) → IsNextName last es a → IsNextName last es b → a ≡ b
+next_once last es None None is also = refl
+next_once last es None (Some b) is also = absurd (is b also.listed also.behind)
+next_once last es (Some a) None is also = absurd (also a is.listed is.behind)
+next_once last es (Some a) (Some b) is also = ap Some (neither_less a b (is.least b also.listed also.behind) (also.least a is.listed is.behind))
+
+module _ (v : Version) (bytes : Bytes) (up : Ascend v bytes (slot_count v bytes)) where
+  -- a name is not less than one in a slot before it
+  not_less : (j k : ℕ) → j ≤ k → k < slot_count v bytes → by_name (slot_name (slot_at v bytes k)) (slot_name (slot_at v bytes j)) ≢ Less
+  not_less j k before below less = elim (cases_eq j k) [
+    | inl same ↦ let equal = ap (λ i. by_name (slot_name (slot_at v bytes k)) (slot_name (slot_at v bytes i))) same ∙ same_Equal (slot_name (slot_at v bytes k)) in cc
+    | inr other ↦ let greater = greater_from (slot_name (slot_at v bytes j)) (slot_name (slot_at v bytes k)) (up j k (omega arith) below) in cc
+  ]
+
+  -- the slots from the one behind the last name on have the names behind it
+  behind_from : (last : Option Bytes) (k : ℕ) → IsSlotBehind last v bytes k → (j : ℕ) → k ≤ j → j < slot_count v bytes → is_behind last (slot_name (slot_at v bytes j)) ≡ true
+  behind_from None k is j from below = refl
+  behind_from (Some last) k is j from below =
+      let less = up (k - 1) j (let some = is.0 in omega arith) below in
+      ap (λ (q : Bytes). is_lt (by_name q (slot_name (slot_at v bytes j)))) (sym is.1) ∙ ap is_lt less
+
+  not_behind : (last : Option Bytes) (k : ℕ) → k ≤ slot_count v bytes → IsSlotBehind last v bytes k → (j : ℕ) → j < k → is_behind last (slot_name (slot_at v bytes j)) ≢ true
+  not_behind None k within is j before behind = omega arith
+  not_behind (Some last) k within is j before behind =
+      not_less j (k - 1) (omega arith) (omega arith) (ap (λ (q : Bytes). by_name q (slot_name (slot_at v bytes j))) is.1 ∙ less_from (by_name last (slot_name (slot_at v bytes j))) behind)
+
+  listed_in : (other : Bytes) → IsListed (in_order (slot_entries v bytes)) other → (j : ℕ) × (j < slot_count v bytes) × (slot_name (slot_at v bytes j) ≡ other)
+  listed_in other listed =
+      let at = listed_at (slot_entries v bytes) other (ap is_some (sym (find-in_order other (slot_entries v bytes))) ∙ listed) in
+      let within : at.0 < slot_count v bytes = omega (arith, length-slot_entries v bytes) in
+      let none : Bytes × ℕ = ([], 0) in
+      (at.0, within, ap (λ (e : Bytes × ℕ). e.0) (sym (get_or-slot_entries v bytes at.0 none within)) ∙ at.2 none)
+
+  module _ (last : Option Bytes) (k : ℕ) (d : IsDistinct (slot_entries v bytes)) (within : k ≤ slot_count v bytes) (is : IsSlotBehind last v bytes k) where
+    least_there : k < slot_count v bytes → IsLeastBehind last (in_order (slot_entries v bytes)) (slot_name (slot_at v bytes k))
+    least_there below = record {
+      listed = slot_listed v bytes k d below;
+      behind = behind_from last k is k (omega arith) below;
+      least = λ other listed behind less.
+          let at = listed_in other listed in
+          elim (cases_lt at.0 k) [
+            | inl before ↦ not_behind last k within is at.0 before (ap (is_behind last) at.2 ∙ behind)
+            | inr from ↦ not_less k at.0 (omega arith) at.1 (ap (λ (q : Bytes). by_name q (slot_name (slot_at v bytes k))) at.2 ∙ less)
+          ];
+    }
+
+    none_there : slot_count v bytes ≤ k → IsNextName last (in_order (slot_entries v bytes)) None
+    none_there past = λ other listed behind.
+        let at = listed_in other listed in
+        not_behind last k within is at.0 (omega (arith, at.1)) (ap (is_behind last) at.2 ∙ behind)
+
+    -- the next name stands in the slot behind that of the last one
+    pub next_name-ascending : name_at v bytes k ≡ next_name last (in_order (slot_entries v bytes))
+    next_name-ascending =
+        let next = next_name_in_order last (slot_entries v bytes) in
+        elim (cases_lt k (slot_count v bytes)) [
+          | inl below ↦ name_within v bytes k below ∙ next_once last (in_order (slot_entries v bytes)) (Some (slot_name (slot_at v bytes k))) _ (least_there below) next
+          | inr past ↦ name_past v bytes k (omega arith) ∙ next_once last (in_order (slot_entries v bytes)) None _ (none_there (omega arith)) next
+        ]

@@ -1,0 +1,37 @@
+use Rattle.std.proofs.Common.{◌≡◌, ◌<◌, Some, sym, ap, subst, ◌∙◌, arith, inl, inr}
+use Rattle.std.specs.Prelude.{option_map}
+use Rattle.std.proofs.lemmas.Bool.{cases_eq, false≢true}
+use Rattle.pv_inodes.proofs.Numbers.{at_number-within}
+use Rattle.pv_inodes.specs.Files.{Contained, held, bytes_of}
+use Rattle.pv_dirs.specs.Index.{AreLed}
+use Rattle.pv_dirs.proofs.Indexed.{led_like}
+use Rattle.pv_dirs.proofs.indexing.index_of.Goals as goal
+use Rattle.pv_dirs.proofs.indexing.index_of.Goals.{then-is_directory, else-is_directory}
+
+pub loop-inode-preserved : goal.loop-inode-preserved
+loop-inode-preserved c = λ n held_there below there sort.
+    let f = c.args.inodes.now in
+    let before : n < c.loop-inode.inode → AreLed c.loop-inode.index f.version n held_there.bytes = λ less. c.loop-inode.invariant n held_there less there sort in
+    elim c.if-is_directory.branch [
+      | then-is_directory w ↦ rw w.index-is (elim (cases_eq n c.loop-inode.inode) [
+        | inl here ↦
+            let bytes : bytes_of (held f c.loop-inode.inode) ≡ held_there.bytes = ap (λ i. bytes_of (held f i)) (sym here) ∙ ap bytes_of there in
+            rw here (subst (AreLed w.add_slots.new.index f.version c.loop-inode.inode) bytes w.add_slots.ensures.led)
+        | inr other ↦
+            led_like c.loop-inode.inode n c.loop-inode.index w.add_slots.new.index f.version held_there.bytes record {
+              leads = λ m k name apart leads. w.add_slots.ensures.others m k name leads;
+              known_before = λ m apart is. sym (w.add_slots.ensures.known m apart) ∙ is;
+            } other (before (omega arith))
+      ])
+      | else-is_directory w ↦ rw w.index-is (elim (cases_eq n c.loop-inode.inode) [
+        | inl here ↦
+            let is = ap (λ i. option_map (λ (x : Contained). x.sort) (held f i)) (sym here) ∙ ap (option_map (λ (x : Contained). x.sort)) there ∙ ap Some sort in
+            absurd (false≢true (sym w.if-is_directory.false ∙ c.is_directory.ensures.1 is))
+        | inr other ↦ before (omega arith)
+      ])
+    ]
+
+pub returns : goal.returns
+returns c = λ n held_there there sort.
+    let within = at_number-within c.args.inodes.now.nodes n held_there there in
+    c.loop-inode.invariant n held_there (omega (arith, c.inodes.ensures, c.from-inode-end.ensures)) there sort
