@@ -3,8 +3,8 @@ ghost use Rattle.std.specs.Prelude.{◌≡◌, ◌+◌, ◌++◌, ◌≤◌, [],
 ghost use Rattle.pv_model.specs.Stream.{Rose};
 ghost use Rattle.pv_trace.specs.Streams.{and_all};
 
+use crate::page::Page;
 use crate::stream::write_some;
-use arrayvec::ArrayVec;
 use pv_model::{Failed, Sink};
 
 /// How many bytes may wait.
@@ -16,7 +16,7 @@ pub const PIECE: usize = 65_536;
 #[derive(Drop)]
 pub struct Buffered<W: Sink + Drop> {
     sink: W,
-    waiting: ArrayVec<u8, PIECE>,
+    waiting: Page<PIECE>,
 }
 
 impl<W: Sink + Drop> Buffered<W> {
@@ -27,7 +27,7 @@ impl<W: Sink + Drop> Buffered<W> {
     {
         Buffered {
             sink,
-            waiting: ArrayVec::new(),
+            waiting: Page::new(),
         }
     }
 
@@ -44,8 +44,8 @@ impl<W: Sink + Drop> Buffered<W> {
         ensures waiting { self.new.waiting.items ≡ drop count self.old.waiting.items }
         ensures sink { self.new.sink ≡ self.old.sink }
     {
-        let mut rest = ArrayVec::new();
-        let _ = rest.try_extend_from_slice(&self.waiting[count..]);
+        let mut rest = Page::new();
+        rest.extend(&self.waiting.as_slice()[count..]);
         self.waiting = rest;
     }
 
@@ -58,8 +58,8 @@ impl<W: Sink + Drop> Buffered<W> {
         ensures failed { OnErr result (Rose (W.failures self.old.sink) (W.failures self.new.sink)) }
     {
         let mut at = 0;
-        while at < self.waiting.len() {
-            match write_some(&mut self.sink, &self.waiting[at..]) {
+        while at < self.waiting.as_slice().len() {
+            match write_some(&mut self.sink, &self.waiting.as_slice()[at..]) {
                 Ok(count) => at += count,
                 Err(Failed) => {
                     self.forget(at);
@@ -81,11 +81,11 @@ impl<W: Sink + Drop> Sink for Buffered<W> {
 
     #[tactic(auto, using(crate::proofs::Streaming::more_waits))]
     fn write(&mut self, buffer: &[u8]) -> Result<usize, Failed> {
-        if self.waiting.remaining_capacity() < buffer.len() {
+        if self.waiting.room() < buffer.len() {
             self.hand_on()?;
         }
         let count = buffer.len().min(PIECE);
-        let _ = self.waiting.try_extend_from_slice(&buffer[..count]);
+        self.waiting.extend(&buffer[..count]);
         Ok(count)
     }
 

@@ -73,43 +73,44 @@ fn put_start(out: &mut Sheet, start: Start)
     }
 }
 
-// The name of a call.
+// The name of a call. Each is put by itself, so that its length is known where it is copied.
 #[tactic(auto, unfolding(pv_model::specs::Trace::call_text))]
-pub(crate) fn name(call: CallRef<'_>) -> &'static [u8]
-    ensures text { result.now ≡ call_name (call_of call.entry) }
-    ensures few { length result.now ≤ 9 }
+pub(crate) fn put_name(out: &mut Sheet, call: CallRef<'_>)
+    requires { length out.old.items + 9 ≤ SHEET }
+    ensures text { out.new.items ≡ out.old.items ++ call_name (call_of call.entry) }
+    ensures growth { length out.new.items ≤ length out.old.items + 9 }
 {
     match call {
-        CallRef::Exit(_) => b"exit",
-        CallRef::GetPid => b"getpid",
-        CallRef::GetPpid => b"getppid",
-        CallRef::Fork => b"fork",
-        CallRef::Wait => b"wait",
-        CallRef::Pledge(_, _) => b"pledge",
-        CallRef::Unveil(_, _) => b"unveil",
-        CallRef::Execve(_) => b"execve",
-        CallRef::Open(_, _) => b"open",
-        CallRef::OpenAt(_, _, _) => b"openat",
-        CallRef::Close(_) => b"close",
-        CallRef::Dup(_) => b"dup",
-        CallRef::Dup2(_, _) => b"dup2",
-        CallRef::Read(_, _) => b"read",
-        CallRef::Write(_, _) => b"write",
-        CallRef::Lseek(_, _, _) => b"lseek",
-        CallRef::Fstat(_) => b"fstat",
-        CallRef::Ftruncate(_, _) => b"ftruncate",
-        CallRef::Getdents(_) => b"getdents",
-        CallRef::Fchdir(_) => b"fchdir",
-        CallRef::Chdir(_) => b"chdir",
-        CallRef::Stat(_) => b"stat",
-        CallRef::Lstat(_) => b"lstat",
-        CallRef::Readlink(_) => b"readlink",
-        CallRef::Mkdir(_) => b"mkdir",
-        CallRef::Symlink(_, _) => b"symlink",
-        CallRef::Link(_, _) => b"link",
-        CallRef::Unlink(_) => b"unlink",
-        CallRef::Rmdir(_) => b"rmdir",
-        CallRef::Rename(_, _) => b"rename",
+        CallRef::Exit(_) => put(out, b"exit"),
+        CallRef::GetPid => put(out, b"getpid"),
+        CallRef::GetPpid => put(out, b"getppid"),
+        CallRef::Fork => put(out, b"fork"),
+        CallRef::Wait => put(out, b"wait"),
+        CallRef::Pledge(_, _) => put(out, b"pledge"),
+        CallRef::Unveil(_, _) => put(out, b"unveil"),
+        CallRef::Execve(_) => put(out, b"execve"),
+        CallRef::Open(_, _) => put(out, b"open"),
+        CallRef::OpenAt(_, _, _) => put(out, b"openat"),
+        CallRef::Close(_) => put(out, b"close"),
+        CallRef::Dup(_) => put(out, b"dup"),
+        CallRef::Dup2(_, _) => put(out, b"dup2"),
+        CallRef::Read(_, _) => put(out, b"read"),
+        CallRef::Write(_, _) => put(out, b"write"),
+        CallRef::Lseek(_, _, _) => put(out, b"lseek"),
+        CallRef::Fstat(_) => put(out, b"fstat"),
+        CallRef::Ftruncate(_, _) => put(out, b"ftruncate"),
+        CallRef::Getdents(_) => put(out, b"getdents"),
+        CallRef::Fchdir(_) => put(out, b"fchdir"),
+        CallRef::Chdir(_) => put(out, b"chdir"),
+        CallRef::Stat(_) => put(out, b"stat"),
+        CallRef::Lstat(_) => put(out, b"lstat"),
+        CallRef::Readlink(_) => put(out, b"readlink"),
+        CallRef::Mkdir(_) => put(out, b"mkdir"),
+        CallRef::Symlink(_, _) => put(out, b"symlink"),
+        CallRef::Link(_, _) => put(out, b"link"),
+        CallRef::Unlink(_) => put(out, b"unlink"),
+        CallRef::Rmdir(_) => put(out, b"rmdir"),
+        CallRef::Rename(_, _) => put(out, b"rename"),
     }
 }
 
@@ -218,7 +219,7 @@ pub(crate) fn put_call(out: &mut Sheet, call: CallRef<'_>)
     ensures text { out.new.items ≡ out.old.items ++ call_line (call_of call.entry) }
     ensures growth { length out.new.items ≤ length out.old.items + 8 * TEXT + 17 }
 {
-    put(out, name(call));
+    put_name(out, call);
     put(out, b"(");
     put_arguments(out, &call);
     put(out, b")");

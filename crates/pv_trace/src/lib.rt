@@ -1,7 +1,7 @@
 //! The lines of a trace, in the manner of kdump(1), byte by byte.
 //!
 //! `line` has the lines as values, `steps` those of a step, `stream` writes bytes whole, and `buffered` gathers them. The lines
-//! of a step are made on a sheet of fixed size, and a sink is given them in one piece: `sheet` puts on it
+//! of a step are made on a sheet of fixed size, a `page`, and a sink is given them in one piece: `sheet` puts on it
 //! what lines are made of, `calls` a call with its arguments, and `words` the text behind each word. No call
 //! takes memory.
 //!
@@ -11,6 +11,7 @@
 mod buffered;
 mod calls;
 mod line;
+mod page;
 mod sheet;
 mod steps;
 mod stream;
@@ -18,6 +19,7 @@ mod words;
 
 pub use buffered::{Buffered, PIECE};
 pub use line::{Line, PromiseVerdict, Returned, UnveilVerdict, Way, Word, write_line};
+pub use page::Page;
 pub use sheet::{Sheet, put, put_decimal};
 pub use steps::{write_call_lines, write_gone_line};
 pub use stream::{write_through, write_whole};

@@ -7,7 +7,7 @@ ghost use Rattle.pv_model.specs.declared.limits.TheConstants.{TEXT};
 ghost use Rattle.pv_model.specs.Trace.{quote, quote_byte, quote_or_null, hex, hex_byte, hex_digit, is_plain, pad_left};
 ghost use Rattle.pv_trace.specs.Words.{letters_bytes};
 
-use arrayvec::ArrayVec;
+use crate::page::Page;
 use itoa::Buffer;
 use pv_model::{Perms, Text};
 
@@ -21,7 +21,7 @@ pub const SHEET: usize = 64_512;
 const PART: usize = 64;
 
 /// What the lines of a step are made on: one sheet serves for any number of steps.
-pub type Sheet = ArrayVec<u8, SHEET>;
+pub type Sheet = Page<SHEET>;
 
 /// Puts bytes behind what the sheet has, which has room for them.
 #[inline]
@@ -30,26 +30,37 @@ pub fn put(out: &mut Sheet, bytes: &[u8])
     ensures text { out.new.items ≡ out.old.items ++ bytes.now }
     ensures growth { length out.new.items ≡ length out.old.items + length bytes.now }
 {
-    let _ = out.try_extend_from_slice(bytes);
+    out.extend(bytes);
 }
 
 /// Puts a number in decimal digits behind what the sheet has, which has room for 40 bytes.
+#[tactic(auto, using(std::proofs::lemmas::Fmt::decimal_digit))]
 pub fn put_decimal(out: &mut Sheet, n: u32)
     requires { length out.old.items + 40 ≤ SHEET }
     ensures text { out.new.items ≡ out.old.items ++ decimal n }
     ensures growth { length out.new.items ≤ length out.old.items + 40 }
 {
+    if n < 10 {
+        put(out, &[b'0' + n as u8]);
+        return;
+    }
     let mut buffer = Buffer::new();
     put(out, buffer.format(n).as_bytes());
 }
 
+// The same of a number that may be below 0.
 pub(crate) fn put_signed(out: &mut Sheet, n: i32)
     requires { length out.old.items + 40 ≤ SHEET }
     ensures text { out.new.items ≡ out.old.items ++ signed_decimal n }
     ensures growth { length out.new.items ≤ length out.old.items + 40 }
 {
-    let mut buffer = Buffer::new();
-    put(out, buffer.format(n).as_bytes());
+    match u32::try_from(n) {
+        Ok(n) => put_decimal(out, n),
+        Err(_) => {
+            let mut buffer = Buffer::new();
+            put(out, buffer.format(n).as_bytes());
+        }
+    }
 }
 
 // So many spaces.
@@ -62,11 +73,16 @@ fn spaces(count: usize) -> &'static [u8]
 }
 
 // The number, right in five places.
+#[tactic(auto, using(std::proofs::lemmas::Fmt::decimal_digit))]
 pub(crate) fn put_pid(out: &mut Sheet, pid: u32)
     requires { length out.old.items + 45 ≤ SHEET }
     ensures text { out.new.items ≡ out.old.items ++ pad_left 5 (decimal pid) }
     ensures growth { length out.new.items ≤ length out.old.items + 45 }
 {
+    if pid < 10 {
+        put(out, &[b' ', b' ', b' ', b' ', b'0' + pid as u8]);
+        return;
+    }
     let mut buffer = Buffer::new();
     let digits = buffer.format(pid).as_bytes();
     put(out, spaces(5usize.saturating_sub(digits.len())));

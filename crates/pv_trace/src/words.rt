@@ -8,7 +8,7 @@ ghost use Rattle.pv_model.specs.Trace.{pad_right, word_name, word_text, promise_
 ghost use Rattle.pv_trace.specs.declared.sheet.TheConstants.{SHEET};
 ghost use Rattle.pv_trace.specs.Words.{word_of, promise_verdict_of, unveil_verdict_of, way_of, returned_of, HasFewBytes, letters_bytes, needed_text, errno_text};
 
-use crate::calls::{name, put_call};
+use crate::calls::{put_call, put_name};
 use crate::line::{PromiseVerdict, Returned, UnveilVerdict, Way, Word};
 use crate::sheet::{Sheet, put, put_decimal, put_hex, put_letters, put_quoted, put_quoted_all};
 use pv_model::{CallRef, Errno, Perms, Promise};
@@ -56,7 +56,7 @@ fn put_promise(out: &mut Sheet, call: CallRef<'_>, promise: Promise, verdict: Pr
     ensures text { out.new.items ≡ out.old.items ++ promise_text (call_of call.entry) promise (promise_verdict_text (promise_verdict_of verdict)) }
     ensures growth { length out.new.items ≤ length out.old.items + 64 }
 {
-    put(out, name(call));
+    put_name(out, call);
     put(out, b", ");
     put_quoted_all(out, promise_bytes(promise));
     put(out, b", ");
@@ -172,7 +172,7 @@ fn put_return(out: &mut Sheet, call: CallRef<'_>, returned: Returned)
     ensures text { out.new.items ≡ out.old.items ++ return_text (call_of call.entry) (returned_text (returned_of returned)) }
     ensures growth { length out.new.items ≤ length out.old.items + 72 }
 {
-    put(out, name(call));
+    put_name(out, call);
     put(out, b" ");
     put_returned(out, returned);
 }
