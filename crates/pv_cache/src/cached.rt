@@ -25,7 +25,10 @@ pub(crate) struct Pair {
 
 impl Pair {
     // The pair of directory 0 and no name.
-    fn empty() -> Pair {
+    fn empty() -> Pair
+        ensures directory { result.directory ≡ 0 }
+        ensures name { result.name.items ≡ [] }
+    {
         Pair {
             directory: 0,
             name: ArrayVec::new(),

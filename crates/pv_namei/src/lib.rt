@@ -1,8 +1,8 @@
 //! The walk along a path, symlink(7): from a path to the place that it names in a tree.
 //!
 //! A contract sees the definitions' tree, and of a `Lookup` the maps with which it agrees; `resolve`
-//! answers exactly what the definitions' walk does, with every lookup that agrees with the tree. No call
-//! takes memory. A walk goes along the path where it lies, and what a link leaves to walk stands in a buffer
+//! answers exactly what the definitions' walk does, with every lookup that agrees with the tree, and
+//! `resolve_ref` the same with no name of its own. No call takes memory. A walk goes along the path where it lies, and what a link leaves to walk stands in a buffer
 //! of 1,024 bytes.
 //!
 //! `piece` cuts the first piece off a path, `along` has what is left of one, `joined` what is to walk behind
@@ -20,4 +20,4 @@ mod walk;
 
 pub use lookup::{Lookup, PlainLookup};
 pub use piece::{ends_in_dot, is_absolute};
-pub use walk::resolve;
+pub use walk::{resolve, resolve_ref};

@@ -2,7 +2,7 @@
 ghost use Rattle.std.specs.Prelude.{◌≡◌};
 ghost use Rattle.pv_namei.specs.Onward.{place_of, IsShort};
 
-use pv_model::{Name, Place};
+use pv_tree::PlaceRef;
 
 /// Where the way along a path stops.
 #[derive(Clone, Copy)]
@@ -29,18 +29,15 @@ pub(crate) enum End<'a> {
     Unnamed(u16),
 }
 
-impl End<'_> {
-    /// The place, with the name.
-    pub(crate) fn into_place(self) -> Place
+impl<'a> End<'a> {
+    /// The place, whose name stays where it stands.
+    pub(crate) fn place(self) -> PlaceRef<'a>
         requires { IsShort self }
         ensures { result ≡ place_of self.entry }
     {
         match self {
-            End::Named { dir, piece, node } => match Name::new(piece) {
-                Some(name) => Place::At { dir, name, node },
-                None => unreachable!(),
-            },
-            End::Unnamed(node) => Place::Node(node),
+            End::Named { dir, piece, node } => PlaceRef::at(dir, piece, node),
+            End::Unnamed(node) => PlaceRef::of_node(node),
         }
     }
 }

@@ -13,7 +13,7 @@ use crate::piece::{ends_in_slash, is_absolute};
 use crate::stop::{End, Stop};
 use pv_model::limits::{LINKS, NAME_V2, PATH, ROOT};
 use pv_model::{Errno, Follow, Place, Sort};
-use pv_tree::Tree;
+use pv_tree::{PlaceRef, Tree};
 
 /// A walk on its way. The pieces that it has still before it stand beside it.
 #[derive(Drop)]
@@ -184,7 +184,7 @@ impl Walk {
     {
         let mut rest = from.along();
         match self.go(tree, lookup, &mut rest)? {
-            Stop::End(end) => Ok(Some(end.into_place())),
+            Stop::End(end) => Ok(Some(end.place().to_place())),
             Stop::Link(link) => {
                 self.follow(tree, link, &rest, buffer, to)?;
                 Ok(None)
@@ -270,6 +270,28 @@ pub fn resolve<L: Lookup>(
     ensures place { result ≡ resolve tree.now.tree follow start path.now }
     ensures agrees { L.agrees lookup.new (find_entry tree.now.tree) }
 {
+    let mut behind = None;
+    match resolve_ref(tree, lookup, start, path, follow, &mut behind) {
+        Ok(place) => Ok(place.to_place()),
+        Err(errno) => Err(errno),
+    }
+}
+
+/// The same, with the name of the place where it stands: in the path, or, where a link was followed, in `behind`, which
+/// then has the place.
+pub fn resolve_ref<'a, L: Lookup>(
+    tree: &Tree,
+    lookup: &mut L,
+    start: u16,
+    path: &'a [u8],
+    follow: Follow,
+    behind: &'a mut Option<Place>,
+) -> Result<PlaceRef<'a>, Errno>
+    requires start { IsTrue (is_directory_at tree.now.tree start) }
+    requires agrees { L.agrees lookup.old (find_entry tree.now.tree) }
+    ensures place { result ≡ resolve tree.now.tree follow start path.now }
+    ensures agrees { L.agrees lookup.new (find_entry tree.now.tree) }
+{
     if path.is_empty() {
         return Err(Errno::ENOENT);
     }
@@ -281,7 +303,13 @@ pub fn resolve<L: Lookup>(
     let mut walk = Walk::new(start, path, follow);
     let mut rest = Along::new(path);
     match walk.go(tree, lookup, &mut rest)? {
-        Stop::End(end) => Ok(end.into_place()),
-        Stop::Link(link) => walk.go_behind(tree, lookup, link, &rest),
+        Stop::End(end) => Ok(end.place()),
+        Stop::Link(link) => {
+            *behind = Some(walk.go_behind(tree, lookup, link, &rest)?);
+            match behind {
+                Some(place) => Ok(PlaceRef::of(place)),
+                None => unreachable!(),
+            }
+        }
     }
 }

@@ -9,7 +9,6 @@ ghost use Rattle.pv_model.specs.Tree.{find_entry};
 ghost use Rattle.pv_parts.specs.Attempts.{trimmed};
 ghost use Rattle.pv_paths.specs.Execve.{Executes};
 
-use crate::places::node_of;
 use crate::programs::read_program;
 use crate::reach::reach;
 use pv_model::{Errno, Follow, ParseFault, Perms, Sort};
@@ -56,11 +55,20 @@ pub fn execve<L: Lookup>(
     ensures unchanged { OnErr result (parts.new ≡ parts.old) }
     ensures agrees { L.agrees lookup.new (find_entry parts.new.tree) }
 {
-    let place = match reach(parts, lookup, pid, Follow::Last, path, Perms::X) {
+    let mut behind = None;
+    let place = match reach(
+        parts,
+        lookup,
+        pid,
+        Follow::Last,
+        path,
+        Perms::X,
+        &mut behind,
+    ) {
         Ok(place) => place,
         Err(why) => return Err(ExecveFault::Refused(why)),
     };
-    let Some(node) = node_of(&place) else {
+    let Some(node) = place.node() else {
         return Err(refused(Errno::ENOENT));
     };
     if parts.tree().kind(node) != Sort::Executable {

@@ -1,8 +1,8 @@
 //! The rows of the calls that walk a path: the walk, the judgement at its end, and what the call does there.
 //!
-//! `reach` walks and judges; `places` says what is at a place, and `programs` which program a file spells. `opening`
-//! has open(2) and openat(2), `looking` the calls that tell what is there, `names` and `rename` those that change
-//! names, `paths` chdir(2), `unveil` unveil(2) and `execve` execve(2).
+//! `reach` walks and judges, and `programs` says which program a file spells. `opening` has open(2) and openat(2),
+//! `looking` the calls that tell what is there, `names` and `rename` those that change names, `paths` chdir(2), `unveil`
+//! unveil(2) and `execve` execve(2).
 #![tactic(auto)]
 
 pub mod execve;
@@ -10,7 +10,6 @@ pub mod looking;
 pub mod names;
 pub mod opening;
 pub mod paths;
-mod places;
 pub mod programs;
 mod reach;
 pub mod rename;

@@ -10,7 +10,6 @@ ghost use Rattle.pv_paths.specs.Reached.{IsFound, IsMissed};
 ghost use Rattle.pv_rows.specs.Rows.{IsAnswered};
 
 use crate::opening::is_link;
-use crate::places::node_of;
 use crate::reach::reach;
 use pv_model::limits::LINK_TEXT;
 use pv_model::{Errno, Follow, Perms};
@@ -36,8 +35,9 @@ fn find<L: Lookup>(
     ensures there { IfOk result (λ n. IsSome (node_at parts.now.tree n)) }
     ensures agrees { L.agrees lookup.new (find_entry parts.now.tree) }
 {
-    let place = reach(parts, lookup, pid, follow, path, Perms::R)?;
-    match node_of(&place) {
+    let mut behind = None;
+    let place = reach(parts, lookup, pid, follow, path, Perms::R, &mut behind)?;
+    match place.node() {
         Some(node) => Ok(node),
         None => Err(refusal(1, Errno::ENOENT)),
     }

@@ -11,7 +11,6 @@ ghost use Rattle.pv_parts.specs.Attempts.{trimmed};
 ghost use Rattle.pv_rows.specs.Rows.{attempt_of};
 ghost use Rattle.pv_tree.specs.Changes.{new_node};
 
-use crate::places::{name_of, node_of};
 use crate::reach::{reach, reach_second};
 use pv_model::limits::LINK_TEXT;
 use pv_model::{Errno, Follow, Kind, Perms};
@@ -38,11 +37,12 @@ fn make<L: Lookup>(
     ensures small { IfOk result (λ d. d.value ≤ NUMBER) }
     ensures agrees { L.agrees lookup.new (find_entry parts.new.tree) }
 {
-    let place = reach(parts, lookup, pid, follow, path, Perms::C)?;
-    if node_of(&place).is_some() {
+    let mut behind = None;
+    let place = reach(parts, lookup, pid, follow, path, Perms::C, &mut behind)?;
+    if place.node().is_some() {
         return Err(refusal(1, Errno::EEXIST));
     }
-    let Some((directory, name)) = name_of(&place) else {
+    let Some((directory, name)) = place.name() else {
         return Err(refusal(1, Errno::EEXIST));
     };
     if let Err(space) = parts.make(directory, name, kind) {
@@ -140,18 +140,35 @@ pub fn link<L: Lookup>(
     ensures small { IfOk result (λ d. d.value ≤ NUMBER) }
     ensures agrees { L.agrees lookup.new (find_entry parts.new.tree) }
 {
-    let old_place = reach(parts, lookup, pid, Follow::Last, path, Perms::R)?;
-    let new_place = reach_second(parts, lookup, pid, Follow::Keep, new, Perms::C)?;
-    let Some(node) = node_of(&old_place) else {
+    let (mut behind, mut behind_new) = (None, None);
+    let old_place = reach(
+        parts,
+        lookup,
+        pid,
+        Follow::Last,
+        path,
+        Perms::R,
+        &mut behind,
+    )?;
+    let new_place = reach_second(
+        parts,
+        lookup,
+        pid,
+        Follow::Keep,
+        new,
+        Perms::C,
+        &mut behind_new,
+    )?;
+    let Some(node) = old_place.node() else {
         return Err(refusal(2, Errno::ENOENT));
     };
     if parts.tree().is_directory(node) {
         return Err(refusal(2, Errno::EPERM));
     }
-    if node_of(&new_place).is_some() {
+    if new_place.node().is_some() {
         return Err(refusal(2, Errno::EEXIST));
     }
-    let Some((directory, name)) = name_of(&new_place) else {
+    let Some((directory, name)) = new_place.name() else {
         return Err(refusal(2, Errno::EEXIST));
     };
     if let Err(space) = parts.link(directory, name, node) {
@@ -183,14 +200,23 @@ pub fn unlink<L: Lookup>(
     ensures small { IfOk result (λ d. d.value ≤ NUMBER) }
     ensures agrees { L.agrees lookup.new (find_entry parts.new.tree) }
 {
-    let place = reach(parts, lookup, pid, Follow::Keep, path, Perms::C)?;
-    let Some(node) = node_of(&place) else {
+    let mut behind = None;
+    let place = reach(
+        parts,
+        lookup,
+        pid,
+        Follow::Keep,
+        path,
+        Perms::C,
+        &mut behind,
+    )?;
+    let Some(node) = place.node() else {
         return Err(refusal(1, Errno::ENOENT));
     };
     if parts.tree().is_directory(node) {
         return Err(refusal(1, Errno::EPERM));
     }
-    let Some((directory, name)) = name_of(&place) else {
+    let Some((directory, name)) = place.name() else {
         return Err(refusal(1, Errno::EPERM));
     };
     parts.unlink(directory, name);
@@ -224,14 +250,23 @@ pub fn rmdir<L: Lookup>(
     if ends_in_dot(path) {
         return Err(refusal(0, Errno::EINVAL));
     }
-    let place = reach(parts, lookup, pid, Follow::Keep, path, Perms::C)?;
-    let Some(node) = node_of(&place) else {
+    let mut behind = None;
+    let place = reach(
+        parts,
+        lookup,
+        pid,
+        Follow::Keep,
+        path,
+        Perms::C,
+        &mut behind,
+    )?;
+    let Some(node) = place.node() else {
         return Err(refusal(1, Errno::ENOENT));
     };
     if !parts.tree().is_directory(node) {
         return Err(refusal(1, Errno::ENOTDIR));
     }
-    let Some((directory, name)) = name_of(&place) else {
+    let Some((directory, name)) = place.name() else {
         return Err(refusal(1, Errno::EBUSY));
     };
     if !parts.tree().is_empty(node) {

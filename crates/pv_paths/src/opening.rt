@@ -16,15 +16,14 @@ ghost use Rattle.pv_paths.specs.Opening.{open_place};
 ghost use Rattle.pv_rows.specs.Rows.{attempt_of};
 ghost use Rattle.pv_tree_laws.specs.Found.{Alike};
 
-use crate::places::{name_of, node_of};
 use crate::reach::reach_from;
-use pv_model::{Errno, Follow, OpenFlags, Place, Sort, Start};
+use pv_model::{Errno, Follow, OpenFlags, Sort, Start};
 use pv_namei::{Lookup, is_absolute};
 use pv_parts::Parts;
 use pv_rows::answer::{Done, Refused, answer_of, refusal, space_errno};
 use pv_rows::descriptors::open_file;
 use pv_rows::files::writes;
-use pv_tree::Tree;
+use pv_tree::{PlaceRef, Tree};
 
 // Whether flags do not go together.
 fn contradicts(flags: OpenFlags) -> bool
@@ -128,7 +127,7 @@ fn create_there<L: Lookup>(
     parts: &mut Parts,
     lookup: &mut L,
     pid: u32,
-    place: &Place,
+    place: &PlaceRef<'_>,
     flags: OpenFlags,
 ) -> Result<Done, Refused>
     requires whole { IsWhole parts.old }
@@ -147,7 +146,7 @@ fn create_there<L: Lookup>(
     if !flags.create {
         return Err(refusal(1, Errno::ENOENT));
     }
-    let Some((directory, name)) = name_of(place) else {
+    let Some((directory, name)) = place.name() else {
         return Err(refusal(1, Errno::ENOENT));
     };
     match parts.create(pid, directory, name, flags) {
@@ -201,8 +200,18 @@ pub fn open_at<L: Lookup>(
         return Err(refusal(0, Errno::ENFILE));
     }
     let follow = follow_of(flags);
-    let place = reach_from(parts, lookup, pid, directory, follow, path, flags.letters())?;
-    match node_of(&place) {
+    let mut behind = None;
+    let place = reach_from(
+        parts,
+        lookup,
+        pid,
+        directory,
+        follow,
+        path,
+        flags.letters(),
+        &mut behind,
+    )?;
+    match place.node() {
         Some(node) => open_there(parts, pid, node, flags),
         None => create_there(parts, lookup, pid, &place, flags),
     }

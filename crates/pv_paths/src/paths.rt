@@ -8,7 +8,6 @@ ghost use Rattle.pv_model.specs.Tree.{find_entry};
 ghost use Rattle.pv_parts.specs.Attempts.{trimmed};
 ghost use Rattle.pv_rows.specs.Rows.{attempt_of};
 
-use crate::places::node_of;
 use crate::reach::reach;
 use pv_model::{Errno, Follow, Perms};
 use pv_namei::Lookup;
@@ -35,8 +34,17 @@ pub fn chdir<L: Lookup>(
     ensures small { IfOk result (λ d. d.value ≤ NUMBER) }
     ensures agrees { L.agrees lookup.new (find_entry parts.new.tree) }
 {
-    let place = reach(parts, lookup, pid, Follow::Last, path, Perms::R)?;
-    let Some(node) = node_of(&place) else {
+    let mut behind = None;
+    let place = reach(
+        parts,
+        lookup,
+        pid,
+        Follow::Last,
+        path,
+        Perms::R,
+        &mut behind,
+    )?;
+    let Some(node) = place.node() else {
         return Err(refusal(1, Errno::ENOENT));
     };
     if !parts.tree().is_directory(node) {

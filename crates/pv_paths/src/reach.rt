@@ -8,9 +8,10 @@ ghost use Rattle.pv_paths.specs.Reached.{IsReached, IsStopped, IsStoppedSecond};
 
 use pv_model::limits::PATH;
 use pv_model::{Cause, Errno, Follow, Judgement, Perms, Place};
-use pv_namei::{Lookup, resolve};
+use pv_namei::{Lookup, resolve_ref};
 use pv_parts::Parts;
 use pv_rows::answer::{Refused, refusal};
+use pv_tree::PlaceRef;
 
 /// How many walks a path begins: none where it is empty or too long.
 pub(crate) fn walks_begun(path: &[u8]) -> u8
@@ -23,21 +24,23 @@ pub(crate) fn walks_begun(path: &[u8]) -> u8
     }
 }
 
-/// The place at the end of a walk from a directory, which the process's table allows for the letters that are needed.
+/// The place at the end of a walk from a directory, which the process's table allows for the letters that are needed. Its
+/// name stands in the path, or, where a link was followed, in `behind`.
 ///
 /// # Errors
 ///
 /// An error of the walk; else `ENOENT` where no entry governs the place, and `EACCES` where the one that does lacks a
 /// letter: unveil(2).
-pub(crate) fn reach_from<L: Lookup>(
+pub(crate) fn reach_from<'a, L: Lookup>(
     parts: &Parts,
     lookup: &mut L,
     pid: u32,
     start: u16,
     follow: Follow,
-    path: &[u8],
+    path: &'a [u8],
     needed: Perms,
-) -> Result<Place, Refused>
+    behind: &'a mut Option<Place>,
+) -> Result<PlaceRef<'a>, Refused>
     requires whole { IsWhole parts.now }
     requires live { IsSome (process_at parts.now pid) }
     requires start { IsTrue (is_directory_at parts.now.tree start) }
@@ -50,7 +53,7 @@ pub(crate) fn reach_from<L: Lookup>(
     ensures agrees { L.agrees lookup.new (find_entry parts.now.tree) }
 {
     let walks = walks_begun(path);
-    let place = match resolve(parts.tree(), lookup, start, path, follow) {
+    let place = match resolve_ref(parts.tree(), lookup, start, path, follow, behind) {
         Ok(place) => place,
         Err(errno) => return Err(refusal(walks, errno)),
     };
@@ -74,14 +77,15 @@ pub(crate) fn reach_from<L: Lookup>(
 }
 
 /// The same from the working directory.
-pub(crate) fn reach<L: Lookup>(
+pub(crate) fn reach<'a, L: Lookup>(
     parts: &Parts,
     lookup: &mut L,
     pid: u32,
     follow: Follow,
-    path: &[u8],
+    path: &'a [u8],
     needed: Perms,
-) -> Result<Place, Refused>
+    behind: &'a mut Option<Place>,
+) -> Result<PlaceRef<'a>, Refused>
     requires whole { IsWhole parts.now }
     requires live { IsSome (process_at parts.now pid) }
     requires text { IsTrue (is_text path.now) }
@@ -93,18 +97,19 @@ pub(crate) fn reach<L: Lookup>(
     ensures agrees { L.agrees lookup.new (find_entry parts.now.tree) }
 {
     let start = parts.record(pid).directory;
-    reach_from(parts, lookup, pid, start, follow, path, needed)
+    reach_from(parts, lookup, pid, start, follow, path, needed, behind)
 }
 
 /// The same of the second walk of a call: a refusal counts the first walk too.
-pub(crate) fn reach_second<L: Lookup>(
+pub(crate) fn reach_second<'a, L: Lookup>(
     parts: &Parts,
     lookup: &mut L,
     pid: u32,
     follow: Follow,
-    path: &[u8],
+    path: &'a [u8],
     needed: Perms,
-) -> Result<Place, Refused>
+    behind: &'a mut Option<Place>,
+) -> Result<PlaceRef<'a>, Refused>
     requires whole { IsWhole parts.now }
     requires live { IsSome (process_at parts.now pid) }
     requires text { IsTrue (is_text path.now) }
@@ -114,7 +119,7 @@ pub(crate) fn reach_second<L: Lookup>(
     ensures fine { IfOk result (IsFinePlace parts.now.tree) }
     ensures agrees { L.agrees lookup.new (find_entry parts.now.tree) }
 {
-    match reach(parts, lookup, pid, follow, path, needed) {
+    match reach(parts, lookup, pid, follow, path, needed, behind) {
         Ok(place) => Ok(place),
         Err(refused) => Err(Refused {
             walks: 1 + refused.walks,

@@ -12,7 +12,6 @@ ghost use Rattle.pv_parts.specs.Attempts.{trimmed};
 ghost use Rattle.pv_paths.specs.Moving.{check_move};
 ghost use Rattle.pv_rows.specs.Rows.{attempt_of};
 
-use crate::places::{name_of, node_of};
 use crate::reach::{reach, reach_second};
 use pv_model::{Errno, Follow, Perms};
 use pv_namei::{Lookup, ends_in_dot};
@@ -103,15 +102,32 @@ pub fn rename<L: Lookup>(
     if ends_in_dot(path) || ends_in_dot(new) {
         return Err(refusal(0, Errno::EINVAL));
     }
-    let old_place = reach(parts, lookup, pid, Follow::Keep, path, Perms::C)?;
-    let new_place = reach_second(parts, lookup, pid, Follow::Keep, new, Perms::C)?;
-    let Some(node) = node_of(&old_place) else {
+    let (mut behind, mut behind_new) = (None, None);
+    let old_place = reach(
+        parts,
+        lookup,
+        pid,
+        Follow::Keep,
+        path,
+        Perms::C,
+        &mut behind,
+    )?;
+    let new_place = reach_second(
+        parts,
+        lookup,
+        pid,
+        Follow::Keep,
+        new,
+        Perms::C,
+        &mut behind_new,
+    )?;
+    let Some(node) = old_place.node() else {
         return Err(refusal(2, Errno::ENOENT));
     };
-    let (Some((from, name)), Some((to, other))) = (name_of(&old_place), name_of(&new_place)) else {
+    let (Some((from, name)), Some((to, other))) = (old_place.name(), new_place.name()) else {
         return Err(refusal(2, Errno::EBUSY));
     };
-    let there = node_of(&new_place);
+    let there = new_place.node();
     if is_same_node(there, node) {
         return answer_of(2, 0);
     }

@@ -1,5 +1,6 @@
 pub mod Changes
 pub mod Holding
+pub mod Places
 pub mod Rooms
 pub mod Standing
 pub use Rattle.pv_dirs.specs.Trees

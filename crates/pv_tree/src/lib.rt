@@ -7,12 +7,14 @@
 //!
 //! `tree` has `Tree` and what it answers; below it `image` has the tree of an image that was written before,
 //! `making` new nodes, `names` links, unlinks and renames, `holding` holders, and `contents` the bytes of
-//! files. `store` has `Store`, a tree before boot.
+//! files. `store` has `Store`, a tree before boot, and `place` a place whose name stands elsewhere.
 #![tactic(auto)]
 
+mod place;
 mod store;
 mod tree;
 
+pub use place::PlaceRef;
 pub use pv_inodes::Space;
 pub use store::Store;
 pub use tree::{Sizes, Tree};

@@ -4,7 +4,7 @@ use crate::trees::{
     expect_find, expect_make, hold, make_all, of_version_2, remove_directory, with_data_blocks,
 };
 use pv_model::{Judgement, Kind, Name, Perms, Place, Target};
-use pv_tree::Tree;
+use pv_tree::{PlaceRef, Tree};
 use pv_unveil::{AddFault, Table};
 use std::alloc::{AllocError, AllocGlobal, Global};
 use std::process::Abort;
@@ -63,7 +63,11 @@ fn expect_by_name(
         name: name(rt, text),
         node: tree.find(dir, text),
     };
-    expect_same(rt, table.judge(tree, &place, needed), judgement);
+    expect_same(
+        rt,
+        table.judge(tree, &PlaceRef::of(&place), needed),
+        judgement,
+    );
 }
 
 // What is said of a directory without a name.
@@ -78,7 +82,7 @@ fn expect_by_node(
     assert!(rt; tree.is_directory(directory));
     expect_same(
         rt,
-        table.judge(tree, &Place::Node(directory), needed),
+        table.judge(tree, &PlaceRef::of_node(directory), needed),
         judgement,
     );
 }

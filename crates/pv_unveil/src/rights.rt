@@ -9,8 +9,8 @@ ghost use Rattle.pv_unveil.specs.Unveiled.{in_force};
 
 use crate::entries::{entry_for_directory, entry_for_name, letters_at};
 use pv_model::limits::ROOT;
-use pv_model::{Judgement, Perms, Place, Target};
-use pv_tree::Tree;
+use pv_model::{Judgement, Perms, Target};
+use pv_tree::{PlaceRef, Tree};
 
 /// The directory from which a directory has its rights where it has no entry, unveil(2): none for the root, and none
 /// for a removed one.
@@ -64,21 +64,19 @@ pub(crate) fn name_rights(
 // The entry that governs a place: of a directory the one that governs it, and of a name its own, or else
 // the one that governs the directory in which it stands.
 #[tactic(auto, unfolding(pv_model::specs::Unveil::governing_entry))]
-fn governing_entry(entries: &[(Target, Perms)], tree: &Tree, place: &Place) -> Option<u8>
+fn governing_entry(entries: &[(Target, Perms)], tree: &Tree, place: &PlaceRef<'_>) -> Option<u8>
     requires few { length entries.now ≤ UNVEILS }
     requires directory { IsTrue (is_directory_at tree.now.tree (directory_of place.now)) }
     ensures { result ≡ governing_entry tree.now.tree entries.now place.now }
 {
-    match place {
-        Place::Node(node) => directory_rights(entries, tree, *node),
-        Place::At { dir, name, node } => {
-            if let Some(node) = node {
-                if tree.is_directory(*node) {
-                    return directory_rights(entries, tree, *node);
-                }
-            }
-            name_rights(entries, tree, *dir, name.as_slice())
+    if let Some(node) = place.node() {
+        if tree.is_directory(node) {
+            return directory_rights(entries, tree, node);
         }
+    }
+    match place.name() {
+        Some((directory, name)) => name_rights(entries, tree, directory, name),
+        None => unreachable!(),
     }
 }
 
@@ -107,7 +105,7 @@ pub(crate) fn judge_entry(
 pub(crate) fn judge_in(
     entries: &[(Target, Perms)],
     tree: &Tree,
-    place: &Place,
+    place: &PlaceRef<'_>,
     needed: Perms,
 ) -> Judgement
     requires few { length entries.now ≤ UNVEILS }

@@ -8,8 +8,8 @@ use crate::entries::{entry_for, entry_for_directory, letters_at};
 use crate::rights::{judge_in, name_rights};
 use arrayvec::ArrayVec;
 use pv_model::limits::UNVEILS;
-use pv_model::{Judgement, Perms, Place, Target};
-use pv_tree::Tree;
+use pv_model::{Judgement, Perms, Target};
+use pv_tree::{PlaceRef, Tree};
 use std::marker::Model;
 
 /// Why an entry cannot be added, unveil(2): the first of these that applies.
@@ -223,7 +223,7 @@ impl Table {
     /// Where there is no entry, each place is allowed. Else it is judged by the entry that governs it: a place
     /// that none governs is hidden, and one whose entry lacks a letter is denied. The place's name stands in a
     /// directory of the tree, or its node is one: so it is with each place that a path leads to.
-    pub fn judge(&self, tree: &Tree, place: &Place, needed: Perms) -> Judgement
+    pub fn judge(&self, tree: &Tree, place: &PlaceRef<'_>, needed: Perms) -> Judgement
         requires { IsTrue (is_directory_at tree.now.tree (directory_of place.now)) }
         ensures value { result ≡ judgement tree.now.tree self.now.table place.now needed }
         ensures by_entry { IsJudged tree.now.tree self.now.table place.now needed result }

@@ -34,7 +34,7 @@ returns-in-Err-clause-row g c =
     λ me at. rw (c.refusal-in-Err.ensures, c.space_errno.ensures)
     (ap trimmed (link_crowded s c.args.pid me c.args.path.now c.args.new.now c.in_ok-old_place.old_place c.in_ok-new_place.new_place
     (c.in_ok-old_place.ensures.reached me at) (c.in_ok-new_place.ensures.reached me at) c.in-Some.node (sym c.in-Some.ensures) plain free
-    c.in-Some-name_of.directory c.in-Some-name_of.name.now c.in-Some-name_of.ensures c.in-Err.space c.in-Err.ensures.refused))
+    c.in-Some-name.directory c.in-Some-name.name.now c.in-Some-name.ensures c.in-Err.space c.in-Err.ensures.refused))
 
 pub returns-clause-agrees : goal.returns-clause-agrees
 returns-clause-agrees g c =
@@ -43,5 +43,5 @@ returns-clause-agrees g c =
     let free : is_some (node_of c.in_ok-new_place.new_place) ≡ false = cc in
     let plain : is_directory_at s.tree n ≡ false = ap (λ t. is_directory_at t n) (sym c.tree.ensures) ∙ sym c.is_directory.ensures ∙ c.if-is_directory.false in
     c.changed.ensures (find_entry s.tree) (find_entry c.link.new.self.tree) c.reach_second.ensures.agrees
-    (names_linked s c.requires.whole c.in_ok-new_place.new_place c.in_ok-new_place.ensures.fine c.in-Some-name_of.directory c.in-Some-name_of.name.now c.in-Some-name_of.ensures free
+    (names_linked s c.requires.whole c.in_ok-new_place.new_place c.in_ok-new_place.ensures.fine c.in-Some-name.directory c.in-Some-name.name.now c.in-Some-name.ensures free
     n (place-there s.tree c.requires.whole.tree c.in_ok-old_place.old_place n c.in_ok-old_place.ensures.fine (sym c.in-Some.ensures)) plain c.link.new.self c.in_default-link.ensures.linked)

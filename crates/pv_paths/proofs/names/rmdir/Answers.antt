@@ -23,12 +23,12 @@ returns-then-not-is_empty-clause-row g c =
     ap (λ t. is_empty (entries_at t n)) (sym c.tree-2.ensures) ∙ some_left (entries_at c.tree-2.result.now.tree n) c.is_empty.result c.is_empty.ensures.1 c.if-not-is_empty.true in
     λ me at. rw c.refusal-then-not-is_empty.ensures
     (ap trimmed (rmdir_full s c.args.pid me c.args.path.now fine c.in_ok-place.place (c.in_ok-place.ensures.reached me at) n (sym c.in-Some.ensures) directory
-    c.in-Some-name_of.directory c.in-Some-name_of.name.now c.in-Some-name_of.ensures full))
+    c.in-Some-name.directory c.in-Some-name.name.now c.in-Some-name.ensures full))
 
 pub returns-clause-agrees : goal.returns-clause-agrees
 returns-clause-agrees g c =
     let s = c.args.parts.now in
     let bare = ap (λ t. entries_at t c.in-Some.node) (sym c.tree-2.ensures) ∙ c.is_empty.ensures.0 c.if-not-is_empty.false in
     c.changed.ensures (find_entry s.tree) (find_entry c.unlink.new.self.tree) c.reach.ensures.agrees
-    (names_left s c.requires.whole c.in_ok-place.place c.in_ok-place.ensures.fine c.in-Some-name_of.directory c.in-Some-name_of.name.now c.in-Some-name_of.ensures
+    (names_left s c.requires.whole c.in_ok-place.place c.in_ok-place.ensures.fine c.in-Some-name.directory c.in-Some-name.name.now c.in-Some-name.ensures
     c.in-Some.node (sym c.in-Some.ensures) bare c.unlink.new.self c.unlink.ensures)

@@ -15,5 +15,5 @@ returns-clause-agrees g c =
     let s = c.args.parts.now in
     let plain : is_directory_at s.tree c.in-Some.node ≡ false = ap (λ t. is_directory_at t c.in-Some.node) (sym c.tree.ensures) ∙ sym c.is_directory.ensures ∙ c.if-is_directory.false in
     c.changed.ensures (find_entry s.tree) (find_entry c.unlink.new.self.tree) c.reach.ensures.agrees
-    (names_left s c.requires.whole c.in_ok-place.place c.in_ok-place.ensures.fine c.in-Some-name_of.directory c.in-Some-name_of.name.now c.in-Some-name_of.ensures
+    (names_left s c.requires.whole c.in_ok-place.place c.in_ok-place.ensures.fine c.in-Some-name.directory c.in-Some-name.name.now c.in-Some-name.ensures
     c.in-Some.node (sym c.in-Some.ensures) (no_entries (node_at s.tree c.in-Some.node) plain) c.unlink.new.self c.unlink.ensures)

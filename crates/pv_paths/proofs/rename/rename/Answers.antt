@@ -31,19 +31,19 @@ returns-in-Err-clause-row g c =
     let o = node_of c.in_ok-new_place.new_place in
     let fine : ends_in_dot c.args.path.now ≡ false = sym c.ends_in_dot.ensures ∙ c.if-ends_in_dot.false in
     let other : ends_in_dot c.args.new.now ≡ false = sym c.ends_in_dot-else-ends_in_dot.ensures ∙ c.if-ends_in_dot-2.false in
-    let differs : same_node o c.in-Some.node ≡ false = ap (λ x. same_node x c.in-Some.node) (sym c.node_of-there.ensures) ∙ sym c.is_same_node.ensures ∙ c.if-is_same_node.false in
+    let differs : same_node o c.in-Some.node ≡ false = ap (λ x. same_node x c.in-Some.node) (sym c.node-there.ensures) ∙ sym c.is_same_node.ensures ∙ c.if-is_same_node.false in
     λ me at. rw c.refusal-in-Err.ensures
     (ap trimmed (rename_refused s c.args.pid me c.args.path.now c.args.new.now fine other c.in_ok-old_place.old_place c.in_ok-new_place.new_place
     (c.in_ok-old_place.ensures.reached me at) (c.in_ok-new_place.ensures.reached me at) c.in-Some.node (sym c.in-Some.ensures)
     c.in-Some-Some.from c.in-Some-Some.name.now c.in-Some-Some.ensures c.in-Some-Some.to c.in-Some-Some.other.now c.in-Some-Some.ensures' differs c.in-Err.errno
     (move_refused s c.args.pid me c.in-Some.node c.in-Some-Some.from c.in-Some-Some.name.now c.in-Some-Some.to c.in-Some-Some.other.now o c.in-Err.errno
-    (ap (λ t. check_move t c.in-Some.node c.in-Some-Some.to o) (sym c.tree.ensures) ∙ ap (check_move c.tree.result.now.tree c.in-Some.node c.in-Some-Some.to) (sym c.node_of-there.ensures) ∙ c.in-Err.ensures))))
+    (ap (λ t. check_move t c.in-Some.node c.in-Some-Some.to o) (sym c.tree.ensures) ∙ ap (check_move c.tree.result.now.tree c.in-Some.node c.in-Some-Some.to) (sym c.node-there.ensures) ∙ c.in-Err.ensures))))
 
 pub rename-requires-clause-apart : goal.rename-requires-clause-apart
 rename-requires-clause-apart g c =
     let s = c.args.parts.now in
     let o = node_of c.in_ok-new_place.new_place in
-    let differs : same_node o c.in-Some.node ≡ false = ap (λ x. same_node x c.in-Some.node) (sym c.node_of-there.ensures) ∙ sym c.is_same_node.ensures ∙ c.if-is_same_node.false in
+    let differs : same_node o c.in-Some.node ≡ false = ap (λ x. same_node x c.in-Some.node) (sym c.node-there.ensures) ∙ sym c.is_same_node.ensures ∙ c.if-is_same_node.false in
     let named = named-place s.tree c.in_ok-old_place.old_place (c.in-Some-Some.from, c.in-Some-Some.name.now) c.in_ok-old_place.ensures.fine c.in-Some-Some.ensures in
     let new_named = named-place s.tree c.in_ok-new_place.new_place (c.in-Some-Some.to, c.in-Some-Some.other.now) c.in_ok-new_place.ensures.fine c.in-Some-Some.ensures' in
     λ is. apart_from o c.in-Some.node differs (sym new_named.found ∙ is ∙ named.found ∙ sym c.in-Some.ensures)
@@ -54,9 +54,9 @@ returns-in-Err-rename-clause-row g c =
     let o = node_of c.in_ok-new_place.new_place in
     let fine : ends_in_dot c.args.path.now ≡ false = sym c.ends_in_dot.ensures ∙ c.if-ends_in_dot.false in
     let other : ends_in_dot c.args.new.now ≡ false = sym c.ends_in_dot-else-ends_in_dot.ensures ∙ c.if-ends_in_dot-2.false in
-    let differs : same_node o c.in-Some.node ≡ false = ap (λ x. same_node x c.in-Some.node) (sym c.node_of-there.ensures) ∙ sym c.is_same_node.ensures ∙ c.if-is_same_node.false in
+    let differs : same_node o c.in-Some.node ≡ false = ap (λ x. same_node x c.in-Some.node) (sym c.node-there.ensures) ∙ sym c.is_same_node.ensures ∙ c.if-is_same_node.false in
     let passes : check_move s.tree c.in-Some.node c.in-Some-Some.to o ≡ give tt =
-    ap (λ t. check_move t c.in-Some.node c.in-Some-Some.to o) (sym c.tree.ensures) ∙ ap (check_move c.tree.result.now.tree c.in-Some.node c.in-Some-Some.to) (sym c.node_of-there.ensures) ∙ c.in_default-check_move.ensures in
+    ap (λ t. check_move t c.in-Some.node c.in-Some-Some.to o) (sym c.tree.ensures) ∙ ap (check_move c.tree.result.now.tree c.in-Some.node c.in-Some-Some.to) (sym c.node-there.ensures) ∙ c.in_default-check_move.ensures in
     let named : FineName s.tree (c.in-Some-Some.from, c.in-Some-Some.name.now) (node_of c.in_ok-old_place.old_place) =
     named-place s.tree c.in_ok-old_place.old_place (c.in-Some-Some.from, c.in-Some-Some.name.now) c.in_ok-old_place.ensures.fine c.in-Some-Some.ensures in
     λ me at. rw (c.refusal-in-Err-rename.ensures, c.space_errno.ensures)
@@ -71,9 +71,9 @@ returns-clause-agrees g c =
     let s = c.args.parts.now in
     let n = c.in-Some.node in
     let o = node_of c.in_ok-new_place.new_place in
-    let differs : same_node o n ≡ false = ap (λ x. same_node x n) (sym c.node_of-there.ensures) ∙ sym c.is_same_node.ensures ∙ c.if-is_same_node.false in
+    let differs : same_node o n ≡ false = ap (λ x. same_node x n) (sym c.node-there.ensures) ∙ sym c.is_same_node.ensures ∙ c.if-is_same_node.false in
     let passes : check_move s.tree n c.in-Some-Some.to o ≡ give tt =
-    ap (λ t. check_move t n c.in-Some-Some.to o) (sym c.tree.ensures) ∙ ap (check_move c.tree.result.now.tree n c.in-Some-Some.to) (sym c.node_of-there.ensures) ∙ c.in_default-check_move.ensures in
+    ap (λ t. check_move t n c.in-Some-Some.to o) (sym c.tree.ensures) ∙ ap (check_move c.tree.result.now.tree n c.in-Some-Some.to) (sym c.node-there.ensures) ∙ c.in_default-check_move.ensures in
     let named : FineName s.tree (c.in-Some-Some.from, c.in-Some-Some.name.now) (node_of c.in_ok-old_place.old_place) =
     named-place s.tree c.in_ok-old_place.old_place (c.in-Some-Some.from, c.in-Some-Some.name.now) c.in_ok-old_place.ensures.fine c.in-Some-Some.ensures in
     let new_named : FineName s.tree (c.in-Some-Some.to, c.in-Some-Some.other.now) o =

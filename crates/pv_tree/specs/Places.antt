@@ -1,0 +1,17 @@
+-- Where a walk ends, with its name elsewhere.
+use Rattle.std.specs.Prelude.{◌≤◌, ⊤, length}
+use Rattle.pv_model.specs.declared.limits.TheConstants.{NAME_V2}
+use Rattle.pv_model.specs.declared.place.Place.{Place}
+use Rattle.pv_tree.specs.declared.place.Spot.{Spot}
+use Rattle.pv_tree.specs.declared.place.Spot.TheVariants.{At, Node}
+use Rattle.pv_model.specs.declared.place.Place.TheVariants.{At as PlaceAt, Node as PlaceNode}
+
+-- the place
+abbrev pub place_of : Spot → Place
+place_of (At directory name node) = PlaceAt directory name.now node
+place_of (Node n) = PlaceNode n
+
+-- its name is no longer than a name may be
+abbrev pub IsShort : Spot → Type 0
+IsShort (At _ name _) = length name.now ≤ NAME_V2
+IsShort (Node _) = ⊤
