@@ -9,6 +9,9 @@ use std::alloc::{AllocError, Global};
 /// How many bytes a source may give.
 pub const SOURCE_BYTES: usize = 67_108_864;
 
+// How many bytes a source is asked for at a time.
+const CHUNK: usize = 65_536;
+
 /// A source over bytes in memory.
 #[derive(Drop)]
 pub struct Bytes<'a> {
@@ -110,7 +113,7 @@ pub fn read_whole<S: Source>(alloc: Global, source: &mut S) -> Result<Vec<u8>, R
     ensures fault { IfErr result IsReadOrMemory }
 {
     let mut bytes = Vec::new(alloc);
-    let mut chunk = [0; 4096];
+    let mut chunk = [0; CHUNK];
     while bytes.len() <= SOURCE_BYTES {
         let count = read_some(source, &mut chunk)?;
         if count == 0 {

@@ -107,10 +107,11 @@ fn parts_of(
     ensures { IfOk result (λ parts. AreWritten (placed tree.now.tree version blocks inodes) inodes parts.inodes.items parts.contents.items parts.next) }
 {
     let _ = tree.sizes();
+    let table = table_blocks(version, inodes);
     let mut parts = Parts {
-        inodes: Vec::new(alloc),
-        contents: Vec::new(alloc),
-        next: table_blocks(version, inodes) + 1,
+        inodes: Vec::with_capacity(alloc, BLOCK * table as usize)?,
+        contents: Vec::with_capacity(alloc, BLOCK * blocks as usize)?,
+        next: table + 1,
     };
     for slot in 0..inodes {
         parts.add(alloc, tree, version, slot + 1)?;
@@ -128,7 +129,7 @@ fn magic_of(version: Version) -> &'static [u8]
     }
 }
 
-// The first block of an image of so many blocks and inodes.
+// The first block of an image of so many blocks and inodes, with room behind it for the others.
 #[tactic(auto, unfolding(crate::specs::Spelling::first_block))]
 fn beginning(
     alloc: Global,
@@ -138,7 +139,7 @@ fn beginning(
 ) -> Result<Vec<u8>, AllocError>
     ensures { IfOk result (λ bytes. bytes.items ≡ first_block version blocks inodes) }
 {
-    let mut bytes = Vec::new(alloc);
+    let mut bytes = Vec::with_capacity(alloc, BLOCK * blocks as usize)?;
     bytes.extend_from_slice(magic_of(version))?;
     put_u16(&mut bytes, blocks)?;
     put_u16(&mut bytes, inodes)?;

@@ -15,6 +15,6 @@ pub returns : goal.returns
 unfolding first_block
 returns c =
     one-by-one (magic c.args.version) (little_endian 2 c.args.blocks) (little_endian 2 c.args.inodes) (replicate 500 0)
-    c.new-bytes.result.items c.extend_from_slice.new.self.items c.put_u16.new.bytes.items c.put_u16-2.new.bytes.items c.put_zeros.new.bytes.items
-    c.new-bytes.ensures.items (c.in_ok-extend_from_slice.ensures.items ∙ ap (λ (xs : Bytes). c.new-bytes.result.items ++ xs) c.magic_of.ensures)
+    c.in_ok-bytes.bytes.items c.extend_from_slice.new.self.items c.put_u16.new.bytes.items c.put_u16-2.new.bytes.items c.put_zeros.new.bytes.items
+    c.in_ok-bytes.ensures.items (c.in_ok-extend_from_slice.ensures.items ∙ ap (λ (xs : Bytes). c.in_ok-bytes.bytes.items ++ xs) c.magic_of.ensures)
     c.in_ok-put_u16.ensures c.in_ok-put_u16-2.ensures c.in_ok-put_zeros.ensures

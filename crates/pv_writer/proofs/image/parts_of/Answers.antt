@@ -6,15 +6,15 @@ use Rattle.pv_writer.proofs.PlacedTrees.{node-placed, names-placed, placed-short
 use Rattle.pv_writer.proofs.Writing.{written-start, written-step, written-room}
 use Rattle.pv_writer.proofs.image.parts_of.Goals as goal
 
-pub table_blocks-requires : goal.table_blocks-requires
+pub table_blocks-table-requires : goal.table_blocks-table-requires
 unfolding placed
-table_blocks-requires c = c.requires.writable.few
+table_blocks-table-requires c = c.requires.writable.few
 
 pub loop-slot-init : goal.loop-slot-init
 unfolding placed
 loop-slot-init c =
-    written-start (placed c.args.tree.now.tree c.args.version c.args.blocks c.args.inodes) c.requires.writable c.new.result.items c.new-2.result.items (c.table_blocks.result + 1)
-    c.new.ensures.items c.new-2.ensures.items (ap (λ k. k + 1) c.table_blocks.ensures)
+    written-start (placed c.args.tree.now.tree c.args.version c.args.blocks c.args.inodes) c.requires.writable c.in_ok-with_capacity.field-0.items c.in_ok-with_capacity-2.field-0.items (c.table_blocks-table.result + 1)
+    c.in_ok-with_capacity.ensures.items c.in_ok-with_capacity-2.ensures.items (ap (λ k. k + 1) c.table_blocks-table.ensures)
 
 pub add-requires : goal.add-requires
 unfolding placed
