@@ -2,11 +2,11 @@
 ghost use Rattle.std.specs.Prelude.{◌≡◌, ◌++◌, ◌+◌, ◌*◌, ◌<◌, ◌≤◌, length, flat_map, OnOk, OnErr};
 ghost use Rattle.pv_model.specs.Listing.{listed_path as path_of_line};
 ghost use Rattle.pv_model.specs.Stream.{Rose};
-ghost use Rattle.pv_model.specs.Trace.{quote, quote_byte, hex_digit};
+ghost use Rattle.pv_model.specs.Trace.{quote, quote_byte};
 ghost use Rattle.pv_trace.specs.Streams.{and_all, TellsBeginning};
 
 use arrayvec::ArrayVec;
-use pv_model::{Failed, Sink};
+use pv_model::{Failed, Sink, hex_digit, is_plain};
 use pv_trace::write_whole;
 
 // How many bytes of a text are written at a time.
@@ -15,27 +15,21 @@ const PIECE: usize = 64;
 // Bytes that these may have, as a program writes them.
 const QUOTED: usize = 256;
 
-fn digit(value: u8) -> u8
-    requires { value < 16 }
-    ensures { result ≡ hex_digit value }
-{
-    if value < 10 {
-        b'0' + value
-    } else {
-        b'a' - 10 + value
-    }
-}
-
 // A byte of a text, as a program writes it in its shortest form.
 fn add_byte(quoted: &mut ArrayVec<u8, QUOTED>, byte: u8)
     requires { length quoted.old.items + 4 ≤ QUOTED }
     ensures text { quoted.new.items ≡ quoted.old.items ++ quote_byte byte }
     ensures growth { length quoted.new.items ≤ length quoted.old.items + 4 }
 {
-    if (32..=126).contains(&byte) && byte != b'"' && byte != b'\\' {
+    if is_plain(byte) {
         let _ = quoted.try_push(byte);
     } else {
-        let _ = quoted.try_extend_from_slice(&[b'\\', b'x', digit(byte / 16), digit(byte % 16)]);
+        let _ = quoted.try_extend_from_slice(&[
+            b'\\',
+            b'x',
+            hex_digit(byte / 16),
+            hex_digit(byte % 16),
+        ]);
     }
 }
 

@@ -1,12 +1,12 @@
 //! Texts in quotation marks.
 ghost use Rattle.std.specs.Prelude.{◌≡◌, ◌<◌, length, not, position, None, MatchOption, IfSome};
 ghost use Rattle.pv_model.specs.Grammar.Arguments.{text_at, text_or_null_at, hex_value, text_rest, if_short, onto_text, outside, behind_backslash};
-ghost use Rattle.pv_model.specs.Trace.{is_plain};
+ghost use Rattle.pv_model.specs.Trace.{is_plain as stands_for_itself};
 ghost use Rattle.pv_text.specs.Reading.{IsFront, Reads, text_end};
 
 use crate::lines::split_word;
-use pv_model::Text;
 use pv_model::limits::TEXT;
+use pv_model::{Text, is_plain};
 
 // The value of a lower-case hexadecimal digit.
 fn hex_digit(byte: u8) -> Option<u8>
@@ -38,16 +38,9 @@ fn escape(bytes: &[u8]) -> Option<(u8, &[u8])>
     Some((byte, rest))
 }
 
-// Whether a byte of a text stands for itself.
-fn is_plain(byte: u8) -> bool
-    ensures { result ≡ is_plain byte }
-{
-    (b' '..=b'~').contains(&byte) && byte != b'"' && byte != b'\\'
-}
-
 // Where the first byte stands that does not stand for itself, if there is one.
 fn plain_end(bytes: &[u8]) -> Option<usize>
-    ensures { result ≡ position (λ byte. not (is_plain byte)) bytes.now }
+    ensures { result ≡ position (λ byte. not (stands_for_itself byte)) bytes.now }
 {
     bytes.iter().position(|byte| !is_plain(*byte))
 }

@@ -4,12 +4,12 @@
 ghost use Rattle.std.specs.Prelude.{◌≡◌, ◌++◌, ◌+◌, ◌*◌, ◌<◌, ◌≤◌, replicate, ◌∷◌, length, codes, decimal, flat_map, option_copied};
 ghost use Rattle.std.specs.Fmt.{signed_decimal};
 ghost use Rattle.pv_model.specs.declared.limits.TheConstants.{TEXT};
-ghost use Rattle.pv_model.specs.Trace.{quote, quote_byte, quote_or_null, hex, hex_byte, hex_digit, is_plain, pad_left};
+ghost use Rattle.pv_model.specs.Trace.{quote, quote_byte, quote_or_null, hex, hex_byte, pad_left};
 ghost use Rattle.pv_trace.specs.Words.{letters_bytes};
 
 use crate::page::Page;
 use itoa::Buffer;
-use pv_model::{Perms, Text};
+use pv_model::{Perms, Text, hex_digit, is_plain};
 
 /// Bytes that a line may have: more than any has.
 pub const LINE_BYTES: usize = 9_216;
@@ -89,17 +89,6 @@ pub(crate) fn put_pid(out: &mut Sheet, pid: u32)
     put(out, digits);
 }
 
-fn digit(value: u8) -> u8
-    requires { value < 16 }
-    ensures { result ≡ hex_digit value }
-{
-    if value < 10 {
-        b'0' + value
-    } else {
-        b'a' - 10 + value
-    }
-}
-
 // The digits of a few bytes, two for each.
 fn put_hex_part(out: &mut Sheet, bytes: &[u8])
     requires few { length bytes.now ≤ PART }
@@ -109,8 +98,8 @@ fn put_hex_part(out: &mut Sheet, bytes: &[u8])
 {
     let mut digits = [0; 2 * PART];
     for k in 0..bytes.len() {
-        digits[2 * k] = digit(bytes[k] / 16);
-        digits[2 * k + 1] = digit(bytes[k] % 16);
+        digits[2 * k] = hex_digit(bytes[k] / 16);
+        digits[2 * k + 1] = hex_digit(bytes[k] % 16);
     }
     put(out, &digits[..2 * bytes.len()]);
 }
@@ -128,20 +117,16 @@ pub(crate) fn put_hex(out: &mut Sheet, bytes: &[u8])
     }
 }
 
-// Whether a program writes a byte of a text as it is.
-fn is_plain(byte: u8) -> bool
-    ensures { result ≡ is_plain byte }
-{
-    (32..=126).contains(&byte) && byte != b'"' && byte != b'\\'
-}
-
 // A byte of a text that is not written as it is.
 fn put_escaped(out: &mut Sheet, byte: u8)
     requires { length out.old.items + 4 ≤ SHEET }
     ensures text { out.new.items ≡ out.old.items ++ (codes "\\x" ++ hex_byte byte) }
     ensures growth { length out.new.items ≤ length out.old.items + 4 }
 {
-    put(out, &[b'\\', b'x', digit(byte / 16), digit(byte % 16)]);
+    put(
+        out,
+        &[b'\\', b'x', hex_digit(byte / 16), hex_digit(byte % 16)],
+    );
 }
 
 // The bytes of a text, as a program writes them in their shortest form. What is written as it is goes on
