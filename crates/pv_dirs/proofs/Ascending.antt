@@ -1,5 +1,5 @@
 -- Names that ascend from slot to slot.
-use Rattle.std.proofs.Common.{◌≡◌, ◌≢◌, ℕ, suc, ◌+◌, ◌-◌, ◌<◌, ◌≤◌, length, get_or, true, cond, [], ◌∷◌, Option, None, Some, is_some, refl, ap, sym, ◌∙◌, arith, inl, inr}
+use Rattle.std.proofs.Common.{◌≡◌, ◌≢◌, ℕ, suc, ◌+◌, ◌-◌, ◌<◌, ◌≤◌, length, get_or, true, false, cond, [], ◌∷◌, Option, None, Some, is_some, refl, ap, sym, ◌∙◌, arith, inl, inr}
 use Rattle.std.proofs.lemmas.Bool.{cases_eq, cases_lt, lt-ltb, le-ltb}
 use Rattle.std.specs.Ordering.{is_lt, ordering_reverse}
 use Rattle.std.specs.declared.cmp.Ordering.TheVariants.{Less, Equal, Greater}
@@ -10,7 +10,8 @@ use Rattle.pv_model.specs.Tree.{Entries}
 use Rattle.pv_dirs.specs.Index.{Ascend, AscendTo, IsSlotBehind}
 use Rattle.pv_dirs.specs.Listing.{IsListed, IsLeastBehind, IsNextName}
 use Rattle.pv_dirs.specs.Slots.{slot_at, slot_count, slot_name, slot_entries, name_at, in_order, IsDistinct}
-use Rattle.pv_dirs.proofs.Entries.{by_name, total, same_name, find-in_order}
+use Rattle.std.specs.FinMap.Entries.{find}
+use Rattle.pv_dirs.proofs.Entries.{by_name, total, same_name, find-in_order, absent_from}
 use Rattle.pv_dirs.proofs.Next.{less_from, greater_from, listed_cases, same_Equal, next_name_in_order}
 use Rattle.pv_dirs.proofs.Passes.{slot_listed}
 use Rattle.pv_dirs.proofs.SlotBytes.{length-slot_entries, get_or-slot_entries}
@@ -127,3 +128,35 @@ module _ (v : Version) (bytes : Bytes) (up : Ascend v bytes (slot_count v bytes)
           | inl below ↦ name_within v bytes k below ∙ next_once last (in_order (slot_entries v bytes)) (Some (slot_name (slot_at v bytes k))) _ (least_there below) next
           | inr past ↦ name_past v bytes k (omega arith) ∙ next_once last (in_order (slot_entries v bytes)) None _ (none_there (omega arith)) next
         ]
+
+-- ---- a search by halves
+
+module _ (v : Version) (bytes : Bytes) (up : Ascend v bytes (slot_count v bytes)) (name : Bytes) where
+  -- a name behind that in a slot comes behind those before it
+  pub before_until : (m : ℕ) → m < slot_count v bytes → by_name (slot_name (slot_at v bytes m)) name ≡ Less → (k : ℕ) → k < m + 1 → by_name (slot_name (slot_at v bytes k)) name ≡ Less
+  before_until m within less k below = elim (cases_eq k m) [
+    | inl same ↦ ap (λ i. by_name (slot_name (slot_at v bytes i)) name) same ∙ less
+    | inr other ↦ total.trans (slot_name (slot_at v bytes k)) (slot_name (slot_at v bytes m)) name (up k m (omega arith) within) less
+  ]
+
+  -- a name that does not come behind that in a slot does not come behind those from there on
+  pub not_before_from : (m : ℕ) → m < slot_count v bytes → is_lt (by_name (slot_name (slot_at v bytes m)) name) ≡ false → (k : ℕ) → m ≤ k → k < slot_count v bytes → by_name (slot_name (slot_at v bytes k)) name ≢ Less
+  not_before_from m within not k from below less =
+      let back = before_until k below less m (omega arith) in
+      let no = sym not ∙ ap is_lt back in cc
+
+  -- a name that is not in the first slot whose name does not come before it is in none
+  pub absent_ascending : (k : ℕ) → ((j : ℕ) → j < k → by_name (slot_name (slot_at v bytes j)) name ≡ Less) → ((j : ℕ) → k ≤ j → j < slot_count v bytes → by_name (slot_name (slot_at v bytes j)) name ≢ Less)
+      → (k < slot_count v bytes → slot_name (slot_at v bytes k) ≢ name) → find by_name name (slot_entries v bytes) ≡ None
+  absent_ascending k before behind not =
+      absent_from name (slot_entries v bytes) (λ j e within same.
+      let below : j < slot_count v bytes = omega (arith, length-slot_entries v bytes) in
+      let named : slot_name (slot_at v bytes j) ≡ name = ap (λ (x : Bytes × ℕ). x.0) (sym (get_or-slot_entries v bytes j e below)) ∙ same in
+      elim (cases_lt j k) [
+        | inl less ↦
+            let no = sym (before j less) ∙ ap (λ (q : Bytes). by_name q name) named ∙ same_Equal name in cc
+        | inr from ↦ elim (cases_eq j k) [
+          | inl here ↦ not (omega arith) (ap (λ i. slot_name (slot_at v bytes i)) (sym here) ∙ named)
+          | inr later ↦ behind k (omega arith) (omega arith) (ap (by_name (slot_name (slot_at v bytes k))) (sym named) ∙ up k j (omega arith) below)
+        ]
+      ])

@@ -6,6 +6,7 @@ pub mod Contents
 pub mod Counts
 pub mod Emptiness
 pub mod Entries
+pub mod Exchanging
 pub mod Images
 pub mod Indexed
 pub mod Leading

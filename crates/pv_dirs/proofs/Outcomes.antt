@@ -24,3 +24,7 @@ either_number P Q (Some n) old new after none within some p q = subst P (sym som
 pub if_some_both : (r : Option ℕ) (P Q R : ℕ → Type 0) → IfSome r P → IfSome r Q → ((n : ℕ) → P n → Q n → R n) → IfSome r R
 if_some_both None P Q R p q f = p
 if_some_both (Some n) P Q R p q f = f n p q
+
+pub on_none : {X P Q : Type 0} (r : Option X) → IfNone r P → (P → Q) → IfNone r Q
+on_none None p f = f p
+on_none (Some x) p f = p

@@ -12,10 +12,11 @@ ghost use Rattle.pv_dirs.specs.Trees.{sort_of, new_node, bytes_at, written, cut,
 
 mod counting;
 mod image;
+mod ordering;
 
 use crate::index::Index;
 use crate::indexing::ascends;
-use crate::scan::{count, find, least_behind, number, slot, start};
+use crate::scan::{count, find, is_directory, least_behind, number, slot, start};
 use crate::slot::Slot;
 use pv_inodes::{Inodes, Space};
 use pv_model::{Name, Sort, Version};
@@ -108,7 +109,7 @@ impl Directories {
     pub fn is_directory(&self, inode: u16) -> bool
         ensures { result ≡ is_directory_at self.now inode }
     {
-        self.inodes.is_used(inode) && matches!(self.inodes.kind(inode), Sort::Directory)
+        is_directory(&self.inodes, inode)
     }
 
     /// What a node is.

@@ -6,8 +6,8 @@
 //! order, and the length of a directory's bytes stand in the invariant alone, and so does an index that
 //! leads from names to slots and knows of which directories the names ascend from slot to slot. `slot` has
 //! a slot's bytes, `scan` goes over the slots of a directory, `index` has the index, `indexing` puts slots
-//! into it, `directories` has `Directories`, and `law` says that slots spell their entries as an image's
-//! format does.
+//! into it, `sorting` puts slots in the order of the names, `directories` has `Directories`, and `law` says
+//! that slots spell their entries as an image's format does.
 #![tactic(auto)]
 
 mod directories;
@@ -16,5 +16,6 @@ mod indexing;
 pub mod law;
 mod scan;
 mod slot;
+mod sorting;
 
 pub use directories::Directories;

@@ -185,7 +185,8 @@ fn add(tree: &mut Tree, entry: &Entry) -> Result<(), ManifestFault>
     make(tree, entry.line, directory, name, &entry.content)
 }
 
-/// The tree that a manifest makes: the root, and each entry in turn, in an image of the first version.
+/// The tree that a manifest makes: the root, and each entry in turn, in an image of the first version. The
+/// slots of its directories are put in the order of the names.
 ///
 /// Of the least line whose entry can't be made, `Err(Parent(n))` says that what is to contain it is no
 /// directory, else `Err(Exists(n))` that its name is there, else `Err(Source(n))` that what it is to be a
@@ -201,5 +202,6 @@ pub fn build(alloc: Global, manifest: &Manifest) -> Result<Store, ManifestFault>
     for entry in &manifest.entries {
         add(&mut tree, entry)?;
     }
+    tree.sort_slots();
     Ok(Store::of_tree(tree))
 }

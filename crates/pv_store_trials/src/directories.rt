@@ -1,5 +1,5 @@
 //! Directories whose entries come and go, in both versions, and files among them.
-ghost use Rattle.std.specs.Prelude.{◌≤◌};
+ghost use Rattle.std.specs.Prelude.{◌<◌, ◌≤◌};
 
 use crate::answers::expect_same;
 use pv_dirs::Directories;
@@ -56,6 +56,16 @@ fn remove(rt: &impl Abort, files: &mut Directories, name: &[u8]) {
     expect_same(rt, files.remove(1, name), node);
 }
 
+// No name comes behind the last one.
+fn expect_end(rt: &impl Abort, files: &Directories, last: &Option<Name>) {
+    assert!(rt; files.is_directory(1));
+    assert!(rt;
+        files
+            .next_after(1, last.as_ref().map(|last| last.as_slice()))
+            .is_none()
+    );
+}
+
 // The names of the directory are these, in this order, and all of them.
 fn assert_lists(rt: &impl Abort, files: &Directories, names: &[&[u8]]) {
     let mut last: Option<Name> = None;
@@ -64,12 +74,7 @@ fn assert_lists(rt: &impl Abort, files: &Directories, names: &[&[u8]]) {
         last = files.next_after(1, last.as_ref().map(|last| last.as_slice()));
         assert!(rt; last.as_ref().is_some_and(|last| last.as_slice() == *name));
     }
-    assert!(rt; files.is_directory(1));
-    assert!(rt;
-        files
-            .next_after(1, last.as_ref().map(|last| last.as_slice()))
-            .is_none()
-    );
+    expect_end(rt, files, &last);
 }
 
 fn expect_free(rt: &impl Abort, files: &Directories, blocks: u16) {
@@ -288,11 +293,17 @@ fn the_ninth_entry_takes_a_second_block(rt: HostRuntime) -> Result<(), AllocErro
     Ok(())
 }
 
+// A name for each number. They come in the order of the numbers.
+fn name_of(number: u16) -> [u8; 2]
+    requires { number < 2128 }
+{
+    [128 + (number / 64) as u8, 128 + (number % 64) as u8]
+}
+
 // As many names as a directory of version 1 may have.
 fn fill(rt: &impl Abort, files: &mut Directories) {
     for k in 0..2_128u16 {
-        let name = [128 + (k / 64) as u8, 128 + (k % 64) as u8];
-        expect_add(rt, files, &name, 1, Ok(()));
+        expect_add(rt, files, &name_of(k), 1, Ok(()));
     }
 }
 
@@ -385,6 +396,82 @@ fn slots_stand_across_two_blocks(rt: HostRuntime) -> Result<(), AllocError> {
     expect_long(&rt, &files, 135, Some(9));
     expect_free(&rt, &files, 2);
     expect_seven(&rt, &files);
+    Ok(())
+}
+
+// How many names a directory has whose slots are put in order.
+const MANY: u16 = 130;
+
+// Adds many names, the number of each so far behind that of the one before, and again from the front.
+fn add_scattered(rt: &impl Abort, files: &mut Directories, step: u16)
+    requires { step < 130 }
+{
+    for k in 0..MANY {
+        let number = k * step % MANY;
+        expect_add(rt, files, &name_of(number), number, Ok(()));
+    }
+}
+
+// The next name behind the last one is that of a number, and this is the last one from then on.
+fn expect_next(rt: &impl Abort, files: &Directories, last: &mut Option<Name>, number: u16)
+    requires { number < 130 }
+{
+    let name = name_of(number);
+    assert!(rt; files.is_directory(1));
+    *last = files.next_after(1, last.as_ref().map(|last| last.as_slice()));
+    assert!(rt;
+        last.as_ref()
+            .is_some_and(|last| last.as_slice() == name.as_slice())
+    );
+}
+
+// All of the many names are found, and listed in their order, but that of one number.
+fn expect_all_but(rt: &impl Abort, files: &Directories, gone: u16) {
+    let mut last = None;
+    for number in 0..MANY {
+        if number == gone {
+            expect_find(rt, files, &name_of(number), None);
+        } else {
+            expect_find(rt, files, &name_of(number), Some(number));
+            expect_next(rt, files, &mut last, number);
+        }
+    }
+    expect_end(rt, files, &last);
+}
+
+fn sort_and_expect_all_but(rt: &impl Abort, files: &mut Directories, gone: u16) {
+    files.sort_slots();
+    expect_all_but(rt, files, gone);
+}
+
+// Slots are put in order, also again behind a removal and an addition.
+fn expect_put_in_order(rt: &impl Abort, files: &mut Directories, step: u16)
+    requires { step < 130 }
+{
+    add_scattered(rt, files, step);
+    sort_and_expect_all_but(rt, files, MANY);
+    remove(rt, files, &name_of(100));
+    sort_and_expect_all_but(rt, files, 100);
+    expect_add(rt, files, &name_of(100), 100, Ok(()));
+    expect_all_but(rt, files, MANY);
+}
+
+// The same in both versions.
+fn expect_put_in_order_in_both<R: Abort + AllocGlobal>(rt: &R, step: u16) -> Result<(), AllocError>
+    requires { step < 130 }
+{
+    let mut files = with_data_blocks(rt, rt.alloc(), 30)?;
+    expect_put_in_order(rt, &mut files, step);
+    let mut files = of_version_2(rt, rt.alloc(), 120)?;
+    expect_put_in_order(rt, &mut files, step);
+    Ok(())
+}
+
+#[test]
+fn slots_are_put_in_order(rt: HostRuntime) -> Result<(), AllocError> {
+    // Names in mixed order, and those that descend.
+    expect_put_in_order_in_both(&rt, 83)?;
+    expect_put_in_order_in_both(&rt, 129)?;
     Ok(())
 }
 

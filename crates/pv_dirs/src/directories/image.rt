@@ -12,7 +12,7 @@ use pv_model::limits::BLOCK;
 
 impl Directories {
     /// The tree of the image that these bytes are, of this version and with so many inodes. The bytes are
-    /// its blocks from then on, so nothing is copied.
+    /// its blocks from then on, so nothing is copied. Its slots are put in the order of the names.
     pub fn of_image(bytes: Vec<u8>, inodes: u16, version: Version) -> Directories
         requires { IsImage version inodes bytes.items }
         ensures { (t : Tree) → IsImageOf bytes.items t → result ≡ t }
@@ -21,10 +21,12 @@ impl Directories {
         let block_count = (bytes.len() / BLOCK - table.div_ceil(BLOCK) - 1) as u16;
         let inodes = Inodes::of_image(bytes, inodes, version);
         let index = index_of(&inodes);
-        Directories {
+        let mut directories = Directories {
             inodes,
             block_count,
             index,
-        }
+        };
+        directories.sort_slots();
+        directories
     }
 }

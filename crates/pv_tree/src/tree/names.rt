@@ -62,6 +62,14 @@ fn move_entry(
 }
 
 impl Tree {
+    /// Puts the slots of the directories in the order of the names, where they are not known to stand so. The
+    /// tree is the same, but names are found and listed in fewer steps.
+    pub fn sort_slots(&mut self)
+        ensures { self.new ≡ self.old }
+    {
+        self.directories.sort_slots();
+    }
+
     /// Puts a node that is no directory under one more name, which the directory has not. `TooBig` comes
     /// where the directory would be longer than any may be, else `Full` where the image has not the block
     /// for it; then nothing has changed.

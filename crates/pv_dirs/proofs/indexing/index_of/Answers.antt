@@ -4,9 +4,14 @@ use Rattle.std.proofs.lemmas.Bool.{cases_eq, false≢true}
 use Rattle.pv_inodes.proofs.Numbers.{at_number-within}
 use Rattle.pv_inodes.specs.Files.{Contained, held, bytes_of}
 use Rattle.pv_dirs.specs.Index.{AreLed}
+use Rattle.pv_dirs.proofs.Contents.{is_directory_by_sort}
 use Rattle.pv_dirs.proofs.Indexed.{led_like}
+use Rattle.pv_dirs.proofs.TreeOf.{directory_used}
 use Rattle.pv_dirs.proofs.indexing.index_of.Goals as goal
 use Rattle.pv_dirs.proofs.indexing.index_of.Goals.{then-is_directory, else-is_directory}
+
+pub add_slots-requires : goal.add_slots-requires
+add_slots-requires c = record { used = directory_used c.args.inodes.now c.loop-inode.inode (sym c.is_directory.ensures ∙ c.if-is_directory.true) }
 
 pub loop-inode-preserved : goal.loop-inode-preserved
 loop-inode-preserved c = λ n held_there below there sort.
@@ -26,7 +31,7 @@ loop-inode-preserved c = λ n held_there below there sort.
       | else-is_directory w ↦ rw w.index-is (elim (cases_eq n c.loop-inode.inode) [
         | inl here ↦
             let is = ap (λ i. option_map (λ (x : Contained). x.sort) (held f i)) (sym here) ∙ ap (option_map (λ (x : Contained). x.sort)) there ∙ ap Some sort in
-            absurd (false≢true (sym w.if-is_directory.false ∙ c.is_directory.ensures.1 is))
+            absurd (false≢true (sym w.if-is_directory.false ∙ c.is_directory.ensures ∙ is_directory_by_sort f c.loop-inode.inode is))
         | inr other ↦ before (omega arith)
       ])
     ]

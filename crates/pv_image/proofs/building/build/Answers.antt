@@ -5,6 +5,7 @@ use Rattle.pv_image.specs.Reading.{manifest_before}
 use Rattle.pv_model.specs.Grammar.Manifests.{tree_of}
 use Rattle.pv_image.proofs.EntryByEntry.{IsBuiltSoFar, IsBuiltSoFar-start, IsBuiltSoFar-step, IsBuiltSoFar-refused, IsBuiltSoFar-end, refuses, next_entry}
 use Rattle.std.proofs.Math.ListN.{drop_of_length-le}
+use Rattle.pv_tree.specs.Holding.{HeldTree, IsUnheld}
 use Rattle.pv_image.proofs.building.build.Goals as goal
 
 pub loop-entry-init : goal.loop-entry-init
@@ -36,11 +37,11 @@ loop-entry-preserved c =
     IsBuiltSoFar-step (drop i items) c.loop-entry.tree m c.loop-entry.invariant c.entry-item.result (drop (i + 1) items) first c.in_ok-add.field-0 c.add.new.tree c.in_ok-add.ensures
 
 pub of_tree-requires : goal.of_tree-requires
-of_tree-requires c = c.loop-entry.invariant.unheld
+of_tree-requires c = subst (λ (h : HeldTree). IsUnheld h.holds) (sym c.sort_slots.ensures) c.loop-entry.invariant.unheld
 
 pub returns : goal.returns
 returns c =
     let items = c.deref-entry-items.result.now in
     let i = c.loop-entry.entry-index in
     IsBuiltSoFar-end (drop i items) c.loop-entry.tree (manifest_before c.args.manifest.now []) c.loop-entry.invariant (drop_of_length-le items c.loop-entry-test.false)
-    ∙ ap (λ t. Ok t) (sym c.of_tree.ensures)
+    ∙ ap (λ t. Ok t) (sym (c.of_tree.ensures ∙ ap (λ (h : HeldTree). h.tree) c.sort_slots.ensures))

@@ -6,8 +6,8 @@ use Rattle.pv_dirs.proofs.directories.Directories.of_image.Goals as goal
 pub of_image-inodes-requires-clause-inodes : goal.of_image-inodes-requires-clause-inodes
 of_image-inodes-requires-clause-inodes c = image-inodes c.args.version c.args.inodes c.args.bytes.items c.requires
 
-pub invariant_of-result : goal.invariant_of-result
-invariant_of-result c =
+pub invariant_of-directories : goal.invariant_of-directories
+invariant_of-directories c =
     let sizes = image-sizes c.args.version c.args.inodes c.args.bytes.items c.requires in
     let table = rw c.layout.ensures.inode_length at c.div_ceil.ensures in
     let blocks : c.len.result / 512 - c.div_ceil.result - 1 ≡ c.requires.tree.blocks = omega (arith, table, c.len.ensures, sizes.whole, sizes.data_blocks) in
@@ -17,4 +17,4 @@ invariant_of-result c =
     }
 
 pub returns : goal.returns
-returns c = λ t is. ap tree_of c.of_image-inodes.ensures ∙ image-tree c.args.version c.args.inodes c.args.bytes.items c.requires t is
+returns c = λ t is. c.sort_slots.ensures ∙ ap tree_of c.of_image-inodes.ensures ∙ image-tree c.args.version c.args.inodes c.args.bytes.items c.requires t is
