@@ -30,6 +30,40 @@ module _ {X : Type 0} where
   least_free_found xs (Some k) is =
       (sym (first_free xs) ∙ found_is (position_or_len (λ o. is_none o) xs) (length xs) k (sym is), (position-Some (λ o. is_none o) xs k None (sym is)).0)
 
+  -- where so many numbers from 0 on are used, the least free one is found behind them
+  pub least_free_behind : (xs : Numbered X) (n : ℕ) → n ≤ least_free xs → least_free xs ≡ n + least_free (drop n xs)
+  least_free_behind xs zero used = omega arith
+  least_free_behind [] (suc n) used = absurd (omega arith)
+  least_free_behind (None ∷ xs) (suc n) used = absurd (omega arith)
+  least_free_behind (Some x ∷ xs) (suc n) used = omega (arith, least_free_behind xs n (omega arith))
+
+  pub least_free-le : (xs : Numbered X) → least_free xs ≤ length xs
+  least_free-le [] = omega arith
+  least_free-le (None ∷ xs) = omega arith
+  least_free-le (Some x ∷ xs) = omega (arith, least_free-le xs)
+
+  -- so many stay used: where something is put under a number, where the least free one is used too, and where one not below them is freed
+  pub used-set_some : (xs : Numbered X) (k n : ℕ) (x : X) → n ≤ least_free xs → n ≤ least_free (set xs k (Some x))
+  used-set_some xs k zero x used = omega arith
+  used-set_some [] k (suc n) x used = absurd (omega arith)
+  used-set_some (None ∷ xs) k (suc n) x used = absurd (omega arith)
+  used-set_some (Some y ∷ xs) zero (suc n) x used = used
+  used-set_some (Some y ∷ xs) (suc k) (suc n) x used = omega (arith, used-set_some xs k n x (omega arith))
+
+  pub used-set_least : (xs : Numbered X) (k : ℕ) (x : X) → least_free xs ≡ k → k < length xs → k + 1 ≤ least_free (set xs k (Some x))
+  used-set_least [] k x is within = absurd (omega arith)
+  used-set_least (None ∷ xs) zero x is within = omega arith
+  used-set_least (None ∷ xs) (suc k) x is within = absurd (omega arith)
+  used-set_least (Some y ∷ xs) zero x is within = absurd (omega arith)
+  used-set_least (Some y ∷ xs) (suc k) x is within = omega (arith, used-set_least xs k x (omega arith) (omega arith))
+
+  pub used-set : (xs : Numbered X) (k n : ℕ) (o : Option X) → n ≤ least_free xs → n ≤ k → n ≤ least_free (set xs k o)
+  used-set xs k zero o used below = omega arith
+  used-set [] k (suc n) o used below = absurd (omega arith)
+  used-set (None ∷ xs) k (suc n) o used below = absurd (omega arith)
+  used-set (Some y ∷ xs) zero (suc n) o used below = absurd (omega arith)
+  used-set (Some y ∷ xs) (suc k) (suc n) o used below = omega (arith, used-set xs k n o (omega arith) (omega arith))
+
   -- what is there is below the length
   pub within_length : (xs : Numbered X) (n : ℕ) → IsSome (at_number xs n) → n < length xs
   within_length [] n there = cc

@@ -5,10 +5,12 @@
 //! of one process. Both are of fixed size: all records are made by `OpenFiles::new`, which alone asks for memory,
 //! and none is removed. Clauses see open files as the record `Counted` of `specs/Counted.antt`, which is the
 //! definitions' map of open files beside the counts, and descriptors as the definitions' map of descriptors.
-//! `opened` has one open file, `open_files` all of them, and `descriptors` the descriptors.
+//! `last_name` has the name that was listed last, `opened` one open file, `open_files` all of them, and `descriptors`
+//! the descriptors. An open and a close write single fields of a record: the room of its name is never written then.
 #![tactic(auto)]
 
 pub mod descriptors;
+mod last_name;
 pub mod open_files;
 mod opened;
 mod places;

@@ -1,5 +1,5 @@
 //! The open files of the system.
-ghost use Rattle.std.specs.Prelude.{◌≡◌, ◌+◌, ◌-◌, ◌<◌, ◌↔◌, ◌==◌, if◌then◌else◌, is_some, length, None, Some, OnSome, IfSome, IfNone, IfOk, OnOk, OnErr, IfErr, IsOk, IsSome, IsTrue, MatchOption, option_map, slice_index, slice_set, position, is_none};
+ghost use Rattle.std.specs.Prelude.{◌≡◌, ◌+◌, ◌-◌, ◌<◌, ◌≤◌, ◌↔◌, is_some, length, None, Some, OnSome, IfSome, IfNone, IfOk, OnErr, IfErr, IsSome, IsTrue, MatchOption, option_map, slice_index, slice_set, position, is_none};
 ghost use Rattle.std.specs.Option.{option_copied};
 ghost use Rattle.pv_model.specs.Numbered.{at_number, without_number, least_free};
 ghost use Rattle.pv_files.specs.Counted.{IsCounted, no_files, with_file, with_users, with_opened};
@@ -14,14 +14,16 @@ use std::marker::Model;
 
 /// The open files of the system, by their numbers from 0 to 127, each with the count of its users.
 ///
-/// A number is free where it has no user. The records of all 128 are made at the start and stay: in that of a free
-/// number nothing is open.
+/// A number is free where it has no user. The records of all 128 are made at the start and stay: that of a free
+/// number has no user, and what else stands in it counts for nothing.
 #[derive(Drop)]
 pub struct OpenFiles {
-    // A record for each number, with nothing in it where the number is free. None is removed.
-    records: Slab<Option<Opened>>,
+    // A record for each number, with no user where the number is free. None is removed.
+    records: Slab<Opened>,
     // The key of each number's record: the slab chooses them.
     keys: [usize; OPEN_FILES],
+    // A number below which none is free: the search for the least free one begins at it.
+    first: usize,
 }
 
 impl Model for OpenFiles {
@@ -29,77 +31,23 @@ impl Model for OpenFiles {
 
     ghost Value = { Counted };
 
-    ghost use Rattle.pv_files.specs.Places.{counted_of, places_under, AreKeys};
+    ghost use Rattle.pv_files.specs.Places.{counted_of, places_under, AreRecords};
 
     ghost view = { λ t. counted_of (places_under t.records t.keys) };
 
-    ghost invariant = { λ t. AreKeys t.records t.keys };
-}
-
-// One user more of what is kept at a place.
-fn add_user(place: &mut Option<Opened>)
-    requires { users_of place.old < 65535 }
-    ensures file { option_map file_of place.new ≡ option_map file_of place.old }
-    ensures users { users_of place.new ≡ (if is_some place.old then users_of place.old + 1 else 0) }
-{
-    if let Some(opened) = place {
-        opened.users += 1;
-    }
-}
-
-// One user less of what is kept at a place, and its node, where no user is left.
-fn take_user(place: &mut Option<Opened>) -> Option<u16>
-    ensures users { users_of place.new ≡ users_of place.old - 1 }
-    ensures last { IsSome result ↔ (users_of place.old ≡ 1) }
-    ensures node { IfSome result (λ n. option_map (λ o. o.node) place.old ≡ Some n) }
-    ensures closed { OnSome result (place.new ≡ None) }
-    ensures stays { IfNone result (option_map file_of place.new ≡ option_map file_of place.old) }
-{
-    match place {
-        Some(opened) if opened.users > 1 => {
-            opened.users -= 1;
-            None
-        }
-        Some(opened) => {
-            let node = opened.node;
-            *place = None;
-            Some(node)
-        }
-        None => None,
-    }
-}
-
-// Another offset in what is kept at a place.
-fn put_offset(place: &mut Option<Opened>, offset: u32)
-    ensures file { option_map file_of place.new
-        ≡ option_map (λ o. record (file_of o) { offset = offset }) place.old }
-    ensures users { users_of place.new ≡ users_of place.old }
-{
-    if let Some(opened) = place {
-        opened.offset = offset;
-    }
-}
-
-// Another name as the last one listed of what is kept at a place.
-fn put_last_name(place: &mut Option<Opened>, name: Name)
-    ensures file { option_map file_of place.new
-        ≡ option_map (λ o. record (file_of o) { listed = Some name }) place.old }
-    ensures users { users_of place.new ≡ users_of place.old }
-{
-    if let Some(opened) = place {
-        opened.listed = Some(name);
-    }
+    ghost invariant = { λ t. AreRecords t.records t.keys t.first };
 }
 
 // What is open in the record under a key.
-fn opened_at(records: &Slab<Option<Opened>>, key: usize) -> Option<&Opened>
+fn opened_at(records: &Slab<Opened>, key: usize) -> Option<&Opened>
     ensures { option_copied result ≡ record_at records.now key }
 {
-    records.get(key)?.as_ref()
+    let opened = records.get(key)?;
+    if opened.users > 0 { Some(opened) } else { None }
 }
 
 // The index of the first key whose record is free.
-fn first_free_index(records: &Slab<Option<Opened>>, keys: &[usize]) -> Option<usize>
+fn first_free_index(records: &Slab<Opened>, keys: &[usize]) -> Option<usize>
     ensures { result ≡ position (λ key. is_none (record_at records.now key)) keys.now }
 {
     keys.iter()
@@ -107,11 +55,22 @@ fn first_free_index(records: &Slab<Option<Opened>>, keys: &[usize]) -> Option<us
 }
 
 // The least number whose record is free, where there is one.
-fn first_free_number(records: &Slab<Option<Opened>>, keys: &[usize]) -> Option<usize>
+fn first_free_number(records: &Slab<Opened>, keys: &[usize]) -> Option<usize>
     ensures { MatchOption result (least_free (places_under records.now keys.now) ≡ length keys.now)
         (λ k. (least_free (places_under records.now keys.now) ≡ k) × (k < length keys.now)) }
 {
     first_free_index(records, keys)
+}
+
+// The same, searched for from `first` on: no number below it is free.
+fn first_free_from(records: &Slab<Opened>, keys: &[usize], first: usize) -> Option<usize>
+    requires within { first ≤ length keys.now }
+    requires used { first ≤ least_free (places_under records.now keys.now) }
+    ensures { MatchOption result (least_free (places_under records.now keys.now) ≡ length keys.now)
+        (λ k. (least_free (places_under records.now keys.now) ≡ k) × (k < length keys.now)) }
+{
+    let behind = first_free_number(records, &keys[first..])?;
+    Some(first + behind)
 }
 
 impl OpenFiles {
@@ -126,9 +85,13 @@ impl OpenFiles {
         let mut records = Slab::with_capacity(alloc, OPEN_FILES)?;
         let mut keys = [0; OPEN_FILES];
         for number in 0..OPEN_FILES {
-            keys[number] = records.insert_reserved(None);
+            keys[number] = records.insert_reserved(Opened::free());
         }
-        Ok(OpenFiles { records, keys })
+        Ok(OpenFiles {
+            records,
+            keys,
+            first: 0,
+        })
     }
 
     /// Does nothing: its contract tells what holds of the open files at any time.
@@ -142,7 +105,7 @@ impl OpenFiles {
     pub fn has_room(&self) -> bool
         ensures { IsTrue result ↔ (least_free self.now.files < OPEN_FILES) }
     {
-        first_free_number(&self.records, &self.keys).is_some()
+        first_free_from(&self.records, &self.keys, self.first).is_some()
     }
 
     /// Opens a node, with one user, at offset 0 and with no name listed. The answer is the least free number.
@@ -159,17 +122,11 @@ impl OpenFiles {
         ensures full { OnErr result (least_free self.old.files ≡ OPEN_FILES) }
         ensures unchanged { OnErr result (self.new ≡ self.old) }
     {
-        let Some(file) = first_free_number(&self.records, &self.keys) else {
+        let Some(file) = first_free_from(&self.records, &self.keys, self.first) else {
             return Err(Errno::ENFILE);
         };
-        self.records[self.keys[file]] = Some(Opened {
-            node,
-            mode,
-            append,
-            offset: 0,
-            listed: None,
-            users: 1,
-        });
+        self.records[self.keys[file]].open(node, mode, append);
+        self.first = file + 1;
         Ok(file)
     }
 
@@ -204,7 +161,7 @@ impl OpenFiles {
         requires room { slice_index self.old.users file < 65535 }
         ensures { self.new ≡ with_users self.old file (slice_index self.old.users file + 1) }
     {
-        add_user(&mut self.records[self.keys[file]]);
+        self.records[self.keys[file]].add_user();
     }
 
     /// Takes a user of an open file away. Where none is left the number is free, and the answer is the number of
@@ -219,7 +176,9 @@ impl OpenFiles {
         ensures closed { OnSome result (self.new.files ≡ without_number self.old.files file) }
         ensures stays { IfNone result (self.new.files ≡ self.old.files) }
     {
-        take_user(&mut self.records[self.keys[file]])
+        let node = self.records[self.keys[file]].take_user()?;
+        self.first = self.first.min(file);
+        Some(node)
     }
 
     // What is kept of an open file.
@@ -268,7 +227,7 @@ impl OpenFiles {
         ensures { option_map (λ f. with_file self.old file (record f { offset = offset }))
             (at_number self.old.files file) ≡ Some self.new }
     {
-        put_offset(&mut self.records[self.keys[file]], offset);
+        self.records[self.keys[file]].put_offset(offset);
     }
 
     /// The name that getdents(2) gave last through an open file, where it gave one.
@@ -277,7 +236,7 @@ impl OpenFiles {
         ensures { option_map (λ f. f.listed) (at_number self.now.files file)
             ≡ Some (option_copied result) }
     {
-        self.opened(file).listed.as_ref()
+        self.opened(file).listed.get()
     }
 
     /// Keeps a name as the last one given through an open file.
@@ -286,6 +245,6 @@ impl OpenFiles {
         ensures { option_map (λ f. with_file self.old file (record f { listed = Some name }))
             (at_number self.old.files file) ≡ Some self.new }
     {
-        put_last_name(&mut self.records[self.keys[file]], name);
+        self.records[self.keys[file]].put_last_name(name);
     }
 }

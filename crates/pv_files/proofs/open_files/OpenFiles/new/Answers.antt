@@ -5,7 +5,7 @@ use Rattle.pv_files.proofs.open_files.OpenFiles.new.Goals as goal
 pub loop-number-preserved : goal.loop-number-preserved
 loop-number-preserved c =
     let (free, count, len, room) = c.loop-number.invariant in (
-      one_more c.loop-number.records c.insert_reserved.new.self c.loop-number.keys c.loop-number.number c.insert_reserved.result free (omega (arith, count, c.loop-number-test.true)) c.insert_reserved.ensures.was_vacant c.insert_reserved.ensures.updates,
+      one_more c.loop-number.records c.insert_reserved.new.self c.loop-number.keys c.loop-number.number c.insert_reserved.result free (omega (arith, count, c.loop-number-test.true)) c.insert_reserved.ensures.was_vacant c.free.result c.free.ensures c.insert_reserved.ensures.updates,
       length-set c.loop-number.keys c.loop-number.number c.insert_reserved.result ∙ count,
       omega (arith, len, c.insert_reserved.ensures.len),
       omega (arith, room, c.insert_reserved.ensures.capacity),

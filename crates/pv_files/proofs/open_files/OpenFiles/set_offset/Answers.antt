@@ -1,27 +1,25 @@
-use Rattle.std.proofs.Common.{arith}
+use Rattle.std.proofs.Common.{◌<◌, ap, arith}
 use Rattle.pv_model.specs.State.{OpenFile}
-use Rattle.pv_files.specs.Places.{places_under}
-use Rattle.pv_files.proofs.Counts.{opened_there, place_there, changed_after}
-use Rattle.pv_files.proofs.Keys.{open_within, has_record, record_read, counted_after}
+use Rattle.pv_files.specs.declared.opened.Opened.{Opened}
+use Rattle.pv_files.specs.Places.{file_of}
+use Rattle.pv_files.proofs.Keys.{open_below, open_recorded, used_open, used_still, changed}
 use Rattle.pv_files.proofs.open_files.OpenFiles.set_offset.Goals as goal
 
 pub offset_bounds-self-inside-file : goal.offset_bounds-self-inside-file
-offset_bounds-self-inside-file c = omega (arith, c.self.invariant.count, open_within c.self.inside.records c.self.inside.keys c.args.self.now c.self.view_is c.args.file c.requires)
+offset_bounds-self-inside-file c = omega (arith, open_below c.self.inside.records c.self.inside.keys c.self.invariant.are_keys c.args.self.now c.self.view_is c.args.file c.requires)
 
 pub bounds-self-inside-file : goal.bounds-self-inside-file
-bounds-self-inside-file c = omega (arith, c.self.invariant.count, open_within c.self.inside.records c.self.inside.keys c.args.self.now c.self.view_is c.args.file c.requires)
+bounds-self-inside-file c = open_below c.self.inside.records c.self.inside.keys c.self.invariant.are_keys c.args.self.now c.self.view_is c.args.file c.requires
 
 pub index_mut-requires : goal.index_mut-requires
-index_mut-requires c =
-    let within = open_within c.self.inside.records c.self.inside.keys c.args.self.now c.self.view_is c.args.file c.requires in
-    has_record c.self.inside.records c.self.inside.keys c.self.invariant c.args.file within
+index_mut-requires c = open_recorded c.self.inside.records c.self.inside.keys c.self.invariant.are_keys c.args.self.now c.self.view_is c.args.file c.requires
 
 pub returns : goal.returns
 returns c =
-    let places = places_under c.self.inside.records c.self.inside.keys in
-    let within = open_within c.self.inside.records c.self.inside.keys c.args.self.now c.self.view_is c.args.file c.requires in
-    let there = opened_there places c.args.self.now c.self.view_is c.args.file c.requires in
-    let read = record_read c.self.inside.records c.self.inside.keys c.self.invariant c.args.file within c.index_mut.result.now c.index_mut.ensures.value in
-    let place = place_there places c.args.self.now c.self.view_is c.args.file c.requires c.index_mut.result.now read in
-    let changed = λ (f : OpenFile). record f { offset = c.args.offset } in
-    rw (← c.self.view_is, counted_after c.self.inside.records c.self.inside.keys c.self.invariant c.args.file within c.put_offset.new.place) (changed_after places c.args.file c.index_mut.result.now c.put_offset.new.place place changed there c.put_offset.ensures.file c.put_offset.ensures.users)
+    let moved = λ (f : OpenFile). record f { offset = c.args.offset } in
+    changed c.self.inside.records c.self.inside.keys c.self.invariant.are_keys c.args.self.now c.self.view_is c.args.file c.requires c.index_mut.result.now c.index_mut.ensures.value c.put_offset.new.self moved (ap file_of c.put_offset.ensures) (ap (λ (o : Opened). o.users) c.put_offset.ensures)
+
+pub invariant_of-self : goal.invariant_of-self
+invariant_of-self c =
+    let some : 0 < c.put_offset.new.self.users = omega (arith, ap (λ (o : Opened). o.users) c.put_offset.ensures, used_open c.self.inside.records c.self.inside.keys c.self.invariant.are_keys c.args.self.now c.self.view_is c.args.file c.requires c.index_mut.result.now c.index_mut.ensures.value) in
+    used_still c.self.inside.records c.self.inside.keys c.self.invariant.are_keys c.args.self.now c.self.view_is c.args.file c.requires c.index_mut.result.now c.index_mut.ensures.value c.self.inside.first c.self.invariant.used c.put_offset.new.self some
