@@ -1,7 +1,6 @@
 -- What a table's targets hold with another entry, or with other letters.
 use Rattle.std.proofs.Common.{◌≡◌, ℕ, ◌+◌, ◌⊎◌, inl, inr, Bool, true, false, nat_le, nat_lt, List, [], ◌∷◌, ◌++◌, length, Option, None, Some, refl, ap, sym, subst, ap₂, ◌∙◌, arith}
 use Rattle.std.specs.Prelude.{if◌then◌else◌}
-use Rattle.std.specs.Option.{IsSomeAnd}
 use Rattle.std.proofs.Math.Seq.{map-set_same}
 use Rattle.std.proofs.lemmas.Bool.{ltb-true, ltb-false}
 use Rattle.std.proofs.lemmas.List.{length-set, length_push, map-append}
@@ -18,15 +17,15 @@ use Rattle.pv_model.specs.Perms.{covers}
 use Rattle.pv_model.specs.State.{State, Process}
 use Rattle.pv_model.specs.Unveil.{Table, same_target, entry_for, letters_at, with_letters, target_directory}
 use Rattle.pv_laws.proofs.Standing.{same-directory}
-use Rattle.pv_procs.specs.ProcessTable.{ProcessTable, with_process, update, state_with}
+use Rattle.pv_procs.specs.ProcessTable.{ProcessTable, state_with}
 use Rattle.pv_tree.specs.Holding.{HeldTree, holds_at}
 use Rattle.pv_unveil.specs.Added.{put_in, add_to}
 use Rattle.pv_unveil.specs.Unveiled.{Unveiled}
 use Rattle.pv_files.specs.Counted.{Counted}
-use Rattle.pv_parts.specs.Changes.{Unveils, unveiled_of, with_unveiled, with_table}
+use Rattle.pv_parts.specs.Changes.{AddsEntry, Unveils, unveiled_of, with_table}
 use Rattle.pv_parts.specs.Counts.{state_of, times, IsCountedUp}
 use Rattle.pv_parts.proofs.Attempts.{after_none}
-use Rattle.pv_parts.proofs.Changing.{IsBefore, updated, counted-changed, state-put}
+use Rattle.pv_parts.proofs.Changing.{IsBefore, counted-changed, state-put}
 use Rattle.pv_parts.proofs.Targets.{of_entry, directories, held-entries}
 use Rattle.pv_parts.proofs.Trimming.{times-append, times-cons}
 
@@ -83,40 +82,25 @@ added-times u target letters new is n =
     by false longer (inl same) = omega (arith, same.1 n)
     by false longer (inr more) = absurd (omega (arith, more.0, ltb-false _ _ longer))
 
-some-and : {P : Table → Type 0} (o : Option Table) → IsSomeAnd o P → (table : Table) × (o ≡ Some table) × P table
-some-and None is = absurd is
-some-and (Some table) is = (table, refl, is)
-
 -- a process whose table has another entry, or other letters
-module _ (t : HeldTree) (c : Counted) (ps : ProcessTable) (pid : ℕ) (me : Process) (is : IsBefore t c ps pid me) (target : Target) (letters : Perms) (u v : Unveiled)
-    (own : u ≡ unveiled_of me) (added : IsSomeAnd v.table (λ table. add_to u target letters ≡ give table)) (lock : v.locked ≡ u.locked) (h : HeldTree) (qs : ProcessTable)
-    (put : qs ≡ update ps pid (with_unveiled v)) where
-  new-times : (n : ℕ) → times n (held_by_table v.table)
-      ≡ times n (held_by_table me.table) + times n (if_new (nat_lt (length (entries_of_table u.table)) (length (entries_of_table v.table))) (target_directory target))
+module _ (t : HeldTree) (c : Counted) (ps : ProcessTable) (pid : ℕ) (me : Process) (is : IsBefore t c ps pid me) (target : Target) (letters : Perms) (is_new : Bool) (qs : ProcessTable)
+    (adds : AddsEntry ps pid me target letters is_new qs) (h : HeldTree) where
+  abbrev longer : Bool
+  longer = nat_lt (length (entries_of_table me.table)) (length adds.table)
+
+  new-times : (n : ℕ) → times n (held_by_table (Some adds.table)) ≡ times n (held_by_table me.table) + times n (if_new longer (target_directory target))
   new-times n =
-      let found = some-and v.table added in
-      let entries : entries_of_table v.table ≡ found.0 = ap entries_of_table found.1 in
-      ap (times n) (held-entries v.table) ∙ ap (λ x. times n (directories x)) entries ∙ added-times u target letters found.0 found.2 n
-      ∙ ap₂ (λ a b. times n a + times n (if_new (nat_lt (length (entries_of_table u.table)) (length b)) (target_directory target)))
-      (sym (held-entries u.table) ∙ ap (λ (x : Unveiled). held_by_table x.table) own) (sym entries)
+      ap (times n) (held-entries (Some adds.table)) ∙ added-times (unveiled_of me) target letters adds.table adds.added n
+      ∙ ap (λ ns. times n ns + times n (if_new longer (target_directory target))) (sym (held-entries me.table))
 
-  put-unveiled : qs ≡ with_process ps pid (with_unveiled v me)
-  put-unveiled = put ∙ updated t c ps pid me is (with_unveiled v)
-
-  pub added-up : (is_new : Bool) (directory : ℕ) → is_new ≡ nat_lt (length (entries_of_table u.table)) (length (entries_of_table v.table)) → directory ≡ target_directory target
-      → ((n : ℕ) → holds_at h n ≡ holds_at t n + times n (if_new is_new directory)) → IsCountedUp h c qs
-  added-up is_new directory longer dir more =
-      counted-changed t c ps pid me is h c qs (with_unveiled v me) put-unveiled (λ k. refl)
-      (λ n. omega (arith, more n, new-times n, ap₂ (λ b d. times n (if_new b d)) longer dir, times-cons n me.directory (held_by_table me.table), times-cons n me.directory (held_by_table v.table)))
+  pub added-up : (directory : ℕ) → directory ≡ target_directory target → ((n : ℕ) → holds_at h n ≡ holds_at t n + times n (if_new is_new directory)) → IsCountedUp h c qs
+  added-up directory dir more =
+      counted-changed t c ps pid me is h c qs (with_table adds.table me) adds.only (λ k. refl)
+      (λ n. omega (arith, more n, new-times n, ap₂ (λ b d. times n (if_new b d)) adds.longer dir, times-cons n me.directory (held_by_table me.table), times-cons n me.directory (held_by_table (Some adds.table))))
 
   pub added-state : (s : State) → state_of t c ps ≡ s → h.tree ≡ t.tree → Unveils s pid me target letters (state_of h c qs)
-  added-state s view nodes =
-      let found = some-and v.table added in
-      let same : with_unveiled v me ≡ with_table found.0 me = ap₂ (λ x y. record me { table = x; locked = y }) found.1 (lock ∙ ap (λ (x : Unveiled). x.locked) own) in
-      record {
-        table = found.0;
-        added = ap (λ x. add_to x target letters) (sym own) ∙ found.2;
-        only = ap (λ x. state_with x c.files qs) nodes
-            ∙ ap (λ x. state_with t.tree c.files x) (put-unveiled ∙ ap (with_process ps pid) same)
-            ∙ state-put t c ps pid me is s (with_table found.0 me) view;
-      }
+  added-state s view nodes = record {
+    table = adds.table;
+    added = adds.added;
+    only = ap (λ x. state_with x c.files qs) nodes ∙ ap (λ x. state_with t.tree c.files x) adds.only ∙ state-put t c ps pid me is s (with_table adds.table me) view;
+  }

@@ -4,15 +4,17 @@ use Rattle.std.specs.Prelude.{slice_index, option_map, ok_or, IsSome, IfSome}
 use Rattle.std.proofs.lemmas.Bool.{ne_eqb, lt-leb}
 use Rattle.pv_files.specs.Counted.{Counted, IsCounted}
 use Rattle.pv_files.specs.Descriptors.{descriptor_under}
+use Rattle.pv_model.specs.declared.errno.Errno.{Errno}
 use Rattle.pv_model.specs.declared.errno.Errno.TheVariants.{EBADF, EMFILE}
 use Rattle.pv_model.specs.declared.limits.TheConstants.{DESCRIPTORS}
-use Rattle.pv_model.specs.Attempt.{done, after_walks, demand, refuse_if, ◌>>=◌, ◌>>◌}
+use Rattle.pv_model.specs.declared.outcome.Cause.TheVariants.{Plain}
+use Rattle.pv_model.specs.Attempt.{done, refused, after_walks, demand, refuse_if, ◌>>=◌, ◌>>◌}
 use Rattle.pv_model.specs.Calls.Descriptors.{close, dup, dup2, within, is_number, without_descriptor, with_descriptor, with_duplicate}
 use Rattle.pv_model.specs.Effect.{answers, returns, descriptor_at}
 use Rattle.pv_model.specs.Held.{held_by_process, trim}
 use Rattle.pv_model.specs.Numbered.{Numbered, at_number, with_number, least_free}
 use Rattle.pv_model.specs.State.{Descriptor, Process, State, with_process as state_with_process}
-use Rattle.pv_procs.specs.ProcessTable.{ProcessTable, with_process, update}
+use Rattle.pv_procs.specs.ProcessTable.{ProcessTable, with_process}
 use Rattle.pv_tree.specs.Holding.{HeldTree, holds_at, trimmed}
 use Rattle.pv_tree.proofs.Entries.{one_if}
 use Rattle.pv_tree_laws.proofs.Numbered.{least_free-free}
@@ -22,7 +24,7 @@ use Rattle.pv_parts.specs.Counts.{state_of, times, open_nodes, IsCountedUp}
 use Rattle.pv_parts.specs.Releasing.{files_on, at_most}
 use Rattle.pv_parts.proofs.Counting.{of_place, times-one, times-with_number, times-without_number}
 use Rattle.pv_parts.proofs.Releasing.{of_file}
-use Rattle.pv_parts.proofs.Changing.{IsBefore, placed, updated, state-put, counted-changed, trimmed-changed}
+use Rattle.pv_parts.proofs.Changing.{IsBefore, placed, state-put, counted-changed, trimmed-changed}
 
 -- ---- what calls find
 
@@ -70,9 +72,6 @@ module _ (t : HeldTree) (c : Counted) (ps : ProcessTable) (pid : ℕ) (me : Proc
       by None there = search Rattle.std.proofs.Common.rules
       by (Some x) there = there x refl
 
-  pub put-descriptors : (qs : ProcessTable) (ds own : Numbered Descriptor) → qs ≡ update ps pid (with_descriptors ds) → ds ≡ own → qs ≡ with_process ps pid (with_descriptors own me)
-  put-descriptors qs ds own put same = put ∙ updated t c ps pid me is (with_descriptors ds) ∙ ap (λ x. with_process ps pid (with_descriptors x me)) same
-
   -- other descriptors, with their users
   module _ (u : HeldTree) (d : Counted) (qs : ProcessTable) (ds : Numbered Descriptor) (put : qs ≡ with_process ps pid (with_descriptors ds me))
       (users : (k : ℕ) → slice_index d.users k + times k (files_on me.descriptors) ≡ slice_index c.users k + times k (files_on ds))
@@ -91,6 +90,18 @@ module _ (t : HeldTree) (c : Counted) (ps : ProcessTable) (pid : ℕ) (me : Proc
         ∙ ap trim (state-put t c ps pid me is s (with_descriptors ds me) view)
 
 -- ---- rows
+
+-- a number that is no descriptor is not closed
+pub close-refused : (s : State) (pid : ℕ) (me : Process) (d : ℤ) (e : Errno) → Err e ≡ ok_or (option_map (λ x. x.file) (descriptor_under me.descriptors d)) EBADF
+    → trimmed_attempt (close s pid me d) ≡ refused 0 e Plain
+close-refused s pid me d e is = by (descriptor_under me.descriptors d) refl is
+  where
+    by : (o : Option Descriptor) → descriptor_under me.descriptors d ≡ o → Err e ≡ ok_or (option_map (λ x. x.file) o) EBADF → trimmed_attempt (close s pid me d) ≡ refused 0 e Plain
+    by (Some x) at is = cc is
+    by None at is =
+        let same : e ≡ EBADF = cc is in
+        ap (λ o. trimmed_attempt (demand EBADF o >> answers (state_with_process s pid (with_descriptors (without_descriptor me.descriptors d) me)) 0)) (under-at me d ∙ at)
+        ∙ ap (λ x. refused 0 x Plain) (sym same)
 
 module _ (s : State) (pid : ℕ) (me : Process) (d : ℤ) (x : Descriptor) (at : descriptor_under me.descriptors d ≡ Some x) (after : State) where
   pub close-row : after ≡ trim (state_with_process s pid (with_descriptors (without_descriptor me.descriptors d) me)) → trimmed_attempt (close s pid me d) ≡ done 0 (after, returns 0)

@@ -8,6 +8,7 @@ pub mod Descriptors
 pub mod Ends
 pub mod Growing
 pub mod Opening
+pub mod Owned
 pub mod Reading
 pub mod Reaping
 pub mod Releasing

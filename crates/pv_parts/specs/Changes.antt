@@ -1,11 +1,12 @@
 -- What the parts come to.
-use Rattle.std.specs.Prelude.{◌≡◌, ℕ, zero, suc, if◌then◌else◌, [], take, drop, Bool, false, None, Some}
+use Rattle.std.specs.Prelude.{◌≡◌, ℕ, ℤ, zero, suc, if◌then◌else◌, [], length, nat_lt, take, drop, Bool, false, None, Some}
 use Rattle.pv_model.specs.declared.open_flags.OpenFlags.{OpenFlags}
 use Rattle.pv_model.specs.declared.perms.Perms.{Perms}
 use Rattle.pv_model.specs.declared.target.Target.{Target}
 use Rattle.pv_model.specs.Attempt.{give}
 use Rattle.pv_model.specs.Bytes.{Bytes}
-use Rattle.pv_model.specs.Calls.Descriptors.{with_content, with_open_file}
+use Rattle.pv_model.specs.Calls.Descriptors.{with_content, with_open_file, without_descriptor}
+use Rattle.pv_model.specs.Calls.Restraints.{entries_of_table}
 use Rattle.pv_model.specs.Effect.{bytes_of}
 use Rattle.pv_model.specs.Program.{inside, next}
 use Rattle.pv_model.specs.Numbered.{Numbered, with_number, least_free}
@@ -14,6 +15,7 @@ use Rattle.pv_model.specs.Tree.{Tree, file_node, new_number, node_at, with_new_n
 use Rattle.pv_model.specs.Unveil.{Table}
 use Rattle.pv_procs.specs.declared.processes.Ahead.{Ahead}
 use Rattle.pv_procs.specs.declared.processes.Ahead.TheVariants.{Gone, Register, Call}
+use Rattle.pv_procs.specs.ProcessTable.{ProcessTable, with_process as process_put}
 use Rattle.pv_procs.specs.Turns.{IsAtCall}
 use Rattle.pv_script.specs.Passing.{Passes}
 use Rattle.pv_unveil.specs.Added.{add_to}
@@ -51,13 +53,19 @@ with_directory n p = record p { directory = n }
 abbrev pub with_descriptors : Numbered Descriptor → Process → Process
 with_descriptors ds p = record p { descriptors = ds }
 
+-- without the descriptor that a call gives
+abbrev pub with_closed_descriptor : ℤ → Process → Process
+with_closed_descriptor d p = with_descriptors (without_descriptor p.descriptors d) p
+
+-- with a number the descriptor of an open file, which an execve keeps
+abbrev pub with_descriptor_at : ℕ → ℕ → Process → Process
+with_descriptor_at number file p =
+    with_descriptors (with_number p.descriptors number (record { file = file; close_on_exec = false })) p
+
 -- with a descriptor of an open file, the least that is free
 abbrev pub with_opened_descriptor : ℕ → Bool → Process → Process
 with_opened_descriptor file close_on_exec p =
     with_descriptors (with_number p.descriptors (least_free p.descriptors) (record { file = file; close_on_exec = close_on_exec })) p
-
-abbrev pub with_unveiled : Unveiled → Process → Process
-with_unveiled u p = record p { table = u.table; locked = u.locked }
 
 abbrev pub with_table : Table → Process → Process
 with_table table p = record p { table = Some table }
@@ -67,6 +75,13 @@ pub record Unveils (s : State) (pid : ℕ) (me : Process) (target : Target) (let
   pub table : Table
   pub added : add_to (unveiled_of me) target letters ≡ give table
   pub only : new ≡ with_process s pid (with_table table me)
+
+-- the same, of the processes alone, and whether the entry is new
+pub record AddsEntry (ps : ProcessTable) (pid : ℕ) (me : Process) (target : Target) (letters : Perms) (is_new : Bool) (new : ProcessTable) : Type 0 where
+  pub table : Table
+  pub added : add_to (unveiled_of me) target letters ≡ give table
+  pub longer : is_new ≡ nat_lt (length (entries_of_table me.table)) (length table)
+  pub only : new ≡ process_put ps pid (with_table table me)
 
 -- the tree in which a node is opened: a file is cut where the flags say so
 abbrev pub tree_for_open : Tree → OpenFlags → ℕ → Tree

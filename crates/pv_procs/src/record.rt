@@ -35,7 +35,7 @@ impl Record {
     {
         Ok(Record {
             pledge: Pledge::new(),
-            unveiled: Table::new(),
+            unveiled: Table::new(alloc)?,
             directory: ROOT,
             descriptors: Descriptors::new(),
             machine: Machine::new(alloc)?,

@@ -155,7 +155,7 @@ fn expect_steps(rt: &impl Abort, table: &mut Table, tree: &Tree, steps: &[Step])
 // Steps are taken with an empty table and the small tree.
 fn expect_run<R: Abort + AllocGlobal>(rt: &R, steps: &[Step]) -> Result<(), AllocError> {
     let tree = small_tree(rt, rt.alloc())?;
-    expect_steps(rt, &mut Table::new(), &tree, steps);
+    expect_steps(rt, &mut Table::new(rt.alloc())?, &tree, steps);
     Ok(())
 }
 
@@ -230,7 +230,7 @@ const MADE: &[Step] = &[ByName(2, b"new", R, Hidden)];
 #[test]
 fn judges_by_a_name(rt: HostRuntime) -> Result<(), AllocError> {
     let mut tree = small_tree(&rt, rt.alloc())?;
-    let mut table = Table::new();
+    let mut table = Table::new(rt.alloc())?;
     expect_steps(&rt, &mut table, &tree, NAMED);
     expect_make(&rt, &mut tree, 2, b"new", Kind::Directory, Ok(8));
     expect_steps(&rt, &mut table, &tree, MADE);
@@ -261,7 +261,7 @@ const BY_GREATEST_NAMES: &[Step] = &[
 fn judges_by_a_name_of_version_2(rt: HostRuntime) -> Result<(), AllocError> {
     let mut tree = of_version_2(rt.alloc())?;
     make_all(&rt, &mut tree, GREATEST_NAMES);
-    expect_steps(&rt, &mut Table::new(), &tree, BY_GREATEST_NAMES);
+    expect_steps(&rt, &mut Table::new(rt.alloc())?, &tree, BY_GREATEST_NAMES);
     Ok(())
 }
 
@@ -279,8 +279,8 @@ const MANY: &[(u16, Perms, Result<u8, AddFault>)] = &[
 ];
 
 #[test]
-fn adds_entries(rt: HostRuntime) {
-    let mut table = Table::new();
+fn adds_entries(rt: HostRuntime) -> Result<(), AllocError> {
+    let mut table = Table::new(rt.alloc())?;
     add_64(&rt, &mut table);
     for &(directory, letters, answer) in MANY {
         expect_add(&rt, &mut table, directory, letters, answer);
@@ -288,6 +288,7 @@ fn adds_entries(rt: HostRuntime) {
     expect_same(&rt, table.len(), 64);
     table.lock();
     expect_add(&rt, &mut table, 64, R, Err(AddFault::Locked));
+    Ok(())
 }
 
 // A table has so many entries, and is locked or not.
@@ -307,12 +308,14 @@ fn expect_two(rt: &impl Abort, table: &Table, letters: [Perms; 2], directory: u1
 }
 
 #[test]
-fn goes_or_stays_at_execve(rt: HostRuntime) {
-    let mut table = Table::new();
+fn goes_or_stays_at_execve(rt: HostRuntime) -> Result<(), AllocError> {
+    let mut table = Table::new(rt.alloc())?;
     expect_add(&rt, &mut table, 2, RW, Ok(0));
     expect_add_name(&rt, &mut table, 1, b"f", R, Ok(1));
     table.lock();
-    let mut copy = table.copy();
+    let mut copy = Table::new(rt.alloc())?;
+    expect_add(&rt, &mut copy, 7, RW, Ok(0));
+    copy.copy_from(&table);
     expect_table(&rt, &copy, 2, true);
     expect_two(&rt, &copy, [RW, R], 1, b"f");
     copy.after_exec(true);
@@ -321,4 +324,5 @@ fn goes_or_stays_at_execve(rt: HostRuntime) {
     expect_table(&rt, &copy, 0, false);
     expect_add(&rt, &mut copy, 3, R, Ok(0));
     expect_table(&rt, &table, 2, true);
+    Ok(())
 }

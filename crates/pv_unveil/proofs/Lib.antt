@@ -1,3 +1,4 @@
 pub mod Climbing
 pub mod EntryLemmas
 pub mod JudgedLemmas
+pub mod KeyLemmas

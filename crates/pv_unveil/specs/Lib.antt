@@ -1,4 +1,5 @@
 pub mod Added
 pub mod Judged
+pub mod Keys
 pub mod Unveiled
 pub mod Up

@@ -1,48 +1,62 @@
 //! Entries of a table, in the order in which they came.
-ghost use Rattle.std.specs.Prelude.{◌≡◌, ◌<◌, ◌≤◌, length, IfSome};
+ghost use Rattle.std.specs.Prelude.{◌≡◌, ◌<◌, length, position, slice_set, IfSome};
 ghost use Rattle.pv_model.specs.declared.limits.TheConstants.{UNVEILS};
-ghost use Rattle.pv_model.specs.Unveil.{same_target, entry_for, letters_at};
+ghost use Rattle.pv_model.specs.Bytes.{Bytes};
+ghost use Rattle.pv_model.specs.Unveil.{entry_for};
+ghost use Rattle.pv_unveil.specs.Keys.{is_own, keys_of, is_target_named, with_mark};
 
+use crate::key::Key;
+use arrayvec::ArrayVec;
+use pv_model::limits::UNVEILS;
 use pv_model::{Perms, Target};
+use std::alloc::{AllocError, Global};
+use std::marker::Model;
 
-// Whether a target is this directory.
-fn is_directory(target: &Target, directory: u16) -> bool
-    ensures { result ≡ same_target target.now (Target.Directory directory) }
-{
-    match target {
-        Target::Directory(number) => *number == directory,
-        Target::Name { .. } => false,
-    }
-}
+// A directory falls on one of so many marks.
+const MARKS: usize = 64;
 
-// Whether a target is this name in a directory.
-fn is_name(target: &Target, directory: u16, name: &[u8]) -> bool
-    ensures { result ≡ same_target target.now (Target.Name directory name.now) }
+// Whether a target is for this name.
+fn has_name(target: &Target, name: &[u8]) -> bool
+    ensures { result ≡ is_target_named name.now target.now }
 {
     match target {
         Target::Directory(_) => false,
-        Target::Name { dir, name: other } => *dir == directory && other.as_slice() == name,
+        Target::Name { name: other, .. } => other.as_slice() == name,
     }
 }
 
-// The index of a directory's entry.
-fn index_of_directory(entries: &[(Target, Perms)], directory: u16) -> Option<usize>
-    ensures value { result ≡ entry_for entries.now (Target.Directory directory) }
-    ensures in_table { IfSome result (λ k. k < length entries.now) }
+// The index of a directory's own entry.
+fn index_of_directory(keys: &[Key], directory: u16) -> Option<usize>
+    ensures { result ≡ position (λ key. is_own directory key) keys.now }
 {
-    entries
-        .iter()
-        .position(|entry| is_directory(&entry.0, directory))
+    keys.iter().position(|key| key.is_own(directory))
 }
 
-// The index of a name's entry.
-fn index_of_name(entries: &[(Target, Perms)], directory: u16, name: &[u8]) -> Option<usize>
-    ensures value { result ≡ entry_for entries.now (Target.Name directory name.now) }
-    ensures in_table { IfSome result (λ k. k < length entries.now) }
+// The index of a name's entry: names are compared only of entries for names in the directory.
+fn index_of_name(
+    keys: &[Key],
+    entries: &[(Target, Perms)],
+    directory: u16,
+    name: &[u8],
+) -> Option<usize>
+    requires { keys.now ≡ keys_of entries.now }
+    ensures { result ≡ entry_for entries.now (Target.Name directory name.now) }
 {
-    entries
-        .iter()
-        .position(|entry| is_name(&entry.0, directory, name))
+    for (k, key) in keys.iter().enumerate() {
+        if key.is_name_in(directory) && has_name(&entries[k].0, name) {
+            return Some(k);
+        }
+    }
+    None
+}
+
+// Marks the directory of a directory's own key.
+fn mark(marks: &mut [bool; MARKS], key: Key)
+    ensures { marks.new ≡ with_mark marks.old key }
+{
+    if let Key::Directory(directory) = key {
+        marks[directory as usize % MARKS] = true;
+    }
 }
 
 // The number of an entry at an index.
@@ -56,42 +70,160 @@ fn number_of(index: Option<usize>) -> Option<u8>
     }
 }
 
-/// The entry for a directory.
-pub(crate) fn entry_for_directory(entries: &[(Target, Perms)], directory: u16) -> Option<u8>
-    requires { length entries.now ≤ UNVEILS }
-    ensures value { result ≡ entry_for entries.now (Target.Directory directory) }
-    ensures in_table { IfSome result (λ k. k < length entries.now) }
+// Puts another key in place of key `k`.
+fn replace_key(keys: &mut ArrayVec<Key, UNVEILS>, k: u8, key: Key)
+    requires { k < length keys.old.items }
+    ensures { keys.new.items ≡ slice_set keys.old.items k key }
 {
-    number_of(index_of_directory(entries, directory))
+    keys.as_mut_slice()[k as usize] = key;
 }
 
-/// The entry for a name in a directory.
-pub(crate) fn entry_for_name(entries: &[(Target, Perms)], directory: u16, name: &[u8]) -> Option<u8>
-    requires { length entries.now ≤ UNVEILS }
-    ensures value { result ≡ entry_for entries.now (Target.Name directory name.now) }
-    ensures in_table { IfSome result (λ k. k < length entries.now) }
-{
-    number_of(index_of_name(entries, directory, name))
+/// At most 64 entries by arrival, with a row of their keys.
+#[derive(Drop)]
+pub(crate) struct Entries {
+    entries: Vec<(Target, Perms)>,
+    keys: ArrayVec<Key, UNVEILS>,
+    // Where a directory's own entry may be: none is, unless the directory's number falls on a mark.
+    marks: [bool; MARKS],
 }
 
-/// The entry for a target.
-pub(crate) fn entry_for(entries: &[(Target, Perms)], target: &Target) -> Option<u8>
-    requires { length entries.now ≤ UNVEILS }
-    ensures value { result ≡ entry_for entries.now target.now }
-    ensures in_table { IfSome result (λ k. k < length entries.now) }
-{
-    match target {
-        Target::Directory(directory) => entry_for_directory(entries, *directory),
-        Target::Name { dir, name } => entry_for_name(entries, *dir, name.as_slice()),
+impl Model for Entries {
+    ghost use Rattle.std.specs.Prelude.{vec_capacity};
+    ghost use Rattle.pv_model.specs.Unveil.{Table};
+    ghost use Rattle.pv_unveil.specs.Keys.{IsKeyed};
+
+    ghost Value = { Table };
+
+    ghost view = { λ t. t.entries.items };
+
+    ghost invariant = { λ t. IsKeyed t.entries.items t.keys.items t.marks (vec_capacity t.entries) };
+}
+
+impl Entries {
+    ghost use Rattle.std.specs.Prelude.{◌≤◌, ◌↔◌, [], ◌∷◌, ◌++◌, IfOk, IsTrue, Some, option_map, slice_get};
+    ghost use Rattle.pv_model.specs.Unveil.{letters_at};
+
+    /// No entries, with room for 64.
+    ///
+    /// # Errors
+    ///
+    /// Where there is no memory for them.
+    pub(crate) fn new(alloc: Global) -> Result<Entries, AllocError>
+        ensures { IfOk result (λ entries. entries ≡ []) }
+    {
+        Ok(Entries {
+            entries: Vec::with_capacity(alloc, UNVEILS)?,
+            keys: ArrayVec::new(),
+            marks: [false; MARKS],
+        })
     }
-}
 
-/// The letters of an entry.
-pub(crate) fn letters_at(entries: &[(Target, Perms)], k: u8) -> Perms
-    ensures { result ≡ letters_at entries.now k }
-{
-    match entries.get(k as usize) {
-        Some(entry) => entry.1,
-        None => Perms::NONE,
+    /// How many there are, at most 64.
+    pub(crate) fn len(&self) -> usize
+        ensures value { result ≡ length self.now }
+        ensures few { result ≤ UNVEILS }
+    {
+        self.entries.len()
+    }
+
+    /// Whether there is none.
+    pub(crate) fn is_empty(&self) -> bool
+        ensures { IsTrue result ↔ (self.now ≡ []) }
+    {
+        self.entries.is_empty()
+    }
+
+    /// The target of entry `k`.
+    pub(crate) fn target(&self, k: u8) -> &Target
+        requires { k < length self.now }
+        ensures { option_map (λ e. e.0) (slice_get self.now k) ≡ Some result.now }
+    {
+        &self.entries.as_slice()[k as usize].0
+    }
+
+    /// The letters of entry `k`.
+    pub(crate) fn letters_at(&self, k: u8) -> Perms
+        ensures { result ≡ letters_at self.now k }
+    {
+        match self.entries.as_slice().get(k as usize) {
+            Some(entry) => entry.1,
+            None => Perms::NONE,
+        }
+    }
+
+    /// The entry for a directory.
+    pub(crate) fn for_directory(&self, directory: u16) -> Option<u8>
+        ensures value { result ≡ entry_for self.now (Target.Directory directory) }
+        ensures in_table { IfSome result (λ k. k < length self.now) }
+    {
+        if !self.marks[directory as usize % MARKS] {
+            return None;
+        }
+        number_of(index_of_directory(self.keys.as_slice(), directory))
+    }
+
+    /// The entry for a name in a directory.
+    pub(crate) fn for_name(&self, directory: u16, name: &[u8]) -> Option<u8>
+        ensures value { result ≡ entry_for self.now (Target.Name directory name.now) }
+        ensures in_table { IfSome result (λ k. k < length self.now) }
+    {
+        number_of(index_of_name(
+            self.keys.as_slice(),
+            self.entries.as_slice(),
+            directory,
+            name,
+        ))
+    }
+
+    /// The entry for a target.
+    pub(crate) fn for_target(&self, target: &Target) -> Option<u8>
+        ensures value { result ≡ entry_for self.now target.now }
+        ensures in_table { IfSome result (λ k. k < length self.now) }
+    {
+        match target {
+            Target::Directory(directory) => self.for_directory(*directory),
+            Target::Name { dir, name } => self.for_name(*dir, name.as_slice()),
+        }
+    }
+
+    /// Adds an entry behind the others.
+    pub(crate) fn push(&mut self, target: Target, letters: Perms)
+        requires { length self.old < UNVEILS }
+        ensures { self.new ≡ self.old ++ (target, letters) ∷ [] }
+    {
+        let key = Key::of(&target);
+        mark(&mut self.marks, key);
+        self.keys.push(key);
+        self.entries.push_reserved((target, letters));
+    }
+
+    /// Puts another entry in place of entry `k`.
+    pub(crate) fn replace(&mut self, k: u8, target: Target, letters: Perms)
+        requires { k < length self.old }
+        ensures { self.new ≡ slice_set self.old k (target, letters) }
+    {
+        let key = Key::of(&target);
+        mark(&mut self.marks, key);
+        replace_key(&mut self.keys, k, key);
+        self.entries[k as usize] = (target, letters);
+    }
+
+    /// Removes all.
+    pub(crate) fn clear(&mut self)
+        ensures { self.new ≡ [] }
+    {
+        self.marks = [false; MARKS];
+        self.keys.clear();
+        self.entries.clear();
+    }
+
+    /// Becomes as others.
+    pub(crate) fn copy_from(&mut self, other: &Entries)
+        ensures { self.new ≡ other.now }
+    {
+        self.clear();
+        for (target, letters) in other.entries.as_slice() {
+            self.push(target.copy(), *letters);
+        }
     }
 }

@@ -1,19 +1,19 @@
 //! The entry that governs a place, and what it says.
-ghost use Rattle.std.specs.Prelude.{◌≡◌, ◌<◌, ◌≤◌, length, IfSome, IsTrue};
+ghost use Rattle.std.specs.Prelude.{◌≡◌, ◌<◌, length, IfSome, IsTrue};
 ghost use Rattle.std.specs.Option.{option_or};
-ghost use Rattle.pv_model.specs.declared.limits.TheConstants.{UNVEILS};
 ghost use Rattle.pv_model.specs.Tree.{is_directory_at};
 ghost use Rattle.pv_model.specs.Unveil.{directory_rights, entry_for, governing_entry, judge_entry, judgement};
 ghost use Rattle.pv_unveil.specs.Up.{up, directory_of};
 ghost use Rattle.pv_unveil.specs.Unveiled.{in_force};
 
-use crate::entries::{entry_for_directory, entry_for_name, letters_at};
+use crate::entries::Entries;
 use pv_model::limits::ROOT;
 use pv_model::{Judgement, Perms, Target};
 use pv_tree::{PlaceRef, Tree};
 
 /// The directory from which a directory has its rights where it has no entry, unveil(2): none for the root, and none
 /// for a removed one.
+#[inline]
 pub fn above(tree: &Tree, directory: u16) -> Option<u16>
     requires { IsTrue (is_directory_at tree.now.tree directory) }
     ensures { result ≡ up tree.now.tree directory }
@@ -26,15 +26,14 @@ pub fn above(tree: &Tree, directory: u16) -> Option<u16>
 }
 
 // The entry that governs a directory: its own, or else that of the nearest directory above.
-fn directory_rights(entries: &[(Target, Perms)], tree: &Tree, directory: u16) -> Option<u8>
-    requires few { length entries.now ≤ UNVEILS }
-    requires directory { IsTrue (is_directory_at tree.now.tree directory) }
+fn directory_rights(entries: &Entries, tree: &Tree, directory: u16) -> Option<u8>
+    requires { IsTrue (is_directory_at tree.now.tree directory) }
     ensures value { result ≡ directory_rights tree.now.tree entries.now directory }
     ensures in_table { IfSome result (λ k. k < length entries.now) }
 {
     let mut at = directory;
     for _climbed in 0..tree.sizes().inodes + 2 {
-        if let Some(k) = entry_for_directory(entries, at) {
+        if let Some(k) = entries.for_directory(at) {
             return Some(k);
         }
         at = above(tree, at)?;
@@ -44,18 +43,12 @@ fn directory_rights(entries: &[(Target, Perms)], tree: &Tree, directory: u16) ->
 
 /// The entry that governs a name in a directory, under which no directory stands: its own, or else the one that
 /// governs the directory.
-pub(crate) fn name_rights(
-    entries: &[(Target, Perms)],
-    tree: &Tree,
-    directory: u16,
-    name: &[u8],
-) -> Option<u8>
-    requires few { length entries.now ≤ UNVEILS }
-    requires directory { IsTrue (is_directory_at tree.now.tree directory) }
+pub(crate) fn name_rights(entries: &Entries, tree: &Tree, directory: u16, name: &[u8]) -> Option<u8>
+    requires { IsTrue (is_directory_at tree.now.tree directory) }
     ensures value { result ≡ option_or (entry_for entries.now (Target.Name directory name.now)) (directory_rights tree.now.tree entries.now directory) }
     ensures in_table { IfSome result (λ k. k < length entries.now) }
 {
-    match entry_for_name(entries, directory, name) {
+    match entries.for_name(directory, name) {
         Some(k) => Some(k),
         None => directory_rights(entries, tree, directory),
     }
@@ -64,9 +57,8 @@ pub(crate) fn name_rights(
 // The entry that governs a place: of a directory the one that governs it, and of a name its own, or else
 // the one that governs the directory in which it stands.
 #[tactic(auto, unfolding(pv_model::specs::Unveil::governing_entry))]
-fn governing_entry(entries: &[(Target, Perms)], tree: &Tree, place: &PlaceRef<'_>) -> Option<u8>
-    requires few { length entries.now ≤ UNVEILS }
-    requires directory { IsTrue (is_directory_at tree.now.tree (directory_of place.now)) }
+fn governing_entry(entries: &Entries, tree: &Tree, place: &PlaceRef<'_>) -> Option<u8>
+    requires { IsTrue (is_directory_at tree.now.tree (directory_of place.now)) }
     ensures { result ≡ governing_entry tree.now.tree entries.now place.now }
 {
     if let Some(node) = place.node() {
@@ -81,17 +73,13 @@ fn governing_entry(entries: &[(Target, Perms)], tree: &Tree, place: &PlaceRef<'_
 }
 
 /// What an entry says, where one governs.
-pub(crate) fn judge_entry(
-    entries: &[(Target, Perms)],
-    governing: Option<u8>,
-    needed: Perms,
-) -> Judgement
+pub(crate) fn judge_entry(entries: &Entries, governing: Option<u8>, needed: Perms) -> Judgement
     ensures { result ≡ judge_entry entries.now needed governing }
 {
     match governing {
         None => Judgement::Hidden,
         Some(k) => {
-            if letters_at(entries, k).covers(needed) {
+            if entries.letters_at(k).covers(needed) {
                 Judgement::Allowed
             } else {
                 Judgement::Denied(k)
@@ -103,17 +91,16 @@ pub(crate) fn judge_entry(
 /// What the entries say of a place, for the letters that are needed: without entries each is allowed.
 #[tactic(auto, unfolding(pv_model::specs::Unveil::judgement))]
 pub(crate) fn judge_in(
-    entries: &[(Target, Perms)],
+    entries: &Entries,
     tree: &Tree,
     place: &PlaceRef<'_>,
     needed: Perms,
 ) -> Judgement
-    requires few { length entries.now ≤ UNVEILS }
-    requires directory { IsTrue (is_directory_at tree.now.tree (directory_of place.now)) }
+    requires { IsTrue (is_directory_at tree.now.tree (directory_of place.now)) }
     ensures { result ≡ judgement tree.now.tree (in_force entries.now) place.now needed }
 {
-    match entries {
-        [] => Judgement::Allowed,
-        [_, ..] => judge_entry(entries, governing_entry(entries, tree, place), needed),
+    if entries.is_empty() {
+        return Judgement::Allowed;
     }
+    judge_entry(entries, governing_entry(entries, tree, place), needed)
 }

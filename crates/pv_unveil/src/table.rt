@@ -4,12 +4,12 @@ ghost use Rattle.pv_model.specs.Attempt.{give};
 ghost use Rattle.pv_model.specs.Unveil.{directory_rights, entry_for, letters_at};
 ghost use Rattle.pv_unveil.specs.Added.{refusal, put_in};
 
-use crate::entries::{entry_for, entry_for_directory, letters_at};
+use crate::entries::Entries;
 use crate::rights::{judge_in, name_rights};
-use arrayvec::ArrayVec;
 use pv_model::limits::UNVEILS;
 use pv_model::{Judgement, Perms, Target};
 use pv_tree::{PlaceRef, Tree};
+use std::alloc::{AllocError, Global};
 use std::marker::Model;
 
 /// Why an entry cannot be added, unveil(2): the first of these that applies.
@@ -28,7 +28,7 @@ pub enum AddFault {
 /// There is no table before the first entry, and then nothing is hidden.
 #[derive(Drop)]
 pub struct Table {
-    entries: ArrayVec<(Target, Perms), UNVEILS>,
+    entries: Entries,
     locked: bool,
 }
 
@@ -37,44 +37,32 @@ impl Model for Table {
 
     ghost Value = { Unveiled };
 
-    ghost view = { λ t. record { table = in_force t.entries.items; locked = t.locked } };
-}
-
-// Puts another entry in place of entry `k`.
-fn replace(entries: &mut ArrayVec<(Target, Perms), UNVEILS>, k: u8, entry: (Target, Perms))
-    requires { k < length entries.old.items }
-    ensures { entries.new.items ≡ slice_set entries.old.items k entry }
-{
-    entries.as_mut_slice()[k as usize] = entry;
+    ghost view = { λ t. record { table = in_force t.entries; locked = t.locked } };
 }
 
 // Adds an entry, or puts fewer letters in the one for the target.
-fn put(
-    entries: &mut ArrayVec<(Target, Perms), UNVEILS>,
-    target: Target,
-    letters: Perms,
-) -> Result<u8, AddFault>
-    ensures added { OnOk result (put_in entries.old.items target letters ≡ give entries.new.items) }
-    ensures number { IfOk result (λ k. entry_for entries.new.items target ≡ Some k) }
-    ensures letters { IfOk result (λ k. letters_at entries.new.items k ≡ letters) }
-    ensures refused { IfErr result (λ fault. put_in entries.old.items target letters ≡ refusal fault) }
+fn put(entries: &mut Entries, target: Target, letters: Perms) -> Result<u8, AddFault>
+    ensures added { OnOk result (put_in entries.old target letters ≡ give entries.new) }
+    ensures number { IfOk result (λ k. entry_for entries.new target ≡ Some k) }
+    ensures letters { IfOk result (λ k. letters_at entries.new k ≡ letters) }
+    ensures refused { IfErr result (λ fault. put_in entries.old target letters ≡ refusal fault) }
     ensures unchanged { OnErr result (entries.new ≡ entries.old) }
 {
-    match entry_for(entries.as_slice(), &target) {
+    match entries.for_target(&target) {
         Some(k) => {
-            if !letters_at(entries.as_slice(), k).covers(letters) {
+            if !entries.letters_at(k).covers(letters) {
                 return Err(AddFault::Increase(k));
             }
-            replace(entries, k, (target, letters));
+            entries.replace(k, target, letters);
             Ok(k)
         }
         None => {
-            if entries.is_full() {
+            let count = entries.len();
+            if count >= UNVEILS {
                 return Err(AddFault::Many);
             }
-            let k = entries.len() as u8;
-            entries.push((target, letters));
-            Ok(k)
+            entries.push(target, letters);
+            Ok(count as u8)
         }
     }
 }
@@ -89,14 +77,18 @@ impl Table {
     ghost use Rattle.pv_unveil.specs.Added.{add_to};
 
     /// No table, and no lock.
-    pub fn new() -> Table
-        ensures table { result.table ≡ None }
-        ensures unlocked { result.locked ≡ false }
+    ///
+    /// # Errors
+    ///
+    /// Where there is no memory for the entries. No other call of `Table` asks for any.
+    pub fn new(alloc: Global) -> Result<Table, AllocError>
+        ensures table { IfOk result (λ t. t.table ≡ None) }
+        ensures unlocked { IfOk result (λ t. t.locked ≡ false) }
     {
-        Table {
-            entries: ArrayVec::new(),
+        Ok(Table {
+            entries: Entries::new(alloc)?,
             locked: false,
-        }
+        })
     }
 
     /// Whether the table is locked.
@@ -134,7 +126,7 @@ impl Table {
         ensures { option_map (λ e. e.0) (slice_get (entries_of_table self.now.table) k)
             ≡ Some result.now }
     {
-        &self.entries.as_slice()[k as usize].0
+        self.entries.target(k)
     }
 
     /// The letters of entry `k`.
@@ -142,7 +134,7 @@ impl Table {
         requires { k < length (entries_of_table self.now.table) }
         ensures { result ≡ letters_at (entries_of_table self.now.table) k }
     {
-        letters_at(self.entries.as_slice(), k)
+        self.entries.letters_at(k)
     }
 
     /// The entry for a directory itself, if there is one.
@@ -150,7 +142,7 @@ impl Table {
         ensures value { result ≡ entry_for (entries_of_table self.now.table) (Target.Directory directory) }
         ensures in_table { IfSome result (λ k. k < length (entries_of_table self.now.table)) }
     {
-        entry_for_directory(self.entries.as_slice(), directory)
+        self.entries.for_directory(directory)
     }
 
     /// The entry that governs a name in a directory of a tree, under which no directory stands: its own, or else the one
@@ -160,7 +152,7 @@ impl Table {
         ensures value { result ≡ option_or (entry_for (entries_of_table self.now.table) (Target.Name directory name.now)) (directory_rights tree.now.tree (entries_of_table self.now.table) directory) }
         ensures in_table { IfSome result (λ k. k < length (entries_of_table self.now.table)) }
     {
-        name_rights(self.entries.as_slice(), tree, directory, name)
+        name_rights(&self.entries, tree, directory, name)
     }
 
     /// Adds an entry for a target, or leaves the one for it with these letters, which must be among its own.
@@ -186,24 +178,12 @@ impl Table {
         put(&mut self.entries, target, letters)
     }
 
-    /// Another table with the same entries and lock, as fork(2) gives the child.
-    pub fn copy(&self) -> Table
-        ensures { result ≡ self.now }
-    {
-        let mut table = Table::new();
-        table.copy_from(self);
-        table
-    }
-
     /// Becomes as another: the same entries and lock, as fork(2) gives the child. Only the entries that are there are
     /// copied.
     pub fn copy_from(&mut self, other: &Table)
         ensures { self.new ≡ other.now }
     {
-        self.entries.clear();
-        for (target, letters) in other.entries.as_slice() {
-            self.entries.push((target.copy(), *letters));
-        }
+        self.entries.copy_from(&other.entries);
         self.locked = other.locked;
     }
 
@@ -228,6 +208,6 @@ impl Table {
         ensures value { result ≡ judgement tree.now.tree self.now.table place.now needed }
         ensures by_entry { IsJudged tree.now.tree self.now.table place.now needed result }
     {
-        judge_in(self.entries.as_slice(), tree, place, needed)
+        judge_in(&self.entries, tree, place, needed)
     }
 }

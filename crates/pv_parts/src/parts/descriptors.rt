@@ -1,7 +1,9 @@
 //! Descriptors, and the open files behind them.
-ghost use Rattle.std.specs.Prelude.{◌≡◌, ◌≢◌, ℕ, ◌+◌, ◌<◌, [], ◌∷◌, if◌then◌else◌, IsSome, IsTrue, IfOk, IfErr, OnOk, OnErr, Some, None, IfSome, MatchOption, option_map};
+ghost use Rattle.std.specs.Prelude.{◌≡◌, ◌≢◌, ℕ, ◌+◌, ◌<◌, [], ◌∷◌, if◌then◌else◌, IsSome, IsTrue, IfOk, IfErr, OnOk, OnErr, Some, None, IfSome, MatchOption, option_map, ok_or};
 ghost use Rattle.pv_files.specs.Counted.{with_opened};
+ghost use Rattle.pv_files.specs.Descriptors.{descriptor_under};
 ghost use Rattle.pv_laws.specs.States.{IsWhole};
+ghost use Rattle.pv_model.specs.declared.errno.Errno.TheVariants.{EBADF, EMFILE};
 ghost use Rattle.pv_model.specs.declared.limits.TheConstants.{DESCRIPTORS, OPEN_FILES};
 ghost use Rattle.pv_model.specs.Calls.Descriptors.{close, dup, dup2, new_open_file, with_content, within};
 ghost use Rattle.pv_model.specs.Held.{trim};
@@ -10,7 +12,7 @@ ghost use Rattle.pv_model.specs.State.{Process, process_at, writes};
 ghost use Rattle.pv_model.specs.Sealed.{is_file};
 ghost use Rattle.pv_model.specs.Tree.{node_at, find_entry, is_name, is_directory_at};
 ghost use Rattle.pv_parts.specs.Attempts.{plainly, trimmed};
-ghost use Rattle.pv_parts.specs.Changes.{with_descriptors, with_opened_descriptor, with_node_opened, with_file_made};
+ghost use Rattle.pv_parts.specs.Changes.{with_closed_descriptor, with_descriptor_at, with_opened_descriptor, with_node_opened, with_file_made};
 ghost use Rattle.pv_parts.specs.Releasing.{at_most, HoldsOpened, Releases};
 ghost use Rattle.pv_procs.specs.ProcessTable.{process_in, update};
 ghost use Rattle.pv_tree.specs.Holding.{holds_at};
@@ -56,12 +58,46 @@ fn release_some(tree: &mut Tree, files: &mut OpenFiles, file: Option<usize>)
     }
 }
 
-// Gives a live process other descriptors.
-fn put_descriptors(processes: &mut Processes, pid: u32, descriptors: Descriptors)
+// Closes a descriptor of a live process. The answer is the number of its open file, which has a user less.
+fn close_descriptor(processes: &mut Processes, pid: u32, d: i32) -> Result<usize, Errno>
     requires { IsSome (process_in processes.old pid) }
-    ensures { processes.new ≡ update processes.old pid (with_descriptors descriptors) }
+    ensures file { (me : Process) → process_in processes.old pid ≡ Some me → result ≡ ok_or (option_map (λ e. e.file) (descriptor_under me.descriptors d)) EBADF }
+    ensures closed { OnOk result (processes.new ≡ update processes.old pid (with_closed_descriptor d)) }
+    ensures unchanged { OnErr result (processes.new ≡ processes.old) }
 {
-    processes.record_mut(pid).descriptors = descriptors;
+    processes.facts();
+    processes.record_mut(pid).descriptors.close(d)
+}
+
+// Gives a live process a descriptor of an open file, under the least free number, which is the answer.
+fn give_descriptor(
+    processes: &mut Processes,
+    pid: u32,
+    file: usize,
+    close_on_exec: bool,
+) -> Result<u8, Errno>
+    requires { IsSome (process_in processes.old pid) }
+    ensures number { IfOk result (λ d. (me : Process) → process_in processes.old pid ≡ Some me → d ≡ least_free me.descriptors) }
+    ensures in_range { IfOk result (λ d. d < DESCRIPTORS) }
+    ensures given { OnOk result (processes.new ≡ update processes.old pid (with_opened_descriptor file close_on_exec)) }
+    ensures errno { IfErr result (λ e. e ≡ EMFILE) }
+    ensures full { OnErr result ((me : Process) → process_in processes.old pid ≡ Some me → least_free me.descriptors ≡ DESCRIPTORS) }
+    ensures unchanged { OnErr result (processes.new ≡ processes.old) }
+{
+    processes.facts();
+    processes
+        .record_mut(pid)
+        .descriptors
+        .give(file, close_on_exec)
+}
+
+// Makes a number from 0 to 15 a descriptor of an open file in a live process, whatever it was.
+fn set_descriptor(processes: &mut Processes, pid: u32, number: u8, file: usize)
+    requires live { IsSome (process_in processes.old pid) }
+    requires in_range { number < DESCRIPTORS }
+    ensures { processes.new ≡ update processes.old pid (with_descriptor_at number file) }
+{
+    processes.record_mut(pid).descriptors.set(number, file);
 }
 
 impl Parts {
@@ -78,9 +114,7 @@ impl Parts {
     {
         let _ = self.tree.sizes();
         self.files.facts();
-        let mut descriptors = self.processes.record(pid).descriptors;
-        let file = descriptors.close(d)?;
-        put_descriptors(&mut self.processes, pid, descriptors);
+        let file = close_descriptor(&mut self.processes, pid, d)?;
         release(&mut self.tree, &mut self.files, file);
         self.files.facts();
         Ok(0)
@@ -99,10 +133,8 @@ impl Parts {
     {
         let _ = self.tree.sizes();
         self.files.facts();
-        let mut descriptors = self.processes.record(pid).descriptors;
-        let file = descriptors.at(d)?;
-        let number = descriptors.give(file, false)?;
-        put_descriptors(&mut self.processes, pid, descriptors);
+        let file = self.processes.record(pid).descriptors.at(d)?;
+        let number = give_descriptor(&mut self.processes, pid, file, false)?;
         self.files.dup(file);
         self.files.facts();
         Ok(u32::from(number))
@@ -121,7 +153,7 @@ impl Parts {
     {
         let _ = self.tree.sizes();
         self.files.facts();
-        let mut descriptors = self.processes.record(pid).descriptors;
+        let descriptors = &self.processes.record(pid).descriptors;
         let file = descriptors.at(d)?;
         let Some(number) = number_of(e) else {
             return Err(Errno::EBADF);
@@ -129,9 +161,8 @@ impl Parts {
         if d == e {
             return Ok(u32::from(number));
         }
-        let left = file_at(&descriptors, number);
-        descriptors.set(number, file);
-        put_descriptors(&mut self.processes, pid, descriptors);
+        let left = file_at(descriptors, number);
+        set_descriptor(&mut self.processes, pid, number, file);
         self.files.dup(file);
         release_some(&mut self.tree, &mut self.files, left);
         self.files.facts();
@@ -247,11 +278,9 @@ fn open_node(
         unreachable!()
     };
     tree.hold(node);
-    let mut descriptors = processes.record(pid).descriptors;
-    let Ok(number) = descriptors.give(file, flags.close_on_exec) else {
+    let Ok(number) = give_descriptor(processes, pid, file, flags.close_on_exec) else {
         unreachable!()
     };
-    put_descriptors(processes, pid, descriptors);
     number
 }
 

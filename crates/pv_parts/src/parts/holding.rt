@@ -1,12 +1,15 @@
 //! Working directories and targets of tables, which hold nodes.
-ghost use Rattle.std.specs.Prelude.{◌≡◌, ◌<◌, ◌+◌, ℕ, [], ◌∷◌, if◌then◌else◌, IsSome, IfErr, OnOk, OnErr, Some};
+ghost use Rattle.std.specs.Prelude.{◌≡◌, ◌<◌, ◌+◌, ℕ, [], ◌∷◌, length, nat_lt, if◌then◌else◌, IsSome, IfErr, IfOk, OnOk, OnErr, Some};
+ghost use Rattle.std.specs.Option.{IsSomeAnd};
 ghost use Rattle.pv_laws.specs.States.{IsWhole};
 ghost use Rattle.pv_model.specs.Answer.{update};
+ghost use Rattle.pv_model.specs.Attempt.{give};
+ghost use Rattle.pv_model.specs.Calls.Restraints.{entries_of_table};
 ghost use Rattle.pv_model.specs.Held.{trim};
 ghost use Rattle.pv_model.specs.State.{Process, process_at};
 ghost use Rattle.pv_model.specs.Tree.{node_at};
 ghost use Rattle.pv_model.specs.Unveil.{target_directory};
-ghost use Rattle.pv_parts.specs.Changes.{Unveils, unveiled_of, with_directory, with_unveiled};
+ghost use Rattle.pv_parts.specs.Changes.{AddsEntry, Unveils, unveiled_of, with_directory};
 ghost use Rattle.pv_parts.specs.Counts.{times};
 ghost use Rattle.pv_procs.specs.ProcessTable.{process_in, update as process_updated};
 ghost use Rattle.pv_tree.specs.Holding.{holds_at};
@@ -36,12 +39,34 @@ fn put_directory(processes: &mut Processes, pid: u32, directory: u16)
     processes.record_mut(pid).directory = directory;
 }
 
-// Gives a live process another unveil table.
-fn put_table(processes: &mut Processes, pid: u32, table: Table)
-    requires { IsSome (process_in processes.old pid) }
-    ensures { processes.new ≡ process_updated processes.old pid (with_unveiled table) }
+// Adds an entry for a target to a table, or leaves the one that is there with these letters. The answer is whether the
+// entry is new.
+fn add_to_table(table: &mut Table, target: Target, letters: Perms) -> Result<bool, AddFault>
+    ensures added { OnOk result (IsSomeAnd table.new.table (λ entries. add_to table.old target letters ≡ give entries)) }
+    ensures longer { IfOk result (λ is_new. is_new ≡ nat_lt (length (entries_of_table table.old.table)) (length (entries_of_table table.new.table))) }
+    ensures lock_stays { table.new.locked ≡ table.old.locked }
+    ensures refused { IfErr result (λ fault. add_to table.old target letters ≡ refusal fault) }
+    ensures unchanged { OnErr result (table.new ≡ table.old) }
 {
-    processes.record_mut(pid).unveiled = table;
+    let count = table.len();
+    table.add(target, letters)?;
+    Ok(table.len() > count)
+}
+
+// The same, of the table of a live process.
+fn add_entry(
+    processes: &mut Processes,
+    pid: u32,
+    target: Target,
+    letters: Perms,
+) -> Result<bool, AddFault>
+    requires { IsSome (process_in processes.old pid) }
+    ensures added { IfOk result (λ is_new. (me : Process) → process_in processes.old pid ≡ Some me → AddsEntry processes.old pid me target letters is_new processes.new) }
+    ensures refused { IfErr result (λ fault. (me : Process) → process_in processes.old pid ≡ Some me → add_to (unveiled_of me) target letters ≡ refusal fault) }
+    ensures unchanged { OnErr result (processes.new ≡ processes.old) }
+{
+    processes.facts();
+    add_to_table(&mut processes.record_mut(pid).unveiled, target, letters)
 }
 
 // Holds a directory once more, where an entry for it is new.
@@ -89,12 +114,7 @@ impl Parts {
         let _ = self.tree.sizes();
         self.files.facts();
         let directory = directory_of(&target);
-        let own = &self.processes.record(pid).unveiled;
-        let count = own.len();
-        let mut table = own.copy();
-        table.add(target, letters)?;
-        let is_new = table.len() > count;
-        put_table(&mut self.processes, pid, table);
+        let is_new = add_entry(&mut self.processes, pid, target, letters)?;
         hold_if(&mut self.tree, directory, is_new);
         Ok(())
     }

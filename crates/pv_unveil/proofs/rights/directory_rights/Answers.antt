@@ -8,7 +8,7 @@ returns-in-Some-clause-value c =
     let table = c.args.entries.now in
     let inodes = c.sizes-climbed-end.result.inodes in
     let left : ℕ = inodes + 1 - c.loop-climbed._climbed in
-    let own = climb-own t table left c.loop-climbed.at c.in-Some.k (sym c.entry_for_directory.ensures.value ∙ c.in-Some.is) in
+    let own = climb-own t table left c.loop-climbed.at c.in-Some.k (sym c.for_directory.ensures.value ∙ c.in-Some.is) in
     let so_far = c.loop-climbed.invariant.1 (suc left) (omega (arith, c.loop-climbed-test.true)) in
     let all = directory_rights-inodes t table inodes c.args.directory c.sizes-climbed-end.ensures.standing.well_formed.numbers c.sizes-climbed-end.ensures.inodes in
     sym own ∙ so_far ∙ sym all
@@ -19,7 +19,7 @@ returns-in_err-at-clause-value c =
     let table = c.args.entries.now in
     let inodes = c.sizes-climbed-end.result.inodes in
     let left : ℕ = inodes + 1 - c.loop-climbed._climbed in
-    let top = climb-top t table left c.loop-climbed.at (sym c.entry_for_directory.ensures.value ∙ c.in_default.is) (sym c.above.ensures ∙ c.in_err-at.was) in
+    let top = climb-top t table left c.loop-climbed.at (sym c.for_directory.ensures.value ∙ c.in_default.is) (sym c.above.ensures ∙ c.in_err-at.was) in
     let so_far = c.loop-climbed.invariant.1 (suc left) (omega (arith, c.loop-climbed-test.true)) in
     let all = directory_rights-inodes t table inodes c.args.directory c.sizes-climbed-end.ensures.standing.well_formed.numbers c.sizes-climbed-end.ensures.inodes in
     c.from_residual.ensures ∙ sym top ∙ so_far ∙ sym all
@@ -30,7 +30,7 @@ loop-climbed-preserved c =
     let up = sym c.above.ensures ∙ c.in_ok-at.was in (
       up-directory t c.sizes-climbed-end.ensures.standing.well_formed c.loop-climbed.at c.in_ok-at.at up,
       λ left total.
-          let above = climb-above t c.args.entries.now left c.loop-climbed.at c.in_ok-at.at (sym c.entry_for_directory.ensures.value ∙ c.in_default.is) up in
+          let above = climb-above t c.args.entries.now left c.loop-climbed.at c.in_ok-at.at (sym c.for_directory.ensures.value ∙ c.in_default.is) up in
           sym above ∙ c.loop-climbed.invariant.1 (suc left) (omega (arith, total)),
     )
 

@@ -7,12 +7,14 @@ use Rattle.pv_files.specs.Descriptors.{descriptor_under}
 use Rattle.pv_model.specs.declared.errno.Errno.TheVariants.{EBADF}
 use Rattle.pv_model.specs.Numbered.{Numbered, at_number, with_number, least_free}
 use Rattle.pv_model.specs.State.{Descriptor}
+use Rattle.pv_procs.specs.ProcessTable.{with_process}
 use Rattle.pv_tree.proofs.Entries.{one_if}
+use Rattle.pv_parts.specs.Changes.{with_opened_descriptor}
 use Rattle.pv_parts.specs.Counts.{times, open_nodes}
 use Rattle.pv_tree.specs.Holding.{holds_at}
-use Rattle.pv_parts.proofs.Changing.{before, started, owned, few-users}
+use Rattle.pv_parts.proofs.Changing.{before, started, owned, updated, few-users}
 use Rattle.pv_parts.proofs.Sharing.{one-more}
-use Rattle.pv_parts.proofs.Descriptors.{ok-descriptor, times-given, under-opened, put-descriptors, exchanged-up, exchanged-state, dup-row}
+use Rattle.pv_parts.proofs.Descriptors.{ok-descriptor, times-given, under-opened, exchanged-up, exchanged-state, dup-row}
 use Rattle.pv_parts.proofs.parts.Parts.dup.Goals as goal
 
 pub dup-requires-clause-opened : goal.dup-requires-clause-opened
@@ -30,8 +32,8 @@ dup-requires-clause-room c =
     let p = started c.args.self.now c.self.inside.tree c.self.inside.files c.self.inside.processes c.args.pid c.self.view_is c.requires.whole c.self.invariant c.sizes.ensures.standing c.facts.ensures c.requires.live in
     omega (arith, few-users c.self.inside.tree c.self.inside.files c.self.inside.processes c.args.pid p.0 p.1 c.in_ok-file.file)
 
-pub invariant_of-self : goal.invariant_of-self
-invariant_of-self c =
+pub invariant_of-self-2 : goal.invariant_of-self-2
+invariant_of-self-2 c =
     let p = started c.args.self.now c.self.inside.tree c.self.inside.files c.self.inside.processes c.args.pid c.self.view_is c.requires.whole c.self.invariant c.sizes.ensures.standing c.facts.ensures c.requires.live in
     let own : p.0.descriptors ≡ c.record.result.now.descriptors = ap (λ r. r.descriptors) (owned c.self.inside.tree c.self.inside.files c.self.inside.processes c.args.pid p.0 p.1 c.record.result.now c.record.ensures) in
     let found = ok-descriptor (descriptor_under p.0.descriptors c.args.d) c.in_ok-file.file
@@ -39,13 +41,9 @@ invariant_of-self c =
     ∙ ap (λ z. ok_or (option_map (λ e. e.file) (descriptor_under c.record.result.now.descriptors z)) EBADF) (sym (to_z-of_z w32 c.args.d c.ranges.d)) ∙ sym c.at.ensures ∙ c.in_ok-file.was) in
     let there = subst (λ k. IsSome (at_number c.self.inside.files.files k)) found.2 (under-opened c.self.inside.tree c.self.inside.files c.self.inside.processes c.args.pid p.0 p.1 c.args.d found.0 found.1) in
     let given : Numbered Descriptor = with_number p.0.descriptors (least_free p.0.descriptors) (record { file = found.0.file; close_on_exec = false }) in
-    let same : c.give.new.self ≡ given =
-    c.in_ok-number.ensures.given
-    ∙ ap (λ n. with_number c.record.result.now.descriptors n (record { file = c.in_ok-file.file; close_on_exec = false })) c.in_ok-number.ensures.number
-    ∙ ap (λ ds. with_number ds (least_free ds) (record { file = c.in_ok-file.file; close_on_exec = false })) (sym own)
-    ∙ ap (λ f. with_number p.0.descriptors (least_free p.0.descriptors) (record { file = f; close_on_exec = false })) (sym found.2) in
-    exchanged-up c.self.inside.tree c.self.inside.files c.self.inside.processes c.args.pid p.0 p.1 c.self.inside.tree c.dup.new.self c.put_descriptors.new.processes given
-    (put-descriptors c.self.inside.tree c.self.inside.files c.self.inside.processes c.args.pid p.0 p.1 c.put_descriptors.new.processes c.give.new.self given c.put_descriptors.ensures same)
+    exchanged-up c.self.inside.tree c.self.inside.files c.self.inside.processes c.args.pid p.0 p.1 c.self.inside.tree c.dup.new.self c.give_descriptor.new.processes given
+    (c.in_ok-number.ensures.given ∙ updated c.self.inside.tree c.self.inside.files c.self.inside.processes c.args.pid p.0 p.1 (with_opened_descriptor c.in_ok-file.file false)
+    ∙ ap (λ f. with_process c.self.inside.processes c.args.pid (with_opened_descriptor f false p.0)) (sym found.2))
     (λ k. omega (
       arith,
       one-more c.self.inside.files c.dup.new.self c.in_ok-file.file c.facts.ensures there c.dup.ensures k,
@@ -63,15 +61,11 @@ returns-clause-row c me at =
     ∙ ap (λ z. ok_or (option_map (λ e. e.file) (descriptor_under c.record.result.now.descriptors z)) EBADF) (sym (to_z-of_z w32 c.args.d c.ranges.d)) ∙ sym c.at.ensures ∙ c.in_ok-file.was) in
     let there = subst (λ k. IsSome (at_number c.self.inside.files.files k)) found.2 (under-opened c.self.inside.tree c.self.inside.files c.self.inside.processes c.args.pid me is c.args.d found.0 found.1) in
     let given : Numbered Descriptor = with_number me.descriptors (least_free me.descriptors) (record { file = found.0.file; close_on_exec = false }) in
-    let same : c.give.new.self ≡ given =
-    c.in_ok-number.ensures.given
-    ∙ ap (λ n. with_number c.record.result.now.descriptors n (record { file = c.in_ok-file.file; close_on_exec = false })) c.in_ok-number.ensures.number
-    ∙ ap (λ ds. with_number ds (least_free ds) (record { file = c.in_ok-file.file; close_on_exec = false })) (sym own)
-    ∙ ap (λ f. with_number me.descriptors (least_free me.descriptors) (record { file = f; close_on_exec = false })) (sym found.2) in
     dup-row c.args.self.now c.args.pid me c.args.d found.0 found.1 _ c.in_ok-number.number c.from.result
-    (c.in_ok-number.ensures.number ∙ ap least_free (sym own)) c.in_ok-number.ensures.in_range c.from.ensures
-    (exchanged-state c.self.inside.tree c.self.inside.files c.self.inside.processes c.args.pid me is c.self.inside.tree c.dup.new.self c.put_descriptors.new.processes given
-    (put-descriptors c.self.inside.tree c.self.inside.files c.self.inside.processes c.args.pid me is c.put_descriptors.new.processes c.give.new.self given c.put_descriptors.ensures same)
+    (c.in_ok-number.ensures.number me is.at) c.in_ok-number.ensures.in_range c.from.ensures
+    (exchanged-state c.self.inside.tree c.self.inside.files c.self.inside.processes c.args.pid me is c.self.inside.tree c.dup.new.self c.give_descriptor.new.processes given
+    (c.in_ok-number.ensures.given ∙ updated c.self.inside.tree c.self.inside.files c.self.inside.processes c.args.pid me is (with_opened_descriptor c.in_ok-file.file false)
+    ∙ ap (λ f. with_process c.self.inside.processes c.args.pid (with_opened_descriptor f false me)) (sym found.2))
     (λ k. omega (
       arith,
       one-more c.self.inside.files c.dup.new.self c.in_ok-file.file c.facts.ensures there c.dup.ensures k,

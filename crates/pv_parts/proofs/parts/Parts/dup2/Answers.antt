@@ -9,11 +9,13 @@ use Rattle.pv_model.specs.declared.errno.Errno.TheVariants.{EBADF}
 use Rattle.pv_model.specs.Calls.Descriptors.{within}
 use Rattle.pv_model.specs.Numbered.{Numbered, at_number, with_number}
 use Rattle.pv_model.specs.State.{Descriptor}
+use Rattle.pv_procs.specs.ProcessTable.{with_process}
 use Rattle.pv_tree.proofs.Entries.{one_if}
+use Rattle.pv_parts.specs.Changes.{with_descriptor_at}
 use Rattle.pv_parts.specs.Counts.{times, open_nodes}
-use Rattle.pv_parts.proofs.Changing.{before, started, owned, few-users}
+use Rattle.pv_parts.proofs.Changing.{before, started, owned, updated, few-users}
 use Rattle.pv_parts.proofs.Sharing.{one-more}
-use Rattle.pv_parts.proofs.Descriptors.{ok-descriptor, times-set, under-opened, left-opened, put-descriptors, exchanged-up, exchanged-state, dup2-row, other-number}
+use Rattle.pv_parts.proofs.Descriptors.{ok-descriptor, times-set, under-opened, left-opened, exchanged-up, exchanged-state, dup2-row, other-number}
 use Rattle.pv_parts.proofs.parts.Parts.dup2.Goals as goal
 
 pub dup-requires-clause-opened : goal.dup-requires-clause-opened
@@ -47,14 +49,11 @@ invariant_of-self c =
     ∙ ap (λ z. ok_or (option_map (λ e. e.file) (descriptor_under c.record.result.now.descriptors z)) EBADF) (sym (to_z-of_z w32 c.args.d c.ranges.d)) ∙ sym c.at.ensures ∙ c.in_ok-file.was) in
     let there = subst (λ k. IsSome (at_number c.self.inside.files.files k)) found.2 (under-opened c.self.inside.tree c.self.inside.files c.self.inside.processes c.args.pid p.0 p.1 c.args.d found.0 found.1) in
     let given : Numbered Descriptor = with_number p.0.descriptors c.in-Some.number (record { file = found.0.file; close_on_exec = false }) in
-    let same : c.set.new.self ≡ given =
-    c.set.ensures
-    ∙ ap (λ ds. with_number ds c.in-Some.number (record { file = c.in_ok-file.file; close_on_exec = false })) (sym own)
-    ∙ ap (λ f. with_number p.0.descriptors c.in-Some.number (record { file = f; close_on_exec = false })) (sym found.2) in
     let left = c.file_at-left.ensures ∙ ap (λ ds. option_map (λ e. e.file) (at_number ds c.in-Some.number)) (sym own) in
     let gone = c.release_some.ensures in
-    exchanged-up c.self.inside.tree c.self.inside.files c.self.inside.processes c.args.pid p.0 p.1 c.release_some.new.tree c.release_some.new.files c.put_descriptors.new.processes given
-    (put-descriptors c.self.inside.tree c.self.inside.files c.self.inside.processes c.args.pid p.0 p.1 c.put_descriptors.new.processes c.set.new.self given c.put_descriptors.ensures same)
+    exchanged-up c.self.inside.tree c.self.inside.files c.self.inside.processes c.args.pid p.0 p.1 c.release_some.new.tree c.release_some.new.files c.set_descriptor.new.processes given
+    (c.set_descriptor.ensures ∙ updated c.self.inside.tree c.self.inside.files c.self.inside.processes c.args.pid p.0 p.1 (with_descriptor_at c.in-Some.number c.in_ok-file.file)
+    ∙ ap (λ f. with_process c.self.inside.processes c.args.pid (with_descriptor_at c.in-Some.number f p.0)) (sym found.2))
     (λ k. omega (
       arith,
       one-more c.self.inside.files c.dup.new.self c.in_ok-file.file c.facts.ensures there c.dup.ensures k,
@@ -73,17 +72,14 @@ returns-clause-row c me at =
     ∙ ap (λ z. ok_or (option_map (λ e. e.file) (descriptor_under c.record.result.now.descriptors z)) EBADF) (sym (to_z-of_z w32 c.args.d c.ranges.d)) ∙ sym c.at.ensures ∙ c.in_ok-file.was) in
     let there = subst (λ k. IsSome (at_number c.self.inside.files.files k)) found.2 (under-opened c.self.inside.tree c.self.inside.files c.self.inside.processes c.args.pid me is c.args.d found.0 found.1) in
     let given : Numbered Descriptor = with_number me.descriptors c.in-Some.number (record { file = found.0.file; close_on_exec = false }) in
-    let same : c.set.new.self ≡ given =
-    c.set.ensures
-    ∙ ap (λ ds. with_number ds c.in-Some.number (record { file = c.in_ok-file.file; close_on_exec = false })) (sym own)
-    ∙ ap (λ f. with_number me.descriptors c.in-Some.number (record { file = f; close_on_exec = false })) (sym found.2) in
     let left = c.file_at-left.ensures ∙ ap (λ ds. option_map (λ e. e.file) (at_number ds c.in-Some.number)) (sym own) in
     let gone = c.release_some.ensures in
     let there-number = sym c.in-Some.is ∙ c.number_of.ensures ∙ ap (λ z. within 15 z) (to_z-of_z w32 c.args.e c.ranges.e) in
     dup2-row c.args.self.now c.args.pid me c.args.d found.0 found.1 _ c.args.e c.in-Some.number c.from-2.result
     there-number (other-number c.args.d c.args.e c.in-Some.number there-number (λ same. c.if-d-e.false (ap (of_z w32) same))) c.from-2.ensures
-    (exchanged-state c.self.inside.tree c.self.inside.files c.self.inside.processes c.args.pid me is c.release_some.new.tree c.release_some.new.files c.put_descriptors.new.processes given
-    (put-descriptors c.self.inside.tree c.self.inside.files c.self.inside.processes c.args.pid me is c.put_descriptors.new.processes c.set.new.self given c.put_descriptors.ensures same)
+    (exchanged-state c.self.inside.tree c.self.inside.files c.self.inside.processes c.args.pid me is c.release_some.new.tree c.release_some.new.files c.set_descriptor.new.processes given
+    (c.set_descriptor.ensures ∙ updated c.self.inside.tree c.self.inside.files c.self.inside.processes c.args.pid me is (with_descriptor_at c.in-Some.number c.in_ok-file.file)
+    ∙ ap (λ f. with_process c.self.inside.processes c.args.pid (with_descriptor_at c.in-Some.number f me)) (sym found.2))
     (λ k. omega (
       arith,
       one-more c.self.inside.files c.dup.new.self c.in_ok-file.file c.facts.ensures there c.dup.ensures k,

@@ -1,0 +1,52 @@
+-- Keys of entries, and the row of them that stands beside a table's entries.
+use Rattle.std.specs.Prelude.{◌≡◌, ◌≤◌, ◌==◌, ◌%◌, ℕ, Bool, true, false, List, length, map, bytes_eq, slice_index_or, slice_set}
+use Rattle.std.specs.List.{list_all}
+use Rattle.pv_model.specs.declared.limits.TheConstants.{UNVEILS}
+use Rattle.pv_model.specs.declared.target.Target.{Target}
+use Rattle.pv_model.specs.declared.target.Target.TheVariants.{Directory as ForDirectory, Name as ForName}
+use Rattle.pv_model.specs.Bytes.{Bytes}
+use Rattle.pv_model.specs.Unveil.{Table}
+use Rattle.pv_unveil.specs.declared.key.Key.{Key}
+use Rattle.pv_unveil.specs.declared.key.Key.TheVariants.{Directory, Name}
+
+-- the key of a target
+abbrev pub key_of : Target → Key
+key_of (ForDirectory d) = Directory d
+key_of (ForName d name) = Name d
+
+-- the keys of a table's entries
+abbrev pub keys_of : Table → List Key
+keys_of table = map (λ e. key_of e.0) table
+
+-- whether a key is of a directory's own entry
+abbrev pub is_own : ℕ → Key → Bool
+is_own d (Directory e) = e == d
+is_own d (Name e) = false
+
+-- whether a key is of an entry for a name in a directory
+abbrev pub is_name_in : ℕ → Key → Bool
+is_name_in d (Directory e) = false
+is_name_in d (Name e) = e == d
+
+-- whether a target is for this name
+abbrev pub is_target_named : Bytes → Target → Bool
+is_target_named name (ForDirectory d) = false
+is_target_named name (ForName d other) = bytes_eq other name
+
+-- the marks, with that of a directory's own entry
+abbrev pub with_mark : List Bool → Key → List Bool
+with_mark marks (Directory d) = slice_set marks (d % 64) true
+with_mark marks (Name d) = marks
+
+-- whether a key has its mark, if it is of a directory's own entry
+abbrev pub has_mark : List Bool → Key → Bool
+has_mark marks (Directory d) = slice_index_or marks (d % 64) false
+has_mark marks (Name d) = true
+
+-- at most 64 entries, with room for as many, their keys, and the marks of these
+pub record IsKeyed (table : Table) (beside : List Key) (marks : List Bool) (capacity : ℕ) : Type 0 where
+  pub keys : beside ≡ keys_of table
+  pub few : length table ≤ UNVEILS
+  pub marked : list_all (has_mark marks) beside ≡ true
+  pub places : length marks ≡ 64
+  pub room : capacity ≡ UNVEILS
