@@ -4,7 +4,7 @@ ghost use Rattle.std.specs.List.{list_all};
 ghost use Rattle.pv_audit.specs.Findings.{are_live};
 ghost use Rattle.pv_audit.specs.Reasons.{kept_at, leak_among};
 ghost use Rattle.pv_model.specs.Sealed.{audit as audit_by_definition, audit_node as audit_of, is_file, verdict};
-ghost use Rattle.pv_model.specs.Effect.{node_of as node_at_place};
+ghost use Rattle.pv_model.specs.Effect.{node_of};
 ghost use Rattle.pv_model.specs.Tree.{node_at};
 
 use crate::reasons::{is_kept_from, reason_for};
@@ -13,7 +13,7 @@ use pv_model::limits::ROOT;
 use pv_model::{AuditFault, Errno, Follow, Leak, Place, Sort, Verdict};
 use pv_namei::{PlainLookup, resolve};
 use pv_parts::Parts;
-use pv_tree::Tree;
+use pv_tree::{PlaceRef, Tree};
 
 // The first process that is not closed to a file, with its first reason.
 fn first_leak(parts: &Parts, suspects: &[Suspect], node: u16) -> Option<Leak>
@@ -90,21 +90,11 @@ pub fn audit_node(parts: &Parts, node: u16) -> Result<Verdict, AuditFault>
     }
 }
 
-// The node at a place.
-fn node_of(place: &Place) -> Option<u16>
-    ensures { result ≡ node_at_place place.now }
-{
-    match place {
-        Place::Node(node) => Some(*node),
-        Place::At { node, .. } => *node,
-    }
-}
-
 // What is found at a place.
 fn audit_place(parts: &Parts, place: &Place) -> Result<Verdict, AuditFault>
-    ensures { result ≡ audit_of parts.now (node_at_place place.now) }
+    ensures { result ≡ audit_of parts.now (node_of place.now) }
 {
-    match node_of(place) {
+    match PlaceRef::of(place).node() {
         Some(node) => audit_node(parts, node),
         None => Err(AuditFault::Walk(Errno::ENOENT)),
     }

@@ -2,8 +2,8 @@
 //!
 //! A contract sees the definitions' tree, and of a `Lookup` the maps with which it agrees; `resolve`
 //! answers exactly what the definitions' walk does, with every lookup that agrees with the tree, and
-//! `resolve_ref` the same with no name of its own. No call takes memory. A walk goes along the path where it lies, and what a link leaves to walk stands in a buffer
-//! of 1,024 bytes.
+//! `resolve_ref` the same with no name of its own. No call takes memory. A walk goes along the path where
+//! it lies, and what a link leaves to walk stands in a buffer of 1,024 bytes.
 //!
 //! `piece` cuts the first piece off a path, `along` has what is left of one, `joined` what is to walk behind
 //! a link, `lookup` how entries are found, `ahead` where one piece leads, `stop` where the way along a path

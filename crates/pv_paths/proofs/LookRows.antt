@@ -4,42 +4,26 @@ use Rattle.std.proofs.lemmas.Bool.{and_parts, leb-true}
 use Rattle.pv_rows.specs.declared.answer.Answer.{Answer}
 use Rattle.pv_rows.specs.declared.answer.Refused.{Refused}
 use Rattle.pv_rows.specs.Rows.{answered}
-use Rattle.pv_paths.specs.Reached.{IsFound, IsMissed, IsReached}
+use Rattle.pv_paths.specs.Reached.{IsFound}
 use Rattle.pv_dirs.specs.Trees.{bytes_at, bytes_of}
 use Rattle.pv_laws.specs.States.{IsWhole}
-use Rattle.pv_model.specs.declared.errno.Errno.TheVariants.{EINVAL, ENOENT}
-use Rattle.pv_model.specs.declared.follow.Follow.{Follow}
+use Rattle.pv_model.specs.declared.errno.Errno.TheVariants.{EINVAL}
 use Rattle.pv_model.specs.declared.follow.Follow.TheVariants.{Keep}
 use Rattle.pv_model.specs.declared.outcome.Cause.TheVariants.{Plain}
-use Rattle.pv_model.specs.declared.place.Place.{Place}
 use Rattle.pv_model.specs.Answer.{Answered, answer_by_attempt, with_front}
 use Rattle.pv_model.specs.Attempt.{Attempt, done, refused, after_walks, demand, ◌>>=◌}
 use Rattle.pv_model.specs.Bytes.{Bytes}
 use Rattle.pv_model.specs.Calls.Descriptors.{is_link}
 use Rattle.pv_model.specs.Calls.Paths.{link_text, readlink}
 use Rattle.pv_model.specs.Calls.Processes.{with_result}
-use Rattle.pv_model.specs.Effect.{Effect, answers_bytes, node_of, returns_bytes}
+use Rattle.pv_model.specs.Effect.{Effect, answers_bytes, returns_bytes}
 use Rattle.pv_model.specs.Errno.{errno_number}
 use Rattle.pv_model.specs.Perms.{letter_r}
 use Rattle.pv_model.specs.State.{Process, State, process_at}
 use Rattle.pv_model.specs.Tree.{Node, directory_node, file_node, link_node, Tree, find_entry, is_directory, is_link_text, node_at}
 use Rattle.pv_tree_laws.specs.Found.{Alike}
 use Rattle.pv_parts.proofs.Attempts.{given, refused_first}
-use Rattle.pv_paths.proofs.Reaching.{reached_then}
 use Rattle.pv_paths.proofs.Naming.{alike_update, update_tree}
-
--- ---- the node at the end of a walk
-
-module _ (s : State) (me : Process) (follow : Follow) (path : Bytes) (place : Place) (reached : IsReached s me me.directory follow path letter_r place) where
-  pub node-found : (n : ℕ) → node_of place ≡ Some n → IsFound s me me.directory follow path letter_r n
-  node-found n there rest =
-      reached_then s me me.directory follow path letter_r place reached (λ p. demand ENOENT (node_of p) >>= rest)
-      ∙ ap (after_walks 1) (given (demand ENOENT (node_of place)) n rest (ap (demand ENOENT) there))
-
-  pub node-missed : node_of place ≡ None → IsMissed s me me.directory follow path letter_r (record { walks = 1; errno = ENOENT; cause = Plain })
-  node-missed none rest =
-      reached_then s me me.directory follow path letter_r place reached (λ p. demand ENOENT (node_of p) >>= rest)
-      ∙ ap (after_walks 1) (refused_first (demand ENOENT (node_of place)) rest 0 ENOENT Plain (ap (demand ENOENT) none))
 
 -- ---- what directories have under names after a process is told
 

@@ -4,6 +4,7 @@ use Rattle.pv_rows.specs.Space.{space_errno}
 use Rattle.pv_paths.specs.Moving.{check_move}
 use Rattle.pv_rows.specs.declared.answer.Refused.{Refused}
 use Rattle.pv_paths.specs.Reached.{IsReached, IsStopped, IsStoppedSecond}
+use Rattle.pv_parts.specs.Attempts.{trimmed}
 use Rattle.pv_parts.proofs.Attempts.{after_none, passed}
 use Rattle.pv_rows.proofs.Room.{crowded}
 use Rattle.pv_paths.proofs.Reaching.{reached_then}
@@ -15,12 +16,13 @@ use Rattle.pv_model.specs.declared.errno.Errno.TheVariants.{ENOTDIR, EISDIR, EIN
 use Rattle.pv_model.specs.declared.follow.Follow.TheVariants.{Keep}
 use Rattle.pv_model.specs.declared.outcome.Cause.TheVariants.{Plain}
 use Rattle.pv_model.specs.declared.place.Place.{Place}
-use Rattle.pv_model.specs.Attempt.{Attempt, refused, give, refuse_if, ◌>>◌, ◌>>=◌}
+use Rattle.pv_model.specs.Attempt.{Attempt, done, refused, give, refuse_if, ◌>>◌, ◌>>=◌}
 use Rattle.pv_model.specs.Bytes.{Bytes, is_empty}
 use Rattle.pv_model.specs.Calls.Paths.{contains_directory, entries_there, same_node, ends_in_dot, move_entry, rename}
-use Rattle.pv_model.specs.Effect.{Effect, answers, with_room, node_of, name_of}
+use Rattle.pv_model.specs.Effect.{Effect, answers, returns, with_room, node_of, name_of}
 use Rattle.pv_model.specs.Held.{trim}
 use Rattle.pv_model.specs.Perms.{letter_c}
+use Rattle.pv_model.specs.Room.{fits, is_too_long}
 use Rattle.pv_model.specs.State.{Process, State, with_tree}
 use Rattle.pv_model.specs.Tree.{Tree, is_directory_at, find_entry, is_name, with_entry, without_entry}
 use Rattle.pv_tree.specs.Changes.{moved, moved_node}
@@ -121,6 +123,19 @@ module _ (s : State) (pid : ℕ) (me : Process) (path new : Bytes) (fine : ends_
   pub rename_refused : (errno : Errno) → move_entry s pid me n d name e new_name (node_of other) ≡ refused 0 errno Plain → rename s pid me path new ≡ refused 2 errno Plain
   rename_refused errno is =
       rw (fine, other_fine, first.walked, first.judged, second.walked, second.judged, there, named, new_named, differs, is) refl
+
+  -- behind the tests, where the tree has room
+  pub rename_goes : (after : State) → check_move s.tree n e (node_of other) ≡ give tt → find_entry s.tree d name ≡ Some n → after ≡ trim (with_tree s (moved s.tree d name e new_name))
+      → is_too_long after.tree ≡ false → fits after.tree ≡ true → trimmed (rename s pid me path new) ≡ done 2 (after, returns 0)
+  rename_goes after is found left short_after roomy_after =
+      let u : State = with_tree s (with_entry (without_entry s.tree d name) e new_name n) in
+      let same : after ≡ trim u = left ∙ ap (λ o. trim (with_tree s (moved_node s.tree d name e new_name o))) found in
+      let short : is_too_long (trim u).tree ≡ false = ap (λ (x : State). is_too_long x.tree) (sym same) ∙ short_after in
+      let roomy : fits (trim u).tree ≡ true = ap (λ (x : State). fits x.tree) (sym same) ∙ roomy_after in
+      let goes : move_entry s pid me n d name e new_name (node_of other) ≡ give (u, returns 0) = move_goes s pid me n d name e new_name (node_of other) is ∙ rw (short, roomy) refl in
+      ap trimmed
+      (let row : rename s pid me path new ≡ done 2 (u, returns 0) = rw (fine, other_fine, first.walked, first.judged, second.walked, second.judged, there, named, new_named, differs, goes) refl in row)
+      ∙ ap (λ (x : State). done 2 (x, returns 0)) (sym same)
 
 -- ---- names
 

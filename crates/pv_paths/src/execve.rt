@@ -10,7 +10,7 @@ ghost use Rattle.pv_parts.specs.Attempts.{trimmed};
 ghost use Rattle.pv_paths.specs.Execve.{Executes};
 
 use crate::programs::read_program;
-use crate::reach::reach;
+use crate::reach::{Walk, reach_node};
 use pv_model::{Errno, Follow, ParseFault, Perms, Sort};
 use pv_namei::Lookup;
 use pv_parts::Parts;
@@ -55,21 +55,14 @@ pub fn execve<L: Lookup>(
     ensures unchanged { OnErr result (parts.new ≡ parts.old) }
     ensures agrees { L.agrees lookup.new (find_entry parts.new.tree) }
 {
-    let mut behind = None;
-    let place = match reach(
-        parts,
-        lookup,
-        pid,
-        Follow::Last,
+    let walk = Walk {
+        follow: Follow::Last,
         path,
-        Perms::X,
-        &mut behind,
-    ) {
-        Ok(place) => place,
-        Err(why) => return Err(ExecveFault::Refused(why)),
+        needed: Perms::X,
     };
-    let Some(node) = place.node() else {
-        return Err(refused(Errno::ENOENT));
+    let node = match reach_node(parts, lookup, pid, walk) {
+        Ok(node) => node,
+        Err(why) => return Err(ExecveFault::Refused(why)),
     };
     if parts.tree().kind(node) != Sort::Executable {
         return Err(refused(Errno::EACCES));

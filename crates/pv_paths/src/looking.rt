@@ -1,47 +1,21 @@
 //! Calls that tell what is at a path: stat(2), lstat(2), readlink(2).
-ghost use Rattle.std.specs.Prelude.{◌≡◌, IfErr, IfOk, IsSome, IsTrue, Some};
+ghost use Rattle.std.specs.Prelude.{IsSome, IsTrue};
 ghost use Rattle.pv_laws.specs.States.{IsWhole, is_text};
 ghost use Rattle.pv_model.specs.Calls.Paths.{lstat, readlink, stat, stat_at};
 ghost use Rattle.pv_model.specs.Perms.{letter_r};
-ghost use Rattle.pv_model.specs.State.{Process, process_at};
-ghost use Rattle.pv_model.specs.Tree.{find_entry, node_at};
+ghost use Rattle.pv_model.specs.State.{process_at};
+ghost use Rattle.pv_model.specs.Tree.{find_entry};
 ghost use Rattle.pv_model.specs.Walks.{from_here};
-ghost use Rattle.pv_paths.specs.Reached.{IsFound, IsMissed};
 ghost use Rattle.pv_rows.specs.Rows.{IsAnswered};
 
 use crate::opening::is_link;
-use crate::reach::reach;
+use crate::reach::{Walk, reach_node};
 use pv_model::limits::LINK_TEXT;
 use pv_model::{Errno, Follow, Perms};
 use pv_namei::Lookup;
 use pv_parts::Parts;
-use pv_rows::answer::{Answer, Done, Refused, refusal, tell, tell_bytes};
+use pv_rows::answer::{Answer, Done, refusal, tell, tell_bytes};
 use pv_rows::status::status;
-
-// The node at the end of a walk that asks for r: `ENOENT` where nothing is.
-fn find<L: Lookup>(
-    parts: &Parts,
-    lookup: &mut L,
-    pid: u32,
-    follow: Follow,
-    path: &[u8],
-) -> Result<u16, Refused>
-    requires whole { IsWhole parts.now }
-    requires live { IsSome (process_at parts.now pid) }
-    requires text { IsTrue (is_text path.now) }
-    requires agrees { L.agrees lookup.old (find_entry parts.now.tree) }
-    ensures found { IfOk result (λ n. (me : Process) → process_at parts.now pid ≡ Some me → IsFound parts.now me me.directory follow path.now letter_r n) }
-    ensures missed { IfErr result (λ r. (me : Process) → process_at parts.now pid ≡ Some me → IsMissed parts.now me me.directory follow path.now letter_r r) }
-    ensures there { IfOk result (λ n. IsSome (node_at parts.now.tree n)) }
-    ensures agrees { L.agrees lookup.new (find_entry parts.now.tree) }
-{
-    let mut behind = None;
-    let place = reach(parts, lookup, pid, follow, path, Perms::R, &mut behind)?;
-    match place.node() {
-        Some(node) => Ok(node),
-        None => Err(refusal(1, Errno::ENOENT)),
-    }
-}
 
 // Tells what is at the end of a walk.
 fn stat_at<L: Lookup>(
@@ -58,7 +32,12 @@ fn stat_at<L: Lookup>(
     ensures row { IsAnswered (λ s me. stat_at s pid me (from_here follow path.now letter_r)) parts.old pid parts.new result }
     ensures agrees { L.agrees lookup.new (find_entry parts.new.tree) }
 {
-    match find(parts, lookup, pid, follow, path) {
+    let walk = Walk {
+        follow,
+        path,
+        needed: Perms::R,
+    };
+    match reach_node(parts, lookup, pid, walk) {
         Ok(node) => {
             parts.facts();
             let bytes = status(parts.tree(), node);
@@ -110,7 +89,12 @@ pub fn readlink<L: Lookup>(parts: &mut Parts, lookup: &mut L, pid: u32, path: &[
     ensures row { IsAnswered (λ s me. readlink s pid me path.now) parts.old pid parts.new result }
     ensures agrees { L.agrees lookup.new (find_entry parts.new.tree) }
 {
-    let node = match find(parts, lookup, pid, Follow::Keep, path) {
+    let walk = Walk {
+        follow: Follow::Keep,
+        path,
+        needed: Perms::R,
+    };
+    let node = match reach_node(parts, lookup, pid, walk) {
         Ok(node) => node,
         Err(refused) => return tell(parts, pid, Err(refused)),
     };

@@ -11,7 +11,7 @@ ghost use Rattle.pv_parts.specs.Attempts.{trimmed};
 ghost use Rattle.pv_rows.specs.Rows.{attempt_of};
 ghost use Rattle.pv_tree.specs.Changes.{new_node};
 
-use crate::reach::{reach, reach_second};
+use crate::reach::{Walk, reach, reach_second};
 use pv_model::limits::LINK_TEXT;
 use pv_model::{Errno, Follow, Kind, Perms};
 use pv_namei::{Lookup, ends_in_dot};
@@ -38,7 +38,12 @@ fn make<L: Lookup>(
     ensures agrees { L.agrees lookup.new (find_entry parts.new.tree) }
 {
     let mut behind = None;
-    let place = reach(parts, lookup, pid, follow, path, Perms::C, &mut behind)?;
+    let walk = Walk {
+        follow,
+        path,
+        needed: Perms::C,
+    };
+    let place = reach(parts, lookup, pid, walk, &mut behind)?;
     if place.node().is_some() {
         return Err(refusal(1, Errno::EEXIST));
     }
@@ -75,14 +80,8 @@ pub fn mkdir<L: Lookup>(
     ensures small { IfOk result (λ d. d.value ≤ NUMBER) }
     ensures agrees { L.agrees lookup.new (find_entry parts.new.tree) }
 {
-    make(
-        parts,
-        lookup,
-        pid,
-        Follow::KeepTrimmed,
-        path,
-        Kind::Directory,
-    )
+    let follow = Follow::KeepTrimmed;
+    make(parts, lookup, pid, follow, path, Kind::Directory)
 }
 
 /// Makes a symbolic link with a text, symlink(2): the answer is 0.
@@ -141,24 +140,18 @@ pub fn link<L: Lookup>(
     ensures agrees { L.agrees lookup.new (find_entry parts.new.tree) }
 {
     let (mut behind, mut behind_new) = (None, None);
-    let old_place = reach(
-        parts,
-        lookup,
-        pid,
-        Follow::Last,
+    let old_walk = Walk {
+        follow: Follow::Last,
         path,
-        Perms::R,
-        &mut behind,
-    )?;
-    let new_place = reach_second(
-        parts,
-        lookup,
-        pid,
-        Follow::Keep,
-        new,
-        Perms::C,
-        &mut behind_new,
-    )?;
+        needed: Perms::R,
+    };
+    let old_place = reach(parts, lookup, pid, old_walk, &mut behind)?;
+    let new_walk = Walk {
+        follow: Follow::Keep,
+        path: new,
+        needed: Perms::C,
+    };
+    let new_place = reach_second(parts, lookup, pid, new_walk, &mut behind_new)?;
     let Some(node) = old_place.node() else {
         return Err(refusal(2, Errno::ENOENT));
     };
@@ -201,15 +194,12 @@ pub fn unlink<L: Lookup>(
     ensures agrees { L.agrees lookup.new (find_entry parts.new.tree) }
 {
     let mut behind = None;
-    let place = reach(
-        parts,
-        lookup,
-        pid,
-        Follow::Keep,
+    let walk = Walk {
+        follow: Follow::Keep,
         path,
-        Perms::C,
-        &mut behind,
-    )?;
+        needed: Perms::C,
+    };
+    let place = reach(parts, lookup, pid, walk, &mut behind)?;
     let Some(node) = place.node() else {
         return Err(refusal(1, Errno::ENOENT));
     };
@@ -251,15 +241,12 @@ pub fn rmdir<L: Lookup>(
         return Err(refusal(0, Errno::EINVAL));
     }
     let mut behind = None;
-    let place = reach(
-        parts,
-        lookup,
-        pid,
-        Follow::Keep,
+    let walk = Walk {
+        follow: Follow::Keep,
         path,
-        Perms::C,
-        &mut behind,
-    )?;
+        needed: Perms::C,
+    };
+    let place = reach(parts, lookup, pid, walk, &mut behind)?;
     let Some(node) = place.node() else {
         return Err(refusal(1, Errno::ENOENT));
     };

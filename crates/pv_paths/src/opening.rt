@@ -16,7 +16,7 @@ ghost use Rattle.pv_paths.specs.Opening.{open_place};
 ghost use Rattle.pv_rows.specs.Rows.{attempt_of};
 ghost use Rattle.pv_tree_laws.specs.Found.{Alike};
 
-use crate::reach::reach_from;
+use crate::reach::{Walk, reach_from};
 use pv_model::{Errno, Follow, OpenFlags, Sort, Start};
 use pv_namei::{Lookup, is_absolute};
 use pv_parts::Parts;
@@ -199,18 +199,13 @@ pub fn open_at<L: Lookup>(
     if !parts.files().has_room() {
         return Err(refusal(0, Errno::ENFILE));
     }
-    let follow = follow_of(flags);
     let mut behind = None;
-    let place = reach_from(
-        parts,
-        lookup,
-        pid,
-        directory,
-        follow,
+    let walk = Walk {
+        follow: follow_of(flags),
         path,
-        flags.letters(),
-        &mut behind,
-    )?;
+        needed: flags.letters(),
+    };
+    let place = reach_from(parts, lookup, pid, directory, walk, &mut behind)?;
     match place.node() {
         Some(node) => open_there(parts, pid, node, flags),
         None => create_there(parts, lookup, pid, &place, flags),

@@ -8,7 +8,7 @@ ghost use Rattle.pv_model.specs.Tree.{find_entry};
 ghost use Rattle.pv_parts.specs.Attempts.{trimmed};
 ghost use Rattle.pv_rows.specs.Rows.{attempt_of};
 
-use crate::reach::reach;
+use crate::reach::{Walk, reach_node};
 use pv_model::{Errno, Follow, Perms};
 use pv_namei::Lookup;
 use pv_parts::Parts;
@@ -34,19 +34,12 @@ pub fn chdir<L: Lookup>(
     ensures small { IfOk result (λ d. d.value ≤ NUMBER) }
     ensures agrees { L.agrees lookup.new (find_entry parts.new.tree) }
 {
-    let mut behind = None;
-    let place = reach(
-        parts,
-        lookup,
-        pid,
-        Follow::Last,
+    let walk = Walk {
+        follow: Follow::Last,
         path,
-        Perms::R,
-        &mut behind,
-    )?;
-    let Some(node) = place.node() else {
-        return Err(refusal(1, Errno::ENOENT));
+        needed: Perms::R,
     };
+    let node = reach_node(parts, lookup, pid, walk)?;
     if !parts.tree().is_directory(node) {
         return Err(refusal(1, Errno::ENOTDIR));
     }

@@ -2,9 +2,9 @@
 ghost use Rattle.std.specs.Prelude.{◌≡◌, ◌≤◌, if◌then◌else◌, IfOk, IfErr, IsSome, IsTrue, Some};
 ghost use Rattle.pv_laws.specs.States.{IsWhole, IsFinePlace, is_text};
 ghost use Rattle.pv_model.specs.State.{Process, process_at};
-ghost use Rattle.pv_model.specs.Tree.{find_entry, is_directory_at};
+ghost use Rattle.pv_model.specs.Tree.{find_entry, is_directory_at, node_at};
 ghost use Rattle.pv_model.specs.Walk.{begins_walk};
-ghost use Rattle.pv_paths.specs.Reached.{IsReached, IsStopped, IsStoppedSecond};
+ghost use Rattle.pv_paths.specs.Reached.{IsFound, IsMissed, IsReached, IsStopped, IsStoppedSecond};
 
 use pv_model::limits::PATH;
 use pv_model::{Cause, Errno, Follow, Judgement, Perms, Place};
@@ -24,6 +24,17 @@ pub(crate) fn walks_begun(path: &[u8]) -> u8
     }
 }
 
+/// What a call asks of a walk.
+#[derive(Clone, Copy)]
+pub(crate) struct Walk<'a> {
+    /// What is done with a final link.
+    pub(crate) follow: Follow,
+    /// The path that it goes along.
+    pub(crate) path: &'a [u8],
+    /// The letters that the entry of the place at its end must have.
+    pub(crate) needed: Perms,
+}
+
 /// The place at the end of a walk from a directory, which the process's table allows for the letters that are needed. Its
 /// name stands in the path, or, where a link was followed, in `behind`.
 ///
@@ -36,32 +47,28 @@ pub(crate) fn reach_from<'a, L: Lookup>(
     lookup: &mut L,
     pid: u32,
     start: u16,
-    follow: Follow,
-    path: &'a [u8],
-    needed: Perms,
+    walk: Walk<'a>,
     behind: &'a mut Option<Place>,
 ) -> Result<PlaceRef<'a>, Refused>
     requires whole { IsWhole parts.now }
     requires live { IsSome (process_at parts.now pid) }
     requires start { IsTrue (is_directory_at parts.now.tree start) }
-    requires text { IsTrue (is_text path.now) }
+    requires text { IsTrue (is_text walk.path.now) }
     requires agrees { L.agrees lookup.old (find_entry parts.now.tree) }
-    ensures reached { IfOk result (λ place. (me : Process) → process_at parts.now pid ≡ Some me → IsReached parts.now me start follow path.now needed place) }
-    ensures stopped { IfErr result (λ r. (me : Process) → process_at parts.now pid ≡ Some me → IsStopped parts.now me start follow path.now needed r) }
+    ensures reached { IfOk result (λ place. (me : Process) → process_at parts.now pid ≡ Some me → IsReached parts.now me start walk.entry.follow walk.entry.path.now walk.entry.needed place) }
+    ensures stopped { IfErr result (λ r. (me : Process) → process_at parts.now pid ≡ Some me → IsStopped parts.now me start walk.entry.follow walk.entry.path.now walk.entry.needed r) }
     ensures fine { IfOk result (IsFinePlace parts.now.tree) }
     ensures few { IfErr result (λ r. r.walks ≤ 1) }
     ensures agrees { L.agrees lookup.new (find_entry parts.now.tree) }
 {
-    let walks = walks_begun(path);
-    let place = match resolve_ref(parts.tree(), lookup, start, path, follow, behind) {
+    let walks = walks_begun(walk.path);
+    let tree = parts.tree();
+    let place = match resolve_ref(tree, lookup, start, walk.path, walk.follow, behind) {
         Ok(place) => place,
         Err(errno) => return Err(refusal(walks, errno)),
     };
-    match parts
-        .record(pid)
-        .unveiled
-        .judge(parts.tree(), &place, needed)
-    {
+    let unveiled = &parts.record(pid).unveiled;
+    match unveiled.judge(tree, &place, walk.needed) {
         Judgement::Allowed => Ok(place),
         Judgement::Hidden => Err(Refused {
             walks,
@@ -81,23 +88,21 @@ pub(crate) fn reach<'a, L: Lookup>(
     parts: &Parts,
     lookup: &mut L,
     pid: u32,
-    follow: Follow,
-    path: &'a [u8],
-    needed: Perms,
+    walk: Walk<'a>,
     behind: &'a mut Option<Place>,
 ) -> Result<PlaceRef<'a>, Refused>
     requires whole { IsWhole parts.now }
     requires live { IsSome (process_at parts.now pid) }
-    requires text { IsTrue (is_text path.now) }
+    requires text { IsTrue (is_text walk.path.now) }
     requires agrees { L.agrees lookup.old (find_entry parts.now.tree) }
-    ensures reached { IfOk result (λ place. (me : Process) → process_at parts.now pid ≡ Some me → IsReached parts.now me me.directory follow path.now needed place) }
-    ensures stopped { IfErr result (λ r. (me : Process) → process_at parts.now pid ≡ Some me → IsStopped parts.now me me.directory follow path.now needed r) }
+    ensures reached { IfOk result (λ place. (me : Process) → process_at parts.now pid ≡ Some me → IsReached parts.now me me.directory walk.entry.follow walk.entry.path.now walk.entry.needed place) }
+    ensures stopped { IfErr result (λ r. (me : Process) → process_at parts.now pid ≡ Some me → IsStopped parts.now me me.directory walk.entry.follow walk.entry.path.now walk.entry.needed r) }
     ensures fine { IfOk result (IsFinePlace parts.now.tree) }
     ensures few { IfErr result (λ r. r.walks ≤ 1) }
     ensures agrees { L.agrees lookup.new (find_entry parts.now.tree) }
 {
     let start = parts.record(pid).directory;
-    reach_from(parts, lookup, pid, start, follow, path, needed, behind)
+    reach_from(parts, lookup, pid, start, walk, behind)
 }
 
 /// The same of the second walk of a call: a refusal counts the first walk too.
@@ -105,26 +110,49 @@ pub(crate) fn reach_second<'a, L: Lookup>(
     parts: &Parts,
     lookup: &mut L,
     pid: u32,
-    follow: Follow,
-    path: &'a [u8],
-    needed: Perms,
+    walk: Walk<'a>,
     behind: &'a mut Option<Place>,
 ) -> Result<PlaceRef<'a>, Refused>
     requires whole { IsWhole parts.now }
     requires live { IsSome (process_at parts.now pid) }
-    requires text { IsTrue (is_text path.now) }
+    requires text { IsTrue (is_text walk.path.now) }
     requires agrees { L.agrees lookup.old (find_entry parts.now.tree) }
-    ensures reached { IfOk result (λ place. (me : Process) → process_at parts.now pid ≡ Some me → IsReached parts.now me me.directory follow path.now needed place) }
-    ensures stopped { IfErr result (λ r. (me : Process) → process_at parts.now pid ≡ Some me → IsStoppedSecond parts.now me me.directory follow path.now needed r) }
+    ensures reached { IfOk result (λ place. (me : Process) → process_at parts.now pid ≡ Some me → IsReached parts.now me me.directory walk.entry.follow walk.entry.path.now walk.entry.needed place) }
+    ensures stopped { IfErr result (λ r. (me : Process) → process_at parts.now pid ≡ Some me → IsStoppedSecond parts.now me me.directory walk.entry.follow walk.entry.path.now walk.entry.needed r) }
     ensures fine { IfOk result (IsFinePlace parts.now.tree) }
     ensures agrees { L.agrees lookup.new (find_entry parts.now.tree) }
 {
-    match reach(parts, lookup, pid, follow, path, needed, behind) {
+    match reach(parts, lookup, pid, walk, behind) {
         Ok(place) => Ok(place),
         Err(refused) => Err(Refused {
             walks: 1 + refused.walks,
             errno: refused.errno,
             cause: refused.cause,
         }),
+    }
+}
+
+/// The node at the end of a walk from the working directory: `ENOENT` where nothing is, behind an error of the walk and of
+/// its judgement.
+pub(crate) fn reach_node<L: Lookup>(
+    parts: &Parts,
+    lookup: &mut L,
+    pid: u32,
+    walk: Walk<'_>,
+) -> Result<u16, Refused>
+    requires whole { IsWhole parts.now }
+    requires live { IsSome (process_at parts.now pid) }
+    requires text { IsTrue (is_text walk.path.now) }
+    requires agrees { L.agrees lookup.old (find_entry parts.now.tree) }
+    ensures found { IfOk result (λ n. (me : Process) → process_at parts.now pid ≡ Some me → IsFound parts.now me me.directory walk.entry.follow walk.entry.path.now walk.entry.needed n) }
+    ensures missed { IfErr result (λ r. (me : Process) → process_at parts.now pid ≡ Some me → IsMissed parts.now me me.directory walk.entry.follow walk.entry.path.now walk.entry.needed r) }
+    ensures there { IfOk result (λ n. IsSome (node_at parts.now.tree n)) }
+    ensures agrees { L.agrees lookup.new (find_entry parts.now.tree) }
+{
+    let mut behind = None;
+    let place = reach(parts, lookup, pid, walk, &mut behind)?;
+    match place.node() {
+        Some(node) => Ok(node),
+        None => Err(refusal(1, Errno::ENOENT)),
     }
 }

@@ -12,7 +12,7 @@ ghost use Rattle.pv_parts.specs.Attempts.{trimmed};
 ghost use Rattle.pv_paths.specs.Moving.{check_move};
 ghost use Rattle.pv_rows.specs.Rows.{attempt_of};
 
-use crate::reach::{reach, reach_second};
+use crate::reach::{Walk, reach, reach_second};
 use pv_model::{Errno, Follow, Perms};
 use pv_namei::{Lookup, ends_in_dot};
 use pv_parts::Parts;
@@ -103,24 +103,18 @@ pub fn rename<L: Lookup>(
         return Err(refusal(0, Errno::EINVAL));
     }
     let (mut behind, mut behind_new) = (None, None);
-    let old_place = reach(
-        parts,
-        lookup,
-        pid,
-        Follow::Keep,
+    let old_walk = Walk {
+        follow: Follow::Keep,
         path,
-        Perms::C,
-        &mut behind,
-    )?;
-    let new_place = reach_second(
-        parts,
-        lookup,
-        pid,
-        Follow::Keep,
-        new,
-        Perms::C,
-        &mut behind_new,
-    )?;
+        needed: Perms::C,
+    };
+    let old_place = reach(parts, lookup, pid, old_walk, &mut behind)?;
+    let new_walk = Walk {
+        follow: Follow::Keep,
+        path: new,
+        needed: Perms::C,
+    };
+    let new_place = reach_second(parts, lookup, pid, new_walk, &mut behind_new)?;
     let Some(node) = old_place.node() else {
         return Err(refusal(2, Errno::ENOENT));
     };

@@ -1,7 +1,7 @@
 //! Runs of whole bundles.
 use crate::images::MOTD_TRACE;
 use crate::streams::{Cut, expect_cut, expect_front, front_of, sink_of, slow_front_of};
-use pv_model::{ManifestFault, RunFault};
+use pv_model::{ManifestFault, RunFault, Source};
 use pv_run::stream::{Bytes, Gathered};
 use pv_run::{Summary, run_tree};
 use std::alloc::{AllocError, Global};
@@ -11,18 +11,26 @@ use std::test::Fail;
 const MOTD: &[u8] =
     b"image 16 16\ndir \"/etc\"\nbytes \"/etc/motd\" \"hello\"\nexec \"/init\" 5\npledge \"stdio rpath\" null\nopen \"/etc/motd\" r\nread r0 100\nclose 0\nexit 0\nschedule\n1 5\n";
 
+// What a run of a bundle answers, and the trace that it writes.
+fn traced<S: Source>(
+    rt: &impl AllocGlobal,
+    bundle: &mut S,
+) -> (Result<Summary, RunFault>, Gathered) {
+    let mut trace = Gathered::new(rt.alloc());
+    let result = run_tree(rt.alloc(), bundle, &mut trace);
+    (result, trace)
+}
+
 // Checks that a bundle has just this trace.
 fn expect_trace<R: Abort + AllocGlobal>(rt: &R, case: &str, bundle: &[u8], wanted: &[u8]) {
-    let mut trace = Gathered::new(rt.alloc());
-    let result = run_tree(rt.alloc(), &mut Bytes::new(bundle), &mut trace);
+    let (result, trace) = traced(rt, &mut Bytes::new(bundle));
     assert!(rt; result.is_ok(), "{case}");
     assert!(rt; trace.bytes.as_slice() == wanted, "{case}");
 }
 
 // Checks that a bundle is refused so, and that nothing is written.
 fn expect_fault<R: Abort + AllocGlobal>(rt: &R, bundle: &[u8], wanted: RunFault) {
-    let mut trace = Gathered::new(rt.alloc());
-    let result = run_tree(rt.alloc(), &mut Bytes::new(bundle), &mut trace);
+    let (result, trace) = traced(rt, &mut Bytes::new(bundle));
     assert!(rt; result == Err(wanted));
     assert!(rt; trace.bytes.is_empty());
 }
@@ -81,8 +89,7 @@ fn bundles_have_their_traces(rt: HostRuntime) {
 
 #[test]
 fn summary_counts_steps_and_lines(rt: HostRuntime) {
-    let mut trace = Gathered::new(rt.alloc());
-    let result = run_tree(rt.alloc(), &mut Bytes::new(MOTD), &mut trace);
+    let (result, _trace) = traced(&rt, &mut Bytes::new(MOTD));
     assert!(rt;
         result
             == Ok(Summary {
@@ -205,8 +212,7 @@ fn slashes(alloc: Global, count: usize) -> Result<Vec<u8>, Fail> {
 
 // Checks that the trace of a bundle ends so.
 fn expect_end<R: Abort + AllocGlobal>(rt: &R, bundle: &[u8], end: &[u8]) {
-    let mut trace = Gathered::new(rt.alloc());
-    let result = run_tree(rt.alloc(), &mut Bytes::new(bundle), &mut trace);
+    let (result, trace) = traced(rt, &mut Bytes::new(bundle));
     assert!(rt; result.is_ok());
     assert!(rt; trace.bytes.ends_with(end));
 }
@@ -280,8 +286,7 @@ fn faults_of_bundles_are_told(rt: HostRuntime) {
 
 // A bundle that breaks off is not run.
 fn expect_no_run(rt: &(impl Abort + AllocGlobal), mut bundle: Cut<'_>) {
-    let mut trace = Gathered::new(rt.alloc());
-    let result = run_tree(rt.alloc(), &mut bundle, &mut trace);
+    let (result, trace) = traced(rt, &mut bundle);
     assert!(rt; result == Err(RunFault::Read));
     expect_cut(rt, &bundle);
     assert!(rt; trace.bytes.is_empty());

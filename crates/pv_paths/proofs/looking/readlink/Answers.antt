@@ -25,7 +25,7 @@ returns-in-Err-clause-agrees g c =
     let r = c.in-Err.refused in
     let new = c.tell.new.parts in
     let me = some-at (process_at s c.args.pid) c.requires.live in
-    g.met.L.Lookup.same_answers c.find.new.lookup (find_entry s.tree) (find_entry new.tree) c.in-Err.ensures.agrees
+    g.met.L.Lookup.same_answers c.reach_node.new.lookup (find_entry s.tree) (find_entry new.tree) c.in-Err.ensures.agrees
     (names-refused s c.args.pid me.0 r new c.tell.result (c.tell.ensures.told s s me.0 (refused r.walks r.errno r.cause) refl refl))
 
 pub returns-then-not-is_link-clause-row : goal.returns-then-not-is_link-clause-row
@@ -42,7 +42,7 @@ returns-then-not-is_link-clause-agrees g c =
     let r = c.refusal.result in
     let new = c.tell-then-not-is_link.new.parts in
     let me = some-at (process_at s c.args.pid) c.requires.live in
-    g.met.L.Lookup.same_answers c.find.new.lookup (find_entry s.tree) (find_entry new.tree) c.in-Ok.ensures.agrees
+    g.met.L.Lookup.same_answers c.reach_node.new.lookup (find_entry s.tree) (find_entry new.tree) c.in-Ok.ensures.agrees
     (names-refused s c.args.pid me.0 r new c.tell-then-not-is_link.result
     (c.tell-then-not-is_link.ensures.told s s me.0 (refused r.walks r.errno r.cause) refl refl))
 
@@ -64,5 +64,5 @@ returns-clause-agrees g c =
     let s = c.args.parts.now in
     let new = c.tell_bytes.new.parts in
     let me = some-at (process_at s c.args.pid) c.requires.live in
-    g.met.L.Lookup.same_answers c.find.new.lookup (find_entry s.tree) (find_entry new.tree) c.in-Ok.ensures.agrees
+    g.met.L.Lookup.same_answers c.reach_node.new.lookup (find_entry s.tree) (find_entry new.tree) c.in-Ok.ensures.agrees
     (names-told s c.requires.whole c.args.pid me.0 1 _ _ new c.tell_bytes.result (c.tell_bytes.ensures s s s me.0 c.facts.ensures.trimmed))

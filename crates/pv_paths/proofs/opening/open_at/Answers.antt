@@ -15,7 +15,7 @@ returns-in_err-place-clause-row g c =
     λ me at. rw (p.1, p.2) (ap trimmed (open_stopped s c.args.pid me c.args.start c.args.path.now c.args.flags (sym c.contradicts.ensures ∙ c.if-contradicts.false) (c.in-Ok.ensures.checked me at)
     (few_descriptors me c.record.result.now (recorded (process_at s c.args.pid) me c.record.result.now at c.record.ensures) c.has_room.result c.has_room.ensures.0 c.if-not-has_room.false)
     (few_files (least_free s.files) c.has_room-2.result (λ has. low_files s.files c.files.result.now.files c.files.ensures (c.has_room-2.ensures.0 has)) c.if-not-has_room-2.false)
-    c.in-Ok.directory (c.in-Ok.ensures.start me at) c.follow_of-follow.result c.follow_of-follow.ensures c.letters.result c.letters.ensures
+    c.in-Ok.directory (c.in-Ok.ensures.start me at) c.follow_of.result c.follow_of.ensures c.letters.result c.letters.ensures
     _ (c.in_err-place.ensures.stopped me at)))
 
 pub open_there-requires-clause-there : goal.open_there-requires-clause-there
@@ -28,7 +28,7 @@ returns-in-Some-clause-row g c =
     λ me at. ap trimmed (open_reached s c.args.pid me c.args.start c.args.path.now c.args.flags (sym c.contradicts.ensures ∙ c.if-contradicts.false) (c.in-Ok.ensures.checked me at)
     (few_descriptors me c.record.result.now (recorded (process_at s c.args.pid) me c.record.result.now at c.record.ensures) c.has_room.result c.has_room.ensures.0 c.if-not-has_room.false)
     (few_files (least_free s.files) c.has_room-2.result (λ has. low_files s.files c.files.result.now.files c.files.ensures (c.has_room-2.ensures.0 has)) c.if-not-has_room-2.false)
-    c.in-Ok.directory (c.in-Ok.ensures.start me at) c.follow_of-follow.result c.follow_of-follow.ensures c.letters.result c.letters.ensures
+    c.in-Ok.directory (c.in-Ok.ensures.start me at) c.follow_of.result c.follow_of.ensures c.letters.result c.letters.ensures
     c.in_ok-place.place (c.in_ok-place.ensures.reached me at))
     ∙ c.open_there.ensures.row me c.in_ok-place.place at (sym c.in-Some.ensures)
 
@@ -38,6 +38,6 @@ returns-in-None-clause-row g c =
     λ me at. ap trimmed (open_reached s c.args.pid me c.args.start c.args.path.now c.args.flags (sym c.contradicts.ensures ∙ c.if-contradicts.false) (c.in-Ok.ensures.checked me at)
     (few_descriptors me c.record.result.now (recorded (process_at s c.args.pid) me c.record.result.now at c.record.ensures) c.has_room.result c.has_room.ensures.0 c.if-not-has_room.false)
     (few_files (least_free s.files) c.has_room-2.result (λ has. low_files s.files c.files.result.now.files c.files.ensures (c.has_room-2.ensures.0 has)) c.if-not-has_room-2.false)
-    c.in-Ok.directory (c.in-Ok.ensures.start me at) c.follow_of-follow.result c.follow_of-follow.ensures c.letters.result c.letters.ensures
+    c.in-Ok.directory (c.in-Ok.ensures.start me at) c.follow_of.result c.follow_of.ensures c.letters.result c.letters.ensures
     c.in_ok-place.place (c.in_ok-place.ensures.reached me at))
     ∙ c.create_there.ensures.row me at

@@ -9,5 +9,5 @@ pub returns-clause-reached : goal.returns-clause-reached
 returns-clause-reached g c =
     let s = c.args.parts.now in
     IfOk-weaker c.reach_from.result _ _
-    (λ place h me at. subst (λ start. IsReached s me start c.args.follow c.args.path.now c.args.needed place)
+    (λ place h me at. subst (λ start. IsReached s me start c.args.walk.follow c.args.walk.path.now c.args.walk.needed place)
     (sym (ap (λ r. r.directory) (recorded (process_at s c.args.pid) me c.record.result.now at c.record.ensures))) (h me at)) c.reach_from.ensures.reached

@@ -1,12 +1,13 @@
-use Rattle.std.proofs.Common.{◌≡◌, ◌∙◌, ap, sym, false}
+use Rattle.std.proofs.Common.{◌≡◌, ◌∙◌, ap, sym, true, false}
 use Rattle.std.proofs.lemmas.Result.{err_from_is_err_and}
 use Rattle.pv_parts.specs.Attempts.{trimmed}
 use Rattle.pv_paths.specs.Moving.{check_move}
-use Rattle.pv_paths.proofs.Renaming.{move_clear, move_empty, apart_from, move_refused, move_crowded, rename_stopped, rename_stopped_second, rename_refused, names_moved}
+use Rattle.pv_paths.proofs.Renaming.{move_clear, move_empty, apart_from, move_refused, move_crowded, rename_stopped, rename_stopped_second, rename_refused, rename_goes, names_moved}
 use Rattle.pv_laws.proofs.ByTree.{FineName, named-place}
 use Rattle.pv_model.specs.Attempt.{give}
 use Rattle.pv_model.specs.Calls.Paths.{ends_in_dot, same_node, entries_there}
 use Rattle.pv_model.specs.Effect.{node_of}
+use Rattle.pv_model.specs.Room.{fits, is_too_long}
 use Rattle.pv_model.specs.Tree.{find_entry}
 use Rattle.pv_paths.proofs.rename.rename.Goals as goal
 
@@ -65,6 +66,25 @@ returns-in-Err-rename-clause-row g c =
     c.in-Some-Some.from c.in-Some-Some.name.now c.in-Some-Some.ensures c.in-Some-Some.to c.in-Some-Some.other.now c.in-Some-Some.ensures' differs _
     (move_crowded s c.args.pid me c.in-Some.node c.in-Some-Some.from c.in-Some-Some.name.now c.in-Some-Some.to c.in-Some-Some.other.now o c.in-Err-rename.space passes
     (named.found ∙ sym c.in-Some.ensures) c.in-Err-rename.ensures.refused)))
+
+pub returns-clause-row : goal.returns-clause-row
+returns-clause-row g c =
+    let s = c.args.parts.now in
+    let o = node_of c.in_ok-new_place.new_place in
+    let fine : ends_in_dot c.args.path.now ≡ false = sym c.ends_in_dot.ensures ∙ c.if-ends_in_dot.false in
+    let other : ends_in_dot c.args.new.now ≡ false = sym c.ends_in_dot-else-ends_in_dot.ensures ∙ c.if-ends_in_dot-2.false in
+    let differs : same_node o c.in-Some.node ≡ false = ap (λ x. same_node x c.in-Some.node) (sym c.node-there.ensures) ∙ sym c.is_same_node.ensures ∙ c.if-is_same_node.false in
+    let passes : check_move s.tree c.in-Some.node c.in-Some-Some.to o ≡ give tt =
+    ap (λ t. check_move t c.in-Some.node c.in-Some-Some.to o) (sym c.tree.ensures) ∙ ap (check_move c.tree.result.now.tree c.in-Some.node c.in-Some-Some.to) (sym c.node-there.ensures) ∙ c.in_default-check_move.ensures in
+    let named : FineName s.tree (c.in-Some-Some.from, c.in-Some-Some.name.now) (node_of c.in_ok-old_place.old_place) =
+    named-place s.tree c.in_ok-old_place.old_place (c.in-Some-Some.from, c.in-Some-Some.name.now) c.in_ok-old_place.ensures.fine c.in-Some-Some.ensures in
+    let short : is_too_long c.rename.new.self.tree ≡ false = ap is_too_long (sym c.tree-2.ensures) ∙ c.sizes.ensures.standing.short in
+    let roomy : fits c.rename.new.self.tree ≡ true = ap fits (sym c.tree-2.ensures) ∙ c.sizes.ensures.standing.fits in
+    λ me at. rw c.answer_of-2.ensures
+    (rename_goes s c.args.pid me c.args.path.now c.args.new.now fine other c.in_ok-old_place.old_place c.in_ok-new_place.new_place
+    (c.in_ok-old_place.ensures.reached me at) (c.in_ok-new_place.ensures.reached me at) c.in-Some.node (sym c.in-Some.ensures)
+    c.in-Some-Some.from c.in-Some-Some.name.now c.in-Some-Some.ensures c.in-Some-Some.to c.in-Some-Some.other.now c.in-Some-Some.ensures' differs
+    c.rename.new.self passes (named.found ∙ sym c.in-Some.ensures) c.in_default-rename.ensures.moved short roomy)
 
 pub returns-clause-agrees : goal.returns-clause-agrees
 returns-clause-agrees g c =

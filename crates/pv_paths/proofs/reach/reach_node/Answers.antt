@@ -4,7 +4,7 @@ use Rattle.pv_laws.proofs.ByTree.{place-there}
 use Rattle.pv_model.specs.Attempt.{demand, ◌>>=◌}
 use Rattle.pv_model.specs.declared.errno.Errno.TheVariants.{ENOENT}
 use Rattle.pv_model.specs.Effect.{node_of}
-use Rattle.pv_paths.proofs.looking.find.Goals as goal
+use Rattle.pv_paths.proofs.reach.reach_node.Goals as goal
 
 pub returns-in_err-place-clause-missed : goal.returns-in_err-place-clause-missed
 returns-in_err-place-clause-missed g c =
