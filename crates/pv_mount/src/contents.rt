@@ -5,6 +5,7 @@ ghost use Rattle.pv_model.specs.Mount.{block_number, has_bad_block, has_bad_inod
 ghost use Rattle.pv_mount.specs.Numbers.{IsNumber};
 
 use crate::image::Image;
+use pv_model::limits::BLOCK;
 use std::alloc::{AllocError, Global};
 
 impl Image<'_> {
@@ -25,7 +26,7 @@ impl Image<'_> {
         requires { (i : ℕ) → i < length blocks.now → slice_index blocks.now i < block_number self.now.bytes.now }
         ensures { IfOk result (λ bytes. bytes.items ≡ flat_map (block self.now.bytes.now) blocks.now) }
     {
-        let mut bytes = Vec::new(alloc);
+        let mut bytes = Vec::with_capacity(alloc, BLOCK.saturating_mul(blocks.len()))?;
         for k in blocks {
             bytes.extend_from_slice(self.block(*k))?;
         }

@@ -89,8 +89,9 @@ impl Image<'_> {
         requires { list_any (is_bad_slot self.now.version self.now.bytes.now) (slots_of self.now.version (length content.now / entry_length self.now.version) content.now) ≡ false }
         ensures { IfOk result (λ names. map (λ name. name.now) names.items ≡ map slot_name (slots_of self.now.version (length content.now / entry_length self.now.version) content.now)) }
     {
-        let mut names = Vec::new(alloc);
-        for i in 0..self.slot_count(content) {
+        let count = self.slot_count(content);
+        let mut names = Vec::with_capacity(alloc, count)?;
+        for i in 0..count {
             names.push(slot_name(self.slot(content, i)))?;
         }
         Ok(names)

@@ -26,8 +26,9 @@ impl Image<'_> {
     fn slot_numbers(&self, alloc: Global, content: &[u8]) -> Result<Vec<u16>, AllocError>
         ensures { IfOk result (λ list. list.items ≡ map slot_number (slots_of self.now.version (length content.now / entry_length self.now.version) content.now)) }
     {
-        let mut numbers = Vec::new(alloc);
-        for i in 0..self.slot_count(content) {
+        let count = self.slot_count(content);
+        let mut numbers = Vec::with_capacity(alloc, count)?;
+        for i in 0..count {
             numbers.push(u16_at(self.slot(content, i), 0))?;
         }
         Ok(numbers)

@@ -55,7 +55,7 @@ impl Image<'_> {
         ensures { IfOk result (λ list. list.items ≡ used_index self.now.version self.now.bytes.now n) }
     {
         let count = self.block_count(n).saturating_sub(DIRECT).div_ceil(POINTED);
-        let mut list = Vec::new(alloc);
+        let mut list = Vec::with_capacity(alloc, count)?;
         add_pointers(&mut list, &self.inode(n)[INDEX_POINTERS..], count)?;
         Ok(list)
     }
@@ -72,7 +72,8 @@ impl Image<'_> {
         requires within { (i : ℕ) → i < length index.now → slice_index index.now i < block_number self.now.bytes.now }
         ensures { IfOk result (λ list. list.items ≡ used_content self.now.version self.now.bytes.now n) }
     {
-        let mut list = Vec::new(alloc);
+        let pointed = POINTED.saturating_mul(index.len());
+        let mut list = Vec::with_capacity(alloc, pointed.saturating_add(DIRECT))?;
         add_pointers(&mut list, &self.inode(n)[POINTERS..], DIRECT)?;
         for k in index {
             add_pointers(&mut list, self.block(*k), POINTED)?;

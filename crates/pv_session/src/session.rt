@@ -52,11 +52,12 @@ impl From<Failed> for Stop {
 /// The machine on a tree: its state, which `step` moves on.
 #[derive(Drop)]
 pub struct Session {
-    kernel: Kernel<CachedLookup>,
+    // It stands apart, as the sheet below, so that a session is small to move.
+    kernel: Box<Kernel<CachedLookup>>,
     // The texts of the call that was made last: those of each next one take their place.
     texts: CallTexts,
     // What the lines of a trace are made on.
-    sheet: Sheet,
+    sheet: Box<Sheet>,
 }
 
 impl Model for Session {
@@ -64,7 +65,7 @@ impl Model for Session {
 
     ghost Value = { State };
 
-    ghost view = { λ s. s.kernel.state };
+    ghost view = { λ s. s.kernel.value.state };
 }
 
 // Makes a call that comes next in a live process, and writes its lines: answers how many.
@@ -104,11 +105,12 @@ impl Session {
         ensures booted { IfOk result (λ session. booted store ≡ Ok session) }
         ensures refused { IfErr result (λ fault. (fault ≡ BootFault.Memory) ⊎ (booted store ≡ Err fault)) }
     {
+        let sheet = Box::new(alloc, Sheet::new())?;
         match Kernel::boot(alloc, store) {
             Ok(kernel) => Ok(Session {
-                kernel,
+                kernel: Box::new(alloc, kernel)?,
                 texts: CallTexts::new(),
-                sheet: Sheet::new(),
+                sheet,
             }),
             Err(fault) => Err(fault),
         }
@@ -125,12 +127,13 @@ impl Session {
         ensures outcome { IfOk result (λ outcome. outcome ≡ (stepped self.old pid).outcome) }
         ensures unchanged { OnErr result (self.new ≡ self.old) }
     {
-        match self.kernel.register(pid) {
+        let kernel = &mut *self.kernel;
+        match kernel.register(pid) {
             Ahead::Gone => Ok(Outcome::Gone),
             Ahead::Register => Ok(Outcome::Value(0)),
             Ahead::Call => {
-                let call = self.texts.keep(self.kernel.next(pid));
-                self.kernel.call(alloc, pid, call)
+                let call = self.texts.keep(kernel.next(pid));
+                kernel.call(alloc, pid, call)
             }
         }
     }
@@ -212,15 +215,16 @@ impl Session {
         ensures failed { IfErr result (λ stop. FailsBy stop (W.failures trace.old) (W.failures trace.new)) }
         ensures quiet { OnOk result (W.failures trace.new ≡ W.failures trace.old) }
     {
-        match self.kernel.register(pid) {
+        let kernel = &mut *self.kernel;
+        match kernel.register(pid) {
             Ahead::Gone => {
-                write_gone_line(trace, &mut self.sheet, pid)?;
+                write_gone_line(trace, &mut *self.sheet, pid)?;
                 Ok(1)
             }
             Ahead::Register => Ok(0),
             Ahead::Call => {
-                let call = self.texts.keep(self.kernel.next(pid));
-                trace_call(alloc, &mut self.kernel, &mut self.sheet, pid, call, trace)
+                let call = self.texts.keep(kernel.next(pid));
+                trace_call(alloc, kernel, &mut *self.sheet, pid, call, trace)
             }
         }
     }

@@ -38,7 +38,9 @@ impl<W: Sink + Drop> Buffered<W> {
         &self.sink
     }
 
-    // Forgets so many bytes at the front, which were handed on.
+    // Forgets so many bytes at the front, which were handed on. It stands apart from a write, which seldom comes here: it
+    // has room for a page, and a stack is touched page by page for what a call may need.
+    #[inline(never)]
     fn forget(&mut self, count: usize)
         requires { count ≤ length self.old.waiting.items }
         ensures waiting { self.new.waiting.items ≡ drop count self.old.waiting.items }

@@ -10,7 +10,7 @@ slot_name-requires c =
     let bad = is_bad_slot v c.args.self.now.bytes.now in
     let slot = c.slot.result.now in
     let count = length c.args.content.now / entry_length v in
-    let less : c.loop-i.i < count = subst (λ m. c.loop-i.i < m) c.slot_count-i-end.ensures c.loop-i-test.true in
+    let less : c.loop-i.i < count = subst (λ m. c.loop-i.i < m) c.slot_count-count.ensures c.loop-i-test.true in
     name_within v slot c.slot.ensures.length
     (name_short v c.args.self.now.bytes.now slot (ap bad c.slot.ensures.bytes ∙ no_slot_at bad v c.args.content.now count c.loop-i.i less c.requires))
 
@@ -22,5 +22,5 @@ loop-i-preserved c =
 pub returns : goal.returns
 returns c =
     let v = c.args.self.now.version in
-    let all : c.loop-i.i ≡ c.slot_count-i-end.result = omega arith in
-    subst (λ m. map (λ (name : Bor (List ℕ)). name.now) c.loop-i.names.items ≡ map slot_name (slots_of v m c.args.content.now)) (all ∙ c.slot_count-i-end.ensures) c.loop-i.invariant
+    let all : c.loop-i.i ≡ c.slot_count-count.result = omega arith in
+    subst (λ m. map (λ (name : Bor (List ℕ)). name.now) c.loop-i.names.items ≡ map slot_name (slots_of v m c.args.content.now)) (all ∙ c.slot_count-count.ensures) c.loop-i.invariant

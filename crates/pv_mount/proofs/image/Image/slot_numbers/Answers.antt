@@ -13,5 +13,5 @@ loop-i-preserved c =
 
 pub returns : goal.returns
 returns c =
-    let all : c.loop-i.i ≡ c.slot_count-i-end.result = omega arith in
-    subst (λ m. c.loop-i.numbers.items ≡ map slot_number (slots_of c.args.self.now.version m c.args.content.now)) (all ∙ c.slot_count-i-end.ensures) c.loop-i.invariant
+    let all : c.loop-i.i ≡ c.slot_count-count.result = omega arith in
+    subst (λ m. c.loop-i.numbers.items ≡ map slot_number (slots_of c.args.self.now.version m c.args.content.now)) (all ∙ c.slot_count-count.ensures) c.loop-i.invariant

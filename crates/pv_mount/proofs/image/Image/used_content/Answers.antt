@@ -9,7 +9,7 @@ use Rattle.pv_mount.proofs.image.Image.used_content.Goals as goal
 pub loop-k-init : goal.loop-k-init
 loop-k-init c =
     let row = pointer_row 10 (drop 8 (inode c.args.self.now.version c.args.self.now.bytes.now c.args.n)) in
-    rw (c.in_ok-add_pointers.ensures, c.new-list.ensures.items, c.inode.ensures.bytes, take_rest (inode c.args.self.now.version c.args.self.now.bytes.now c.args.n) 8) (sym (append-nil row))
+    rw (c.in_ok-add_pointers.ensures, c.in_ok-list.ensures.items, c.inode.ensures.bytes, take_rest (inode c.args.self.now.version c.args.self.now.bytes.now c.args.n) 8) (sym (append-nil row))
 
 pub loop-k-preserved : goal.loop-k-preserved
 loop-k-preserved c =

@@ -12,5 +12,5 @@ returns c =
     let bytes = c.args.self.now.bytes.now in
     let parts : c.div_ceil-count.result ≡ rounded_up (block_count v bytes c.args.n - 10) 256 = search rules in
     let index = used_index-row v bytes c.args.n c.requires.size in
-    rw (index, c.in_ok-add_pointers.ensures, c.new-list.ensures.items, c.inode.ensures.bytes, take_rest (inode v bytes c.args.n) 28)
+    rw (index, c.in_ok-add_pointers.ensures, c.in_ok-list.ensures.items, c.inode.ensures.bytes, take_rest (inode v bytes c.args.n) 28)
     (ap (λ m. pointer_row m (drop 28 (inode v bytes c.args.n))) parts)

@@ -6,12 +6,13 @@ use Rattle.pv_model.specs.Sealed.{audit}
 use Rattle.pv_model.specs.State.{State}
 use Rattle.pv_session.specs.Audits.{KeepsSecret}
 use Rattle.pv_session.proofs.Audited.{audit-keeps_secret}
+use Rattle.pv_calls.specs.Kernel.{Running}
 use Rattle.pv_session.proofs.session.Session.audit.Goals as goal
 
 pub returns-clause-secret : goal.returns-clause-secret
 returns-clause-secret c =
     let path = c.args.path.now in
-    let same = c.parts.ensures.value ∙ c.self.view_is in
+    let same = c.parts.ensures.value ∙ (ap (λ (k : Running). k.state) c.deref.ensures ∙ c.self.view_is) in
     let found = c.audit.ensures ∙ ap (λ (x : State). audit x path) same in
     subst (λ (r : Result Verdict AuditFault). KeepsSecret c.args.self.now path r) (sym found)
-    (audit-keeps_secret c.args.self.now (subst IsWhole c.self.view_is c.parts.ensures.whole) path)
+    (audit-keeps_secret c.args.self.now (subst IsWhole (ap (λ (k : Running). k.state) c.deref.ensures ∙ c.self.view_is) c.parts.ensures.whole) path)

@@ -6,12 +6,13 @@ use Rattle.pv_model.specs.Sealed.{audit_node}
 use Rattle.pv_model.specs.State.{State}
 use Rattle.pv_session.specs.Audits.{KeepsSecretAt}
 use Rattle.pv_session.proofs.Audited.{audit_node-keeps_secret}
+use Rattle.pv_calls.specs.Kernel.{Running}
 use Rattle.pv_session.proofs.session.Session.audit_node.Goals as goal
 
 pub returns-clause-secret : goal.returns-clause-secret
 returns-clause-secret c =
     let node = c.args.node in
-    let same = c.parts.ensures.value ∙ c.self.view_is in
+    let same = c.parts.ensures.value ∙ (ap (λ (k : Running). k.state) c.deref.ensures ∙ c.self.view_is) in
     let found = c.audit_node.ensures ∙ ap (λ (x : State). audit_node x (Some node)) same in
     subst (λ (r : Result Verdict AuditFault). KeepsSecretAt c.args.self.now node r) (sym found)
-    (audit_node-keeps_secret c.args.self.now (subst IsWhole c.self.view_is c.parts.ensures.whole) node)
+    (audit_node-keeps_secret c.args.self.now (subst IsWhole (ap (λ (k : Running). k.state) c.deref.ensures ∙ c.self.view_is) c.parts.ensures.whole) node)
