@@ -13,7 +13,7 @@ pub const MOST: u32 = 2_000;
 fn empty_image(alloc: Global, version: Version) -> Result<Directories, AllocError> {
     let blocks = blocks_of(version);
     let zeros = vec![in alloc; 0; BLOCK * blocks as usize]?;
-    Ok(Directories::empty(zeros, blocks, INODES, version))
+    Directories::empty(alloc, zeros, blocks, INODES, version)
 }
 
 /// A directory in an image that has room for the greatest number of names, and a file for them.

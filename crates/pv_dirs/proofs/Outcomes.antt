@@ -21,7 +21,7 @@ pub either_number : {X : Type 0} (P : X → Type 0) (Q : ℕ → Type 0) (r : Op
 either_number P Q None old new after none within some p q = subst P (sym none) p
 either_number P Q (Some n) old new after none within some p q = subst P (sym some) (q n within)
 
-pub if_some_both : (r : Option ℕ) (P Q R : ℕ → Type 0) → IfSome r P → IfSome r Q → ((n : ℕ) → P n → Q n → R n) → IfSome r R
+pub if_some_both : {X : Type 0} (r : Option X) (P Q R : X → Type 0) → IfSome r P → IfSome r Q → ((n : X) → P n → Q n → R n) → IfSome r R
 if_some_both None P Q R p q f = p
 if_some_both (Some n) P Q R p q f = f n p q
 

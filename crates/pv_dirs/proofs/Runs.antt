@@ -5,7 +5,7 @@ use Rattle.std.proofs.lemmas.List.{drop-take, drop-drop, drop_all, length-take, 
 use Rattle.pv_model.specs.declared.version.Version.{Version}
 use Rattle.pv_model.specs.Bytes.{Bytes}
 use Rattle.pv_model.specs.Room.{entry_length}
-use Rattle.pv_dirs.specs.Slots.{slot_at, IsRun}
+use Rattle.pv_dirs.specs.Slots.{slot_at, slot_name, IsRun}
 
 -- some of the bytes, as far as they go
 pub run_taken : (v : Version) (bytes run : Bytes) (k n at : ℕ) → at ≡ entry_length v * k → run ≡ take n (drop at bytes) → IsRun v bytes k run
@@ -35,3 +35,7 @@ run_behind v bytes run k l long is =
           ∙ ap (take (length run - entry_length v)) next
           ∙ ap (λ n. take n (drop (entry_length v * (k + 1)) bytes)) (sym (length-drop (entry_length v) run))
     ])
+
+-- the name in it
+pub run_name : (v : Version) (bytes run : Bytes) (k l : ℕ) → l ≡ entry_length v → IsRun v bytes k run → l ≤ length run → slot_name (take l run) ≡ slot_name (slot_at v bytes k)
+run_name v bytes run k l long is whole = ap (λ n. slot_name (take n run)) long ∙ ap slot_name (run_slot v bytes run k is (omega (arith, long, whole)))

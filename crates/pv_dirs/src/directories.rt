@@ -1,5 +1,5 @@
 //! The directories of an image.
-ghost use Rattle.std.specs.Prelude.{◌≡◌, ◌+◌, ◌-◌, ◌*◌, ◌<◌, ◌≤◌, ◌↔◌, suc, min, false, [], ◌++◌, length, take, drop, replicate, vec_len, All, IsTrue, None, Some, IsSome, IsNone, IfNone, IfSome, OnOk, OnErr, option_map};
+ghost use Rattle.std.specs.Prelude.{◌≡◌, ◌+◌, ◌-◌, ◌*◌, ◌<◌, ◌≤◌, ◌↔◌, suc, min, false, [], ◌++◌, length, take, drop, replicate, vec_len, All, IsTrue, None, Some, IsSome, IsNone, IfNone, IfSome, IfOk, OnOk, OnErr, option_map};
 ghost use Rattle.std.specs.Option.{option_copied};
 ghost use Rattle.pv_model.specs.declared.limits.TheConstants.{BLOCK, INODES};
 ghost use Rattle.pv_model.specs.Calls.Descriptors.{next_name};
@@ -20,17 +20,18 @@ use crate::scan::{count, find, is_directory, least_behind, number, slot, start};
 use crate::slot::Slot;
 use pv_inodes::{Inodes, Space};
 use pv_model::{Name, Sort, Version};
+use std::alloc::{AllocError, Global};
 use std::marker::Model;
 
-/// The directories of an image, over its inodes: a tree by the numbers of its nodes. Nothing
-/// here takes memory.
+/// The directories of an image, over its inodes: a tree by the numbers of its nodes. To make
+/// them takes memory for an index of their entries; nothing else here takes memory.
 #[derive(Drop)]
 pub struct Directories {
     inodes: Inodes,
     // The number of data blocks.
     block_count: u16,
-    // The entries by their names.
-    index: Index,
+    // The entries by their names. It stands apart, so that directories are small to move.
+    index: Box<Index>,
 }
 
 impl Model for Directories {
@@ -42,30 +43,41 @@ impl Model for Directories {
 
     ghost view = { λ d. tree_of d.inodes };
 
-    ghost invariant = { λ d. IsKept d.inodes d.block_count d.index };
+    ghost invariant = { λ d. IsKept d.inodes d.block_count d.index.value };
 }
 
 impl Directories {
     /// The tree of an image of so many blocks and inodes over zeros: it has no node, and no root either.
-    pub fn empty(zeros: Vec<u8>, blocks: u16, inodes: u16, version: Version) -> Directories
+    ///
+    /// # Errors
+    ///
+    /// `AllocError` where memory for the index was refused.
+    pub fn empty(
+        alloc: Global,
+        zeros: Vec<u8>,
+        blocks: u16,
+        inodes: u16,
+        version: Version,
+    ) -> Result<Directories, AllocError>
         requires whole { vec_len zeros ≡ BLOCK * blocks }
         requires zeros { All (λ byte. byte ≡ 0) zeros.items }
         requires some_inodes { 1 ≤ inodes }
         requires few_inodes { inodes ≤ INODES }
         requires some_blocks { inode_blocks version inodes + 1 ≤ blocks }
         requires few_blocks { blocks ≤ greatest_blocks version }
-        ensures nodes { result.nodes ≡ replicate (suc inodes) None }
-        ensures blocks { result.blocks + inode_blocks version inodes + 1 ≡ blocks }
-        ensures inodes { result.inodes ≡ inodes }
-        ensures version { result.version ≡ version }
+        ensures nodes { IfOk result (λ directories. directories.nodes ≡ replicate (suc inodes) None) }
+        ensures blocks { IfOk result (λ directories. directories.blocks + inode_blocks version inodes + 1 ≡ blocks) }
+        ensures inodes { IfOk result (λ directories. directories.inodes ≡ inodes) }
+        ensures version { IfOk result (λ directories. directories.version ≡ version) }
     {
+        let index = Box::new(alloc, Index::empty())?;
         let inodes = Inodes::empty(zeros, blocks, inodes, version);
         let block_count = inodes.free();
-        Directories {
+        Ok(Directories {
             inodes,
             block_count,
-            index: Index::empty(),
-        }
+            index,
+        })
     }
 
     /// How many nodes the image has room for.
@@ -198,9 +210,9 @@ impl Directories {
         let end = start(&self.inodes, last);
         self.inodes.overwrite(directory, at, moved.as_bytes());
         self.inodes.shrink(directory, end);
-        self.index.remove(directory, name, hole as u16);
-        self.index
-            .change(directory, moved.name(), last as u16, hole as u16);
+        let index = &mut *self.index;
+        index.remove(directory, name, hole as u16);
+        index.change(directory, moved.name(), last as u16, hole as u16);
         Some(gone)
     }
 

@@ -47,8 +47,7 @@ fn place_of(directory: u16, name: &[u8]) -> usize
     sum as usize % PLACES
 }
 
-/// An index of the entries of all directories by their names. It has one size, and takes no memory from an
-/// allocator.
+/// An index of the entries of all directories by their names. It has one size, and takes no memory beside its own.
 #[derive(Drop)]
 pub(crate) struct Index {
     places: [Place; PLACES],
@@ -63,6 +62,12 @@ impl Index {
             places: [Place::Empty; PLACES],
             ascending: [false; INODES + 1],
         }
+    }
+
+    /// Takes all entries out of the index.
+    pub(crate) fn clear(&mut self) {
+        self.places.fill(Place::Empty);
+        self.ascending.fill(false);
     }
 
     /// Whether the names of a directory are known to ascend from slot to slot.

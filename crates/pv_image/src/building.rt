@@ -192,15 +192,15 @@ fn add(tree: &mut Tree, entry: &Entry) -> Result<(), ManifestFault>
 /// directory, else `Err(Exists(n))` that its name is there, else `Err(Source(n))` that what it is to be a
 /// further name of is no file or link, and else `Err(Room(n))` that a node would be longer than any may be,
 /// or that the image has not the inodes or the blocks. `Err(Memory)` says that memory was refused, which
-/// is asked for once, for the blocks.
+/// is asked for before the first entry is made.
 pub fn build(alloc: Global, manifest: &Manifest) -> Result<Store, ManifestFault>
     ensures { GivesStore result (tree_of (manifest_before manifest.now [])) }
 {
     let zeros = vec![in alloc; 0; BLOCK * manifest.blocks as usize]?;
-    let store = Store::empty(zeros, manifest.blocks, manifest.inodes, Version::V1);
+    let store = Store::empty(alloc, zeros, manifest.blocks, manifest.inodes, Version::V1)?;
     let mut tree = store.into_tree();
     for entry in &manifest.entries {
-        add(&mut tree, entry)?;
+        add(&mut *tree, entry)?;
     }
     tree.sort_slots();
     Ok(Store::of_tree(tree))

@@ -12,7 +12,7 @@ fn built(rt: &impl Abort, alloc: Global, text: &str) -> Result<Tree, ManifestFau
     let manifest = Manifest::parse(alloc, text.as_bytes())?;
     let store = build(alloc, &manifest)?;
     store.facts();
-    Ok(store.into_tree())
+    Ok(Box::into_inner(store.into_tree()))
 }
 
 const EACH_SORT: &str =

@@ -223,7 +223,8 @@ fn great_tree(alloc: Global, count: u16) -> Result<Tree, AllocError>
     requires { count ≤ 7000 }
 {
     let zeros = vec![in alloc; 0; 512 * (count as usize + 257)]?;
-    Ok(Store::empty(zeros, count + 257, 4_096, Version::V1).into_tree())
+    let store = Store::empty(alloc, zeros, count + 257, 4_096, Version::V1)?;
+    Ok(Box::into_inner(store.into_tree()))
 }
 
 // A chain of so many directories below the root, each with this name.

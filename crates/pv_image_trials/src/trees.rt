@@ -15,7 +15,8 @@ fn small_tree(alloc: Global, count: u16) -> Result<Tree, AllocError>
     requires { count ≤ 7000 }
 {
     let zeros = vec![in alloc; 0; 512 * (count as usize + 2)]?;
-    Ok(Store::empty(zeros, count + 2, 16, Version::V1).into_tree())
+    let store = Store::empty(alloc, zeros, count + 2, 16, Version::V1)?;
+    Ok(Box::into_inner(store.into_tree()))
 }
 
 // A name that a directory has not.

@@ -17,7 +17,8 @@ fn tree_of_one_inode(alloc: Global, blocks: u16) -> Result<Tree, AllocError>
     requires few { blocks ≤ 7000 }
 {
     let zeros = vec![in alloc; 0; 512 * blocks as usize]?;
-    Ok(Store::empty(zeros, blocks, 1, Version::V1).into_tree())
+    let store = Store::empty(alloc, zeros, blocks, 1, Version::V1)?;
+    Ok(Box::into_inner(store.into_tree()))
 }
 
 // The image of a tree has so many bytes, with these pieces among zeros.

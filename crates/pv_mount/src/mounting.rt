@@ -23,5 +23,5 @@ pub fn mount(alloc: Global, bytes: Vec<u8>) -> Result<Store, ImageFault>
 {
     let version = check(alloc, &bytes)?;
     let inodes = u16_at(&bytes, INODES_AT);
-    Ok(Store::of_image(bytes, inodes, version))
+    Ok(Store::of_image(alloc, bytes, inodes, version)?)
 }

@@ -57,7 +57,7 @@ impl Parts {
     {
         let files = OpenFiles::new(alloc)?;
         let processes = Processes::new(alloc, program)?;
-        let mut tree = store.into_tree();
+        let mut tree = Box::into_inner(store.into_tree());
         let _ = tree.sizes();
         tree.hold(ROOT);
         Ok(Parts {

@@ -14,7 +14,7 @@ fn with_data_blocks(rt: &impl Abort, alloc: Global, count: u16) -> Result<Direct
     requires few { count ≤ 8000 }
 {
     let zeros = vec![in alloc; 0; 512 * (count as usize + 2)]?;
-    let mut files = Directories::empty(zeros, count + 2, 16, Version::V1);
+    let mut files = Directories::empty(alloc, zeros, count + 2, 16, Version::V1)?;
     expect_same(rt, files.fresh(Sort::Directory), Some(1));
     Ok(files)
 }
@@ -25,7 +25,7 @@ fn of_version_2(rt: &impl Abort, alloc: Global, count: u16) -> Result<Directorie
     requires few { count ≤ 8000 }
 {
     let zeros = vec![in alloc; 0; 512 * (count as usize + 3)]?;
-    let mut files = Directories::empty(zeros, count + 3, 16, Version::V2);
+    let mut files = Directories::empty(alloc, zeros, count + 3, 16, Version::V2)?;
     expect_same(rt, files.fresh(Sort::Directory), Some(1));
     Ok(files)
 }
@@ -472,6 +472,56 @@ fn slots_are_put_in_order(rt: HostRuntime) -> Result<(), AllocError> {
     // Names in mixed order, and those that descend.
     expect_put_in_order_in_both(&rt, 83)?;
     expect_put_in_order_in_both(&rt, 129)?;
+    Ok(())
+}
+
+// Names in no order, of which most begin with the same eight bytes, and one is just these.
+const ALIKE: &[Step] = &[
+    Add(b"same-front-c", 2, Ok(())),
+    Add(b"same-fro", 3, Ok(())),
+    Add(b"same-front-a", 4, Ok(())),
+    Add(b"same-fr", 5, Ok(())),
+    Add(b"same-front-d", 6, Ok(())),
+    Add(b"same-front", 7, Ok(())),
+    Add(b"another", 8, Ok(())),
+    Add(b"same-front-b", 9, Ok(())),
+];
+
+const ALIKE_IN_ORDER: &[Step] = &[
+    Lists(&[
+        b"another",
+        b"same-fr",
+        b"same-fro",
+        b"same-front",
+        b"same-front-a",
+        b"same-front-b",
+        b"same-front-c",
+        b"same-front-d",
+    ]),
+    Find(b"same-fro", Some(3)),
+    Find(b"same-front-a", Some(4)),
+    Find(b"same-front-b", Some(9)),
+    Find(b"same-front-c", Some(2)),
+    Find(b"same-front-e", None),
+    Remove(b"same-front-b"),
+];
+
+// They are put in order, also again behind a removal and an addition.
+fn expect_alike_in_order(rt: &impl Abort, files: &mut Directories) {
+    expect_steps(rt, files, ALIKE);
+    files.sort_slots();
+    expect_steps(rt, files, ALIKE_IN_ORDER);
+    expect_add(rt, files, b"same-front-b", 9, Ok(()));
+    files.sort_slots();
+    expect_steps(rt, files, ALIKE_IN_ORDER);
+}
+
+#[test]
+fn names_alike_at_their_front_are_put_in_order(rt: HostRuntime) -> Result<(), AllocError> {
+    let mut files = with_data_blocks(&rt, rt.alloc(), 2)?;
+    expect_alike_in_order(&rt, &mut files);
+    let mut files = of_version_2(&rt, rt.alloc(), 6)?;
+    expect_alike_in_order(&rt, &mut files);
     Ok(())
 }
 

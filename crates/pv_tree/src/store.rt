@@ -1,5 +1,5 @@
 //! A tree before boot.
-ghost use Rattle.std.specs.Prelude.{◌≡◌, ◌+◌, ◌-◌, ◌*◌, ◌≤◌, vec_len, All};
+ghost use Rattle.std.specs.Prelude.{◌≡◌, ◌+◌, ◌-◌, ◌*◌, ◌≤◌, vec_len, All, IfOk};
 ghost use Rattle.pv_model.specs.declared.limits.TheConstants.{BLOCK, INODES};
 ghost use Rattle.pv_model.specs.Image.{inode_blocks, greatest_blocks, IsImageOf};
 ghost use Rattle.pv_model.specs.Tree.{Tree as Nodes};
@@ -10,12 +10,14 @@ ghost use Rattle.pv_tree.specs.Standing.{IsAtRest};
 
 use crate::Tree;
 use pv_model::Version;
+use std::alloc::{AllocError, Global};
 use std::marker::Model;
 
 /// A tree before boot: nothing is held, so each node but the root has a name.
 #[derive(Drop)]
 pub struct Store {
-    tree: Tree,
+    // It stands apart, so that a store is small to move.
+    tree: Box<Tree>,
 }
 
 impl Model for Store {
@@ -24,43 +26,64 @@ impl Model for Store {
 
     ghost Value = { Nodes };
 
-    ghost view = { λ s. s.tree.tree };
+    ghost view = { λ s. s.tree.value.tree };
 
-    ghost invariant = { λ s. IsUnheld s.tree.holds };
+    ghost invariant = { λ s. IsUnheld s.tree.value.holds };
 }
 
 impl Store {
     /// The tree of the root alone, in an image of this version, of so many blocks and inodes, over as many
-    /// blocks of zeros. No memory is taken.
-    pub fn empty(zeros: Vec<u8>, blocks: u16, inodes: u16, version: Version) -> Store
+    /// blocks of zeros.
+    ///
+    /// # Errors
+    ///
+    /// Where memory for the tree, beside its blocks, was refused.
+    pub fn empty(
+        alloc: Global,
+        zeros: Vec<u8>,
+        blocks: u16,
+        inodes: u16,
+        version: Version,
+    ) -> Result<Store, AllocError>
         requires whole { vec_len zeros ≡ BLOCK * blocks }
         requires zeros { All (λ byte. byte ≡ 0) zeros.items }
         requires some_inodes { 1 ≤ inodes }
         requires few_inodes { inodes ≤ INODES }
         requires some_blocks { inode_blocks version inodes + 1 ≤ blocks }
         requires few_blocks { blocks ≤ greatest_blocks version }
-        ensures { result ≡ root_alone version (blocks - (inode_blocks version inodes + 1)) inodes }
+        ensures { IfOk result (λ store. store ≡ root_alone version (blocks - (inode_blocks version inodes + 1)) inodes) }
     {
-        Store {
-            tree: Tree::empty(zeros, blocks, inodes, version),
-        }
+        let tree = Tree::empty(alloc, zeros, blocks, inodes, version)?;
+        Ok(Store {
+            tree: Box::new(alloc, tree)?,
+        })
     }
 
     /// The tree of the image that these bytes are, of this version and with so many inodes. The bytes are its
-    /// blocks from then on: nothing is copied, and no memory is taken.
-    pub fn of_image(bytes: Vec<u8>, inodes: u16, version: Version) -> Store
+    /// blocks from then on: they are not copied.
+    ///
+    /// # Errors
+    ///
+    /// Where memory for the tree, beside its blocks, was refused.
+    pub fn of_image(
+        alloc: Global,
+        bytes: Vec<u8>,
+        inodes: u16,
+        version: Version,
+    ) -> Result<Store, AllocError>
         requires { IsImage version inodes bytes.items }
-        ensures { (t : Nodes) → IsImageOf bytes.items t → result ≡ t }
+        ensures { IfOk result (λ store. (t : Nodes) → IsImageOf bytes.items t → store ≡ t) }
     {
-        Store {
-            tree: Tree::of_image(bytes, inodes, version),
-        }
+        let tree = Tree::of_image(alloc, bytes, inodes, version)?;
+        Ok(Store {
+            tree: Box::new(alloc, tree)?,
+        })
     }
 
     /// The store of a tree of which nothing is held.
-    pub fn of_tree(tree: Tree) -> Store
-        requires { IsUnheld tree.holds }
-        ensures { result ≡ tree.tree }
+    pub fn of_tree(tree: Box<Tree>) -> Store
+        requires { IsUnheld tree.value.holds }
+        ensures { result ≡ tree.value.tree }
     {
         Store { tree }
     }
@@ -82,9 +105,9 @@ impl Store {
     }
 
     /// The tree, to be changed.
-    pub fn into_tree(self) -> Tree
-        ensures tree { result.tree ≡ self }
-        ensures unheld { IsUnheld result.holds }
+    pub fn into_tree(self) -> Box<Tree>
+        ensures tree { result.value.tree ≡ self }
+        ensures unheld { IsUnheld result.value.holds }
     {
         let Store { tree } = self;
         tree

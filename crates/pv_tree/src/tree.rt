@@ -1,5 +1,5 @@
 //! A tree on the blocks of an image, with who holds what.
-ghost use Rattle.std.specs.Prelude.{◌≡◌, ◌+◌, ◌-◌, ◌*◌, ◌≤◌, ◌↔◌, min, replicate, slice_set, vec_len, ◌==◌, All, false, [], ◌++◌, length, take, drop, IsTrue, Some, IsSome, option_map};
+ghost use Rattle.std.specs.Prelude.{◌≡◌, ◌+◌, ◌-◌, ◌*◌, ◌≤◌, ◌↔◌, min, replicate, slice_set, vec_len, ◌==◌, All, false, [], ◌++◌, length, take, drop, IfOk, IsTrue, Some, IsSome, option_map};
 ghost use Rattle.std.specs.Option.{option_copied};
 ghost use Rattle.pv_model.specs.Calls.Descriptors.{next_name};
 ghost use Rattle.pv_model.specs.Effect.{size_of};
@@ -24,13 +24,14 @@ mod names;
 use pv_dirs::Directories;
 use pv_model::limits::{INODES, ROOT};
 use pv_model::{Name, Sort, Version};
+use std::alloc::{AllocError, Global};
 use std::marker::Model;
 
 /// The numbers of nodes: 0, which is none, and those of the greatest image.
 pub(crate) const NUMBERS: usize = INODES + 1;
 
-/// A tree of nodes by names, on the blocks of an image, and how often each node is held.
-/// Nothing here takes memory.
+/// A tree of nodes by names, on the blocks of an image, and how often each node is held. To make one takes memory
+/// for an index of its entries; nothing else here takes memory.
 #[derive(Drop)]
 pub struct Tree {
     directories: Directories,
@@ -89,26 +90,36 @@ fn no_holds() -> [u16; NUMBERS]
 
 impl Tree {
     /// The tree of the root alone, in an image of so many blocks and inodes over zeros; nothing is held.
-    pub(crate) fn empty(zeros: Vec<u8>, blocks: u16, inodes: u16, version: Version) -> Tree
+    ///
+    /// # Errors
+    ///
+    /// Where memory for its directories was refused.
+    pub(crate) fn empty(
+        alloc: Global,
+        zeros: Vec<u8>,
+        blocks: u16,
+        inodes: u16,
+        version: Version,
+    ) -> Result<Tree, AllocError>
         requires whole { vec_len zeros ≡ BLOCK * blocks }
         requires zeros { All (λ byte. byte ≡ 0) zeros.items }
         requires some_inodes { 1 ≤ inodes }
         requires few_inodes { inodes ≤ INODES }
         requires some_blocks { inode_blocks version inodes + 1 ≤ blocks }
         requires few_blocks { blocks ≤ greatest_blocks version }
-        ensures tree { result.tree ≡ root_alone version (blocks - (inode_blocks version inodes + 1)) inodes }
-        ensures holds { result.holds ≡ replicate NUMBERS 0 }
+        ensures tree { IfOk result (λ tree. tree.tree ≡ root_alone version (blocks - (inode_blocks version inodes + 1)) inodes) }
+        ensures holds { IfOk result (λ tree. tree.holds ≡ replicate NUMBERS 0) }
     {
-        let mut directories = Directories::empty(zeros, blocks, inodes, version);
+        let mut directories = Directories::empty(alloc, zeros, blocks, inodes, version)?;
         let Some(_root) = directories.fresh(Sort::Directory) else {
             unreachable!()
         };
-        Tree {
+        Ok(Tree {
             directories,
             parents: root_above_itself(),
             names: no_names(),
             holds: no_holds(),
-        }
+        })
     }
 
     /// The sizes of the image. A caller learns here what is true of every tree.

@@ -21,7 +21,8 @@ fn empty(alloc: Global, blocks: u16, inodes: u16, version: Version) -> Result<Tr
     requires few_blocks { blocks ≤ greatest_blocks version }
 {
     let zeros = vec![in alloc; 0; 512 * blocks as usize]?;
-    Ok(Store::empty(zeros, blocks, inodes, version).into_tree())
+    let store = Store::empty(alloc, zeros, blocks, inodes, version)?;
+    Ok(Box::into_inner(store.into_tree()))
 }
 
 // A tree of the root alone, in an image of version 1, of 16 inodes and so many data blocks.

@@ -1,32 +1,44 @@
 //! The directories of an image that was written before.
-ghost use Rattle.std.specs.Prelude.{◌≡◌};
+ghost use Rattle.std.specs.Prelude.{◌≡◌, IfOk};
 ghost use Rattle.pv_model.specs.Image.{IsImageOf};
 ghost use Rattle.pv_model.specs.Tree.{Tree};
 ghost use Rattle.pv_dirs.specs.Images.{IsImage};
 
 use super::Directories;
-use crate::indexing::index_of;
+use crate::index::Index;
+use crate::indexing::add_all;
+use crate::sorting::sort_all;
 use pv_inodes::Inodes;
 use pv_model::Version;
 use pv_model::limits::BLOCK;
+use std::alloc::{AllocError, Global};
 
 impl Directories {
     /// The tree of the image that these bytes are, of this version and with so many inodes. The bytes are
     /// its blocks from then on, so nothing is copied. Its slots are put in the order of the names.
-    pub fn of_image(bytes: Vec<u8>, inodes: u16, version: Version) -> Directories
+    ///
+    /// # Errors
+    ///
+    /// `AllocError` where memory for the index was refused.
+    pub fn of_image(
+        alloc: Global,
+        bytes: Vec<u8>,
+        inodes: u16,
+        version: Version,
+    ) -> Result<Directories, AllocError>
         requires { IsImage version inodes bytes.items }
-        ensures { (t : Tree) → IsImageOf bytes.items t → result ≡ t }
+        ensures { IfOk result (λ directories. (t : Tree) → IsImageOf bytes.items t → directories ≡ t) }
     {
         let table = inodes as usize * version.layout().inode_length;
         let block_count = (bytes.len() / BLOCK - table.div_ceil(BLOCK) - 1) as u16;
-        let inodes = Inodes::of_image(bytes, inodes, version);
-        let index = index_of(&inodes);
-        let mut directories = Directories {
+        let mut index = Box::new(alloc, Index::empty())?;
+        let mut inodes = Inodes::of_image(bytes, inodes, version);
+        sort_all(&mut inodes);
+        add_all(&inodes, &mut index);
+        Ok(Directories {
             inodes,
             block_count,
             index,
-        };
-        directories.sort_slots();
-        directories
+        })
     }
 }

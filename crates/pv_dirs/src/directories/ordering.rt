@@ -2,7 +2,7 @@
 ghost use Rattle.std.specs.Prelude.{◌≡◌};
 
 use super::Directories;
-use crate::indexing::index_of;
+use crate::indexing::add_all;
 use crate::sorting::{any_unordered, sort_all};
 
 impl Directories {
@@ -13,8 +13,10 @@ impl Directories {
         ensures { self.new ≡ self.old }
     {
         if any_unordered(&self.inodes, &self.index) {
-            sort_all(&mut self.inodes, &self.index);
-            self.index = index_of(&self.inodes);
+            sort_all(&mut self.inodes);
+            let index = &mut *self.index;
+            index.clear();
+            add_all(&self.inodes, index);
         }
     }
 }

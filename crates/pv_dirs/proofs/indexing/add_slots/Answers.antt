@@ -1,11 +1,20 @@
-use Rattle.std.proofs.Common.{◌≡◌, refl, subst, ◌∙◌, arith}
+use Rattle.std.proofs.Common.{◌≡◌, ◌+◌, ◌-◌, ◌≤◌, length, take, refl, ap, subst, ◌∙◌, arith}
+use Rattle.std.specs.Prelude.{IfSome}
+use Rattle.std.proofs.lemmas.Option.{IfSome_then}
+use Rattle.pv_model.specs.Room.{entry_length}
 use Rattle.pv_inodes.specs.Files.{bytes_at}
 use Rattle.pv_dirs.specs.Index.{AreLedUpTo}
-use Rattle.pv_dirs.specs.Slots.{slot_count}
+use Rattle.pv_dirs.specs.Slots.{slot_at, slot_count, slot_name}
+use Rattle.pv_dirs.proofs.Outcomes.{if_some_both}
+use Rattle.pv_dirs.proofs.Runs.{run_behind, run_name}
 use Rattle.pv_dirs.proofs.indexing.add_slots.Goals as goal
+use Rattle.pv_dirs.proofs.indexing.add_slots.Goals.{After-name_in_run-name}
 
 pub loop-k-init : goal.loop-k-init
 loop-k-init c = record {
+  run = refl;
+  some = tt;
+  last = tt;
   led = record {
     slots = λ k below. absurd (omega arith);
     ordered = λ is j k less below. absurd (omega arith);
@@ -14,12 +23,34 @@ loop-k-init c = record {
   known = λ d other. refl;
 }
 
+-- the name in the run, if it has a whole one, is that of the slot
+named : (c : After-name_in_run-name) → IfSome c.name_in_run-name.result (λ name. name.now ≡ slot_name (slot_at c.args.inodes.now.version (bytes_at c.args.inodes.now c.args.directory) c.loop-k.k))
+named c =
+    let v = c.args.inodes.now.version in
+    let bytes = bytes_at c.args.inodes.now c.args.directory in
+    let run = c.run_at-run.result.now in
+    let whole = c.layout-length.ensures.slot_length ∙ ap entry_length c.version.ensures in
+    if_some_both c.name_in_run-name.result (λ name. name.now ≡ slot_name (take c.layout-length.result.slot_length run)) (λ name. c.layout-length.result.slot_length ≤ length run)
+    (λ name. name.now ≡ slot_name (slot_at v bytes c.loop-k.k)) c.name_in_run-name.ensures.value c.name_in_run-name.ensures.whole
+    (λ name is fits. is ∙ run_name v bytes run c.loop-k.k c.layout-length.result.slot_length whole c.run_at-run.ensures fits)
+
+pub add_slot-requires-clause-named : goal.add_slot-requires-clause-named
+add_slot-requires-clause-named c = named (goal.at.add_slot-requires-clause-named c).After-name_in_run-name
+
 pub loop-k-preserved : goal.loop-k-preserved
-loop-k-preserved c = record {
-  led = c.add_slot.ensures.led;
-  others = λ d k other leads. c.add_slot.ensures.others d k other (c.loop-k.invariant.others d k other leads);
-  known = λ d other. c.add_slot.ensures.known d other ∙ c.loop-k.invariant.known d other;
-}
+loop-k-preserved c =
+    let v = c.args.inodes.now.version in
+    let bytes = bytes_at c.args.inodes.now c.args.directory in
+    let whole = c.layout-length.ensures.slot_length ∙ ap entry_length c.version.ensures in
+    let here : c.loop-k.k ≡ c.loop-k.k + 1 - 1 = omega arith in
+    record {
+      run = rw c.behind-left.ensures (run_behind v bytes c.run_at-run.result.now c.loop-k.k c.layout-length.result.slot_length whole c.run_at-run.ensures);
+      some = IfSome_then c.name_in_run-name.result (named (goal.at.loop-k-preserved c).After-name_in_run-name) (λ name is. omega arith);
+      last = subst (λ k. IfSome c.name_in_run-name.result (λ name. name.now ≡ slot_name (slot_at v bytes k))) here (named (goal.at.loop-k-preserved c).After-name_in_run-name);
+      led = c.add_slot.ensures.led;
+      others = λ d k other leads. c.add_slot.ensures.others d k other (c.loop-k.invariant.others d k other leads);
+      known = λ d other. c.add_slot.ensures.known d other ∙ c.loop-k.invariant.known d other;
+    }
 
 pub returns-clause-led : goal.returns-clause-led
 returns-clause-led c =

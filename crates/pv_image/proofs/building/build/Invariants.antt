@@ -4,4 +4,4 @@ use Rattle.pv_image.proofs.EntryByEntry.{IsBuiltSoFar}
 use Rattle.pv_image.proofs.building.build.Given as goal
 
 abbrev pub invariant-loop-entry : goal.invariant-loop-entry
-invariant-loop-entry l = IsBuiltSoFar (drop l.entry-index l.entry-items) l.tree (manifest_before l.manifest [])
+invariant-loop-entry l = IsBuiltSoFar (drop l.entry-index l.entry-items) l.tree.value (manifest_before l.manifest [])

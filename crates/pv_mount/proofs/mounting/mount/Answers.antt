@@ -16,4 +16,4 @@ of_image-requires c =
 
 pub returns-clause-mounted : goal.returns-clause-mounted
 returns-clause-mounted c =
-    is_mounted c.args.bytes.items c.in_ok-version.version c.of_image.result (subst (λ (bs : Bytes). Holds bs c.in_ok-version.version) c.deref.ensures.value c.in_ok-version.ensures.accepted) c.of_image.ensures
+    is_mounted c.args.bytes.items c.in_ok-version.version c.in_ok-of_image.field-0 (subst (λ (bs : Bytes). Holds bs c.in_ok-version.version) c.deref.ensures.value c.in_ok-version.ensures.accepted) c.in_ok-of_image.ensures

@@ -5,7 +5,7 @@ use Rattle.pv_model.specs.Room.{entry_length, greatest_length}
 use Rattle.pv_model.specs.Tree.{is_name, Tree, find_entry, with_entry}
 use Rattle.pv_inodes.specs.declared.space.Space.TheVariants.{TooBig, Full}
 use Rattle.pv_inodes.specs.Files.{Files, bytes_at, written}
-use Rattle.pv_dirs.specs.Index.{Ascend}
+use Rattle.pv_dirs.specs.Index.{Ascend, IsIndexed, known}
 use Rattle.pv_dirs.specs.Slots.{slot_name, slot_number}
 use Rattle.pv_dirs.specs.Trees.{tree_of, IsHolding, LacksRoom, grown_length}
 use Rattle.pv_dirs.proofs.Adding.{grown_length-tree_of, tree_of-added, holding-added}
@@ -29,8 +29,8 @@ ascends-ascends-requires-clause-used c = viewed_directory_used c.self.inside.ino
 pub ascends-ascends-requires-clause-ordered : goal.ascends-ascends-requires-clause-ordered
 ascends-ascends-requires-clause-ordered c =
     let is = viewed_directory c.self.inside.inodes c.args.self.now c.args.directory c.self.view_is c.requires.directory in
-    let led = directory_led c.self.inside.inodes c.args.directory c.self.inside.index c.self.invariant.indexed is in
-    λ ordered. subst (Ascend c.self.inside.inodes.version (bytes_at c.self.inside.inodes c.args.directory)) (sym c.count-number.ensures.value) (led.ordered ordered)
+    let led = directory_led c.self.inside.inodes c.args.directory c.self.inside.index.value c.self.invariant.indexed is in
+    λ ordered. subst (Ascend c.self.inside.inodes.version (bytes_at c.self.inside.inodes c.args.directory)) (sym c.count-number.ensures.value) (led.ordered (ap (λ ix. known ix c.args.directory) (sym c.deref.ensures) ∙ ordered))
 
 pub write_at-added-requires : goal.write_at-added-requires
 write_at-added-requires c = viewed_directory_used c.self.inside.inodes c.args.self.now c.args.directory c.self.view_is c.requires.directory
@@ -82,9 +82,9 @@ invariant_of-self c =
     let start = (goal.at.invariant_of-self c).After-write_at-added in
     let is = viewed_directory c.self.inside.inodes c.args.self.now c.args.directory c.self.view_is c.requires.directory in
     record {
-      holding = rw (is_written c) (holding start);
-      indexed = rw (is_written c ∙ sym (at_end start))
-          (indexed-added c.self.inside.inodes c.self.inside.block_count c.args.directory c.self.invariant.holding is c.self.inside.index c.self.invariant.indexed
+      holding = rw (is_written (goal.at.invariant_of-self c).After-add) (holding start);
+      indexed = rw (is_written (goal.at.invariant_of-self c).After-add ∙ sym (at_end start))
+          (indexed-added c.self.inside.inodes c.self.inside.block_count c.args.directory c.self.invariant.holding is c.deref_mut.result.now (subst (IsIndexed c.self.inside.inodes) (sym c.deref_mut.ensures.value) c.self.invariant.indexed)
           c.as_bytes.result.now c.args.name.now c.count-number.result c.add.new.self c.ascends-ascends.result (whole start) (ap slot_name c.as_bytes.ensures.value ∙ c.new-slot.ensures.name) c.count-number.ensures.value
           c.add.ensures.this c.add.ensures.others c.ascends-ascends.ensures c.add.ensures.ascends c.add.ensures.known);
     }

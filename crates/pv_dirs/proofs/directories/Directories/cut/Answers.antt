@@ -28,10 +28,10 @@ after c =
 pub invariant_of-self : goal.invariant_of-self
 invariant_of-self c =
     let k = viewed_content c.self.inside.inodes c.args.self.now c.args.inode c.self.view_is c.requires.used c.requires.other in
-    either_way (λ (f : Files). IsKept f c.self.inside.block_count c.self.inside.index) c.cut.result c.self.inside.inodes (cut c.self.inside.inodes c.args.inode c.args.size) c.cut.new.self
+    either_way (λ (f : Files). IsKept f c.self.inside.block_count c.self.inside.index.value) c.cut.result c.self.inside.inodes (cut c.self.inside.inodes c.args.inode c.args.size) c.cut.new.self
     c.cut.ensures.ok c.cut.ensures.err record {
       holding = holding c;
-      indexed = indexed-content c.self.inside.inodes c.args.inode k.0 k.1 c.self.inside.index c.self.invariant.indexed (resize (bytes_at c.self.inside.inodes c.args.inode) c.args.size);
+      indexed = indexed-content c.self.inside.inodes c.args.inode k.0 k.1 c.self.inside.index.value c.self.invariant.indexed (resize (bytes_at c.self.inside.inodes c.args.inode) c.args.size);
     } c.self.invariant
 
 pub returns-clause-ok : goal.returns-clause-ok

@@ -13,7 +13,7 @@ pub invariant_of-self : goal.invariant_of-self
 invariant_of-self c =
     rw c.drop_inode.ensures record {
       holding = holding-without c.self.inside.inodes c.self.inside.block_count c.args.inode c.self.invariant.holding;
-      indexed = indexed-without c.self.inside.inodes c.args.inode c.self.inside.index c.self.invariant.indexed;
+      indexed = indexed-without c.self.inside.inodes c.args.inode c.self.inside.index.value c.self.invariant.indexed;
     }
 
 pub returns : goal.returns

@@ -21,7 +21,7 @@ pub find-requires-clause-used : goal.find-requires-clause-used
 find-requires-clause-used c = directory_used c.self.inside.inodes c.args.directory (is_directory (goal.at.find-requires-clause-used c).After-self)
 
 pub find-requires-clause-led : goal.find-requires-clause-led
-find-requires-clause-led c = directory_led c.self.inside.inodes c.args.directory c.self.inside.index c.self.invariant.indexed (is_directory (goal.at.find-requires-clause-led c).After-self)
+find-requires-clause-led c = rw c.deref.ensures (directory_led c.self.inside.inodes c.args.directory c.self.inside.index.value c.self.invariant.indexed (is_directory (goal.at.find-requires-clause-led c).After-self))
 
 pub returns-in_err-k : goal.returns-in_err-k
 returns-in_err-k c =

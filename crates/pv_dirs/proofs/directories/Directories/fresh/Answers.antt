@@ -20,11 +20,11 @@ long c = ap (λ (t : Tree). length t.nodes) (sym c.self.view_is) ∙ length-tree
 
 pub invariant_of-self : goal.invariant_of-self
 invariant_of-self c =
-    either_number (λ (f : Files). IsKept f c.self.inside.block_count c.self.inside.index) (λ n. n < length c.self.inside.inodes.nodes) c.fresh.result c.self.inside.inodes c.fresh.new.self (λ n. with_new c.self.inside.inodes n c.args.sort)
+    either_number (λ (f : Files). IsKept f c.self.inside.block_count c.self.inside.index.value) (λ n. n < length c.self.inside.inodes.nodes) c.fresh.result c.self.inside.inodes c.fresh.new.self (λ n. with_new c.self.inside.inodes n c.args.sort)
     c.fresh.ensures.none c.fresh.ensures.within c.fresh.ensures.after c.self.invariant
     (λ n within. record {
       holding = holding-with_new c.self.inside.inodes c.self.inside.block_count n c.args.sort within c.self.invariant.holding;
-      indexed = indexed-with_new c.self.inside.inodes n c.args.sort c.self.inside.index within c.self.invariant.indexed;
+      indexed = indexed-with_new c.self.inside.inodes n c.args.sort c.self.inside.index.value within c.self.invariant.indexed;
     })
 
 pub returns-clause-full : goal.returns-clause-full

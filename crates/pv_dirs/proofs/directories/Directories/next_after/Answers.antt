@@ -16,7 +16,8 @@ least_behind-requires-clause-used c = viewed_directory_used c.self.inside.inodes
 
 pub least_behind-requires-clause-led : goal.least_behind-requires-clause-led
 least_behind-requires-clause-led c =
-    directory_led c.self.inside.inodes c.args.directory c.self.inside.index c.self.invariant.indexed (viewed_directory c.self.inside.inodes c.args.self.now c.args.directory c.self.view_is c.requires)
+    rw c.deref.ensures
+    (directory_led c.self.inside.inodes c.args.directory c.self.inside.index.value c.self.invariant.indexed (viewed_directory c.self.inside.inodes c.args.self.now c.args.directory c.self.view_is c.requires))
 
 pub least_behind-requires-clause-distinct : goal.least_behind-requires-clause-distinct
 least_behind-requires-clause-distinct c =

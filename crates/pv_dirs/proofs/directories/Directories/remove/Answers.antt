@@ -6,7 +6,7 @@ use Rattle.pv_model.specs.Room.{entry_length}
 use Rattle.pv_model.specs.Tree.{Tree, find_entry, without_entry}
 use Rattle.pv_inodes.specs.Files.{Files, bytes_at, with_bytes}
 use Rattle.pv_inodes.proofs.Edits.{used-with_bytes}
-use Rattle.pv_dirs.specs.Index.{Leads}
+use Rattle.pv_dirs.specs.Index.{Leads, IsIndexed}
 use Rattle.pv_dirs.specs.Slots.{slot_at, slot_name, slot_entries}
 use Rattle.pv_dirs.specs.Trees.{tree_of}
 use Rattle.pv_dirs.proofs.Entries.{by_name}
@@ -21,8 +21,9 @@ use Rattle.pv_dirs.proofs.directories.Directories.remove.Goals.{After-self, Afte
 
 pub find-requires-clause-led : goal.find-requires-clause-led
 find-requires-clause-led c =
-    directory_led c.self.inside.inodes c.args.directory c.self.inside.index c.self.invariant.indexed
-    (viewed_directory c.self.inside.inodes c.args.self.now c.args.directory c.self.view_is c.requires)
+    rw c.deref.ensures
+    (directory_led c.self.inside.inodes c.args.directory c.self.inside.index.value c.self.invariant.indexed
+    (viewed_directory c.self.inside.inodes c.args.self.now c.args.directory c.self.view_is c.requires))
 
 pub find-requires-clause-used : goal.find-requires-clause-used
 find-requires-clause-used c = viewed_directory_used c.self.inside.inodes c.args.self.now c.args.directory c.self.view_is c.requires
@@ -93,7 +94,7 @@ invariant_of-self c =
     record {
       holding = rw (shortened_is done) (holding-removed c.self.inside.inodes c.self.inside.block_count c.args.directory c.self.invariant.holding is c.in_ok-hole.hole (c.count-last.result - 1) (long start) (within start));
       indexed = rw (shortened_is done)
-          (indexed-removed c.self.inside.inodes c.self.inside.block_count c.args.directory c.self.invariant.holding is c.self.inside.index c.self.invariant.indexed c.in_ok-hole.hole (c.count-last.result - 1) (long start) (within start)
+          (indexed-removed c.self.inside.inodes c.self.inside.block_count c.args.directory c.self.invariant.holding is c.deref_mut-index.result.now (subst (IsIndexed c.self.inside.inodes) (sym c.deref_mut-index.ensures.value) c.self.invariant.indexed) c.in_ok-hole.hole (c.count-last.result - 1) (long start) (within start)
           c.remove.new.self c.change.new.self c.remove.ensures.others c.remove.ensures.known
           (subst (λ (q : Bytes). Leads c.remove.new.self c.args.directory q (c.count-last.result - 1) → Leads c.change.new.self c.args.directory q c.in_ok-hole.hole) named c.change.ensures.this)
           c.change.ensures.others c.change.ensures.stays c.change.ensures.known);

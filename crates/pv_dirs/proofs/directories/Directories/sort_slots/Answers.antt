@@ -11,5 +11,5 @@ invariant_of-self c =
     let blocks : new.blocks ≡ c.self.inside.block_count = sym (blocks-tree_of new) ∙ ap (λ (t : Tree). t.blocks) c.sort_all.ensures.tree ∙ blocks-tree_of old ∙ c.self.invariant.holding.sized in
     record {
       holding = subst (IsHolding new) blocks c.sort_all.ensures.kept;
-      indexed = c.index_of-self-inside.ensures;
+      indexed = c.add_all.ensures;
     }

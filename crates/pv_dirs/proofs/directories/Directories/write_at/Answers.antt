@@ -27,10 +27,10 @@ after c =
 pub invariant_of-self : goal.invariant_of-self
 invariant_of-self c =
     let k = viewed_content c.self.inside.inodes c.args.self.now c.args.inode c.self.view_is c.requires.used c.requires.other in
-    either_way (λ (f : Files). IsKept f c.self.inside.block_count c.self.inside.index) c.write_at.result c.self.inside.inodes (written c.self.inside.inodes c.args.inode c.args.at c.args.bytes.now) c.write_at.new.self
+    either_way (λ (f : Files). IsKept f c.self.inside.block_count c.self.inside.index.value) c.write_at.result c.self.inside.inodes (written c.self.inside.inodes c.args.inode c.args.at c.args.bytes.now) c.write_at.new.self
     c.write_at.ensures.ok c.write_at.ensures.err record {
       holding = holding c;
-      indexed = indexed-written c.self.inside.inodes c.args.inode k.0 k.1 c.self.inside.index c.self.invariant.indexed c.args.at c.args.bytes.now;
+      indexed = indexed-written c.self.inside.inodes c.args.inode k.0 k.1 c.self.inside.index.value c.self.invariant.indexed c.args.at c.args.bytes.now;
     } c.self.invariant
 
 pub returns-clause-ok : goal.returns-clause-ok

@@ -1,11 +1,13 @@
-use Rattle.std.proofs.Common.{subst}
+use Rattle.std.proofs.Common.{ap, sym, subst, ◌∙◌}
+use Rattle.pv_tree.specs.Holding.{HeldTree, IsUnheld}
 use Rattle.pv_tree.specs.Standing.{IsAtRest}
 use Rattle.pv_tree.proofs.Keeping.{unheld-named}
 use Rattle.pv_tree.proofs.store.Store.facts.Goals as goal
 
 pub returns : goal.returns
 returns c =
-    let h = c.self.inside.tree in
+    let h = c.deref.result.now in
+    let unheld : IsUnheld h.holds = subst (λ (t : HeldTree). IsUnheld t.holds) (sym c.deref.ensures) c.self.invariant in
     let s = c.sizes.ensures.standing in
     let rest : IsAtRest h.tree =
     record {
@@ -15,7 +17,7 @@ returns c =
       fits = s.fits;
       short = s.short;
       bytes = s.bytes;
-      named = unheld-named h.tree h.holds s.is_trimmed c.self.invariant;
+      named = unheld-named h.tree h.holds s.is_trimmed unheld;
     }
     in
-    subst IsAtRest c.self.view_is rest
+    subst IsAtRest (ap (λ (t : HeldTree). t.tree) c.deref.ensures ∙ c.self.view_is) rest

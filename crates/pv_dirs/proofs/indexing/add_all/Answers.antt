@@ -7,8 +7,8 @@ use Rattle.pv_dirs.specs.Index.{AreLed}
 use Rattle.pv_dirs.proofs.Contents.{is_directory_by_sort}
 use Rattle.pv_dirs.proofs.Indexed.{led_like}
 use Rattle.pv_dirs.proofs.TreeOf.{directory_used}
-use Rattle.pv_dirs.proofs.indexing.index_of.Goals as goal
-use Rattle.pv_dirs.proofs.indexing.index_of.Goals.{then-is_directory, else-is_directory}
+use Rattle.pv_dirs.proofs.indexing.add_all.Goals as goal
+use Rattle.pv_dirs.proofs.indexing.add_all.Goals.{then-is_directory, else-is_directory}
 
 pub add_slots-requires : goal.add_slots-requires
 add_slots-requires c = record { used = directory_used c.args.inodes.now c.loop-inode.inode (sym c.is_directory.ensures ∙ c.if-is_directory.true) }

@@ -2,7 +2,7 @@ use Rattle.std.proofs.Common.{◌≡◌, ℕ, ◌<◌, Some}
 use Rattle.pv_model.specs.declared.sort.Sort.TheVariants.{Directory}
 use Rattle.pv_inodes.specs.Files.{Contained, held}
 use Rattle.pv_dirs.specs.Index.{AreLed}
-use Rattle.pv_dirs.proofs.indexing.index_of.Given as goal
+use Rattle.pv_dirs.proofs.indexing.add_all.Given as goal
 
 -- the index leads to the entries of the directories so far
 abbrev pub invariant-loop-inode : goal.invariant-loop-inode
