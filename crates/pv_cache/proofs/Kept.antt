@@ -92,17 +92,17 @@ put-or-not (Err e) old put new ok err = inr err
 -- ---- pairs
 
 pub same_equiv : IsEquivalence is_same
-same_equiv = and_equiv (on_equiv (λ p. p.directory) nat_eq_equiv) (on_equiv (λ p. p.name.items) (lists_equiv nat_eq_equiv))
+same_equiv = and_equiv (on_equiv (λ p. p.directory) nat_eq_equiv) (on_equiv (λ p. p.name) (lists_equiv nat_eq_equiv))
 
 pub same-is : (a b : Pair) → is_same a b ≡ true → a ≡ b
 same-is a b t =
-    let parts = and_parts (nat_eq a.directory b.directory) (pointwise nat_eq a.name.items b.name.items) t in
+    let parts = and_parts (nat_eq a.directory b.directory) (pointwise nat_eq a.name b.name) t in
     let numbers : a.directory ≡ b.directory = eqb-true a.directory b.directory parts.0 in
-    let names : a.name.items ≡ b.name.items = (bytes_decides a.name.items b.name.items).0 parts.1 in
-    λ i. record { directory = numbers i; name = record { items = names i } }
+    let names : a.name ≡ b.name = (bytes_decides a.name b.name).0 parts.1 in
+    λ i. record { directory = numbers i; name = names i }
 
-pub pair-is : (pair : Pair) (directory : ℕ) (name : Bytes) → pair.directory ≡ directory → pair.name.items ≡ name → pair ≡ pair_of directory name
-pair-is pair directory name number bytes = λ i. record { directory = number i; name = record { items = bytes i } }
+pub pair-is : (pair : Pair) (directory : ℕ) (name : Bytes) → pair.directory ≡ directory → pair.name ≡ name → pair ≡ pair_of directory name
+pair-is pair directory name number bytes = λ i. record { directory = number i; name = bytes i }
 
 module _ (kept : LruCache Pair (Option ℕ)) (directory : ℕ) (name : Bytes) where
   pub kept-short : length name ≤ 255 → kept_of kept directory name ≡ lookup (is_same (pair_of directory name)) kept.entries
@@ -117,7 +117,7 @@ pub fits-put : (kept new : LruCache Pair (Option ℕ)) (directory : ℕ) (name :
 fits-put kept new directory name map is fits d n a there = either (nat_lt 255 (length n))
     (λ t. cc (sym (kept-long new d n t) ∙ there))
     (λ t. elim (found-put is_same same_equiv same-is (pair_of directory name) (pair_of d n) a kept (map directory name) (ap (lookup (is_same (pair_of d n))) (sym is) ∙ (rw t at there))) [
-      | inl at ↦ ap (λ p. map p.directory p.name.items) at.0 ∙ at.1
+      | inl at ↦ ap (λ p. map p.directory p.name) at.0 ∙ at.1
       | inr was ↦ fits d n a (rw t was)
     ])
 
@@ -151,12 +151,12 @@ pub others-kept : (kept new : LruCache Pair (Option ℕ)) (directory : ℕ) (nam
     → new.entries ≡ remove_entry (is_same (pair_of directory name)) kept.entries
     → (d : ℕ) (n : Bytes) → ((d ≡ directory) × (n ≡ name) → ⊥) → kept_of new d n ≡ kept_of kept d n
 others-kept kept new directory name distinct is d n other = either (is_same (pair_of directory name) (pair_of d n))
-    (λ same. let at = same-is (pair_of directory name) (pair_of d n) same in absurd (other (ap (λ p. p.directory) (sym at), ap (λ p. p.name.items) (sym at))))
+    (λ same. let at = same-is (pair_of directory name) (pair_of d n) same in absurd (other (ap (λ p. p.directory) (sym at), ap (λ p. p.name) (sym at))))
     (λ apart. ap (λ o. if nat_lt 255 (length n) then None else o) (taken kept new directory name distinct is (pair_of d n) ∙ ap (λ b. cond b None (lookup (is_same (pair_of d n)) kept.entries)) apart))
 
 -- ---- as the calls tell it, of a pair with the directory and the name
 
-module _ (old new : LruCache Pair (Option ℕ)) (pair : Pair) (directory : ℕ) (name : Bytes) (number : pair.directory ≡ directory) (bytes : pair.name.items ≡ name) where
+module _ (old new : LruCache Pair (Option ℕ)) (pair : Pair) (directory : ℕ) (name : Bytes) (number : pair.directory ≡ directory) (bytes : pair.name ≡ name) where
   pub entries-taken : new ≡ lru_cache (remove_entry (is_same pair) old.entries) old.cap → new.entries ≡ remove_entry (is_same (pair_of directory name)) old.entries
   entries-taken is = ap (λ kept. kept.entries) is ∙ ap (λ p. remove_entry (is_same p) old.entries) (pair-is pair directory name number bytes)
 
@@ -179,7 +179,7 @@ module _ (old new : LruCache Pair (Option ℕ)) (pair : Pair) (directory : ℕ) 
 
 -- asked by one pair, and put under another of the same directory and name
 module _ (old new : LruCache Pair (Option ℕ)) (asked pair : Pair) (directory : ℕ) (name : Bytes)
-    (asked_number : asked.directory ≡ directory) (asked_bytes : asked.name.items ≡ name) (number : pair.directory ≡ directory) (bytes : pair.name.items ≡ name) where
+    (asked_number : asked.directory ≡ directory) (asked_bytes : asked.name ≡ name) (number : pair.directory ≡ directory) (bytes : pair.name ≡ name) where
   pub put-by-asking : (used : LruCache Pair (Option ℕ)) (answer : Option ℕ) {X E : Type 0} (r : Result X E) → length name ≤ 255 → None ≡ lookup (is_same asked) old.entries
       → used ≡ lru_cache (promoted (is_same asked) old.entries) old.cap
       → OnOk r (new ≡ lru_cache (put_entries is_same used pair answer) used.cap) → OnErr r (new ≡ used) → IsPut old directory name answer new

@@ -9,10 +9,10 @@ use Rattle.pv_cache.specs.declared.cached.Pair.{Pair}
 
 -- whether two are the same directory and the same name
 abbrev pub is_same : Pair → Pair → Bool
-is_same a b = nat_eq a.directory b.directory && pointwise nat_eq a.name.items b.name.items
+is_same a b = nat_eq a.directory b.directory && pointwise nat_eq a.name b.name
 
 abbrev pub pair_of : ℕ → Bytes → Pair
-pair_of directory name = record { directory = directory; name = record { items = name } }
+pair_of directory name = record { directory = directory; name = name }
 
 -- what is kept of a directory and a name; of a name of more than 255 bytes it is nothing
 abbrev pub kept_of : LruCache Pair (Option ℕ) → ℕ → Bytes → Option (Option ℕ)

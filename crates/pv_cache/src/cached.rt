@@ -5,7 +5,7 @@ ghost use Rattle.pv_model.specs.Tree.{is_directory_at, find_entry};
 ghost use Rattle.pv_tree_laws.specs.Found.{AlikeBut};
 ghost use Rattle.pv_cache.specs.Cached.{kept_of, IsPut, FitsMap};
 
-use arrayvec::ArrayVec;
+use crate::short_name::ShortName;
 use lru::LruCache;
 use pv_model::limits::NAME_V2;
 use pv_namei::Lookup;
@@ -20,18 +20,18 @@ const MOST: usize = 512;
 #[derive(Drop, PartialEq, Eq, Hash)]
 pub(crate) struct Pair {
     directory: u16,
-    name: ArrayVec<u8, NAME_V2>,
+    name: ShortName,
 }
 
 impl Pair {
     // The pair of directory 0 and no name.
     fn empty() -> Pair
         ensures directory { result.directory ≡ 0 }
-        ensures name { result.name.items ≡ [] }
+        ensures name { result.name ≡ [] }
     {
         Pair {
             directory: 0,
-            name: ArrayVec::new(),
+            name: ShortName::empty(),
         }
     }
 
@@ -39,18 +39,17 @@ impl Pair {
     fn set(&mut self, directory: u16, name: &[u8])
         requires { length name.now ≤ NAME_V2 }
         ensures directory { self.new.directory ≡ directory }
-        ensures name { self.new.name.items ≡ name.now }
+        ensures name { self.new.name ≡ name.now }
     {
         self.directory = directory;
-        self.name.clear();
-        let _ = self.name.try_extend_from_slice(name);
+        self.name.set(name);
     }
 
     // The pair of a directory and a name, which has at most 255 bytes.
     fn new(directory: u16, name: &[u8]) -> Pair
         requires { length name.now ≤ NAME_V2 }
         ensures directory { result.directory ≡ directory }
-        ensures name { result.name.items ≡ name.now }
+        ensures name { result.name ≡ name.now }
     {
         let mut pair = Pair::empty();
         pair.set(directory, name);

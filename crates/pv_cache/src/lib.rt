@@ -5,5 +5,6 @@
 #![tactic(auto)]
 
 mod cached;
+mod short_name;
 
 pub use cached::CachedLookup;

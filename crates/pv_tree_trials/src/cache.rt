@@ -153,6 +153,9 @@ const LONG_NAMES: &[Step] = &[
     Look(LONG, None),
     Kept(1, LONGER, None),
     Kept(1, LONG, Some(None)),
+    Look(b"a", None),
+    Kept(1, b"a", Some(None)),
+    Kept(1, b"aa", None),
 ];
 
 #[test]

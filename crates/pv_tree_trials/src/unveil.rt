@@ -237,6 +237,28 @@ fn judges_by_a_name(rt: HostRuntime) -> Result<(), AllocError> {
     Ok(())
 }
 
+// Names of 2 bytes in the root fall on the mark of names of 1 byte in directory 2.
+const SHARED_MARKS: &[Step] = &[
+    AddName(1, b"ff", R, Ok(0)),
+    ByName(1, b"gg", R, Hidden),
+    ByName(2, b"x", R, Hidden),
+    AddName(2, b"x", RW, Ok(1)),
+    ByName(1, b"ff", R, Allowed),
+    ByName(1, b"ff", RW, Denied(0)),
+    ByName(1, b"gg", R, Hidden),
+    ByName(2, b"x", RW, Allowed),
+    ByName(2, b"y", R, Hidden),
+    ByName(3, b"xyz", R, Hidden),
+    ByNode(3, R, Hidden),
+    AddName(2, b"x", R, Ok(1)),
+    ByName(2, b"x", RW, Denied(1)),
+];
+
+#[test]
+fn judges_by_names_that_share_a_mark(rt: HostRuntime) -> Result<(), AllocError> {
+    expect_run(&rt, SHARED_MARKS)
+}
+
 // Two names of 255 bytes, of which only the last byte is another one.
 const KEY: &[u8; 255] = &[b'k'; 255];
 

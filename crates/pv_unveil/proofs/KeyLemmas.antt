@@ -1,19 +1,21 @@
 -- What keys of entries tell of the entries.
-use Rattle.std.proofs.Common.{◌≡◌, ℕ, zero, suc, ◌+◌, ◌%◌, ◌<◌, ◌≤◌, Bool, true, false, cond, not, nat_lt, List, [], ◌∷◌, ◌++◌, length, map, drop, get_or, slice_set, Option, None, Some, ◌∙◌, sym, ap, ap₂, refl, arith}
+use Rattle.std.proofs.Common.{◌≡◌, ℕ, zero, suc, ◌+◌, ◌<◌, ◌≤◌, Bool, true, false, cond, not, nat_lt, bytes_eq, List, [], ◌∷◌, ◌++◌, length, map, drop, get_or, slice_set, Option, None, Some, ◌∙◌, sym, ap, ap₂, refl, arith}
 use Rattle.std.specs.Prelude.{position, ◌&&◌, ◌==◌}
 use Rattle.std.specs.List.{list_all, position_or_len, position_from}
 use Rattle.std.proofs.lemmas.Iterator.Adapters.{position_from-zero}
-use Rattle.std.proofs.lemmas.Bool.{and_from, and_parts, eqb-true, eqb-false, le-ltb}
+use Rattle.std.proofs.lemmas.Bool.{and_from, and_parts, eqb-true, le-ltb}
 use Rattle.std.proofs.lemmas.List.Folds.{list_all-append}
-use Rattle.std.proofs.lemmas.List.{drop_all, drop_more, get_or-map, get_or-set_same, get_or-set_other, length-map, length-set, length_push, map-set, map_push}
+use Rattle.std.proofs.lemmas.Slice.Eq.{bytes_eq-Decides}
+use Rattle.std.proofs.lemmas.List.{drop_all, drop_more, get_or-map, length-map, length-set, length_push, map-set, map_push}
 use Rattle.pv_model.specs.declared.limits.TheConstants.{UNVEILS}
 use Rattle.pv_model.specs.declared.perms.Perms.{Perms}
 use Rattle.pv_model.specs.declared.target.Target.{Target}
 use Rattle.pv_model.specs.declared.target.Target.TheVariants.{Directory, Name}
 use Rattle.pv_model.specs.Unveil.{Table, same_target, entry_for}
 use Rattle.pv_unveil.specs.declared.key.Key.{Key}
-use Rattle.pv_unveil.specs.declared.key.Key.TheVariants.{Directory as Own, Name as NameIn}
-use Rattle.pv_unveil.specs.Keys.{key_of, keys_of, is_own, is_name_in, is_target_named, with_mark, has_mark, IsKeyed}
+use Rattle.pv_unveil.specs.Keys.{key_of, keys_of, is_own, is_name_in, is_target_named, IsKeyed}
+use Rattle.pv_unveil.specs.Marks.{is_marked, has_mark}
+use Rattle.pv_unveil.specs.declared.marks.Marks.{Marks}
 
 -- a test of what is made of each element
 module _ {X Y : Type 0} (f : X → Y) (q : Y → Bool) (p : X → Bool) (same : (x : X) → q (f x) ≡ p x) where
@@ -35,82 +37,77 @@ own-entry table keys d is =
 
 -- ---- marks
 
-marks-stay : (marks : List Bool) (key other : Key) → length marks ≡ 64 → has_mark marks key ≡ true → has_mark (with_mark marks other) key ≡ true
-marks-stay marks (NameIn d) other places is = refl
-marks-stay marks (Own d) (NameIn e) places is = is
-marks-stay marks (Own d) (Own e) places is = by (d % 64 == e % 64) refl
+-- what is the same target falls on the same mark
+same-mark : (marks : Marks) (one other : Target) → same_target one other ≡ true → has_mark marks one ≡ has_mark marks other
+same-mark marks (Directory d) (Directory e) same = ap (is_marked marks.directories) (eqb-true d e same)
+same-mark marks (Directory d) (Name e name) same = cc same
+same-mark marks (Name d name) (Directory e) same = cc same
+same-mark marks (Name d name) (Name e other) same =
+    let parts = and_parts (d == e) (bytes_eq name other) same in
+    ap₂ (λ (n : ℕ) (bytes : List ℕ). is_marked marks.names (n + length bytes)) (eqb-true d e parts.0) ((bytes_eq-Decides name other).0 parts.1)
+
+-- each entry's target has its mark
+abbrev are_marked : Marks → Table → Bool
+are_marked marks table = list_all (λ (e : Target × Perms). has_mark marks e.0) table
+
+-- the marks of one are those of another too
+abbrev Keeps : Marks → Marks → Type 0
+Keeps old new = (target : Target) → has_mark old target ≡ true → has_mark new target ≡ true
+
+all-marked : (old new : Marks) (table : Table) → Keeps old new → are_marked old table ≡ true → are_marked new table ≡ true
+all-marked old new [] keeps is = refl
+all-marked old new (e ∷ es) keeps is =
+    let parts = and_parts (has_mark old e.0) (are_marked old es) is in and_from _ _ (keeps e.0 parts.0) (all-marked old new es keeps parts.1)
+
+all-set : (marks : Marks) (table : Table) (k : ℕ) (entry : Target × Perms) → are_marked marks table ≡ true → has_mark marks entry.0 ≡ true → are_marked marks (slice_set table k entry) ≡ true
+all-set marks [] k entry is own = refl
+all-set marks (e ∷ es) zero entry is own = let parts = and_parts (has_mark marks e.0) (are_marked marks es) is in and_from _ _ own parts.1
+all-set marks (e ∷ es) (suc k) entry is own =
+    let parts = and_parts (has_mark marks e.0) (are_marked marks es) is in and_from _ _ parts.0 (all-set marks es k entry parts.1 own)
+
+no-same : (marks : Marks) (one target : Target) → has_mark marks target ≡ false → has_mark marks one ≡ true → same_target one target ≡ false
+no-same marks one target unmarked is = by (same_target one target) refl
   where
-    by : (b : Bool) → (d % 64 == e % 64) ≡ b → get_or (slice_set marks (e % 64) true) (d % 64) false ≡ true
-    by true same =
-        let at = eqb-true (d % 64) (e % 64) same in
-        let within : e % 64 < length marks = omega (arith, places) in
-        ap (λ i. get_or (slice_set marks (e % 64) true) i false) at ∙ get_or-set_same marks (e % 64) true false within
-    by false other = get_or-set_other marks (e % 64) (d % 64) true false (eqb-false (d % 64) (e % 64) other) ∙ is
-
-own-mark : (marks : List Bool) (key : Key) → length marks ≡ 64 → has_mark (with_mark marks key) key ≡ true
-own-mark marks (NameIn d) places = refl
-own-mark marks (Own d) places = let within : d % 64 < length marks = omega (arith, places) in get_or-set_same marks (d % 64) true false within
-
-places-stay : (marks : List Bool) (key : Key) → length (with_mark marks key) ≡ length marks
-places-stay marks (NameIn d) = refl
-places-stay marks (Own d) = length-set marks (d % 64) true
-
-all-marked : (marks : List Bool) (keys : List Key) (other : Key) → length marks ≡ 64 → list_all (has_mark marks) keys ≡ true → list_all (has_mark (with_mark marks other)) keys ≡ true
-all-marked marks [] other places is = refl
-all-marked marks (key ∷ keys) other places is =
-    let parts = and_parts (has_mark marks key) (list_all (has_mark marks) keys) is in
-    and_from _ _ (marks-stay marks key other places parts.0) (all-marked marks keys other places parts.1)
-
-all-set : (marks : List Bool) (keys : List Key) (k : ℕ) (key : Key) → list_all (has_mark marks) keys ≡ true → has_mark marks key ≡ true → list_all (has_mark marks) (slice_set keys k key) ≡ true
-all-set marks [] k key is own = refl
-all-set marks (other ∷ keys) zero key is own = let parts = and_parts (has_mark marks other) (list_all (has_mark marks) keys) is in and_from _ _ own parts.1
-all-set marks (other ∷ keys) (suc k) key is own =
-    let parts = and_parts (has_mark marks other) (list_all (has_mark marks) keys) is in and_from _ _ parts.0 (all-set marks keys k key parts.1 own)
-
-no-own : (marks : List Bool) (key : Key) (d : ℕ) → get_or marks (d % 64) false ≡ false → has_mark marks key ≡ true → is_own d key ≡ false
-no-own marks (NameIn e) d unmarked is = refl
-no-own marks (Own e) d unmarked is = by (e == d) refl
-  where
-    by : (b : Bool) → (e == d) ≡ b → (e == d) ≡ false
-    by true same = let eq = ap (λ n. get_or marks (n % 64) false) (eqb-true e d same) in cc (unmarked, is, eq)
+    by : (b : Bool) → same_target one target ≡ b → same_target one target ≡ false
+    by true same = let eq = same-mark marks one target same in cc (unmarked, is, eq)
     by false other = other
 
-no-key : (marks : List Bool) (keys : List Key) (d : ℕ) → get_or marks (d % 64) false ≡ false → list_all (has_mark marks) keys ≡ true → position_or_len (λ key. is_own d key) keys ≡ length keys
-no-key marks [] d unmarked is = refl
-no-key marks (key ∷ keys) d unmarked is =
-    let parts = and_parts (has_mark marks key) (list_all (has_mark marks) keys) is in
-    let one_more : 1 + length keys ≡ suc (length keys) = omega arith in
-    ap₂ (λ b n. cond (not b) (1 + n) 0) (no-own marks key d unmarked parts.0) (no-key marks keys d unmarked parts.1) ∙ one_more
+no-entry : (marks : Marks) (table : Table) (target : Target) → has_mark marks target ≡ false → are_marked marks table ≡ true
+    → position_or_len (λ (e : Target × Perms). same_target e.0 target) table ≡ length table
+no-entry marks [] target unmarked is = refl
+no-entry marks (e ∷ es) target unmarked is =
+    let parts = and_parts (has_mark marks e.0) (are_marked marks es) is in
+    let one_more : 1 + length es ≡ suc (length es) = omega arith in
+    ap₂ (λ b n. cond (not b) (1 + n) 0) (no-same marks e.0 target unmarked parts.0) (no-entry marks es target unmarked parts.1) ∙ one_more
 
--- no entry is a directory's own that falls on no mark
-pub unmarked-entry : (table : Table) (keys : List Key) (marks : List Bool) (capacity d : ℕ) → IsKeyed table keys marks capacity → get_or marks (d % 64) false ≡ false → entry_for table (Directory d) ≡ None
-unmarked-entry table keys marks capacity d is unmarked =
-    let past : nat_lt (length keys) (length keys) ≡ false = le-ltb (length keys) (length keys) (omega arith) in
-    sym (own-entry table keys d is.keys) ∙ ap (λ n. cond (nat_lt n (length keys)) (Some n) None) (no-key marks keys d unmarked is.marked) ∙ ap (λ b. cond b (Some (length keys)) None) past
+-- no entry is for a target that falls on no mark
+pub unmarked-entry : (table : Table) (keys : List Key) (marks : Marks) (capacity : ℕ) (target : Target) → IsKeyed table keys marks capacity → has_mark marks target ≡ false
+    → entry_for table target ≡ None
+unmarked-entry table keys marks capacity target is unmarked =
+    let past : nat_lt (length table) (length table) ≡ false = le-ltb (length table) (length table) (omega arith) in
+    ap (λ n. cond (nat_lt n (length table)) (Some n) None) (no-entry marks table target unmarked is.marked) ∙ ap (λ b. cond b (Some (length table)) None) past
 
--- another entry in the place of one, and its key
-pub keyed-set : (table : Table) (keys : List Key) (marks : List Bool) (capacity k : ℕ) (target : Target) (letters : Perms) → IsKeyed table keys marks capacity
-    → IsKeyed (slice_set table k (target, letters)) (slice_set keys k (key_of target)) (with_mark marks (key_of target)) capacity
-keyed-set table keys marks capacity k target letters is = record {
-  keys = ap (λ ks. slice_set ks k (key_of target)) is.keys ∙ sym (map-set (λ e. key_of e.0) table k (target, letters));
-  few = omega (arith, is.few, length-set table k (target, letters));
-  marked = all-set (with_mark marks (key_of target)) keys k (key_of target) (all-marked marks keys (key_of target) is.places is.marked) (own-mark marks (key_of target) is.places);
-  places = places-stay marks (key_of target) ∙ is.places;
-  room = is.room;
-}
+module _ (table : Table) (keys : List Key) (old new : Marks) (capacity : ℕ) (target : Target) (letters : Perms)
+    (is : IsKeyed table keys old capacity) (keeps : Keeps old new) (own : has_mark new target ≡ true) where
+  -- another entry in the place of one, and its key
+  pub keyed-set : (k : ℕ) → IsKeyed (slice_set table k (target, letters)) (slice_set keys k (key_of target)) new capacity
+  keyed-set k = record {
+    keys = ap (λ ks. slice_set ks k (key_of target)) is.keys ∙ sym (map-set (λ e. key_of e.0) table k (target, letters));
+    few = omega (arith, is.few, length-set table k (target, letters));
+    marked = all-set new table k (target, letters) (all-marked old new table keeps is.marked) own;
+    room = is.room;
+  }
 
--- another entry behind them, and its key
-pub keyed-push : (table : Table) (keys : List Key) (marks : List Bool) (capacity : ℕ) (target : Target) (letters : Perms) → IsKeyed table keys marks capacity → length table < UNVEILS
-    → IsKeyed (table ++ (target, letters) ∷ []) (keys ++ key_of target ∷ []) (with_mark marks (key_of target)) capacity
-keyed-push table keys marks capacity target letters is less = record {
-  keys = ap (λ ks. ks ++ key_of target ∷ []) is.keys ∙ sym (map_push (λ e. key_of e.0) table (target, letters));
-  few = omega (arith, less, length_push table (target, letters));
-  marked =
-      list_all-append (has_mark (with_mark marks (key_of target))) keys (key_of target ∷ [])
-      ∙ and_from _ _ (all-marked marks keys (key_of target) is.places is.marked) (and_from _ _ (own-mark marks (key_of target) is.places) refl);
-  places = places-stay marks (key_of target) ∙ is.places;
-  room = is.room;
-}
+  -- another entry behind them, and its key
+  pub keyed-push : length table < UNVEILS → IsKeyed (table ++ (target, letters) ∷ []) (keys ++ key_of target ∷ []) new capacity
+  keyed-push less = record {
+    keys = ap (λ ks. ks ++ key_of target ∷ []) is.keys ∙ sym (map_push (λ e. key_of e.0) table (target, letters));
+    few = omega (arith, less, length_push table (target, letters));
+    marked =
+        list_all-append (λ (e : Target × Perms). has_mark new e.0) table ((target, letters) ∷ [])
+        ∙ and_from _ _ (all-marked old new table keeps is.marked) (and_from _ _ own refl);
+    room = is.room;
+  }
 
 -- ---- the entry for a name, from entry `k` on
 

@@ -1,13 +1,15 @@
 -- Keys of entries, and the row of them that stands beside a table's entries.
-use Rattle.std.specs.Prelude.{◌≡◌, ◌≤◌, ◌==◌, ◌%◌, ℕ, Bool, true, false, List, length, map, bytes_eq, slice_index_or, slice_set}
+use Rattle.std.specs.Prelude.{◌≡◌, ◌≤◌, ◌==◌, ℕ, Bool, true, false, List, length, map, bytes_eq}
 use Rattle.std.specs.List.{list_all}
 use Rattle.pv_model.specs.declared.limits.TheConstants.{UNVEILS}
 use Rattle.pv_model.specs.declared.target.Target.{Target}
 use Rattle.pv_model.specs.declared.target.Target.TheVariants.{Directory as ForDirectory, Name as ForName}
 use Rattle.pv_model.specs.Bytes.{Bytes}
 use Rattle.pv_model.specs.Unveil.{Table}
+use Rattle.pv_unveil.specs.Marks.{has_mark}
 use Rattle.pv_unveil.specs.declared.key.Key.{Key}
 use Rattle.pv_unveil.specs.declared.key.Key.TheVariants.{Directory, Name}
+use Rattle.pv_unveil.specs.declared.marks.Marks.{Marks}
 
 -- the key of a target
 abbrev pub key_of : Target → Key
@@ -33,20 +35,9 @@ abbrev pub is_target_named : Bytes → Target → Bool
 is_target_named name (ForDirectory d) = false
 is_target_named name (ForName d other) = bytes_eq other name
 
--- the marks, with that of a directory's own entry
-abbrev pub with_mark : List Bool → Key → List Bool
-with_mark marks (Directory d) = slice_set marks (d % 64) true
-with_mark marks (Name d) = marks
-
--- whether a key has its mark, if it is of a directory's own entry
-abbrev pub has_mark : List Bool → Key → Bool
-has_mark marks (Directory d) = slice_index_or marks (d % 64) false
-has_mark marks (Name d) = true
-
 -- at most 64 entries, with room for as many, their keys, and the marks of these
-pub record IsKeyed (table : Table) (beside : List Key) (marks : List Bool) (capacity : ℕ) : Type 0 where
+pub record IsKeyed (table : Table) (beside : List Key) (marks : Marks) (capacity : ℕ) : Type 0 where
   pub keys : beside ≡ keys_of table
   pub few : length table ≤ UNVEILS
-  pub marked : list_all (has_mark marks) beside ≡ true
-  pub places : length marks ≡ 64
+  pub marked : list_all (λ e. has_mark marks e.0) table ≡ true
   pub room : capacity ≡ UNVEILS

@@ -1,5 +1,6 @@
 pub mod Added
 pub mod Judged
 pub mod Keys
+pub mod Marks
 pub mod Unveiled
 pub mod Up

@@ -3,17 +3,15 @@ ghost use Rattle.std.specs.Prelude.{◌≡◌, ◌<◌, length, position, slice_
 ghost use Rattle.pv_model.specs.declared.limits.TheConstants.{UNVEILS};
 ghost use Rattle.pv_model.specs.Bytes.{Bytes};
 ghost use Rattle.pv_model.specs.Unveil.{entry_for};
-ghost use Rattle.pv_unveil.specs.Keys.{is_own, keys_of, is_target_named, with_mark};
+ghost use Rattle.pv_unveil.specs.Keys.{is_own, keys_of, is_target_named};
 
 use crate::key::Key;
+use crate::marks::Marks;
 use arrayvec::ArrayVec;
 use pv_model::limits::UNVEILS;
 use pv_model::{Perms, Target};
 use std::alloc::{AllocError, Global};
 use std::marker::Model;
-
-// A directory falls on one of so many marks.
-const MARKS: usize = 64;
 
 // Whether a target is for this name.
 fn has_name(target: &Target, name: &[u8]) -> bool
@@ -32,7 +30,9 @@ fn index_of_directory(keys: &[Key], directory: u16) -> Option<usize>
     keys.iter().position(|key| key.is_own(directory))
 }
 
-// The index of a name's entry: names are compared only of entries for names in the directory.
+// The index of a name's entry: names are compared only of entries for names in the directory. It stands apart, so that
+// most calls of `for_name` end behind the test of a mark.
+#[inline(never)]
 fn index_of_name(
     keys: &[Key],
     entries: &[(Target, Perms)],
@@ -48,15 +48,6 @@ fn index_of_name(
         }
     }
     None
-}
-
-// Marks the directory of a directory's own key.
-fn mark(marks: &mut [bool; MARKS], key: Key)
-    ensures { marks.new ≡ with_mark marks.old key }
-{
-    if let Key::Directory(directory) = key {
-        marks[directory as usize % MARKS] = true;
-    }
 }
 
 // The number of an entry at an index.
@@ -83,8 +74,8 @@ fn replace_key(keys: &mut ArrayVec<Key, UNVEILS>, k: u8, key: Key)
 pub(crate) struct Entries {
     entries: Vec<(Target, Perms)>,
     keys: ArrayVec<Key, UNVEILS>,
-    // Where a directory's own entry may be: none is, unless the directory's number falls on a mark.
-    marks: [bool; MARKS],
+    // Of which targets there may be entries: none is for a target that falls on no mark.
+    marks: Marks,
 }
 
 impl Model for Entries {
@@ -114,7 +105,7 @@ impl Entries {
         Ok(Entries {
             entries: Vec::with_capacity(alloc, UNVEILS)?,
             keys: ArrayVec::new(),
-            marks: [false; MARKS],
+            marks: Marks::none(),
         })
     }
 
@@ -156,7 +147,7 @@ impl Entries {
         ensures value { result ≡ entry_for self.now (Target.Directory directory) }
         ensures in_table { IfSome result (λ k. k < length self.now) }
     {
-        if !self.marks[directory as usize % MARKS] {
+        if !self.marks.has_directory(directory) {
             return None;
         }
         number_of(index_of_directory(self.keys.as_slice(), directory))
@@ -167,6 +158,9 @@ impl Entries {
         ensures value { result ≡ entry_for self.now (Target.Name directory name.now) }
         ensures in_table { IfSome result (λ k. k < length self.now) }
     {
+        if !self.marks.has_name(directory, name) {
+            return None;
+        }
         number_of(index_of_name(
             self.keys.as_slice(),
             self.entries.as_slice(),
@@ -192,7 +186,7 @@ impl Entries {
         ensures { self.new ≡ self.old ++ (target, letters) ∷ [] }
     {
         let key = Key::of(&target);
-        mark(&mut self.marks, key);
+        self.marks.set(&target);
         self.keys.push(key);
         self.entries.push_reserved((target, letters));
     }
@@ -203,7 +197,7 @@ impl Entries {
         ensures { self.new ≡ slice_set self.old k (target, letters) }
     {
         let key = Key::of(&target);
-        mark(&mut self.marks, key);
+        self.marks.set(&target);
         replace_key(&mut self.keys, k, key);
         self.entries[k as usize] = (target, letters);
     }
@@ -212,7 +206,7 @@ impl Entries {
     pub(crate) fn clear(&mut self)
         ensures { self.new ≡ [] }
     {
-        self.marks = [false; MARKS];
+        self.marks = Marks::none();
         self.keys.clear();
         self.entries.clear();
     }

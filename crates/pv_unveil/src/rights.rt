@@ -31,14 +31,21 @@ fn directory_rights(entries: &Entries, tree: &Tree, directory: u16) -> Option<u8
     ensures value { result ≡ directory_rights tree.now.tree entries.now directory }
     ensures in_table { IfSome result (λ k. k < length entries.now) }
 {
+    // What the sizes tell with them: the tree is well-formed, so each way up comes to the root or to a removed directory.
+    let _ = tree.sizes();
     let mut at = directory;
-    for _climbed in 0..tree.sizes().inodes + 2 {
+    // (one test for both ends: 0, which is no node's number, stands for the directory above a removed one)
+    while at > ROOT {
         if let Some(k) = entries.for_directory(at) {
             return Some(k);
         }
-        at = above(tree, at)?;
+        at = tree.parent(at).unwrap_or(0);
     }
-    None
+    if at == ROOT {
+        entries.for_directory(ROOT)
+    } else {
+        None
+    }
 }
 
 /// The entry that governs a name in a directory, under which no directory stands: its own, or else the one that

@@ -1,10 +1,10 @@
-use Rattle.std.proofs.Common.{◌≡◌, ◌+◌, ℕ, true}
-use Rattle.pv_model.specs.Tree.{is_directory_at}
-use Rattle.pv_model.specs.Unveil.{climb}
+use Rattle.std.proofs.Common.{suc}
+use Rattle.pv_unveil.proofs.Climbing.{IsClimbed, height}
 use Rattle.pv_unveil.proofs.rights.directory_rights.Given as goal
 
--- it is at a directory, from which the steps that are left find what all of them find
-abbrev pub invariant-loop-climbed : goal.invariant-loop-climbed
-invariant-loop-climbed l =
-    (is_directory_at l.tree.tree l.at ≡ true)
-    × ((left : ℕ) → left + l._climbed ≡ l._climbed-end → climb l.tree.tree l.entries left l.at ≡ climb l.tree.tree l.entries l._climbed-end l.directory)
+abbrev pub invariant-loop-at : goal.invariant-loop-at
+invariant-loop-at l = IsClimbed l.tree.tree l.entries l.directory l.at
+
+-- how often it still climbs
+abbrev pub decreases-loop-at : goal.decreases-loop-at
+decreases-loop-at l = height l.tree.tree (suc l.tree.tree.inodes) l.at

@@ -10,8 +10,8 @@ returns-clause-value c =
     ∙ own-entry c.self.inside.entries.items c.as_slice.result.now c.args.directory (c.as_slice.ensures.value ∙ c.self.invariant.keys)
     ∙ ap (λ (table : Table). entry_for table (Directory c.args.directory)) c.self.view_is
 
-pub returns-then-not-self-directory-clause-value : goal.returns-then-not-self-directory-clause-value
-returns-then-not-self-directory-clause-value c =
+pub returns-then-not-has_directory-clause-value : goal.returns-then-not-has_directory-clause-value
+returns-then-not-has_directory-clause-value c =
     let i = c.self.inside in
-    sym (unmarked-entry i.entries.items i.keys.items i.marks _ c.args.directory c.self.invariant c.if-not-self-directory.true)
+    sym (unmarked-entry i.entries.items i.keys.items i.marks _ (Directory c.args.directory) c.self.invariant (sym c.has_directory.ensures ∙ c.if-not-has_directory.true))
     ∙ ap (λ (table : Table). entry_for table (Directory c.args.directory)) c.self.view_is
