@@ -15,6 +15,7 @@ ghost use Rattle.pv_rows.specs.Rows.{answered, attempt_of, IsAnswered};
 use pv_model::{CallRef, Cause, Errno, Outcome, Start, StepFault, Text};
 use pv_namei::Lookup;
 use pv_parts::Parts;
+use pv_paths::behind::Behind;
 use pv_paths::execve::{ExecveFault, execve};
 use pv_paths::looking::{lstat, readlink, stat};
 use pv_paths::names::{link, mkdir, rmdir, symlink, unlink};
@@ -118,6 +119,7 @@ fn on_descriptors(parts: &mut Parts, pid: u32, call: CallRef<'_>) -> Answer
 fn path_row<L: Lookup>(
     parts: &mut Parts,
     lookup: &mut L,
+    behind: &mut Behind,
     pid: u32,
     call: CallRef<'_>,
 ) -> Result<Done, Refused>
@@ -132,11 +134,12 @@ fn path_row<L: Lookup>(
     ensures agrees { L.agrees lookup.new (find_entry parts.new.tree) }
 {
     match call {
-        CallRef::Unveil(path, letters) => unveil(parts, lookup, pid, path, letters),
+        CallRef::Unveil(path, letters) => unveil(parts, lookup, behind, pid, path, letters),
         CallRef::Open(path, flags) => {
             open_at(
                 parts,
                 lookup,
+                behind,
                 pid,
                 Start::WorkingDirectory,
                 path.as_slice(),
@@ -144,27 +147,36 @@ fn path_row<L: Lookup>(
             )
         }
         CallRef::OpenAt(start, path, flags) => {
-            open_at(parts, lookup, pid, start, path.as_slice(), flags)
+            open_at(parts, lookup, behind, pid, start, path.as_slice(), flags)
         }
-        CallRef::Chdir(path) => chdir(parts, lookup, pid, path.as_slice()),
-        CallRef::Mkdir(path) => mkdir(parts, lookup, pid, path.as_slice()),
-        CallRef::Symlink(text, path) => symlink(
-            parts,
-            lookup,
-            pid,
-            text.as_slice(),
-            path.as_slice(),
-        ),
-        CallRef::Link(path, new) => link(parts, lookup, pid, path.as_slice(), new.as_slice()),
-        CallRef::Unlink(path) => unlink(parts, lookup, pid, path.as_slice()),
-        CallRef::Rmdir(path) => rmdir(parts, lookup, pid, path.as_slice()),
-        CallRef::Rename(path, new) => rename(parts, lookup, pid, path.as_slice(), new.as_slice()),
+        CallRef::Chdir(path) => chdir(parts, lookup, behind, pid, path.as_slice()),
+        CallRef::Mkdir(path) => mkdir(parts, lookup, behind, pid, path.as_slice()),
+        CallRef::Symlink(text, path) => {
+            let (text, path) = (text.as_slice(), path.as_slice());
+            symlink(parts, lookup, behind, pid, text, path)
+        }
+        CallRef::Link(path, new) => {
+            let (path, new) = (path.as_slice(), new.as_slice());
+            link(parts, lookup, behind, pid, path, new)
+        }
+        CallRef::Unlink(path) => unlink(parts, lookup, behind, pid, path.as_slice()),
+        CallRef::Rmdir(path) => rmdir(parts, lookup, behind, pid, path.as_slice()),
+        CallRef::Rename(path, new) => {
+            let (path, new) = (path.as_slice(), new.as_slice());
+            rename(parts, lookup, behind, pid, path, new)
+        }
         _ => unreachable!(),
     }
 }
 
 // What a call on paths answers.
-fn on_paths<L: Lookup>(parts: &mut Parts, lookup: &mut L, pid: u32, call: CallRef<'_>) -> Answer
+fn on_paths<L: Lookup>(
+    parts: &mut Parts,
+    lookup: &mut L,
+    behind: &mut Behind,
+    pid: u32,
+    call: CallRef<'_>,
+) -> Answer
     requires whole { IsWhole parts.old }
     requires live { IsSome (process_at parts.old pid) }
     requires call { IsTrue (is_call (call_of call)) }
@@ -174,11 +186,11 @@ fn on_paths<L: Lookup>(parts: &mut Parts, lookup: &mut L, pid: u32, call: CallRe
     ensures agrees { L.agrees lookup.new (find_entry parts.new.tree) }
 {
     match call {
-        CallRef::Stat(path) => stat(parts, lookup, pid, path.as_slice()),
-        CallRef::Lstat(path) => lstat(parts, lookup, pid, path.as_slice()),
-        CallRef::Readlink(path) => readlink(parts, lookup, pid, path.as_slice()),
+        CallRef::Stat(path) => stat(parts, lookup, behind, pid, path.as_slice()),
+        CallRef::Lstat(path) => lstat(parts, lookup, behind, pid, path.as_slice()),
+        CallRef::Readlink(path) => readlink(parts, lookup, behind, pid, path.as_slice()),
         _ => {
-            let row = path_row(parts, lookup, pid, call);
+            let row = path_row(parts, lookup, behind, pid, call);
             tell(parts, pid, row)
         }
     }
@@ -186,7 +198,14 @@ fn on_paths<L: Lookup>(parts: &mut Parts, lookup: &mut L, pid: u32, call: CallRe
 
 // What a call that no promise forbids answers, behind its process's line. An execve(2) and a wait(2) that would wait
 // do not come here.
-fn perform<L: Lookup>(parts: &mut Parts, lookup: &mut L, pid: u32, call: CallRef<'_>) -> Answer
+#[inline(always)]
+fn perform<L: Lookup>(
+    parts: &mut Parts,
+    lookup: &mut L,
+    behind: &mut Behind,
+    pid: u32,
+    call: CallRef<'_>,
+) -> Answer
     requires whole { IsWhole parts.old }
     requires live { IsSome (process_at parts.old pid) }
     requires call { IsTrue (is_call (call_of call)) }
@@ -213,7 +232,7 @@ fn perform<L: Lookup>(parts: &mut Parts, lookup: &mut L, pid: u32, call: CallRef
         | CallRef::Ftruncate(..)
         | CallRef::Getdents(_)
         | CallRef::Fchdir(_) => on_descriptors(parts, pid, call),
-        _ => on_paths(parts, lookup, pid, call),
+        _ => on_paths(parts, lookup, behind, pid, call),
     }
 }
 
@@ -222,6 +241,7 @@ fn execute<L: Lookup>(
     alloc: Global,
     parts: &mut Parts,
     lookup: &mut L,
+    behind: &mut Behind,
     pid: u32,
     path: &Text,
 ) -> Result<Answer, StepFault>
@@ -233,7 +253,7 @@ fn execute<L: Lookup>(
     ensures agrees { L.agrees lookup.new (find_entry parts.new.tree) }
     ensures unchanged { OnErr result (parts.new ≡ parts.old) }
 {
-    match execve(alloc, parts, lookup, pid, path.as_slice()) {
+    match execve(alloc, parts, lookup, behind, pid, path.as_slice()) {
         Ok(told) => Ok(tell(parts, pid, Ok(told))),
         Err(ExecveFault::Refused(why)) => {
             parts.advance(pid);
@@ -256,10 +276,12 @@ fn is_blocked(parts: &Parts, pid: u32, call: CallRef<'_>) -> bool
 }
 
 // What a call answers that no promise forbids.
+#[inline(always)]
 fn carry_on<L: Lookup>(
     alloc: Global,
     parts: &mut Parts,
     lookup: &mut L,
+    behind: &mut Behind,
     pid: u32,
     call: CallRef<'_>,
 ) -> Result<Answer, StepFault>
@@ -272,7 +294,7 @@ fn carry_on<L: Lookup>(
     ensures unchanged { OnErr result (parts.new ≡ parts.old) }
 {
     if let CallRef::Execve(path) = call {
-        return execute(alloc, parts, lookup, pid, path);
+        return execute(alloc, parts, lookup, behind, pid, path);
     }
     if is_blocked(parts, pid, call) {
         return Ok(Answer {
@@ -281,7 +303,7 @@ fn carry_on<L: Lookup>(
         });
     }
     parts.advance(pid);
-    Ok(perform(parts, lookup, pid, call))
+    Ok(perform(parts, lookup, behind, pid, call))
 }
 
 /// What a call of a process answers, by its promises first: pledge(2). A missing promise kills the process, and is
@@ -290,10 +312,12 @@ fn carry_on<L: Lookup>(
 /// # Errors
 ///
 /// `NoMemory` where memory was refused; nothing has then changed.
+#[inline(always)]
 pub(crate) fn carry_out<L: Lookup>(
     alloc: Global,
     parts: &mut Parts,
     lookup: &mut L,
+    behind: &mut Behind,
     pid: u32,
     call: CallRef<'_>,
 ) -> Result<Answer, StepFault>
@@ -311,7 +335,7 @@ pub(crate) fn carry_out<L: Lookup>(
         });
     }
     match parts.record(pid).pledge.decide(call) {
-        Decision::Allowed => carry_on(alloc, parts, lookup, pid, call),
+        Decision::Allowed => carry_on(alloc, parts, lookup, behind, pid, call),
         Decision::Kill(promise) => {
             parts.end(pid, 6);
             Ok(Answer {

@@ -17,19 +17,21 @@ use pv_cache::CachedLookup;
 use pv_model::{BootFault, CallRef, Outcome, StepFault};
 use pv_namei::Lookup;
 use pv_parts::Parts;
+use pv_paths::behind::Behind;
 use pv_paths::programs::init;
 use pv_procs::Ahead;
 use pv_tree::{Store, Tree};
 use std::alloc::Global;
 use std::marker::Model;
 
-/// The kernel: the tree, the open files and the processes, and a lookup of names.
+/// The kernel: the tree, the open files and the processes, and a lookup of names, with room for the places behind links.
 ///
 /// Between any two calls the state is one that a run may reach (`IsWhole`), and the lookup agrees with the tree.
 #[derive(Drop)]
 pub struct Kernel<L: Lookup + Drop> {
     parts: Parts,
     lookup: L,
+    behind: Behind,
     walks: u8,
 }
 
@@ -85,6 +87,7 @@ impl<L: Lookup + Drop> Kernel<L> {
         Ok(Kernel {
             parts,
             lookup,
+            behind: Behind::new(),
             walks: 0,
         })
     }
@@ -133,7 +136,14 @@ impl<L: Lookup + Drop> Kernel<L> {
         ensures answered { IfOk result (λ outcome. answer program_of self.old.state pid (call_of call.entry) ≡ record { after = self.new.state; outcome = outcome; walks = self.new.walks }) }
         ensures refused { OnErr result (self.new ≡ self.old) }
     {
-        let answer = carry_out(alloc, &mut self.parts, &mut self.lookup, pid, call)?;
+        let answer = carry_out(
+            alloc,
+            &mut self.parts,
+            &mut self.lookup,
+            &mut self.behind,
+            pid,
+            call,
+        )?;
         self.walks = answer.walks;
         Ok(answer.outcome)
     }

@@ -194,7 +194,6 @@ impl Walk {
 
     // Goes on behind the first link, to the end. Two buffers take turns: along one the walk goes, and the
     // other takes what the next link leaves to walk.
-    #[inline(never)]
     fn go_behind<L: Lookup>(
         &mut self,
         tree: &Tree,
@@ -220,6 +219,31 @@ impl Walk {
             if let Some(place) = self.pass(tree, lookup, &next, &mut buffer, &mut here)? {
                 return Ok(place);
             }
+        }
+    }
+
+    // The same, where the name of the place stands in `behind`. Its locals are large, and each function pays at entry for
+    // its own: so it stands apart from what a walk without links goes through.
+    #[inline(never)]
+    fn place_behind<'a, L: Lookup>(
+        &mut self,
+        tree: &Tree,
+        lookup: &mut L,
+        link: u16,
+        rest: &Along<'_>,
+        behind: &'a mut Option<Place>,
+    ) -> Result<PlaceRef<'a>, Errno>
+        requires well_formed { IsWellFormed tree.now.tree }
+        requires directory { IsTrue (is_directory_at tree.now.tree self.old.at) }
+        requires link { IsSome (link_text (node_at tree.now.tree link)) }
+        requires agrees { L.agrees lookup.old (find_entry tree.now.tree) }
+        ensures place { result ≡ followed tree.now.tree self.old rest.now (link_text (node_at tree.now.tree link)) }
+        ensures agrees { L.agrees lookup.new (find_entry tree.now.tree) }
+    {
+        *behind = Some(self.go_behind(tree, lookup, link, rest)?);
+        match behind {
+            Some(place) => Ok(PlaceRef::of(place)),
+            None => unreachable!(),
         }
     }
 }
@@ -304,12 +328,6 @@ pub fn resolve_ref<'a, L: Lookup>(
     let mut rest = Along::new(path);
     match walk.go(tree, lookup, &mut rest)? {
         Stop::End(end) => Ok(end.place()),
-        Stop::Link(link) => {
-            *behind = Some(walk.go_behind(tree, lookup, link, &rest)?);
-            match behind {
-                Some(place) => Ok(PlaceRef::of(place)),
-                None => unreachable!(),
-            }
-        }
+        Stop::Link(link) => walk.place_behind(tree, lookup, link, &rest, behind),
     }
 }

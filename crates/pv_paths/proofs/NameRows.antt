@@ -3,7 +3,7 @@ use Rattle.std.proofs.lemmas.Bool.{and_from, and_parts, le-leb}
 use Rattle.std.proofs.Common.{◌≤◌, List, ◌==◌, ◌≡◌, ◌∙◌, ℕ, Bool, true, false, not, nat_lt, [], ◌∷◌, length, Option, None, Some, is_some, refl, sym, ap, arith}
 use Rattle.pv_rows.specs.Space.{space_errno}
 use Rattle.pv_rows.specs.declared.answer.Refused.{Refused}
-use Rattle.pv_paths.specs.Reached.{IsReached, IsStopped}
+use Rattle.pv_paths.specs.Reached.{IsMissed, IsReached}
 use Rattle.pv_parts.proofs.Attempts.{passed}
 use Rattle.pv_rows.proofs.Room.{crowded}
 use Rattle.pv_paths.proofs.Reaching.{reached_then}
@@ -65,8 +65,8 @@ module _ (s : State) (pid : ℕ) (me : Process) where
       passed (refuse_if ENOENT (is_empty text)) tt _ (ap (refuse_if ENOENT) filled)
       ∙ passed (refuse_if ENAMETOOLONG (nat_lt 1023 (length text))) tt (make s pid me (from_here Keep path letter_c) (link_node text)) (ap (refuse_if ENAMETOOLONG) short)
 
-  pub rmdir_stopped : (path : Bytes) → ends_in_dot path ≡ false → (r : Refused) → IsStopped s me me.directory Keep path letter_c r → rmdir s pid me path ≡ refused r.walks r.errno r.cause
-  rmdir_stopped path fine r stopped = passed (refuse_if EINVAL (ends_in_dot path)) tt _ (ap (refuse_if EINVAL) fine) ∙ stopped _
+  pub rmdir_missed : (path : Bytes) → ends_in_dot path ≡ false → (r : Refused) → IsMissed s me me.directory Keep path letter_c r → rmdir s pid me path ≡ refused r.walks r.errno r.cause
+  rmdir_missed path fine r missed = passed (refuse_if EINVAL (ends_in_dot path)) tt _ (ap (refuse_if EINVAL) fine) ∙ missed _
 
   pub rmdir_full : (path : Bytes) → ends_in_dot path ≡ false → (place : Place) → IsReached s me me.directory Keep path letter_c place → (n : ℕ) → node_of place ≡ Some n
       → is_directory_at s.tree n ≡ true → (d : ℕ) (name : Bytes) → name_of place ≡ Some (d, name) → is_empty (entries_at s.tree n) ≡ false → rmdir s pid me path ≡ refused 1 ENOTEMPTY Plain

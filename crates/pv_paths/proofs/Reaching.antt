@@ -8,7 +8,6 @@ use Rattle.pv_model.specs.declared.errno.Errno.{Errno}
 use Rattle.pv_model.specs.declared.errno.Errno.TheVariants.{ENAMETOOLONG}
 use Rattle.pv_model.specs.declared.follow.Follow.{Follow}
 use Rattle.pv_model.specs.declared.judgement.Judgement.{Judgement}
-use Rattle.pv_model.specs.declared.judgement.Judgement.TheVariants.{Allowed}
 use Rattle.pv_model.specs.declared.outcome.Cause.{Cause}
 use Rattle.pv_model.specs.declared.outcome.Cause.TheVariants.{Plain}
 use Rattle.pv_model.specs.declared.perms.Perms.{Perms}
@@ -63,22 +62,11 @@ module _ (s : State) (start : ℕ) (follow : Follow) (path : Bytes) where
   pub found_fine : IsWhole s → is_directory_at s.tree start ≡ true → is_text path ≡ true → (place : Place) → resolve s.tree follow start path ≡ Ok place → IsFinePlace s.tree place
   found_fine whole directory text place found = resolve-fine s.tree whole.tree follow start path place directory text found
 
-  -- the table allows the place
-  pub allowed : IsWhole s → is_directory_at s.tree start ≡ true → is_text path ≡ true → (me : Process) (needed : Perms) (place : Place)
-      → resolve s.tree follow start path ≡ Ok place → judgement s.tree me.table place needed ≡ Allowed → IsReached s me start follow path needed place
-  allowed whole directory text me needed place found judged = record {
-    walked = walk_found place found;
-    judged = ap judgement_or_refusal judged;
-    fine = found_fine whole directory text place found;
-  }
-
   -- the table refuses the place
-  pub judged_stop : (me : Process) (needed : Perms) (place : Place) (walks : ℕ) (j : Judgement) (e : Errno) (cause : Cause)
-      → resolve s.tree follow start path ≡ Ok place → walks ≡ (if begins_walk path then 1 else 0) → judgement s.tree me.table place needed ≡ j
-      → judgement_or_refusal j ≡ refused 0 e cause → IsStopped s me start follow path needed (record { walks = walks; errno = e; cause = cause })
-  judged_stop me needed place walks j e cause found begins judged refuses =
-      let one : walks ≡ 1 = begins ∙ ap (λ b. if b then 1 else 0) (begun s.tree follow start path place found) in
-      λ rest. rw (walk_found place found, judged, refuses, one) refl
+  pub judged_stop : (me : Process) (needed : Perms) (place : Place) (j : Judgement) (e : Errno) (cause : Cause)
+      → walk_from s start follow path ≡ done 1 place → judgement s.tree me.table place needed ≡ j
+      → judgement_or_refusal j ≡ refused 0 e cause → IsStopped s me start follow path needed (record { walks = 1; errno = e; cause = cause })
+  judged_stop me needed place j e cause walked judged refuses rest = rw (walked, judged, refuses) refl
 
 -- behind a walk that leads somewhere there is the rest, one walk later
 pub reached_then : (s : State) (me : Process) (start : ℕ) (follow : Follow) (path : Bytes) (needed : Perms) (place : Place)

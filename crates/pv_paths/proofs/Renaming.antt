@@ -3,11 +3,10 @@ use Rattle.std.proofs.Common.{◌≡◌, ◌≢◌, ◌∙◌, ℕ, Bool, true, 
 use Rattle.pv_rows.specs.Space.{space_errno}
 use Rattle.pv_paths.specs.Moving.{check_move}
 use Rattle.pv_rows.specs.declared.answer.Refused.{Refused}
-use Rattle.pv_paths.specs.Reached.{IsReached, IsStopped, IsStoppedSecond}
+use Rattle.pv_paths.specs.Reached.{IsMissedByBoth, IsReached}
 use Rattle.pv_parts.specs.Attempts.{trimmed}
 use Rattle.pv_parts.proofs.Attempts.{after_none, passed}
 use Rattle.pv_rows.proofs.Room.{crowded}
-use Rattle.pv_paths.proofs.Reaching.{reached_then}
 use Rattle.pv_paths.proofs.Naming.{alike_trim}
 use Rattle.pv_inodes.specs.declared.space.Space.{Space}
 use Rattle.pv_laws.specs.States.{IsWhole}
@@ -108,13 +107,8 @@ module _ (s : State) (pid : ℕ) (me : Process) (path new : Bytes) (fine : ends_
   no_dots : refuse_if EINVAL (ends_in_dot path || ends_in_dot new) ≡ give tt
   no_dots = rw (fine, other_fine) refl
 
-  pub rename_stopped : (r : Refused) → IsStopped s me me.directory Keep path letter_c r → rename s pid me path new ≡ refused r.walks r.errno r.cause
-  rename_stopped r stopped = passed (refuse_if EINVAL (ends_in_dot path || ends_in_dot new)) tt _ no_dots ∙ stopped _
-
-  pub rename_stopped_second : (place : Place) → IsReached s me me.directory Keep path letter_c place → (r : Refused)
-      → IsStoppedSecond s me me.directory Keep new letter_c r → rename s pid me path new ≡ refused r.walks r.errno r.cause
-  rename_stopped_second place first r stopped =
-      passed (refuse_if EINVAL (ends_in_dot path || ends_in_dot new)) tt _ no_dots ∙ reached_then s me me.directory Keep path letter_c place first _ ∙ stopped _
+  pub rename_missed : (r : Refused) → IsMissedByBoth s me Keep path letter_c Keep new letter_c r → rename s pid me path new ≡ refused r.walks r.errno r.cause
+  rename_missed r missed = passed (refuse_if EINVAL (ends_in_dot path || ends_in_dot new)) tt _ no_dots ∙ missed _
 
 module _ (s : State) (pid : ℕ) (me : Process) (path new : Bytes) (fine : ends_in_dot path ≡ false) (other_fine : ends_in_dot new ≡ false)
     (place other : Place) (first : IsReached s me me.directory Keep path letter_c place) (second : IsReached s me me.directory Keep new letter_c other)

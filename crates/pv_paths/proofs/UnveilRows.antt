@@ -1,8 +1,10 @@
 -- The row of unveil(2), for a path with letters.
-use Rattle.std.proofs.Common.{◌≡◌, ◌∙◌, ℕ, true, false, Option, Some, None, is_some, Ok, option_map, refl, sym, ap, subst}
+use Rattle.std.proofs.Common.{◌≡◌, ◌∙◌, ℕ, true, false, Option, Some, None, is_some, option_map, refl, sym, ap, subst}
 use Rattle.std.proofs.lemmas.Bool.{and_parts}
 use Rattle.pv_parts.specs.Changes.{unveiled_of, with_table}
 use Rattle.pv_parts.proofs.Attempts.{after_none}
+use Rattle.pv_paths.specs.Reached.{IsLost}
+use Rattle.pv_rows.specs.declared.answer.Refused.{Refused}
 use Rattle.pv_paths.proofs.Reaching.{recorded}
 use Rattle.pv_laws.specs.States.{IsFinePlace, is_target}
 use Rattle.pv_laws.proofs.Standing.{target-fine}
@@ -21,7 +23,6 @@ use Rattle.pv_model.specs.Perms.{read_letters}
 use Rattle.pv_model.specs.State.{Process, State, process_at, with_process}
 use Rattle.pv_model.specs.Tree.{Node, Tree, node_at, is_directory, is_directory_at}
 use Rattle.pv_model.specs.Unveil.{Table, target_of, target_directory}
-use Rattle.pv_model.specs.Walk.{resolve}
 use Rattle.pv_procs.specs.declared.record.Record.{Record}
 use Rattle.pv_procs.specs.Parts.{record_of}
 use Rattle.pv_unveil.specs.Added.{add_to, put_in}
@@ -40,12 +41,19 @@ place_target t place fine = target_there t (target_of t place) (target-fine t pl
 
 module _ (s : State) (pid : ℕ) (me : Process) (at : process_at s pid ≡ Some me) (r : Record) (is : option_map record_of (process_at s pid) ≡ Some r) where
   -- a walk from where the process works
-  pub found_by : (t : Tree) → t ≡ s.tree → (path : Bytes) (place : Place) → resolve t Last r.directory path ≡ Ok place → resolve s.tree Last me.directory path ≡ Ok place
-  found_by t same path place found =
-      ap (λ (x : Record). resolve s.tree Last x.directory path) (recorded (process_at s pid) me r at is) ∙ ap (λ (u : Tree). resolve u Last r.directory path) (sym same) ∙ found
+  pub walked_by : (path : Bytes) (place : Place) → walk_from s r.directory Last path ≡ done 1 place → walk_from s me.directory Last path ≡ done 1 place
+  walked_by path place walked = ap (λ (x : Record). walk_from s x.directory Last path) (recorded (process_at s pid) me r at is) ∙ walked
+
+  pub lost_by : (path : Bytes) (why : Refused) → IsLost s r.directory Last path why → IsLost s me.directory Last path why
+  lost_by path why lost = subst (λ (x : Record). IsLost s x.directory Last path why) (sym (recorded (process_at s pid) me r at is)) lost
 
   pub is_unlocked : r.unveiled.locked ≡ false → me.locked ≡ false
   is_unlocked free = ap (λ (x : Record). x.unveiled.locked) (recorded (process_at s pid) me r at is) ∙ free
+
+-- a walk that is refused
+pub unveil_lost : (s : State) (pid : ℕ) (me : Process) (path text : Bytes) (letters : Perms) → read_letters text ≡ Some letters → me.locked ≡ false
+    → (why : Refused) → IsLost s me.directory Last path why → unveil s pid me (Some path) (Some text) ≡ refused why.walks why.errno why.cause
+unveil_lost s pid me path text letters read unlocked why lost = rw (read, unlocked) (after_none _ ∙ after_none _ ∙ lost _)
 
 module _ (s : State) (pid : ℕ) (me : Process) (path text : Bytes) (letters : Perms) (read : read_letters text ≡ Some letters) (unlocked : me.locked ≡ false)
     (place : Place) (walked : walk_from s me.directory Last path ≡ done 1 place) where

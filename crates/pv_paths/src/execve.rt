@@ -9,6 +9,7 @@ ghost use Rattle.pv_model.specs.Tree.{find_entry};
 ghost use Rattle.pv_parts.specs.Attempts.{trimmed};
 ghost use Rattle.pv_paths.specs.Execve.{Executes};
 
+use crate::behind::Behind;
 use crate::programs::read_program;
 use crate::reach::{Walk, reach_node};
 use pv_model::{Errno, Follow, ParseFault, Perms, Sort};
@@ -44,6 +45,7 @@ pub fn execve<L: Lookup>(
     alloc: Global,
     parts: &mut Parts,
     lookup: &mut L,
+    behind: &mut Behind,
     pid: u32,
     path: &[u8],
 ) -> Result<Done, ExecveFault>
@@ -60,7 +62,7 @@ pub fn execve<L: Lookup>(
         path,
         needed: Perms::X,
     };
-    let node = match reach_node(parts, lookup, pid, walk) {
+    let node = match reach_node(parts, lookup, pid, walk, &mut behind.first) {
         Ok(node) => node,
         Err(why) => return Err(ExecveFault::Refused(why)),
     };

@@ -2,9 +2,10 @@
 //!
 //! `reach` walks and judges, and `programs` says which program a file spells. `opening` has open(2) and openat(2),
 //! `looking` the calls that tell what is there, `names` and `rename` those that change names, `paths` chdir(2), `unveil`
-//! unveil(2) and `execve` execve(2).
+//! unveil(2) and `execve` execve(2). The places behind links stand in a `Behind`, which the caller lends.
 #![tactic(auto)]
 
+pub mod behind;
 pub mod execve;
 pub mod looking;
 pub mod names;

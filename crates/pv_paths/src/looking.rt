@@ -8,6 +8,7 @@ ghost use Rattle.pv_model.specs.Tree.{find_entry};
 ghost use Rattle.pv_model.specs.Walks.{from_here};
 ghost use Rattle.pv_rows.specs.Rows.{IsAnswered};
 
+use crate::behind::Behind;
 use crate::opening::is_link;
 use crate::reach::{Walk, reach_node};
 use pv_model::limits::LINK_TEXT;
@@ -21,6 +22,7 @@ use pv_rows::status::status;
 fn stat_at<L: Lookup>(
     parts: &mut Parts,
     lookup: &mut L,
+    behind: &mut Behind,
     pid: u32,
     follow: Follow,
     path: &[u8],
@@ -37,7 +39,7 @@ fn stat_at<L: Lookup>(
         path,
         needed: Perms::R,
     };
-    match reach_node(parts, lookup, pid, walk) {
+    match reach_node(parts, lookup, pid, walk, &mut behind.first) {
         Ok(node) => {
             parts.facts();
             let bytes = status(parts.tree(), node);
@@ -51,7 +53,13 @@ fn stat_at<L: Lookup>(
 /// answer is 0.
 ///
 /// An error of the walk refuses it, then one of its judgement, and `ENOENT` where nothing is there.
-pub fn stat<L: Lookup>(parts: &mut Parts, lookup: &mut L, pid: u32, path: &[u8]) -> Answer
+pub fn stat<L: Lookup>(
+    parts: &mut Parts,
+    lookup: &mut L,
+    behind: &mut Behind,
+    pid: u32,
+    path: &[u8],
+) -> Answer
     requires whole { IsWhole parts.old }
     requires live { IsSome (process_at parts.old pid) }
     requires text { IsTrue (is_text path.now) }
@@ -59,13 +67,19 @@ pub fn stat<L: Lookup>(parts: &mut Parts, lookup: &mut L, pid: u32, path: &[u8])
     ensures row { IsAnswered (λ s me. stat s pid me path.now) parts.old pid parts.new result }
     ensures agrees { L.agrees lookup.new (find_entry parts.new.tree) }
 {
-    stat_at(parts, lookup, pid, Follow::Last, path)
+    stat_at(parts, lookup, behind, pid, Follow::Last, path)
 }
 
 /// The same of a final link itself, lstat(2).
 ///
 /// It is refused as `stat` is.
-pub fn lstat<L: Lookup>(parts: &mut Parts, lookup: &mut L, pid: u32, path: &[u8]) -> Answer
+pub fn lstat<L: Lookup>(
+    parts: &mut Parts,
+    lookup: &mut L,
+    behind: &mut Behind,
+    pid: u32,
+    path: &[u8],
+) -> Answer
     requires whole { IsWhole parts.old }
     requires live { IsSome (process_at parts.old pid) }
     requires text { IsTrue (is_text path.now) }
@@ -73,7 +87,7 @@ pub fn lstat<L: Lookup>(parts: &mut Parts, lookup: &mut L, pid: u32, path: &[u8]
     ensures row { IsAnswered (λ s me. lstat s pid me path.now) parts.old pid parts.new result }
     ensures agrees { L.agrees lookup.new (find_entry parts.new.tree) }
 {
-    stat_at(parts, lookup, pid, Follow::Keep, path)
+    stat_at(parts, lookup, behind, pid, Follow::Keep, path)
 }
 
 /// Reads the text of a link, readlink(2): it comes to the front of the buffer, and the answer is its length.
@@ -81,7 +95,13 @@ pub fn lstat<L: Lookup>(parts: &mut Parts, lookup: &mut L, pid: u32, path: &[u8]
 /// An error of the walk refuses it, then one of its judgement, `ENOENT` where nothing is there, and `EINVAL` where no
 /// link is.
 #[inline(never)]
-pub fn readlink<L: Lookup>(parts: &mut Parts, lookup: &mut L, pid: u32, path: &[u8]) -> Answer
+pub fn readlink<L: Lookup>(
+    parts: &mut Parts,
+    lookup: &mut L,
+    behind: &mut Behind,
+    pid: u32,
+    path: &[u8],
+) -> Answer
     requires whole { IsWhole parts.old }
     requires live { IsSome (process_at parts.old pid) }
     requires text { IsTrue (is_text path.now) }
@@ -94,7 +114,7 @@ pub fn readlink<L: Lookup>(parts: &mut Parts, lookup: &mut L, pid: u32, path: &[
         path,
         needed: Perms::R,
     };
-    let node = match reach_node(parts, lookup, pid, walk) {
+    let node = match reach_node(parts, lookup, pid, walk, &mut behind.first) {
         Ok(node) => node,
         Err(refused) => return tell(parts, pid, Err(refused)),
     };

@@ -1,27 +1,47 @@
 //! Calls that make, take away or change names: mkdir(2), symlink(2), link(2), unlink(2), rmdir(2).
-ghost use Rattle.std.specs.Prelude.{◌≡◌, ◌≤◌, IfOk, IsSome, IsTrue, OnErr, Some};
+ghost use Rattle.std.specs.Prelude.{◌≡◌, ◌≤◌, IfErr, IfOk, IsSome, IsTrue, OnErr, None, Some};
 ghost use Rattle.pv_laws.specs.States.{IsWhole, is_text};
 ghost use Rattle.pv_model.specs.declared.limits.TheConstants.{NUMBER};
+ghost use Rattle.pv_model.specs.declared.outcome.Cause.TheVariants.{Plain};
 ghost use Rattle.pv_model.specs.Calls.Paths.{make, mkdir, symlink, link, unlink, rmdir};
+ghost use Rattle.pv_model.specs.Effect.{name_of, node_of};
 ghost use Rattle.pv_model.specs.Perms.{letter_c};
 ghost use Rattle.pv_model.specs.State.{Process, process_at};
 ghost use Rattle.pv_model.specs.Tree.{find_entry, is_node};
 ghost use Rattle.pv_model.specs.Walks.{from_here};
 ghost use Rattle.pv_parts.specs.Attempts.{trimmed};
+ghost use Rattle.pv_paths.specs.Reached.{IsTaken};
 ghost use Rattle.pv_rows.specs.Rows.{attempt_of};
 ghost use Rattle.pv_tree.specs.Changes.{new_node};
 
-use crate::reach::{Walk, reach, reach_second};
+use crate::behind::Behind;
+use crate::reach::{Walk, reach, reach_both, reach_found};
 use pv_model::limits::LINK_TEXT;
 use pv_model::{Errno, Follow, Kind, Perms};
 use pv_namei::{Lookup, ends_in_dot};
 use pv_parts::Parts;
 use pv_rows::answer::{Done, Refused, answer_of, refusal, space_errno};
+use pv_tree::PlaceRef;
+
+// The directory and the name of a place at which nothing is, behind so many walks: `EEXIST` where something is, or the
+// place has no name.
+fn free_name<'a>(place: &PlaceRef<'a>, walks: u8) -> Result<(u16, &'a [u8]), Refused>
+    ensures free { IfOk result (λ _. node_of place.now ≡ None) }
+    ensures name { IfOk result (λ p. name_of place.now ≡ Some (p.0, p.1.now)) }
+    ensures taken { IfErr result (λ _. IsTaken place.now) }
+    ensures refused { IfErr result (λ r. r ≡ record { walks = walks; errno = Errno.EEXIST; cause = Plain }) }
+{
+    match (place.node(), place.name()) {
+        (None, Some(name)) => Ok(name),
+        _ => Err(refusal(walks, Errno::EEXIST)),
+    }
+}
 
 // A new node at a place where there is none: the answer is 0.
 fn make<L: Lookup>(
     parts: &mut Parts,
     lookup: &mut L,
+    behind: &mut Behind,
     pid: u32,
     follow: Follow,
     path: &[u8],
@@ -37,19 +57,13 @@ fn make<L: Lookup>(
     ensures small { IfOk result (λ d. d.value ≤ NUMBER) }
     ensures agrees { L.agrees lookup.new (find_entry parts.new.tree) }
 {
-    let mut behind = None;
     let walk = Walk {
         follow,
         path,
         needed: Perms::C,
     };
-    let place = reach(parts, lookup, pid, walk, &mut behind)?;
-    if place.node().is_some() {
-        return Err(refusal(1, Errno::EEXIST));
-    }
-    let Some((directory, name)) = place.name() else {
-        return Err(refusal(1, Errno::EEXIST));
-    };
+    let place = reach(parts, lookup, pid, walk, &mut behind.first)?;
+    let (directory, name) = free_name(&place, 1)?;
     if let Err(space) = parts.make(directory, name, kind) {
         return Err(refusal(1, space_errno(space)));
     }
@@ -68,6 +82,7 @@ fn make<L: Lookup>(
 pub fn mkdir<L: Lookup>(
     parts: &mut Parts,
     lookup: &mut L,
+    behind: &mut Behind,
     pid: u32,
     path: &[u8],
 ) -> Result<Done, Refused>
@@ -81,7 +96,7 @@ pub fn mkdir<L: Lookup>(
     ensures agrees { L.agrees lookup.new (find_entry parts.new.tree) }
 {
     let follow = Follow::KeepTrimmed;
-    make(parts, lookup, pid, follow, path, Kind::Directory)
+    make(parts, lookup, behind, pid, follow, path, Kind::Directory)
 }
 
 /// Makes a symbolic link with a text, symlink(2): the answer is 0.
@@ -92,6 +107,7 @@ pub fn mkdir<L: Lookup>(
 pub fn symlink<L: Lookup>(
     parts: &mut Parts,
     lookup: &mut L,
+    behind: &mut Behind,
     pid: u32,
     text: &[u8],
     path: &[u8],
@@ -112,7 +128,8 @@ pub fn symlink<L: Lookup>(
     if text.len() > LINK_TEXT {
         return Err(refusal(0, Errno::ENAMETOOLONG));
     }
-    make(parts, lookup, pid, Follow::Keep, path, Kind::Symlink(text))
+    let kind = Kind::Symlink(text);
+    make(parts, lookup, behind, pid, Follow::Keep, path, kind)
 }
 
 /// Gives the node at a path, which is no directory, a further name, link(2): the answer is 0.
@@ -125,6 +142,7 @@ pub fn symlink<L: Lookup>(
 pub fn link<L: Lookup>(
     parts: &mut Parts,
     lookup: &mut L,
+    behind: &mut Behind,
     pid: u32,
     path: &[u8],
     new: &[u8],
@@ -139,31 +157,22 @@ pub fn link<L: Lookup>(
     ensures small { IfOk result (λ d. d.value ≤ NUMBER) }
     ensures agrees { L.agrees lookup.new (find_entry parts.new.tree) }
 {
-    let (mut behind, mut behind_new) = (None, None);
     let old_walk = Walk {
         follow: Follow::Last,
         path,
         needed: Perms::R,
     };
-    let old_place = reach(parts, lookup, pid, old_walk, &mut behind)?;
     let new_walk = Walk {
         follow: Follow::Keep,
         path: new,
         needed: Perms::C,
     };
-    let new_place = reach_second(parts, lookup, pid, new_walk, &mut behind_new)?;
-    let Some(node) = old_place.node() else {
-        return Err(refusal(2, Errno::ENOENT));
-    };
+    let both = reach_both(parts, lookup, pid, old_walk, new_walk, behind)?;
+    let node = both.node;
     if parts.tree().is_directory(node) {
         return Err(refusal(2, Errno::EPERM));
     }
-    if new_place.node().is_some() {
-        return Err(refusal(2, Errno::EEXIST));
-    }
-    let Some((directory, name)) = new_place.name() else {
-        return Err(refusal(2, Errno::EEXIST));
-    };
+    let (directory, name) = free_name(&both.second, 2)?;
     if let Err(space) = parts.link(directory, name, node) {
         return Err(refusal(2, space_errno(space)));
     }
@@ -181,6 +190,7 @@ pub fn link<L: Lookup>(
 pub fn unlink<L: Lookup>(
     parts: &mut Parts,
     lookup: &mut L,
+    behind: &mut Behind,
     pid: u32,
     path: &[u8],
 ) -> Result<Done, Refused>
@@ -193,20 +203,17 @@ pub fn unlink<L: Lookup>(
     ensures small { IfOk result (λ d. d.value ≤ NUMBER) }
     ensures agrees { L.agrees lookup.new (find_entry parts.new.tree) }
 {
-    let mut behind = None;
     let walk = Walk {
         follow: Follow::Keep,
         path,
         needed: Perms::C,
     };
-    let place = reach(parts, lookup, pid, walk, &mut behind)?;
-    let Some(node) = place.node() else {
-        return Err(refusal(1, Errno::ENOENT));
-    };
+    let found = reach_found(parts, lookup, pid, walk, &mut behind.first)?;
+    let node = found.node;
     if parts.tree().is_directory(node) {
         return Err(refusal(1, Errno::EPERM));
     }
-    let Some((directory, name)) = place.name() else {
+    let Some((directory, name)) = found.place.name() else {
         return Err(refusal(1, Errno::EPERM));
     };
     parts.unlink(directory, name);
@@ -225,6 +232,7 @@ pub fn unlink<L: Lookup>(
 pub fn rmdir<L: Lookup>(
     parts: &mut Parts,
     lookup: &mut L,
+    behind: &mut Behind,
     pid: u32,
     path: &[u8],
 ) -> Result<Done, Refused>
@@ -240,20 +248,17 @@ pub fn rmdir<L: Lookup>(
     if ends_in_dot(path) {
         return Err(refusal(0, Errno::EINVAL));
     }
-    let mut behind = None;
     let walk = Walk {
         follow: Follow::Keep,
         path,
         needed: Perms::C,
     };
-    let place = reach(parts, lookup, pid, walk, &mut behind)?;
-    let Some(node) = place.node() else {
-        return Err(refusal(1, Errno::ENOENT));
-    };
+    let found = reach_found(parts, lookup, pid, walk, &mut behind.first)?;
+    let node = found.node;
     if !parts.tree().is_directory(node) {
         return Err(refusal(1, Errno::ENOTDIR));
     }
-    let Some((directory, name)) = place.name() else {
+    let Some((directory, name)) = found.place.name() else {
         return Err(refusal(1, Errno::EBUSY));
     };
     if !parts.tree().is_empty(node) {

@@ -16,6 +16,7 @@ ghost use Rattle.pv_paths.specs.Opening.{open_place};
 ghost use Rattle.pv_rows.specs.Rows.{attempt_of};
 ghost use Rattle.pv_tree_laws.specs.Found.{Alike};
 
+use crate::behind::Behind;
 use crate::reach::{Walk, reach_from};
 use pv_model::{Errno, Follow, OpenFlags, Sort, Start};
 use pv_namei::{Lookup, is_absolute};
@@ -172,6 +173,7 @@ fn create_there<L: Lookup>(
 pub fn open_at<L: Lookup>(
     parts: &mut Parts,
     lookup: &mut L,
+    behind: &mut Behind,
     pid: u32,
     start: Start,
     path: &[u8],
@@ -199,13 +201,12 @@ pub fn open_at<L: Lookup>(
     if !parts.files().has_room() {
         return Err(refusal(0, Errno::ENFILE));
     }
-    let mut behind = None;
     let walk = Walk {
         follow: follow_of(flags),
         path,
         needed: flags.letters(),
     };
-    let place = reach_from(parts, lookup, pid, directory, walk, &mut behind)?;
+    let place = reach_from(parts, lookup, pid, directory, walk, &mut behind.first)?;
     match place.node() {
         Some(node) => open_there(parts, pid, node, flags),
         None => create_there(parts, lookup, pid, &place, flags),

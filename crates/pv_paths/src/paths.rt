@@ -8,6 +8,7 @@ ghost use Rattle.pv_model.specs.Tree.{find_entry};
 ghost use Rattle.pv_parts.specs.Attempts.{trimmed};
 ghost use Rattle.pv_rows.specs.Rows.{attempt_of};
 
+use crate::behind::Behind;
 use crate::reach::{Walk, reach_node};
 use pv_model::{Errno, Follow, Perms};
 use pv_namei::Lookup;
@@ -22,6 +23,7 @@ use pv_rows::answer::{Done, Refused, answer_of, refusal};
 pub fn chdir<L: Lookup>(
     parts: &mut Parts,
     lookup: &mut L,
+    behind: &mut Behind,
     pid: u32,
     path: &[u8],
 ) -> Result<Done, Refused>
@@ -39,7 +41,7 @@ pub fn chdir<L: Lookup>(
         path,
         needed: Perms::R,
     };
-    let node = reach_node(parts, lookup, pid, walk)?;
+    let node = reach_node(parts, lookup, pid, walk, &mut behind.first)?;
     if !parts.tree().is_directory(node) {
         return Err(refusal(1, Errno::ENOTDIR));
     }

@@ -1,11 +1,14 @@
 //! Walks to places, judged at their end.
 ghost use Rattle.std.specs.Prelude.{◌≡◌, ◌≤◌, if◌then◌else◌, IfOk, IfErr, IsSome, IsTrue, Some};
 ghost use Rattle.pv_laws.specs.States.{IsWhole, IsFinePlace, is_text};
+ghost use Rattle.pv_model.specs.Attempt.{done};
+ghost use Rattle.pv_model.specs.Effect.{node_of, walk_from};
 ghost use Rattle.pv_model.specs.State.{Process, process_at};
 ghost use Rattle.pv_model.specs.Tree.{find_entry, is_directory_at, node_at};
 ghost use Rattle.pv_model.specs.Walk.{begins_walk};
-ghost use Rattle.pv_paths.specs.Reached.{IsFound, IsMissed, IsReached, IsStopped, IsStoppedSecond};
+ghost use Rattle.pv_paths.specs.Reached.{IsFound, IsLost, IsMissed, IsMissedByBoth, IsReached, IsStopped, IsStoppedSecond};
 
+use crate::behind::Behind;
 use pv_model::limits::PATH;
 use pv_model::{Cause, Errno, Follow, Judgement, Perms, Place};
 use pv_namei::{Lookup, resolve_ref};
@@ -35,6 +38,36 @@ pub(crate) struct Walk<'a> {
     pub(crate) needed: Perms,
 }
 
+/// The place at the end of a walk from a directory, which no table has judged. Its name stands in the path, or, where a
+/// link was followed, in `behind`.
+///
+/// # Errors
+///
+/// An error of the walk.
+pub(crate) fn walk_to<'a, L: Lookup>(
+    parts: &Parts,
+    lookup: &mut L,
+    start: u16,
+    follow: Follow,
+    path: &'a [u8],
+    behind: &'a mut Option<Place>,
+) -> Result<PlaceRef<'a>, Refused>
+    requires whole { IsWhole parts.now }
+    requires start { IsTrue (is_directory_at parts.now.tree start) }
+    requires text { IsTrue (is_text path.now) }
+    requires agrees { L.agrees lookup.old (find_entry parts.now.tree) }
+    ensures walked { IfOk result (λ place. walk_from parts.now start follow path.now ≡ done 1 place) }
+    ensures lost { IfErr result (IsLost parts.now start follow path.now) }
+    ensures fine { IfOk result (IsFinePlace parts.now.tree) }
+    ensures few { IfErr result (λ r. r.walks ≤ 1) }
+    ensures agrees { L.agrees lookup.new (find_entry parts.now.tree) }
+{
+    match resolve_ref(parts.tree(), lookup, start, path, follow, behind) {
+        Ok(place) => Ok(place),
+        Err(errno) => Err(refusal(walks_begun(path), errno)),
+    }
+}
+
 /// The place at the end of a walk from a directory, which the process's table allows for the letters that are needed. Its
 /// name stands in the path, or, where a link was followed, in `behind`.
 ///
@@ -61,22 +94,17 @@ pub(crate) fn reach_from<'a, L: Lookup>(
     ensures few { IfErr result (λ r. r.walks ≤ 1) }
     ensures agrees { L.agrees lookup.new (find_entry parts.now.tree) }
 {
-    let walks = walks_begun(walk.path);
-    let tree = parts.tree();
-    let place = match resolve_ref(tree, lookup, start, walk.path, walk.follow, behind) {
-        Ok(place) => place,
-        Err(errno) => return Err(refusal(walks, errno)),
-    };
+    let place = walk_to(parts, lookup, start, walk.follow, walk.path, behind)?;
     let unveiled = &parts.record(pid).unveiled;
-    match unveiled.judge(tree, &place, walk.needed) {
+    match unveiled.judge(parts.tree(), &place, walk.needed) {
         Judgement::Allowed => Ok(place),
         Judgement::Hidden => Err(Refused {
-            walks,
+            walks: 1,
             errno: Errno::ENOENT,
             cause: Cause::Unveil(None),
         }),
         Judgement::Denied(entry) => Err(Refused {
-            walks,
+            walks: 1,
             errno: Errno::EACCES,
             cause: Cause::Unveil(Some(entry)),
         }),
@@ -105,8 +133,8 @@ pub(crate) fn reach<'a, L: Lookup>(
     reach_from(parts, lookup, pid, start, walk, behind)
 }
 
-/// The same of the second walk of a call: a refusal counts the first walk too.
-pub(crate) fn reach_second<'a, L: Lookup>(
+// The same of the second walk of a call: a refusal counts the first walk too.
+fn reach_second<'a, L: Lookup>(
     parts: &Parts,
     lookup: &mut L,
     pid: u32,
@@ -132,13 +160,48 @@ pub(crate) fn reach_second<'a, L: Lookup>(
     }
 }
 
-/// The node at the end of a walk from the working directory: `ENOENT` where nothing is, behind an error of the walk and of
-/// its judgement.
+/// A node to which a walk leads, and its place.
+#[derive(Drop)]
+pub(crate) struct Found<'a> {
+    /// The node.
+    pub(crate) node: u16,
+    /// The place at which it stands.
+    pub(crate) place: PlaceRef<'a>,
+}
+
+/// The node at the end of a walk from the working directory, with its place: `ENOENT` where nothing is, behind an error of
+/// the walk and of its judgement.
+pub(crate) fn reach_found<'a, L: Lookup>(
+    parts: &Parts,
+    lookup: &mut L,
+    pid: u32,
+    walk: Walk<'a>,
+    behind: &'a mut Option<Place>,
+) -> Result<Found<'a>, Refused>
+    requires whole { IsWhole parts.now }
+    requires live { IsSome (process_at parts.now pid) }
+    requires text { IsTrue (is_text walk.path.now) }
+    requires agrees { L.agrees lookup.old (find_entry parts.now.tree) }
+    ensures reached { IfOk result (λ f. (me : Process) → process_at parts.now pid ≡ Some me → IsReached parts.now me me.directory walk.entry.follow walk.entry.path.now walk.entry.needed f.place) }
+    ensures there { IfOk result (λ f. node_of f.place ≡ Some f.node) }
+    ensures missed { IfErr result (λ r. (me : Process) → process_at parts.now pid ≡ Some me → IsMissed parts.now me me.directory walk.entry.follow walk.entry.path.now walk.entry.needed r) }
+    ensures fine { IfOk result (λ f. IsFinePlace parts.now.tree f.place) }
+    ensures agrees { L.agrees lookup.new (find_entry parts.now.tree) }
+{
+    let place = reach(parts, lookup, pid, walk, behind)?;
+    match place.node() {
+        Some(node) => Ok(Found { node, place }),
+        None => Err(refusal(1, Errno::ENOENT)),
+    }
+}
+
+/// The same, without the place.
 pub(crate) fn reach_node<L: Lookup>(
     parts: &Parts,
     lookup: &mut L,
     pid: u32,
     walk: Walk<'_>,
+    behind: &mut Option<Place>,
 ) -> Result<u16, Refused>
     requires whole { IsWhole parts.now }
     requires live { IsSome (process_at parts.now pid) }
@@ -149,10 +212,53 @@ pub(crate) fn reach_node<L: Lookup>(
     ensures there { IfOk result (λ n. IsSome (node_at parts.now.tree n)) }
     ensures agrees { L.agrees lookup.new (find_entry parts.now.tree) }
 {
-    let mut behind = None;
-    let place = reach(parts, lookup, pid, walk, &mut behind)?;
+    let found = reach_found(parts, lookup, pid, walk, behind)?;
+    Ok(found.node)
+}
+
+/// Where both walks of a call lead.
+#[derive(Drop)]
+pub(crate) struct Both<'a> {
+    /// The node at the end of the first.
+    pub(crate) node: u16,
+    /// The place at the end of the first.
+    pub(crate) first: PlaceRef<'a>,
+    /// The place at the end of the second.
+    pub(crate) second: PlaceRef<'a>,
+}
+
+/// The places at the ends of two walks from the working directory, with the node at the first: `ENOENT` where nothing is
+/// there, behind an error of the first walk, then of its judgement, and the same of the second.
+pub(crate) fn reach_both<'a, L: Lookup>(
+    parts: &Parts,
+    lookup: &mut L,
+    pid: u32,
+    first: Walk<'a>,
+    second: Walk<'a>,
+    behind: &'a mut Behind,
+) -> Result<Both<'a>, Refused>
+    requires whole { IsWhole parts.now }
+    requires live { IsSome (process_at parts.now pid) }
+    requires text { IsTrue (is_text first.path.now) }
+    requires other { IsTrue (is_text second.path.now) }
+    requires agrees { L.agrees lookup.old (find_entry parts.now.tree) }
+    ensures first { IfOk result (λ b. (me : Process) → process_at parts.now pid ≡ Some me → IsReached parts.now me me.directory first.entry.follow first.entry.path.now first.entry.needed b.first) }
+    ensures second { IfOk result (λ b. (me : Process) → process_at parts.now pid ≡ Some me → IsReached parts.now me me.directory second.entry.follow second.entry.path.now second.entry.needed b.second) }
+    ensures there { IfOk result (λ b. node_of b.first ≡ Some b.node) }
+    ensures missed { IfErr result (λ r. (me : Process) → process_at parts.now pid ≡ Some me
+        → IsMissedByBoth parts.now me first.entry.follow first.entry.path.now first.entry.needed second.entry.follow second.entry.path.now second.entry.needed r) }
+    ensures fine { IfOk result (λ b. IsFinePlace parts.now.tree b.first) }
+    ensures second_fine { IfOk result (λ b. IsFinePlace parts.now.tree b.second) }
+    ensures agrees { L.agrees lookup.new (find_entry parts.now.tree) }
+{
+    let place = reach(parts, lookup, pid, first, &mut behind.first)?;
+    let other = reach_second(parts, lookup, pid, second, &mut behind.second)?;
     match place.node() {
-        Some(node) => Ok(node),
-        None => Err(refusal(1, Errno::ENOENT)),
+        Some(node) => Ok(Both {
+            node,
+            first: place,
+            second: other,
+        }),
+        None => Err(refusal(2, Errno::ENOENT)),
     }
 }

@@ -12,7 +12,8 @@ ghost use Rattle.pv_parts.specs.Attempts.{trimmed};
 ghost use Rattle.pv_paths.specs.Moving.{check_move};
 ghost use Rattle.pv_rows.specs.Rows.{attempt_of};
 
-use crate::reach::{Walk, reach, reach_second};
+use crate::behind::Behind;
+use crate::reach::{Walk, reach_both};
 use pv_model::{Errno, Follow, Perms};
 use pv_namei::{Lookup, ends_in_dot};
 use pv_parts::Parts;
@@ -85,6 +86,7 @@ fn check_move(tree: &Tree, node: u16, directory: u16, there: Option<u16>) -> Res
 pub fn rename<L: Lookup>(
     parts: &mut Parts,
     lookup: &mut L,
+    behind: &mut Behind,
     pid: u32,
     path: &[u8],
     new: &[u8],
@@ -102,26 +104,22 @@ pub fn rename<L: Lookup>(
     if ends_in_dot(path) || ends_in_dot(new) {
         return Err(refusal(0, Errno::EINVAL));
     }
-    let (mut behind, mut behind_new) = (None, None);
     let old_walk = Walk {
         follow: Follow::Keep,
         path,
         needed: Perms::C,
     };
-    let old_place = reach(parts, lookup, pid, old_walk, &mut behind)?;
     let new_walk = Walk {
         follow: Follow::Keep,
         path: new,
         needed: Perms::C,
     };
-    let new_place = reach_second(parts, lookup, pid, new_walk, &mut behind_new)?;
-    let Some(node) = old_place.node() else {
-        return Err(refusal(2, Errno::ENOENT));
-    };
-    let (Some((from, name)), Some((to, other))) = (old_place.name(), new_place.name()) else {
+    let both = reach_both(parts, lookup, pid, old_walk, new_walk, behind)?;
+    let node = both.node;
+    let (Some((from, name)), Some((to, other))) = (both.first.name(), both.second.name()) else {
         return Err(refusal(2, Errno::EBUSY));
     };
-    let there = new_place.node();
+    let there = both.second.node();
     if is_same_node(there, node) {
         return answer_of(2, 0);
     }

@@ -11,9 +11,10 @@ ghost use Rattle.pv_parts.specs.Attempts.{trimmed};
 ghost use Rattle.pv_rows.specs.Rows.{attempt_of};
 ghost use Rattle.pv_unveil.specs.Added.{refusal as refusal_of};
 
-use crate::reach::walks_begun;
+use crate::behind::Behind;
+use crate::reach::walk_to;
 use pv_model::{Cause, Errno, Follow, Perms, Place, Target, Text};
-use pv_namei::{Lookup, resolve};
+use pv_namei::Lookup;
 use pv_parts::Parts;
 use pv_rows::answer::{Done, Refused, answer_of, refusal};
 use pv_tree::Tree;
@@ -56,6 +57,7 @@ fn answer_to(walks: u8, fault: AddFault) -> Refused
 fn unveil_path<L: Lookup>(
     parts: &mut Parts,
     lookup: &mut L,
+    behind: &mut Behind,
     pid: u32,
     path: &[u8],
     letters: &[u8],
@@ -77,12 +79,8 @@ fn unveil_path<L: Lookup>(
         return Err(answer_to(0, AddFault::Locked));
     }
     let start = record.directory;
-    let walks = walks_begun(path);
-    let place = match resolve(parts.tree(), lookup, start, path, Follow::Last) {
-        Ok(place) => place,
-        Err(errno) => return Err(refusal(walks, errno)),
-    };
-    let target = target_of(parts.tree(), place);
+    let place = walk_to(parts, lookup, start, Follow::Last, path, &mut behind.first)?;
+    let target = target_of(parts.tree(), place.to_place());
     match parts.unveil(pid, target, letters) {
         Ok(()) => {
             // Its facts tell with them that nothing is left to trim.
@@ -103,6 +101,7 @@ fn unveil_path<L: Lookup>(
 pub fn unveil<L: Lookup>(
     parts: &mut Parts,
     lookup: &mut L,
+    behind: &mut Behind,
     pid: u32,
     path: Option<&Text>,
     letters: Option<&Text>,
@@ -123,7 +122,14 @@ pub fn unveil<L: Lookup>(
             answer_of(0, 0)
         }
         (Some(path), Some(letters)) => {
-            unveil_path(parts, lookup, pid, path.as_slice(), letters.as_slice())
+            unveil_path(
+                parts,
+                lookup,
+                behind,
+                pid,
+                path.as_slice(),
+                letters.as_slice(),
+            )
         }
         _ => Err(refusal(0, Errno::EINVAL)),
     }

@@ -75,6 +75,7 @@ pub fn space_errno(why: Space) -> Errno
 }
 
 /// Tells a live process what its call came to, and gives the answer.
+#[inline(always)]
 pub fn tell(parts: &mut Parts, pid: u32, row: Result<Done, Refused>) -> Answer
     requires live { IsSome (process_at parts.old pid) }
     requires small { IfOk row (λ d. d.value ≤ NUMBER) }

@@ -45,17 +45,17 @@ returns-in-Rmdir-clause-row g c = λ me at. rw c.in-Rmdir.is
 pub returns-in-Symlink-clause-row : goal.returns-in-Symlink-clause-row
 unfolding effect
 returns-in-Symlink-clause-row g c = λ me at. rw c.in-Symlink.is
-    (subst (λ (p : Bytes). trimmed (symlink c.args.parts.now c.args.pid me c.in-Symlink.text.now p) ≡ attempt_of c.symlink.new.parts c.symlink.result) c.as_slice-in-Symlink-2.ensures.value
-    (subst (λ (p : Bytes). trimmed (symlink c.args.parts.now c.args.pid me p c.as_slice-in-Symlink-2.result.now) ≡ attempt_of c.symlink.new.parts c.symlink.result) c.as_slice-in-Symlink.ensures.value (c.symlink.ensures.row me at)))
+    (subst (λ (p : Bytes). trimmed (symlink c.args.parts.now c.args.pid me c.in-Symlink.text.now p) ≡ attempt_of c.symlink.new.parts c.symlink.result) c.as_slice-path.ensures.value
+    (subst (λ (p : Bytes). trimmed (symlink c.args.parts.now c.args.pid me p c.as_slice-path.result.now) ≡ attempt_of c.symlink.new.parts c.symlink.result) c.as_slice-text.ensures.value (c.symlink.ensures.row me at)))
 
 pub returns-in-Link-clause-row : goal.returns-in-Link-clause-row
 unfolding effect
 returns-in-Link-clause-row g c = λ me at. rw c.in-Link.is
-    (subst (λ (p : Bytes). trimmed (link c.args.parts.now c.args.pid me c.in-Link.path.now p) ≡ attempt_of c.link.new.parts c.link.result) c.as_slice-in-Link-2.ensures.value
-    (subst (λ (p : Bytes). trimmed (link c.args.parts.now c.args.pid me p c.as_slice-in-Link-2.result.now) ≡ attempt_of c.link.new.parts c.link.result) c.as_slice-in-Link.ensures.value (c.link.ensures.row me at)))
+    (subst (λ (p : Bytes). trimmed (link c.args.parts.now c.args.pid me c.in-Link.path.now p) ≡ attempt_of c.link.new.parts c.link.result) c.as_slice-new.ensures.value
+    (subst (λ (p : Bytes). trimmed (link c.args.parts.now c.args.pid me p c.as_slice-new.result.now) ≡ attempt_of c.link.new.parts c.link.result) c.as_slice-path-in-Link.ensures.value (c.link.ensures.row me at)))
 
 pub returns-in-Rename-clause-row : goal.returns-in-Rename-clause-row
 unfolding effect
 returns-in-Rename-clause-row g c = λ me at. rw c.in-Rename.is
-    (subst (λ (p : Bytes). trimmed (rename c.args.parts.now c.args.pid me c.in-Rename.path.now p) ≡ attempt_of c.rename.new.parts c.rename.result) c.as_slice-in-Rename-2.ensures.value
-    (subst (λ (p : Bytes). trimmed (rename c.args.parts.now c.args.pid me p c.as_slice-in-Rename-2.result.now) ≡ attempt_of c.rename.new.parts c.rename.result) c.as_slice-in-Rename.ensures.value (c.rename.ensures.row me at)))
+    (subst (λ (p : Bytes). trimmed (rename c.args.parts.now c.args.pid me c.in-Rename.path.now p) ≡ attempt_of c.rename.new.parts c.rename.result) c.as_slice-new-in-Rename.ensures.value
+    (subst (λ (p : Bytes). trimmed (rename c.args.parts.now c.args.pid me p c.as_slice-new-in-Rename.result.now) ≡ attempt_of c.rename.new.parts c.rename.result) c.as_slice-path-in-Rename.ensures.value (c.rename.ensures.row me at)))

@@ -1,5 +1,4 @@
-use Rattle.std.proofs.Common.{◌≡◌, Ok, ap, sym, ◌∙◌}
-use Rattle.std.proofs.lemmas.Option.{same_Some}
+use Rattle.std.proofs.Common.{Ok, ap, sym, ◌∙◌}
 use Rattle.std.proofs.lemmas.Result.{err_from_is_err_and}
 use Rattle.pv_namei.specs.Onward.{stopped}
 use Rattle.pv_namei.proofs.Steps.{resolve-empty, resolve-long, resolve-remaining}
@@ -30,21 +29,9 @@ returns-in-End-clause-place g c =
     c.new-rest.ensures
     ∙ c.in_ok-end.ensures.onward ∙ ap (stopped c.args.tree.now.tree c.go.new.self c.go.new.rest) c.in-End.is)
 
-pub returns-in_err-go_behind-in-Link-clause-place : goal.returns-in_err-go_behind-in-Link-clause-place
-returns-in_err-go_behind-in-Link-clause-place g c =
-    let p = err_from_is_err_and c.from_residual-in_err-go_behind-in-Link.result c.from_residual-in_err-go_behind-in-Link.ensures.1 in
-    rw (p.1, p.2)
-    (sym c.in_err-go_behind-in-Link.was ∙ c.go_behind.ensures.place
-    ∙ sym
-    (resolve-remaining c.args.tree.now.tree c.args.follow c.args.start c.args.path.now (sym c.is_empty.ensures ∙ c.if-is_empty.false) c.if-path-gt-PATH.false c.new-walk.result c.new-rest.result c.new-walk.ensures
-    c.new-rest.ensures
-    ∙ c.in_ok-end.ensures.onward ∙ ap (stopped c.args.tree.now.tree c.go.new.self c.go.new.rest) c.in-Link.is))
-
-pub returns-in-Some-clause-place : goal.returns-in-Some-clause-place
-returns-in-Some-clause-place g c =
-    let same : c.in_ok-go_behind-in-Link.field-0 ≡ c.in-Some.place = same_Some _ _ c.in-Some.is in
-    ap Ok (c.of.ensures ∙ sym same)
-    ∙ sym c.in_ok-go_behind-in-Link.was ∙ c.go_behind.ensures.place
+pub returns-in-Link-clause-place : goal.returns-in-Link-clause-place
+returns-in-Link-clause-place g c =
+    c.place_behind.ensures.place
     ∙ sym
     (resolve-remaining c.args.tree.now.tree c.args.follow c.args.start c.args.path.now (sym c.is_empty.ensures ∙ c.if-is_empty.false) c.if-path-gt-PATH.false c.new-walk.result c.new-rest.result c.new-walk.ensures
     c.new-rest.ensures

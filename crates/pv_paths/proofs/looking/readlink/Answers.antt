@@ -16,7 +16,7 @@ pub returns-in-Err-clause-row : goal.returns-in-Err-clause-row
 returns-in-Err-clause-row g c = λ before me at.
     let s = c.args.parts.now in
     let r = c.in-Err.refused in
-    ap (answer_by_attempt before s c.args.pid me) (c.in-Err.ensures.missed me at (link_rest s))
+    ap (answer_by_attempt before s c.args.pid me) (c.in-Err.ensures.missed me at (λ _. link_rest s))
     ∙ c.tell.ensures.told before s me (refused r.walks r.errno r.cause) refl refl
 
 pub returns-in-Err-clause-agrees : goal.returns-in-Err-clause-agrees

@@ -28,7 +28,7 @@ pub returns-in-Err-clause-row : goal.returns-in-Err-clause-row
 returns-in-Err-clause-row g c = λ before me at.
     let s = c.args.parts.now in
     let r = c.in-Err.refused in
-    ap (answer_by_attempt before s c.args.pid me) (c.in-Err.ensures.missed me at (λ n. answers_bytes s 0 (status s.tree n)))
+    ap (answer_by_attempt before s c.args.pid me) (c.in-Err.ensures.missed me at (λ _ n. answers_bytes s 0 (status s.tree n)))
     ∙ c.tell.ensures.told before s me (refused r.walks r.errno r.cause) refl refl
 
 pub returns-in-Err-clause-agrees : goal.returns-in-Err-clause-agrees

@@ -16,16 +16,16 @@ returns-in_err-place-clause-row g c =
 
 pub returns-in-Err-clause-row : goal.returns-in-Err-clause-row
 returns-in-Err-clause-row g c =
-    let free : is_some (node_of c.in_ok-place.place) ≡ false = cc in
-    λ me at. rw (c.refusal-in-Err.ensures, c.space_errno.ensures)
+    let free : is_some (node_of c.in_ok-place.place) ≡ false = ap is_some c.in_ok-directory.ensures.free in
+    λ me at. rw (c.refusal.ensures, c.space_errno.ensures)
     (ap trimmed (make_crowded c.args.parts.now c.args.pid me c.args.follow c.args.path.now (new_node c.args.kind) c.in_ok-place.place (c.in_ok-place.ensures.reached me at) free
-    c.in-Some.directory c.in-Some.name.now c.in-Some.ensures c.in-Err.space c.in-Err.ensures.refused))
+    c.in_ok-directory.directory c.in_ok-directory.name.now c.in_ok-directory.ensures.name c.in-Err.space c.in-Err.ensures.refused))
 
 pub returns-clause-agrees : goal.returns-clause-agrees
 returns-clause-agrees g c =
     let s = c.args.parts.now in
-    let free : is_some (node_of c.in_ok-place.place) ≡ false = cc in
+    let free : is_some (node_of c.in_ok-place.place) ≡ false = ap is_some c.in_ok-directory.ensures.free in
     let fit : fits c.make.new.self.tree ≡ true = ap fits (sym c.tree.ensures) ∙ c.sizes.ensures.standing.fits in
     c.changed.ensures (find_entry s.tree) (find_entry c.make.new.self.tree) c.reach.ensures.agrees
-    (names_made s c.requires.whole c.in_ok-place.place c.in_ok-place.ensures.fine c.in-Some.directory c.in-Some.name.now c.in-Some.ensures free
-    (new_node c.args.kind) c.requires.node (new-entries c.args.kind) c.make.new.self c.in_default-make.ensures.made fit)
+    (names_made s c.requires.whole c.in_ok-place.place c.in_ok-place.ensures.fine c.in_ok-directory.directory c.in_ok-directory.name.now c.in_ok-directory.ensures.name free
+    (new_node c.args.kind) c.requires.node (new-entries c.args.kind) c.make.new.self c.in_default.ensures.made fit)

@@ -1,16 +1,12 @@
-use Rattle.std.proofs.Common.{sym}
 use Rattle.std.proofs.lemmas.Result.{err_from_is_err_and}
 use Rattle.pv_laws.proofs.ByTree.{place-there}
-use Rattle.pv_model.specs.Attempt.{demand, ◌>>=◌}
-use Rattle.pv_model.specs.declared.errno.Errno.TheVariants.{ENOENT}
-use Rattle.pv_model.specs.Effect.{node_of}
 use Rattle.pv_paths.proofs.reach.reach_node.Goals as goal
 
-pub returns-in_err-place-clause-missed : goal.returns-in_err-place-clause-missed
-returns-in_err-place-clause-missed g c =
+pub returns-in_err-found-clause-missed : goal.returns-in_err-found-clause-missed
+returns-in_err-found-clause-missed g c =
     let p = err_from_is_err_and c.from_residual.result c.from_residual.ensures.1 in
-    rw (p.1, p.2) (λ me at rest. c.in_err-place.ensures.stopped me at (λ place. demand ENOENT (node_of place) >>= rest))
+    rw (p.1, p.2) c.in_err-found.ensures.missed
 
-pub returns-in-Some-clause-there : goal.returns-in-Some-clause-there
-returns-in-Some-clause-there g c =
-    place-there c.args.parts.now.tree c.requires.whole.tree c.in_ok-place.place c.in-Some.node c.in_ok-place.ensures.fine (sym c.in-Some.ensures)
+pub returns-clause-there : goal.returns-clause-there
+returns-clause-there g c =
+    place-there c.args.parts.now.tree c.requires.whole.tree c.in_ok-found.found.place c.in_ok-found.found.node c.in_ok-found.ensures.fine c.in_ok-found.ensures.there
