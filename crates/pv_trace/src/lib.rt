@@ -2,8 +2,8 @@
 //!
 //! `line` has the lines as values, `steps` those of a step, `stream` writes bytes whole, and `buffered` gathers them. The lines
 //! of a step are made on a sheet of fixed size, a `page`, and a sink is given them in one piece: `sheet` puts on it
-//! what lines are made of, `calls` a call with its arguments, and `words` the text behind each word. No call
-//! takes memory.
+//! what lines are made of, `calls` a call with its arguments, and `words` the line of each word. `plain` tells which
+//! bytes of a text stand for themselves. No call takes memory.
 //!
 //! A clause sees a line as `pv_model`'s definitions have it.
 #![tactic(auto)]
@@ -12,6 +12,7 @@ mod buffered;
 mod calls;
 mod line;
 mod page;
+mod plain;
 mod sheet;
 mod steps;
 mod stream;

@@ -6,9 +6,12 @@ ghost use Rattle.pv_trace.specs.declared.sheet.TheConstants.{LINE_BYTES, SHEET};
 ghost use Rattle.pv_trace.specs.Streams.{and_all, TellsBeginning};
 ghost use Rattle.pv_trace.specs.Words.{word_of, HasFewBytes};
 
-use crate::sheet::{Sheet, put, put_pid};
+use crate::sheet::Sheet;
 use crate::stream::write_whole;
-use crate::words::{put_word, word_front};
+use crate::words::{
+    put_call_line, put_error_line, put_gone_line, put_killed_line, put_moved_line, put_path_line,
+    put_promise_line, put_unveil_line, put_value_line, put_wait_line,
+};
 use pv_model::{CallRef, Errno, Failed, Perms, Promise, Sink, Text};
 use std::marker::Model;
 
@@ -97,18 +100,27 @@ impl<'a> Model for Line<'a> {
     ghost invariant = { λ l. HasFewBytes l.word };
 }
 
-// Puts a line on a sheet, behind what it has: whose it is, its word, and the text behind that.
-#[tactic(auto, unfolding(pv_model::specs::Trace::text_line))]
-pub(crate) fn put_line(out: &mut Sheet, pid: u32, word: &Word)
+// Puts a line on a sheet, behind what it has.
+fn put_line(out: &mut Sheet, pid: u32, word: &Word)
     requires few { HasFewBytes word.now }
     requires room { length out.old.items + LINE_BYTES ≤ SHEET }
     ensures text { out.new.items ≡ out.old.items ++ line_bytes (line pid (word_of word.now)) }
     ensures growth { length out.new.items ≤ length out.old.items + LINE_BYTES }
 {
-    put_pid(out, pid);
-    put(out, word_front(word));
-    put_word(out, word);
-    put(out, b"\n");
+    match word {
+        Word::Call(call) => put_call_line(out, pid, *call),
+        Word::Nami(path) => put_path_line(out, pid, path),
+        Word::Pldg(call, promise, verdict) => {
+            put_promise_line(out, pid, *call, *promise, *verdict)
+        }
+        Word::Unvl(verdict) => put_unveil_line(out, pid, *verdict),
+        Word::Gio(way, bytes) => put_moved_line(out, pid, *way, bytes),
+        Word::Ret(call, Returned::Value(value)) => put_value_line(out, pid, *call, *value),
+        Word::Ret(call, Returned::Error(errno)) => put_error_line(out, pid, *call, *errno),
+        Word::Psig => put_killed_line(out, pid),
+        Word::Wait => put_wait_line(out, pid),
+        Word::Gone => put_gone_line(out, pid),
+    }
 }
 
 /// Writes a line that is made on a sheet, whatever that had. It takes no memory.

@@ -8,8 +8,9 @@ ghost use Rattle.pv_model.specs.Trace.{quote, quote_byte, quote_or_null, hex, he
 ghost use Rattle.pv_trace.specs.Words.{letters_bytes};
 
 use crate::page::Page;
+use crate::plain::is_plain;
 use itoa::Buffer;
-use pv_model::{Perms, Text, hex_digit, is_plain};
+use pv_model::{Perms, Text, hex_digit};
 
 /// Bytes that a line may have: more than any has.
 pub const LINE_BYTES: usize = 9_216;
@@ -33,19 +34,43 @@ pub fn put(out: &mut Sheet, bytes: &[u8])
     out.extend(bytes);
 }
 
+// The decimal digit of a number below ten.
+#[inline]
+fn digit(n: u32) -> u8
+    requires { n < 10 }
+    ensures { result ≡ 48 + n }
+{
+    b'0' + n as u8
+}
+
 /// Puts a number in decimal digits behind what the sheet has, which has room for 40 bytes.
-#[tactic(auto, using(std::proofs::lemmas::Fmt::decimal_digit))]
+#[tactic(auto, using(std::proofs::lemmas::Fmt::decimal_digit, crate::proofs::Digits::two_digits, crate::proofs::Digits::three_digits, crate::proofs::Digits::four_digits))]
 pub fn put_decimal(out: &mut Sheet, n: u32)
     requires { length out.old.items + 40 ≤ SHEET }
     ensures text { out.new.items ≡ out.old.items ++ decimal n }
     ensures growth { length out.new.items ≤ length out.old.items + 40 }
 {
+    // Up to four digits have an array of their own: what is put then has a known length.
     if n < 10 {
-        put(out, &[b'0' + n as u8]);
-        return;
+        put(out, &[digit(n)]);
+    } else if n < 100 {
+        put(out, &[digit(n / 10), digit(n % 10)]);
+    } else if n < 1_000 {
+        put(out, &[digit(n / 100), digit(n / 10 % 10), digit(n % 10)]);
+    } else if n < 10_000 {
+        put(
+            out,
+            &[
+                digit(n / 1_000),
+                digit(n / 100 % 10),
+                digit(n / 10 % 10),
+                digit(n % 10),
+            ],
+        );
+    } else {
+        let mut buffer = Buffer::new();
+        put(out, buffer.format(n).as_bytes());
     }
-    let mut buffer = Buffer::new();
-    put(out, buffer.format(n).as_bytes());
 }
 
 // The same of a number that may be below 0.
@@ -72,21 +97,37 @@ fn spaces(count: usize) -> &'static [u8]
     &b"     "[..count]
 }
 
-// The number, right in five places.
-#[tactic(auto, using(std::proofs::lemmas::Fmt::decimal_digit))]
-pub(crate) fn put_pid(out: &mut Sheet, pid: u32)
+// A number of any length, right in five places.
+#[inline(never)]
+fn put_pid(out: &mut Sheet, pid: u32)
     requires { length out.old.items + 45 ≤ SHEET }
     ensures text { out.new.items ≡ out.old.items ++ pad_left 5 (decimal pid) }
     ensures growth { length out.new.items ≤ length out.old.items + 45 }
 {
-    if pid < 10 {
-        put(out, &[b' ', b' ', b' ', b' ', b'0' + pid as u8]);
-        return;
-    }
     let mut buffer = Buffer::new();
     let digits = buffer.format(pid).as_bytes();
     put(out, spaces(5usize.saturating_sub(digits.len())));
     put(out, digits);
+}
+
+// The front of a line: the number of its process, right in five places, and its word with the blanks around it. Where
+// the number is one digit, all goes on the sheet in one piece.
+#[inline]
+#[tactic(auto, using(std::proofs::lemmas::Fmt::decimal_digit))]
+pub(crate) fn put_front(out: &mut Sheet, pid: u32, word: &[u8; 7])
+    requires { length out.old.items + 52 ≤ SHEET }
+    ensures text { out.new.items ≡ out.old.items ++ (pad_left 5 (decimal pid) ++ word.now) }
+    ensures growth { length out.new.items ≤ length out.old.items + 52 }
+{
+    if pid < 10 {
+        let mut front = [b' '; 12];
+        front[4] = digit(pid);
+        front[5..].copy_from_slice(word);
+        put(out, &front);
+    } else {
+        put_pid(out, pid);
+        put(out, word);
+    }
 }
 
 // The digits of a few bytes, two for each.

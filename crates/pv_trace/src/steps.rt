@@ -4,32 +4,24 @@ ghost use Rattle.pv_model.specs.declared.limits.TheConstants.{BUFFER};
 ghost use Rattle.pv_model.specs.CallRef.{call_of};
 ghost use Rattle.pv_model.specs.Perms.{read_letters};
 ghost use Rattle.pv_model.specs.Stream.{Rose};
-ghost use Rattle.pv_model.specs.Trace.{line, trace_bytes, needed_by, asked_letters as letters_asked, gone_lines};
+ghost use Rattle.pv_model.specs.Trace.{trace_bytes, needed_by, asked_letters as letters_asked, gone_lines};
 ghost use Rattle.pv_model.specs.Walks.{letters_or_none, walks_of, walk_number};
 ghost use Rattle.pv_trace.specs.Steps.{path_line, path_lines_of, refusal_verdict, promise_lines_of, unveil_lines_of, moved_lines_of, end_lines_of, lines_by};
 ghost use Rattle.pv_trace.specs.Streams.{and_all, TellsBeginning};
-ghost use Rattle.pv_trace.specs.Words.{word_of, promise_verdict_of, HasFewBytes};
+ghost use Rattle.pv_trace.specs.Words.{promise_verdict_of};
 ghost use Rattle.pv_trace.specs.declared.sheet.TheConstants.{LINE_BYTES, SHEET};
 
-use crate::line::{Line, PromiseVerdict, Returned, UnveilVerdict, Way, Word, put_line, write_line};
+use crate::line::{Line, PromiseVerdict, UnveilVerdict, Way, Word, write_line};
 use crate::sheet::Sheet;
 use crate::stream::write_whole;
+use crate::words::{
+    put_call_line, put_error_line, put_killed_line, put_moved_line, put_path_line,
+    put_promise_line, put_unveil_line, put_value_line, put_wait_line,
+};
 use pv_model::{CallRef, Cause, Errno, Failed, Outcome, Perms, Sink, Text};
 
-// Puts one line behind what the sheet has. It answers how many lines it put, as each call below does that puts some.
-#[inline]
-fn put_one(out: &mut Sheet, pid: u32, word: &Word) -> u8
-    requires few { HasFewBytes word.now }
-    requires room { length out.old.items + LINE_BYTES ≤ SHEET }
-    ensures text { out.new.items ≡ out.old.items ++ trace_bytes (line pid (word_of word.now) ∷ []) }
-    ensures count { result ≡ 1 }
-    ensures growth { length out.new.items ≤ length out.old.items + LINE_BYTES }
-{
-    put_line(out, pid, word);
-    1
-}
-
-// The lines of the walks along one path, of which there is at most one.
+// The lines of the walks along one path, of which there is at most one. It answers how many lines it put, as each call
+// below does that puts some.
 #[tactic(auto, using(crate::proofs::Paths::take_one))]
 fn put_one_path(out: &mut Sheet, pid: u32, path: &Text, walks: u8) -> u8
     requires { length out.old.items + LINE_BYTES ≤ SHEET }
@@ -39,7 +31,8 @@ fn put_one_path(out: &mut Sheet, pid: u32, path: &Text, walks: u8) -> u8
     ensures growth { length out.new.items ≤ length out.old.items + LINE_BYTES }
 {
     if walks > 0 {
-        put_one(out, pid, &Word::Nami(path))
+        put_path_line(out, pid, path);
+        1
     } else {
         0
     }
@@ -57,7 +50,9 @@ fn put_two_paths(out: &mut Sheet, pid: u32, first: &Text, second: &Text, walks: 
     if walks < 2 {
         put_one_path(out, pid, first, walks)
     } else {
-        put_one(out, pid, &Word::Nami(first)) + put_one(out, pid, &Word::Nami(second))
+        put_path_line(out, pid, first);
+        put_path_line(out, pid, second);
+        2
     }
 }
 
@@ -113,7 +108,8 @@ fn put_promise_lines(out: &mut Sheet, pid: u32, call: CallRef<'_>, outcome: Outc
         Outcome::Failed(errno, Cause::Promise(promise)) => (promise, verdict_of(errno)),
         _ => return 0,
     };
-    put_one(out, pid, &Word::Pldg(call, promise, verdict))
+    put_promise_line(out, pid, call, promise, verdict);
+    1
 }
 
 // The letters that a text asks for, or none.
@@ -185,7 +181,8 @@ fn put_unveil_lines(out: &mut Sheet, pid: u32, call: CallRef<'_>, walks: u8, out
         Outcome::Failed(_, Cause::Locked) => UnveilVerdict::Locked,
         _ => return 0,
     };
-    put_one(out, pid, &Word::Unvl(verdict))
+    put_unveil_line(out, pid, verdict);
+    1
 }
 
 // The front of some bytes: all where there are fewer.
@@ -218,11 +215,13 @@ fn put_moved_lines(
     match (outcome, call) {
         (Outcome::Text(taken), _) => {
             let bytes = front_of(front, taken.len as usize);
-            put_one(out, pid, &Word::Gio(Way::Gave, bytes))
+            put_moved_line(out, pid, Way::Gave, bytes);
+            1
         }
         (Outcome::Value(count), CallRef::Write(_, _)) => {
             let bytes = front_of(front, count as usize);
-            put_one(out, pid, &Word::Gio(Way::Took, bytes))
+            put_moved_line(out, pid, Way::Took, bytes);
+            1
         }
         _ => 0,
     }
@@ -236,15 +235,15 @@ fn put_end_lines(out: &mut Sheet, pid: u32, call: CallRef<'_>, outcome: Outcome)
     ensures few { result ≤ 1 }
     ensures growth { length out.new.items ≤ length out.old.items + LINE_BYTES }
 {
-    let word = match outcome {
-        Outcome::Value(value) => Word::Ret(call, Returned::Value(value)),
-        Outcome::Text(taken) => Word::Ret(call, Returned::Value(taken.value)),
-        Outcome::Failed(errno, _) => Word::Ret(call, Returned::Error(errno)),
-        Outcome::Killed(_) => Word::Psig,
-        Outcome::Blocked => Word::Wait,
+    match outcome {
+        Outcome::Value(value) => put_value_line(out, pid, call, value),
+        Outcome::Text(taken) => put_value_line(out, pid, call, taken.value),
+        Outcome::Failed(errno, _) => put_error_line(out, pid, call, errno),
+        Outcome::Killed(_) => put_killed_line(out, pid),
+        Outcome::Blocked => put_wait_line(out, pid),
         Outcome::Exited | Outcome::Gone => return 0,
-    };
-    put_one(out, pid, &word)
+    }
+    1
 }
 
 // Puts the lines of a call on a sheet, whatever that had.
@@ -263,8 +262,8 @@ fn put_lines(
     ensures few { result ≤ 7 }
 {
     out.clear();
-    let mut count = put_one(out, pid, &Word::Call(call));
-    count += put_path_lines(out, pid, call, walks);
+    put_call_line(out, pid, call);
+    let mut count = 1 + put_path_lines(out, pid, call, walks);
     count += put_promise_lines(out, pid, call, outcome);
     count += put_unveil_lines(out, pid, call, walks, outcome);
     count += put_moved_lines(out, pid, front, call, outcome);

@@ -1,35 +1,19 @@
-//! The name of each word, and the text behind it.
+//! The lines of each word, with the text behind it.
 ghost use Rattle.std.specs.Prelude.{◌≡◌, ◌++◌, ◌+◌, ◌*◌, ◌≤◌, length, codes, decimal, None, Some};
-ghost use Rattle.pv_model.specs.declared.limits.TheConstants.{BUFFER, TEXT};
+ghost use Rattle.pv_model.specs.declared.limits.TheConstants.{BUFFER};
 ghost use Rattle.pv_model.specs.CallRef.{call_of};
 ghost use Rattle.pv_model.specs.Errno.{errno_name};
 ghost use Rattle.pv_model.specs.Promise.{promise_name};
-ghost use Rattle.pv_model.specs.Trace.{pad_right, word_name, word_text, promise_text, promise_verdict_text, unveil_verdict_text, way_text, bytes_text, returned_text, return_text};
-ghost use Rattle.pv_trace.specs.declared.sheet.TheConstants.{SHEET};
-ghost use Rattle.pv_trace.specs.Words.{word_of, promise_verdict_of, unveil_verdict_of, way_of, returned_of, HasFewBytes, letters_bytes, needed_text, errno_text};
+ghost use Rattle.pv_model.specs.Trace.{line, line_bytes, call_word, nami_word, pldg_word, unvl_word, gio_word, ret_word, psig_word, wait_word, gone_word, value_of, error_of, promise_text, promise_verdict_text, unveil_verdict_text, way_text, bytes_text};
+ghost use Rattle.pv_trace.specs.declared.sheet.TheConstants.{LINE_BYTES, SHEET};
+ghost use Rattle.pv_trace.specs.Words.{promise_verdict_of, unveil_verdict_of, way_of, letters_bytes, needed_text, errno_text};
 
 use crate::calls::{put_call, put_name};
-use crate::line::{PromiseVerdict, Returned, UnveilVerdict, Way, Word};
-use crate::sheet::{Sheet, put, put_decimal, put_hex, put_letters, put_quoted, put_quoted_all};
-use pv_model::{CallRef, Errno, Perms, Promise};
-
-/// The word's name, padded to four bytes, with the blanks around it.
-pub(crate) fn word_front(word: &Word) -> &'static [u8]
-    ensures text { result.now ≡ codes " " ++ pad_right 4 (word_name (word_of word.now)) ++ codes "  " }
-    ensures few { length result.now ≤ 7 }
-{
-    match word {
-        Word::Call(_) => b" CALL  ",
-        Word::Nami(_) => b" NAMI  ",
-        Word::Pldg(_, _, _) => b" PLDG  ",
-        Word::Unvl(_) => b" UNVL  ",
-        Word::Gio(_, _) => b" GIO   ",
-        Word::Ret(_, _) => b" RET   ",
-        Word::Psig => b" PSIG  ",
-        Word::Wait => b" WAIT  ",
-        Word::Gone => b" GONE  ",
-    }
-}
+use crate::line::{PromiseVerdict, UnveilVerdict, Way};
+use crate::sheet::{
+    Sheet, put, put_decimal, put_front, put_hex, put_letters, put_quoted, put_quoted_all,
+};
+use pv_model::{CallRef, Errno, Perms, Promise, Text};
 
 fn promise_verdict_name(verdict: PromiseVerdict) -> &'static [u8]
     ensures text { result.now ≡ promise_verdict_text (promise_verdict_of verdict) }
@@ -154,45 +138,130 @@ fn put_errno(out: &mut Sheet, errno: Errno)
     put(out, errno_bytes(errno));
 }
 
-#[tactic(auto, unfolding(crate::specs::Words::errno_text))]
-fn put_returned(out: &mut Sheet, returned: Returned)
-    requires { length out.old.items + 62 ≤ SHEET }
-    ensures text { out.new.items ≡ out.old.items ++ returned_text (returned_of returned) }
-    ensures growth { length out.new.items ≤ length out.old.items + 62 }
+/// CALL: a call, with its arguments.
+#[tactic(auto, unfolding(pv_model::specs::Trace::text_line))]
+pub(crate) fn put_call_line(out: &mut Sheet, pid: u32, call: CallRef<'_>)
+    requires room { length out.old.items + LINE_BYTES ≤ SHEET }
+    ensures text { out.new.items ≡ out.old.items ++ line_bytes (line pid (call_word (call_of call.entry))) }
+    ensures growth { length out.new.items ≤ length out.old.items + LINE_BYTES }
 {
-    match returned {
-        Returned::Value(value) => put_decimal(out, value),
-        Returned::Error(errno) => put_errno(out, errno),
-    }
+    put_front(out, pid, b" CALL  ");
+    put_call(out, call);
+    put(out, b"\n");
 }
 
-// What a trace says of a call's answer.
-fn put_return(out: &mut Sheet, call: CallRef<'_>, returned: Returned)
-    requires { length out.old.items + 72 ≤ SHEET }
-    ensures text { out.new.items ≡ out.old.items ++ return_text (call_of call.entry) (returned_text (returned_of returned)) }
-    ensures growth { length out.new.items ≤ length out.old.items + 72 }
+/// NAMI: a path that a call walks.
+#[tactic(auto, unfolding(pv_model::specs::Trace::text_line))]
+pub(crate) fn put_path_line(out: &mut Sheet, pid: u32, path: &Text)
+    requires room { length out.old.items + LINE_BYTES ≤ SHEET }
+    ensures text { out.new.items ≡ out.old.items ++ line_bytes (line pid (nami_word path.now)) }
+    ensures growth { length out.new.items ≤ length out.old.items + LINE_BYTES }
 {
+    put_front(out, pid, b" NAMI  ");
+    put_quoted(out, path);
+    put(out, b"\n");
+}
+
+/// PLDG: a promise that decided a call.
+#[tactic(auto, unfolding(pv_model::specs::Trace::text_line))]
+pub(crate) fn put_promise_line(
+    out: &mut Sheet,
+    pid: u32,
+    call: CallRef<'_>,
+    promise: Promise,
+    verdict: PromiseVerdict,
+)
+    requires room { length out.old.items + LINE_BYTES ≤ SHEET }
+    ensures text { out.new.items ≡ out.old.items ++ line_bytes (line pid (pldg_word (call_of call.entry) promise (promise_verdict_of verdict))) }
+    ensures growth { length out.new.items ≤ length out.old.items + LINE_BYTES }
+{
+    put_front(out, pid, b" PLDG  ");
+    put_promise(out, call, promise, verdict);
+    put(out, b"\n");
+}
+
+/// UNVL: an unveil table that decided.
+#[tactic(auto, unfolding(pv_model::specs::Trace::text_line))]
+pub(crate) fn put_unveil_line(out: &mut Sheet, pid: u32, verdict: UnveilVerdict)
+    requires room { length out.old.items + LINE_BYTES ≤ SHEET }
+    ensures text { out.new.items ≡ out.old.items ++ line_bytes (line pid (unvl_word (unveil_verdict_of verdict))) }
+    ensures growth { length out.new.items ≤ length out.old.items + LINE_BYTES }
+{
+    put_front(out, pid, b" UNVL  ");
+    put_unveil(out, verdict);
+    put(out, b"\n");
+}
+
+/// GIO: bytes that were given or taken.
+#[tactic(auto, unfolding(pv_model::specs::Trace::text_line))]
+pub(crate) fn put_moved_line(out: &mut Sheet, pid: u32, way: Way, bytes: &[u8])
+    requires few { length bytes.now ≤ BUFFER }
+    requires room { length out.old.items + LINE_BYTES ≤ SHEET }
+    ensures text { out.new.items ≡ out.old.items ++ line_bytes (line pid (gio_word (way_of way) bytes.now)) }
+    ensures growth { length out.new.items ≤ length out.old.items + LINE_BYTES }
+{
+    put_front(out, pid, b" GIO   ");
+    put_moved(out, way, bytes);
+    put(out, b"\n");
+}
+
+/// RET: a call answered a value.
+#[tactic(auto, unfolding(pv_model::specs::Trace::text_line))]
+pub(crate) fn put_value_line(out: &mut Sheet, pid: u32, call: CallRef<'_>, value: u32)
+    requires room { length out.old.items + LINE_BYTES ≤ SHEET }
+    ensures text { out.new.items ≡ out.old.items ++ line_bytes (line pid (ret_word (call_of call.entry) (value_of value))) }
+    ensures growth { length out.new.items ≤ length out.old.items + LINE_BYTES }
+{
+    put_front(out, pid, b" RET   ");
     put_name(out, call);
     put(out, b" ");
-    put_returned(out, returned);
+    put_decimal(out, value);
+    put(out, b"\n");
 }
 
-/// The text behind a word.
-pub(crate) fn put_word(out: &mut Sheet, word: &Word)
-    requires few { HasFewBytes word.now }
-    requires room { length out.old.items + 8 * TEXT + 17 ≤ SHEET }
-    ensures text { out.new.items ≡ out.old.items ++ word_text (word_of word.now) }
-    ensures growth { length out.new.items ≤ length out.old.items + 8 * TEXT + 17 }
+/// RET: a call failed.
+#[tactic(auto, unfolding(pv_model::specs::Trace::text_line, crate::specs::Words::errno_text))]
+pub(crate) fn put_error_line(out: &mut Sheet, pid: u32, call: CallRef<'_>, errno: Errno)
+    requires room { length out.old.items + LINE_BYTES ≤ SHEET }
+    ensures text { out.new.items ≡ out.old.items ++ line_bytes (line pid (ret_word (call_of call.entry) (error_of errno))) }
+    ensures growth { length out.new.items ≤ length out.old.items + LINE_BYTES }
 {
-    match word {
-        Word::Call(call) => put_call(out, *call),
-        Word::Nami(path) => put_quoted(out, path),
-        Word::Pldg(call, promise, verdict) => put_promise(out, *call, *promise, *verdict),
-        Word::Unvl(verdict) => put_unveil(out, *verdict),
-        Word::Gio(way, bytes) => put_moved(out, *way, bytes),
-        Word::Ret(call, returned) => put_return(out, *call, *returned),
-        Word::Psig => put(out, b"SIGABRT"),
-        Word::Wait => put(out, b"blocked"),
-        Word::Gone => put(out, b"no such process"),
-    }
+    put_front(out, pid, b" RET   ");
+    put_name(out, call);
+    put(out, b" ");
+    put_errno(out, errno);
+    put(out, b"\n");
+}
+
+/// PSIG: the process was killed.
+#[tactic(auto, unfolding(pv_model::specs::Trace::text_line))]
+pub(crate) fn put_killed_line(out: &mut Sheet, pid: u32)
+    requires room { length out.old.items + LINE_BYTES ≤ SHEET }
+    ensures text { out.new.items ≡ out.old.items ++ line_bytes (line pid psig_word) }
+    ensures growth { length out.new.items ≤ length out.old.items + LINE_BYTES }
+{
+    put_front(out, pid, b" PSIG  ");
+    put(out, b"SIGABRT\n");
+}
+
+/// WAIT: the call waits.
+#[tactic(auto, unfolding(pv_model::specs::Trace::text_line))]
+pub(crate) fn put_wait_line(out: &mut Sheet, pid: u32)
+    requires room { length out.old.items + LINE_BYTES ≤ SHEET }
+    ensures text { out.new.items ≡ out.old.items ++ line_bytes (line pid wait_word) }
+    ensures growth { length out.new.items ≤ length out.old.items + LINE_BYTES }
+{
+    put_front(out, pid, b" WAIT  ");
+    put(out, b"blocked\n");
+}
+
+/// GONE: the process is not live.
+#[tactic(auto, unfolding(pv_model::specs::Trace::text_line))]
+pub(crate) fn put_gone_line(out: &mut Sheet, pid: u32)
+    requires room { length out.old.items + LINE_BYTES ≤ SHEET }
+    ensures text { out.new.items ≡ out.old.items ++ line_bytes (line pid gone_word) }
+    ensures growth { length out.new.items ≤ length out.old.items + LINE_BYTES }
+{
+    put_front(out, pid, b" GONE  ");
+    put(out, b"no such process\n");
 }
