@@ -9,7 +9,7 @@ use Rattle.std.specs.declared.cmp.Ordering.TheVariants.{Less, Equal, Greater}
 use Rattle.std.proofs.lemmas.Bool.{and_parts, leb-true}
 use Rattle.std.proofs.lemmas.Cmp.{nat_list_cmp_total}
 use Rattle.std.proofs.lemmas.Grind.{flat_map-append}
-use Rattle.std.proofs.lemmas.List.{append-nil, take_all}
+use Rattle.std.proofs.lemmas.List.{append_assoc, append-nil, take_all}
 use Rattle.pv_model.specs.declared.version.Version.{Version}
 use Rattle.pv_model.specs.Bytes.{Bytes, is_empty}
 use Rattle.pv_model.specs.Calls.Descriptors.{next_name}
@@ -25,8 +25,8 @@ name_before es zero = None
 name_before es (suc i) = option_map (λ e. e.0) (slice_get es i)
 
 -- so many entries are spelled, and this is the name of the last of them
-pub record IsListing (v : Version) (es : Entries) (i : ℕ) (bytes : Bytes) (last : Option Bytes) : Type 0 where
-  pub spelled : bytes ≡ flat_map (slot_of v) (take i es)
+pub record IsListing (v : Version) (es : Entries) (i : ℕ) (before bytes : Bytes) (last : Option Bytes) : Type 0 where
+  pub spelled : bytes ≡ before ++ flat_map (slot_of v) (take i es)
   pub last_name : last ≡ name_before es i
 
 -- ---- what stands at an index
@@ -105,19 +105,19 @@ find-at (f ∷ es) sorted (suc i) e is =
 
 -- ---- the loop
 
-pub listing-start : (v : Version) (es : Entries) → IsListing v es 0 [] None
-listing-start v es = record { spelled = refl; last_name = refl }
+pub listing-start : (v : Version) (es : Entries) (before : Bytes) → IsListing v es 0 before before None
+listing-start v es before = record { spelled = sym (append-nil before); last_name = refl }
 
-pub listing-step : (v : Version) (es : Entries) (i : ℕ) (bytes : Bytes) (last : Option Bytes) (e : Bytes × ℕ) → IsListing v es i bytes last → slice_get es i ≡ Some e
-    → (new : Bytes) → new ≡ bytes ++ slot_of v e → IsListing v es (i + 1) new (Some e.0)
-listing-step v es i bytes last e so_far is new next =
-    subst (λ k. IsListing v es k new (Some e.0)) (sym (add-one i))
+pub listing-step : (v : Version) (es : Entries) (i : ℕ) (before bytes : Bytes) (last : Option Bytes) (e : Bytes × ℕ) → IsListing v es i before bytes last → slice_get es i ≡ Some e
+    → (new : Bytes) → new ≡ bytes ++ slot_of v e → IsListing v es (i + 1) before new (Some e.0)
+listing-step v es i before bytes last e so_far is new next =
+    subst (λ k. IsListing v es k before new (Some e.0)) (sym (add-one i))
     (record {
       spelled =
           next ∙ ap (λ (xs : Bytes). xs ++ slot_of v e) so_far.spelled
-          ∙ ap (λ (xs : Bytes). flat_map (slot_of v) (take i es) ++ xs) (sym (append-nil (slot_of v e)))
-          ∙ sym (flat_map-append (slot_of v) (take i es) (e ∷ []))
-          ∙ ap (flat_map (slot_of v)) (sym (take-get es i e is));
+          ∙ append_assoc before (flat_map (slot_of v) (take i es)) (slot_of v e)
+          ∙ ap (λ (xs : Bytes). before ++ (flat_map (slot_of v) (take i es) ++ xs)) (sym (append-nil (slot_of v e)))
+          ∙ ap (λ (xs : Bytes). before ++ xs) (sym (flat_map-append (slot_of v) (take i es) (e ∷ [])) ∙ ap (flat_map (slot_of v)) (sym (take-get es i e is)));
       last_name = sym (ap (option_map (λ (h : Bytes × ℕ). h.0)) is);
     })
 
@@ -155,9 +155,9 @@ module _ (t : Tree) (d : ℕ) (w : IsWellFormed t) where
     pub found : find_entry t d e.0 ≡ Some e.1
     pub short : length e.0 ≤ greatest_name t.version
 
-  pub met : (v : Version) (i n : ℕ) (bytes : Bytes) (last : Option Bytes) → is_directory_at t d ≡ true → option_map size_of (node_at t d) ≡ Some n → i < n
-      → IsListing v (entries_at t d) i bytes last → (e : Bytes × ℕ) × IsMet i last e
-  met v i n bytes last is size below so_far =
+  pub met : (v : Version) (i n : ℕ) (before bytes : Bytes) (last : Option Bytes) → is_directory_at t d ≡ true → option_map size_of (node_at t d) ≡ Some n → i < n
+      → IsListing v (entries_at t d) i before bytes last → (e : Bytes × ℕ) × IsMet i last e
+  met v i n before bytes last is size below so_far =
       let many = size_entries (node_at t d) n is size in
       let there = get-some (entries_at t d) i (omega arith) in (
         there.0,
@@ -169,8 +169,8 @@ module _ (t : Tree) (d : ℕ) (w : IsWellFormed t) where
         },
       )
 
-  pub all-met : (v : Version) (i n : ℕ) (bytes : Bytes) (last : Option Bytes) → is_directory_at t d ≡ true → option_map size_of (node_at t d) ≡ Some n → n ≤ i
-      → IsListing v (entries_at t d) i bytes last → bytes ≡ flat_map (slot_of v) (entries_at t d)
-  all-met v i n bytes last is size all so_far =
+  pub all-met : (v : Version) (i n : ℕ) (before bytes : Bytes) (last : Option Bytes) → is_directory_at t d ≡ true → option_map size_of (node_at t d) ≡ Some n → n ≤ i
+      → IsListing v (entries_at t d) i before bytes last → bytes ≡ before ++ flat_map (slot_of v) (entries_at t d)
+  all-met v i n before bytes last is size all so_far =
       let many = size_entries (node_at t d) n is size in
-      so_far.spelled ∙ ap (flat_map (slot_of v)) (take_all i (entries_at t d) (omega arith))
+      so_far.spelled ∙ ap (λ (xs : Entries). before ++ flat_map (slot_of v) xs) (take_all i (entries_at t d) (omega arith))

@@ -1,48 +1,162 @@
--- The parts of an image, inode by inode.
-use Rattle.std.proofs.Common.{◌≡◌, ℕ, suc, ◌+◌, ◌<◌, [], ◌++◌, length, Option, ap, sym, subst, ◌∙◌, add-one, arith}
+-- The parts of an image, node by node.
+use Rattle.std.proofs.Common.{◌≡◌, ℕ, suc, ◌+◌, ◌-◌, ◌*◌, ◌<◌, ◌≤◌, ◌++◌, length, replicate, true, Option, None, Some, is_some, ap, sym, subst, ◌∙◌, add-one, arith}
+use Rattle.std.proofs.lemmas.List.{append_assoc, append-nil, length-append}
+use Rattle.std.specs.List.{range_with_len}
+use Rattle.pv_model.specs.declared.version.Version.{Version}
 use Rattle.pv_model.specs.Bytes.{Bytes}
+use Rattle.pv_model.specs.Image.{inode_blocks}
 use Rattle.pv_model.specs.Tree.{Node, Tree, node_at, names_of}
-use Rattle.pv_writer.specs.Spelling.{taken_of, inode_of, blocks_of, first_data, first_of, all_inodes, all_contents}
+use Rattle.pv_writer.specs.Spelling.{padded, spelled, contained, content_of, blocks_for, direct_for, index_for, content_blocks, behind_content, taken_of, inode_of, blocks_of, first_data, first_of, first_block, all_inodes, all_contents, image_bytes}
 use Rattle.pv_writer.specs.Writable.{IsWritable, AreWritten}
-use Rattle.pv_writer.proofs.Places.{taken_before-grows, few-blocks}
+use Rattle.pv_writer.proofs.Pieces.{length-padded}
+use Rattle.pv_writer.proofs.Places.{few-blocks, length-all_contents, length-all_inodes, length-first_block, table-fits, taken_before-grows}
+
+-- the blocks of a content are the content, and what stands behind it
+pub content-split : (k : ℕ) (bytes : Bytes) → content_blocks k bytes ≡ bytes ++ behind_content k (length bytes)
+unfolding content_blocks behind_content padded
+content-split k bytes =
+    let size = length bytes in
+    let numbers = spelled (range_with_len (k + direct_for size) (blocks_for size - direct_for size)) in
+    append_assoc bytes (replicate (512 * blocks_for size - size) 0) (numbers ++ replicate (512 * index_for size - length numbers) 0)
+
+blocks-split : (v : Version) (k : ℕ) (o : Option Node) → is_some o ≡ true → blocks_of v k o ≡ content_of v o ++ behind_content k (length (content_of v o))
+blocks-split v k None some = cc
+blocks-split v k (Some node) some = content-split k (contained v node)
+
+pub blocks-put : (v : Version) (k size : ℕ) (o o' : Option Node) (old now new : Bytes) → is_some o ≡ true → o' ≡ o → now ≡ old ++ content_of v o → size ≡ length (content_of v o)
+    → new ≡ now ++ behind_content k size → new ≡ old ++ blocks_of v k o'
+blocks-put v k size o o' old now new some same put long behind =
+    behind ∙ ap (λ (xs : Bytes). xs ++ behind_content k size) put
+    ∙ append_assoc old (content_of v o) (behind_content k size)
+    ∙ ap (λ m. old ++ (content_of v o ++ behind_content k m)) long
+    ∙ ap (λ (xs : Bytes). old ++ xs) (sym (blocks-split v k o some))
+    ∙ ap (λ p. old ++ blocks_of v k p) (sym same)
+
+-- zeros behind bytes that have others before them
+pub padded-behind : (n m : ℕ) (xs ys : Bytes) → length xs ≡ n → padded (n + m) (xs ++ ys) ≡ xs ++ padded m ys
+unfolding padded
+padded-behind n m xs ys long =
+    let left : n + m - length (xs ++ ys) ≡ m - length ys = omega (arith, long, length-append xs ys) in
+    ap (λ k. (xs ++ ys) ++ replicate k 0) left ∙ append_assoc xs ys (replicate (m - length ys) 0)
+
+filled : (n m k : ℕ) (xs ys now new : Bytes) → length xs ≡ n → k ≡ n + m → now ≡ xs ++ ys → new ≡ padded k now → new ≡ xs ++ padded m ys
+filled n m k xs ys now new long whole so_far is =
+    is ∙ ap (λ j. padded j now) whole ∙ ap (padded (n + m)) so_far ∙ padded-behind n m xs ys long
 
 module _ (u : Tree) (w : IsWritable u) where
-  pub written-start : (inodes contents : Bytes) (next : ℕ) → inodes ≡ [] → contents ≡ [] → next ≡ first_data u.version u.inodes → AreWritten u 0 inodes contents next
-  unfolding all_inodes all_contents first_of
-  written-start inodes contents next no_inodes no_contents start = record {
-    inodes_so_far = no_inodes;
-    contents_so_far = no_contents;
-    block_behind = omega (arith, start, ap (taken_of u.version) w.well_formed.no_zero);
-  }
+  start : (next : ℕ) → next ≡ first_data u.version u.inodes → next ≡ first_of u 1
+  unfolding first_of
+  start next is = omega (arith, is, ap (taken_of u.version) w.well_formed.no_zero)
 
-  pub written-step : (n : ℕ) (i c i' c' : Bytes) (k k' names : ℕ) (o : Option Node) → AreWritten u n i c k → names ≡ length (names_of u (suc n)) → o ≡ node_at u (suc n)
-      → i' ≡ i ++ inode_of u.version names k o → c' ≡ c ++ blocks_of u.version k o → k' ≡ k + taken_of u.version o → AreWritten u (n + 1) i' c' k'
-  unfolding all_inodes all_contents first_of
-  written-step n i c i' c' k k' names o so_far many is next_inode next_content next_block =
-      subst (λ m. AreWritten u m i' c' k') (sym (add-one n))
+  pub inodes-start : (before : Bytes) (next : ℕ) → next ≡ first_data u.version u.inodes → AreWritten all_inodes u 0 before before next
+  unfolding all_inodes
+  inodes-start before next is = record { so_far = sym (append-nil before); block_behind = start next is }
+
+  pub contents-start : (before : Bytes) (next : ℕ) → next ≡ first_data u.version u.inodes → AreWritten all_contents u 0 before before next
+  unfolding all_contents
+  contents-start before next is = record { so_far = sym (append-nil before); block_behind = start next is }
+
+  block-step : (n k k' : ℕ) (o : Option Node) → k ≡ first_of u (suc n) → o ≡ node_at u (suc n) → k' ≡ k + taken_of u.version o → k' ≡ first_of u (suc (suc n))
+  unfolding first_of
+  block-step n k k' o so_far is next = omega (arith, next, so_far, ap (taken_of u.version) is)
+
+  pub inodes-step : (n : ℕ) (before now new : Bytes) (k k' names : ℕ) (o : Option Node) → AreWritten all_inodes u n before now k → names ≡ length (names_of u (suc n))
+      → o ≡ node_at u (suc n) → new ≡ now ++ inode_of u.version names k o → k' ≡ k + taken_of u.version o → AreWritten all_inodes u (n + 1) before new k'
+  unfolding all_inodes
+  inodes-step n before now new k k' names o written many is next_inode next_block =
+      subst (λ m. AreWritten all_inodes u m before new k') (sym (add-one n))
       (record {
-        inodes_so_far =
-            next_inode ∙ ap (λ (xs : Bytes). xs ++ inode_of u.version names k o) so_far.inodes_so_far
-            ∙ ap (λ m. all_inodes u n ++ inode_of u.version m k o) many
-            ∙ ap (λ m. all_inodes u n ++ inode_of u.version (length (names_of u (suc n))) m o) so_far.block_behind
-            ∙ ap (λ p. all_inodes u n ++ inode_of u.version (length (names_of u (suc n))) (first_of u (suc n)) p) is;
-        contents_so_far =
-            next_content ∙ ap (λ (xs : Bytes). xs ++ blocks_of u.version k o) so_far.contents_so_far
-            ∙ ap (λ m. all_contents u n ++ blocks_of u.version m o) so_far.block_behind
-            ∙ ap (λ p. all_contents u n ++ blocks_of u.version (first_of u (suc n)) p) is;
-        block_behind = omega (arith, next_block, so_far.block_behind, ap (taken_of u.version) is);
+        so_far =
+            next_inode ∙ ap (λ (xs : Bytes). xs ++ inode_of u.version names k o) written.so_far
+            ∙ append_assoc before (all_inodes u n) (inode_of u.version names k o)
+            ∙ ap (λ m. before ++ (all_inodes u n ++ inode_of u.version m k o)) many
+            ∙ ap (λ m. before ++ (all_inodes u n ++ inode_of u.version (length (names_of u (suc n))) m o)) written.block_behind
+            ∙ ap (λ p. before ++ (all_inodes u n ++ inode_of u.version (length (names_of u (suc n))) (first_of u (suc n)) p)) is;
+        block_behind = block-step n k k' o written.block_behind is next_block;
+      })
+
+  pub contents-step : (n : ℕ) (before now new : Bytes) (k k' : ℕ) (o : Option Node) → AreWritten all_contents u n before now k
+      → o ≡ node_at u (suc n) → new ≡ now ++ blocks_of u.version k o → k' ≡ k + taken_of u.version o → AreWritten all_contents u (n + 1) before new k'
+  unfolding all_contents
+  contents-step n before now new k k' o written is next_content next_block =
+      subst (λ m. AreWritten all_contents u m before new k') (sym (add-one n))
+      (record {
+        so_far =
+            next_content ∙ ap (λ (xs : Bytes). xs ++ blocks_of u.version k o) written.so_far
+            ∙ append_assoc before (all_contents u n) (blocks_of u.version k o)
+            ∙ ap (λ m. before ++ (all_contents u n ++ blocks_of u.version m o)) written.block_behind
+            ∙ ap (λ p. before ++ (all_contents u n ++ blocks_of u.version (first_of u (suc n)) p)) is;
+        block_behind = block-step n k k' o written.block_behind is next_block;
       })
 
   -- a node's blocks lie within the image
-  pub written-room : (n : ℕ) (i c : Bytes) (k : ℕ) (o : Option Node) → AreWritten u n i c k → n < u.inodes → o ≡ node_at u (suc n) → k + taken_of u.version o < 65536
+  pub written-room : (n k : ℕ) (o : Option Node) → k ≡ first_of u (suc n) → n < u.inodes → o ≡ node_at u (suc n) → k + taken_of u.version o < 65536
   unfolding first_of
-  written-room n i c k o so_far within is =
+  written-room n k o behind within is =
       omega (
         arith,
-        so_far.block_behind,
+        behind,
         ap (taken_of u.version) is,
         taken_before-grows u (suc (suc n)) (suc u.inodes) (omega arith),
         w.room,
         w.allowed,
         few-blocks u.version,
       )
+
+  -- ---- the whole table
+
+  all-inodes : (n : ℕ) (front now : Bytes) → n ≡ u.inodes → now ≡ front ++ all_inodes u n → now ≡ front ++ all_inodes u u.inodes
+  all-inodes n front now all so_far = so_far ∙ ap (λ k. front ++ all_inodes u k) all
+
+  pub table-room : (n table : ℕ) (front now : Bytes) → length front ≡ 512 → n ≡ u.inodes → table ≡ inode_blocks u.version u.inodes → now ≡ front ++ all_inodes u n
+      → length now ≤ 512 * (table + 1)
+  table-room n table front now long all blocks so_far =
+      let is = ap (λ (xs : Bytes). length xs) (all-inodes n front now all so_far) in
+      omega (arith, is, length-append front (all_inodes u u.inodes), long, length-all_inodes u w u.inodes, table-fits u.version u.inodes, blocks)
+
+  pub table-is : (n table : ℕ) (front now new : Bytes) → length front ≡ 512 → n ≡ u.inodes → table ≡ inode_blocks u.version u.inodes → now ≡ front ++ all_inodes u n
+      → new ≡ padded (512 * (table + 1)) now → new ≡ front ++ padded (512 * inode_blocks u.version u.inodes) (all_inodes u u.inodes)
+  table-is n table front now new long all blocks so_far is =
+      filled 512 (512 * inode_blocks u.version u.inodes) (512 * (table + 1)) front (all_inodes u u.inodes) now new long (omega (arith, blocks)) (all-inodes n front now all so_far) is
+
+  pub length-with_table : (blocks : ℕ) (now : Bytes) → now ≡ first_block u.version blocks u.inodes ++ padded (512 * inode_blocks u.version u.inodes) (all_inodes u u.inodes)
+      → length now ≡ 512 * (inode_blocks u.version u.inodes + 1)
+  length-with_table blocks now is =
+      let front = first_block u.version blocks u.inodes in
+      let rows = padded (512 * inode_blocks u.version u.inodes) (all_inodes u u.inodes) in
+      let fit : length (all_inodes u u.inodes) ≤ 512 * inode_blocks u.version u.inodes = omega (arith, length-all_inodes u w u.inodes, table-fits u.version u.inodes) in
+      omega (
+        arith,
+        ap (λ (xs : Bytes). length xs) is,
+        length-append front rows,
+        length-first_block u.version blocks u.inodes,
+        length-padded (512 * inode_blocks u.version u.inodes) (all_inodes u u.inodes) fit,
+      )
+
+  -- ---- the contents behind it
+
+  all-contents : (n : ℕ) (front now : Bytes) → n ≡ u.inodes → now ≡ front ++ all_contents u n → now ≡ front ++ all_contents u u.inodes
+  all-contents n front now all so_far = so_far ∙ ap (λ k. front ++ all_contents u k) all
+
+  pub contents-room : (n blocks : ℕ) (front now : Bytes) → length front ≡ 512 * (inode_blocks u.version u.inodes + 1) → n ≡ u.inodes
+      → blocks ≡ inode_blocks u.version u.inodes + 1 + u.blocks → now ≡ front ++ all_contents u n → length now ≤ 512 * blocks
+  contents-room n blocks front now long all whole so_far =
+      let is = ap (λ (xs : Bytes). length xs) (all-contents n front now all so_far) in
+      omega (arith, is, length-append front (all_contents u u.inodes), long, length-all_contents u w u.inodes, w.room, whole)
+
+  pub contents-are : (n blocks : ℕ) (front now new : Bytes) → length front ≡ 512 * (inode_blocks u.version u.inodes + 1) → n ≡ u.inodes
+      → blocks ≡ inode_blocks u.version u.inodes + 1 + u.blocks → now ≡ front ++ all_contents u n → new ≡ padded (512 * blocks) now
+      → new ≡ front ++ padded (512 * u.blocks) (all_contents u u.inodes)
+  contents-are n blocks front now new long all whole so_far is =
+      filled (512 * (inode_blocks u.version u.inodes + 1)) (512 * u.blocks) (512 * blocks) front (all_contents u u.inodes) now new long (omega (arith, whole)) (all-contents n front now all so_far) is
+
+  -- the whole image
+  pub image-written : (blocks : ℕ) (now new : Bytes) → blocks ≡ first_data u.version u.inodes + u.blocks
+      → now ≡ first_block u.version blocks u.inodes ++ padded (512 * inode_blocks u.version u.inodes) (all_inodes u u.inodes)
+      → new ≡ now ++ padded (512 * u.blocks) (all_contents u u.inodes) → new ≡ image_bytes u
+  unfolding image_bytes
+  image-written blocks now new whole with_table behind =
+      let rows = padded (512 * inode_blocks u.version u.inodes) (all_inodes u u.inodes) in
+      let contents = padded (512 * u.blocks) (all_contents u u.inodes) in
+      behind ∙ ap (λ (xs : Bytes). xs ++ contents) (with_table ∙ ap (λ k. first_block u.version k u.inodes ++ rows) whole)
+      ∙ append_assoc (first_block u.version (first_data u.version u.inodes + u.blocks) u.inodes) rows contents

@@ -52,6 +52,12 @@ content_blocks k bytes =
     padded (BLOCK * blocks_for size) bytes
     ++ padded (BLOCK * index_for size) (spelled (range_with_len (k + direct_for size) (blocks_for size - direct_for size)))
 
+-- what of them stands behind a content of this length
+unfoldable pub behind_content : ℕ → ℕ → Bytes
+behind_content k size =
+    replicate (BLOCK * blocks_for size - size) 0
+    ++ padded (BLOCK * index_for size) (spelled (range_with_len (k + direct_for size) (blocks_for size - direct_for size)))
+
 -- ---- inodes
 
 -- what stands before the size of an inode behind its first two bytes, and what behind its pointers: one of them has the number of names

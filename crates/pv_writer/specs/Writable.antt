@@ -1,5 +1,5 @@
 -- Trees of which an image can be written.
-use Rattle.std.specs.Prelude.{◌≡◌, ℕ, suc, ◌+◌, ◌^◌, ◌<◌, ◌≤◌, [], length, Some}
+use Rattle.std.specs.Prelude.{◌≡◌, ℕ, suc, ◌+◌, ◌^◌, ◌<◌, ◌≤◌, [], ◌++◌, length, Some}
 use Rattle.pv_model.specs.declared.limits.TheConstants.{INODES}
 use Rattle.pv_model.specs.declared.version.Version.{Version}
 use Rattle.pv_model.specs.declared.version.Version.TheVariants.{V1, V2}
@@ -7,7 +7,7 @@ use Rattle.pv_model.specs.Bytes.{Bytes}
 use Rattle.pv_model.specs.Image.{greatest_blocks}
 use Rattle.pv_model.specs.Room.{greatest_length}
 use Rattle.pv_model.specs.Tree.{Node, Tree, root, node_at, names_of, IsWellFormed}
-use Rattle.pv_writer.specs.Spelling.{content_of, taken_before, first_data, first_of, all_inodes, all_contents}
+use Rattle.pv_writer.specs.Spelling.{content_of, taken_before, first_data, first_of}
 
 -- what an inode's number of names stays below
 abbrev pub names_end : Version → ℕ
@@ -24,8 +24,7 @@ pub record IsWritable (t : Tree) : Type 0 where
   pub counted : (n : ℕ) → length (names_of t n) < names_end t.version
   pub room : taken_before t (suc t.inodes) ≤ t.blocks
 
--- the inodes and the contents of the nodes up to a number, and the block behind them
-pub record AreWritten (t : Tree) (n : ℕ) (inodes contents : Bytes) (next : ℕ) : Type 0 where
-  pub inodes_so_far : inodes ≡ all_inodes t n
-  pub contents_so_far : contents ≡ all_contents t n
+-- a part of each of the nodes up to a number, all_inodes or all_contents, stands behind other bytes; and the block behind theirs
+pub record AreWritten (part : Tree → ℕ → Bytes) (t : Tree) (n : ℕ) (before now : Bytes) (next : ℕ) : Type 0 where
+  pub so_far : now ≡ before ++ part t n
   pub block_behind : next ≡ first_of t (suc n)

@@ -1,5 +1,5 @@
 //! What a node contains.
-ghost use Rattle.std.specs.Prelude.{◌≡◌, ◌≤◌, ◌++◌, false, length, flat_map, IsTrue, IsSome, IfOk, OnOk};
+ghost use Rattle.std.specs.Prelude.{◌≡◌, ◌≤◌, ◌++◌, false, length, flat_map, IsTrue, IsSome, OnOk};
 ghost use Rattle.pv_dirs.specs.Trees.{bytes_at};
 ghost use Rattle.pv_model.specs.Calls.Descriptors.{next_name};
 ghost use Rattle.pv_model.specs.Room.{greatest_length};
@@ -9,7 +9,7 @@ ghost use Rattle.pv_writer.specs.Spelling.{content_of, slot_of};
 use crate::filling::{put_u16, put_zeros};
 use pv_model::{Name, Version};
 use pv_tree::Tree;
-use std::alloc::{AllocError, Global};
+use std::alloc::AllocError;
 
 // Appends the slot of an entry.
 #[tactic(auto, unfolding(crate::specs::Spelling::slot_of, crate::specs::Spelling::padded))]
@@ -35,19 +35,18 @@ fn next(tree: &Tree, directory: u16, last: &Option<Name>) -> Option<Name>
     }
 }
 
-// The slots of a directory, in the order of the names.
-fn slots(
-    alloc: Global,
+// Appends the slots of a directory, in the order of the names.
+fn put_slots(
+    bytes: &mut Vec<u8>,
     tree: &Tree,
     version: Version,
     directory: u16,
-) -> Result<Vec<u8>, AllocError>
+) -> Result<(), AllocError>
     requires directory { IsTrue (is_directory_at tree.now.tree directory) }
     requires names { greatest_name tree.now.tree.version ≤ greatest_name version }
-    ensures { IfOk result (λ bytes. bytes.items ≡ flat_map (slot_of version) (entries_at tree.now.tree directory)) }
+    ensures { OnOk result (bytes.new.items ≡ bytes.old.items ++ flat_map (slot_of version) (entries_at tree.now.tree directory)) }
 {
     let _ = tree.sizes();
-    let mut bytes = Vec::new(alloc);
     let mut last: Option<Name> = None;
     for _entry in 0..tree.size(directory) {
         let Some(name) = next(tree, directory, &last) else {
@@ -56,43 +55,44 @@ fn slots(
         let Some(node) = tree.find(directory, name.as_slice()) else {
             unreachable!()
         };
-        put_slot(&mut bytes, version, name.as_slice(), node)?;
+        put_slot(bytes, version, name.as_slice(), node)?;
         last = Some(name);
     }
-    Ok(bytes)
+    Ok(())
 }
 
-// The bytes of a file, or of a link's text.
-fn bytes_of(alloc: Global, tree: &Tree, node: u16) -> Result<Vec<u8>, AllocError>
+// Appends the bytes of a file, or of a link's text: they are read into the room behind what stands there.
+fn put_bytes(bytes: &mut Vec<u8>, tree: &Tree, node: u16) -> Result<(), AllocError>
     requires used { IsSome (node_at tree.now.tree node) }
     requires other { is_directory_at tree.now.tree node ≡ false }
-    ensures { IfOk result (λ bytes. bytes.items ≡ bytes_at tree.now.tree node) }
+    ensures { OnOk result (bytes.new.items ≡ bytes.old.items ++ bytes_at tree.now.tree node) }
 {
-    let mut bytes = vec![in alloc; 0; tree.size(node) as usize]?;
-    let _count = tree.read_at(node, 0, &mut bytes);
-    Ok(bytes)
+    let start = bytes.len();
+    put_zeros(bytes, tree.size(node) as usize)?;
+    let _count = tree.read_at(node, 0, &mut bytes[start..]);
+    Ok(())
 }
 
-/// What a node contains, as an image of this version has it: the slots of a directory, the bytes of a file, or a
-/// link's text.
-pub(crate) fn content(
-    alloc: Global,
+/// Appends what a node contains, as an image of this version has it: the slots of a directory, the bytes of a file,
+/// or a link's text.
+pub(crate) fn put_content(
+    bytes: &mut Vec<u8>,
     tree: &Tree,
     version: Version,
     node: u16,
-) -> Result<Vec<u8>, AllocError>
+) -> Result<(), AllocError>
     requires used { IsSome (node_at tree.now.tree node) }
     requires names { greatest_name tree.now.tree.version ≤ greatest_name version }
-    ensures { IfOk result (λ bytes. bytes.items ≡ content_of version (node_at tree.now.tree node)) }
+    ensures { OnOk result (bytes.new.items ≡ bytes.old.items ++ content_of version (node_at tree.now.tree node)) }
 {
     if tree.is_directory(node) {
-        slots(alloc, tree, version, node)
+        put_slots(bytes, tree, version, node)
     } else {
-        bytes_of(alloc, tree, node)
+        put_bytes(bytes, tree, node)
     }
 }
 
-/// How long it is: no longer than the version allows.
+/// How long that is: no longer than the version allows.
 pub(crate) fn content_length(tree: &Tree, version: Version, node: u16) -> usize
     requires used { IsSome (node_at tree.now.tree node) }
     requires names { greatest_name tree.now.tree.version ≤ greatest_name version }

@@ -1,30 +1,21 @@
 //! The whole image.
-ghost use Rattle.std.specs.Prelude.{◌≡◌, ◌+◌, ◌-◌, ◌^◌, ◌<◌, ◌≤◌, ◌++◌, false, length, IsTrue, IsSome, None, IfOk, OnOk};
-ghost use Rattle.pv_model.specs.declared.limits.TheConstants.{INODES};
+ghost use Rattle.std.specs.Prelude.{◌≡◌, ◌+◌, ◌-◌, ◌*◌, ◌^◌, ◌<◌, ◌≤◌, ◌++◌, false, length, IsTrue, IsSome, None, IfOk, OnOk};
+ghost use Rattle.pv_model.specs.declared.limits.TheConstants.{BLOCK, INODES};
 ghost use Rattle.pv_model.specs.Held.{named_tree};
 ghost use Rattle.pv_model.specs.Image.{inode_blocks, magic, IsWrittenImageOf};
 ghost use Rattle.pv_model.specs.Mount.{are_image_sizes};
-ghost use Rattle.pv_model.specs.Room.{greatest_length};
 ghost use Rattle.pv_model.specs.Tree.{greatest_name, names_of, node_at};
 ghost use Rattle.pv_writer.specs.Placed.{placed, written_at, named_need};
-ghost use Rattle.pv_writer.specs.Spelling.{blocks_of, content_of, first_block, first_data, image_bytes, inode_of, taken_of};
-ghost use Rattle.pv_writer.specs.Writable.{names_end, AreWritten, IsWritable};
+ghost use Rattle.pv_writer.specs.Spelling.{all_contents, all_inodes, blocks_of, first_block, image_bytes, inode_of, padded, taken_of};
+ghost use Rattle.pv_writer.specs.Writable.{names_end, IsWritable};
 
-use crate::content::{content, content_length};
+use crate::content::{content_length, put_content};
 use crate::filling::{fill, put_u16, put_zeros};
-use crate::inode::{extent_of, put_content, put_inode};
+use crate::inode::{extent_of, put_behind_content, put_inode};
 use pv_model::Version;
 use pv_model::limits::{BLOCK, ROOT};
 use pv_tree::Tree;
 use std::alloc::{AllocError, Global};
-
-// The inodes and the contents of the nodes so far, and the block behind them.
-#[derive(Drop)]
-struct Parts {
-    inodes: Vec<u8>,
-    contents: Vec<u8>,
-    next: u16,
-}
 
 // Whether an image has the node of a number: it is the root, or has a name.
 fn is_written(tree: &Tree, node: u16) -> bool
@@ -47,42 +38,45 @@ fn taken_blocks(tree: &Tree, version: Version, node: u16) -> u32
     u32::from(extent.filled + extent.index)
 }
 
-impl Parts {
-    // Adds the inode of a number, and the content of its node, if the image has one.
-    fn add(
-        &mut self,
-        alloc: Global,
-        tree: &Tree,
-        version: Version,
-        node: u16,
-    ) -> Result<(), AllocError>
-        requires names { greatest_name tree.now.tree.version ≤ greatest_name version }
-        requires counted { length (names_of tree.now.tree node) < names_end version }
-        requires short { length (content_of version (written_at tree.now.tree node)) ≤ greatest_length version }
-        requires room { self.old.next + taken_of version (written_at tree.now.tree node) < 2 ^ 16 }
-        ensures inodes { OnOk result (self.new.inodes.items ≡ self.old.inodes.items ++ inode_of version (length (names_of tree.now.tree node)) self.old.next (written_at tree.now.tree node)) }
-        ensures contents { OnOk result (self.new.contents.items ≡ self.old.contents.items ++ blocks_of version self.old.next (written_at tree.now.tree node)) }
-        ensures next { OnOk result (self.new.next ≡ self.old.next + taken_of version (written_at tree.now.tree node)) }
-    {
-        if !is_written(tree, node) {
-            return put_zeros(&mut self.inodes, version.layout().inode_length);
-        }
-        let bytes = content(alloc, tree, version, node)?;
-        let sort = tree.kind(node) as u8;
-        let names = tree.names(node);
-        put_inode(
-            &mut self.inodes,
-            version,
-            sort,
-            names,
-            bytes.len(),
-            self.next,
-        )?;
-        put_content(&mut self.contents, &bytes, self.next)?;
-        let extent = extent_of(bytes.len());
-        self.next += extent.filled + extent.index;
-        Ok(())
+// Appends the inode of a number, whose blocks begin at `first`, or a free one if the image has no such node.
+fn add_inode(
+    bytes: &mut Vec<u8>,
+    tree: &Tree,
+    version: Version,
+    node: u16,
+    first: u16,
+) -> Result<(), AllocError>
+    requires names { greatest_name tree.now.tree.version ≤ greatest_name version }
+    requires counted { length (names_of tree.now.tree node) < names_end version }
+    requires room { first + taken_of version (written_at tree.now.tree node) < 2 ^ 16 }
+    ensures { OnOk result (bytes.new.items ≡ bytes.old.items ++ inode_of version (length (names_of tree.now.tree node)) first (written_at tree.now.tree node)) }
+{
+    if !is_written(tree, node) {
+        return put_zeros(bytes, version.layout().inode_length);
     }
+    let sort = tree.kind(node) as u8;
+    let names = tree.names(node);
+    let size = content_length(tree, version, node);
+    put_inode(bytes, version, sort, names, size, first)
+}
+
+// Appends the blocks of the node of a number, which begin at `first`, if the image has it.
+fn add_blocks(
+    bytes: &mut Vec<u8>,
+    tree: &Tree,
+    version: Version,
+    node: u16,
+    first: u16,
+) -> Result<(), AllocError>
+    requires names { greatest_name tree.now.tree.version ≤ greatest_name version }
+    requires room { first + taken_of version (written_at tree.now.tree node) < 2 ^ 16 }
+    ensures { OnOk result (bytes.new.items ≡ bytes.old.items ++ blocks_of version first (written_at tree.now.tree node)) }
+{
+    if !is_written(tree, node) {
+        return Ok(());
+    }
+    put_content(bytes, tree, version, node)?;
+    put_behind_content(bytes, content_length(tree, version, node), first)
 }
 
 // The blocks that so many inodes fill.
@@ -91,32 +85,6 @@ fn table_blocks(version: Version, inodes: u16) -> u16
     ensures { result ≡ inode_blocks version inodes }
 {
     (inodes as usize * version.layout().inode_length).div_ceil(BLOCK) as u16
-}
-
-// The inodes and the contents of all nodes.
-fn parts_of(
-    alloc: Global,
-    tree: &Tree,
-    version: Version,
-    blocks: u16,
-    inodes: u16,
-) -> Result<Parts, AllocError>
-    requires names { greatest_name tree.now.tree.version ≤ greatest_name version }
-    requires inodes { tree.now.tree.inodes ≤ inodes }
-    requires writable { IsWritable (placed tree.now.tree version blocks inodes) }
-    ensures { IfOk result (λ parts. AreWritten (placed tree.now.tree version blocks inodes) inodes parts.inodes.items parts.contents.items parts.next) }
-{
-    let _ = tree.sizes();
-    let table = table_blocks(version, inodes);
-    let mut parts = Parts {
-        inodes: Vec::with_capacity(alloc, BLOCK * table as usize)?,
-        contents: Vec::with_capacity(alloc, BLOCK * blocks as usize)?,
-        next: table + 1,
-    };
-    for slot in 0..inodes {
-        parts.add(alloc, tree, version, slot + 1)?;
-    }
-    Ok(parts)
 }
 
 // The bytes with which an image begins.
@@ -147,6 +115,55 @@ fn beginning(
     Ok(bytes)
 }
 
+// The first block and the table of the inodes, with room behind them for the contents.
+fn with_table(
+    alloc: Global,
+    tree: &Tree,
+    version: Version,
+    blocks: u16,
+    inodes: u16,
+) -> Result<Vec<u8>, AllocError>
+    requires names { greatest_name tree.now.tree.version ≤ greatest_name version }
+    requires inodes { tree.now.tree.inodes ≤ inodes }
+    requires writable { IsWritable (placed tree.now.tree version blocks inodes) }
+    ensures { IfOk result (λ bytes. bytes.items ≡ first_block version blocks inodes ++ padded (BLOCK * inode_blocks version inodes) (all_inodes (placed tree.now.tree version blocks inodes) inodes)) }
+{
+    let _ = tree.sizes();
+    let first_data = table_blocks(version, inodes) + 1;
+    let mut bytes = beginning(alloc, version, blocks, inodes)?;
+    let mut first = first_data;
+    for slot in 0..inodes {
+        add_inode(&mut bytes, tree, version, slot + 1, first)?;
+        first += taken_blocks(tree, version, slot + 1) as u16;
+    }
+    fill(&mut bytes, BLOCK * first_data as usize)?;
+    Ok(bytes)
+}
+
+// Appends the contents of all nodes behind the table, and zeros up to the end of the image.
+fn put_contents(
+    bytes: &mut Vec<u8>,
+    tree: &Tree,
+    version: Version,
+    blocks: u16,
+    inodes: u16,
+) -> Result<(), AllocError>
+    requires sizes { inode_blocks version inodes + 1 ≤ blocks }
+    requires names { greatest_name tree.now.tree.version ≤ greatest_name version }
+    requires inodes { tree.now.tree.inodes ≤ inodes }
+    requires writable { IsWritable (placed tree.now.tree version blocks inodes) }
+    requires behind { length bytes.old.items ≡ BLOCK * (inode_blocks version inodes + 1) }
+    ensures { OnOk result (bytes.new.items ≡ bytes.old.items ++ padded (BLOCK * (blocks - (inode_blocks version inodes + 1))) (all_contents (placed tree.now.tree version blocks inodes) inodes)) }
+{
+    let _ = tree.sizes();
+    let mut next = table_blocks(version, inodes) + 1;
+    for slot in 0..inodes {
+        add_blocks(bytes, tree, version, slot + 1, next)?;
+        next += taken_blocks(tree, version, slot + 1) as u16;
+    }
+    fill(bytes, BLOCK * blocks as usize)
+}
+
 // The bytes of an image, each of which is told.
 fn image(
     alloc: Global,
@@ -161,13 +178,8 @@ fn image(
     requires writable { IsWritable (placed tree.now.tree version blocks inodes) }
     ensures { IfOk result (λ bytes. bytes.items ≡ image_bytes (placed tree.now.tree version blocks inodes)) }
 {
-    let mut parts = parts_of(alloc, tree, version, blocks, inodes)?;
-    let table = table_blocks(version, inodes);
-    fill(&mut parts.inodes, BLOCK * table as usize)?;
-    fill(&mut parts.contents, BLOCK * (blocks - table - 1) as usize)?;
-    let mut bytes = beginning(alloc, version, blocks, inodes)?;
-    bytes.extend_from_slice(&parts.inodes)?;
-    bytes.extend_from_slice(&parts.contents)?;
+    let mut bytes = with_table(alloc, tree, version, blocks, inodes)?;
+    put_contents(&mut bytes, tree, version, blocks, inodes)?;
     Ok(bytes)
 }
 

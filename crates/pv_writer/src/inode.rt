@@ -2,7 +2,7 @@
 ghost use Rattle.std.specs.Prelude.{◌≡◌, ◌+◌, ◌*◌, ◌^◌, ◌<◌, ◌≤◌, ◌++◌, vec_len, length, OnOk};
 ghost use Rattle.pv_model.specs.declared.version.Version.TheVariants.{V2};
 ghost use Rattle.pv_model.specs.Room.{greatest_length};
-ghost use Rattle.pv_writer.specs.Spelling.{before_size, behind_pointers, blocks_for, content_blocks, direct_for, index_for, inode_bytes, taken};
+ghost use Rattle.pv_writer.specs.Spelling.{before_size, behind_content, behind_pointers, blocks_for, direct_for, index_for, inode_bytes, taken};
 
 use crate::filling::{fill, put_pointers, put_u16, put_u32, put_zeros};
 use pv_model::Version;
@@ -92,17 +92,20 @@ pub(crate) fn put_inode(
     put_behind_pointers(bytes, version, names)
 }
 
-/// Appends the blocks of a content from a block on: those that it fills, and then the numbers of those past
-/// the tenth.
-#[tactic(auto, unfolding(crate::specs::Spelling::content_blocks, crate::specs::Spelling::padded))]
-pub(crate) fn put_content(bytes: &mut Vec<u8>, content: &[u8], first: u16) -> Result<(), AllocError>
-    requires size { length content.now ≤ greatest_length V2 }
-    requires blocks { first + taken (length content.now) < 2 ^ 16 }
-    ensures { OnOk result (bytes.new.items ≡ bytes.old.items ++ content_blocks first content.now) }
+/// Appends what stands behind a content of so many bytes in its blocks, of which the first is told: zeros up to the end
+/// of those that it fills, and then the numbers of those past the tenth.
+#[tactic(auto, unfolding(crate::specs::Spelling::behind_content))]
+pub(crate) fn put_behind_content(
+    bytes: &mut Vec<u8>,
+    size: usize,
+    first: u16,
+) -> Result<(), AllocError>
+    requires size { size ≤ greatest_length V2 }
+    requires blocks { first + taken size < 2 ^ 16 }
+    ensures { OnOk result (bytes.new.items ≡ bytes.old.items ++ behind_content first size) }
 {
-    let extent = extent_of(content.len());
-    bytes.extend_from_slice(content)?;
-    put_zeros(bytes, BLOCK * extent.filled as usize - content.len())?;
+    let extent = extent_of(size);
+    put_zeros(bytes, BLOCK * extent.filled as usize - size)?;
     put_pointers(
         bytes,
         first + extent.direct,

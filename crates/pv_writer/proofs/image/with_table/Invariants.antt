@@ -1,0 +1,7 @@
+use Rattle.pv_writer.specs.Placed.{placed}
+use Rattle.pv_writer.specs.Spelling.{all_inodes, first_block}
+use Rattle.pv_writer.specs.Writable.{AreWritten}
+use Rattle.pv_writer.proofs.image.with_table.Given as goal
+
+abbrev pub invariant-loop-slot : goal.invariant-loop-slot
+invariant-loop-slot l = AreWritten all_inodes (placed l.tree.tree l.version l.fn.blocks l.inodes) l.slot (first_block l.version l.fn.blocks l.inodes) l.bytes.items l.first
