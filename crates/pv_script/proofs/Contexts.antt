@@ -1,6 +1,6 @@
 -- What an instruction on registers, or a jump, makes of a context.
-use Rattle.std.proofs.Common.{◌≡◌, ◌∙◌, ◌+◌, ap, sym, subst, add-one, ℕ, ℤ, pos, negsuc, ◌+ℤ◌, Bool, true, false, not, ltb, inl, inr, arith}
-use Rattle.std.specs.Prelude.{slice_index, replicate}
+use Rattle.std.proofs.Common.{◌≡◌, ◌∙◌, ◌+◌, ap, sym, subst, add-one, ℕ, zero, suc, ◌-◌, ◌<◌, ◌≤◌, ℤ, pos, negsuc, ◌+ℤ◌, Bool, true, false, not, ltb, inl, inr, arith}
+use Rattle.std.specs.Prelude.{slice_get, slice_index, replicate}
 use Rattle.std.specs.Int.{w32, saturate_signed}
 use Rattle.std.proofs.lemmas.Bool.{cases_lt, lt-ltb, le-ltb}
 use Rattle.pv_model.specs.declared.instruction.Instruction.{Instruction}
@@ -9,7 +9,7 @@ use Rattle.pv_model.specs.Answer.{at_next_line, with_front}
 use Rattle.pv_model.specs.Bytes.{Bytes}
 use Rattle.pv_model.specs.Program.{clamp, is_zero, is_negative, register, with_register, jump_if, inside, perform, next}
 use Rattle.pv_model.specs.State.{Program, Process, no_registers}
-use Rattle.pv_script.specs.Context.{Context, first_context, in_context, Changes}
+use Rattle.pv_script.specs.Context.{Context, first_context, in_context, Changes, is_some_on_registers, is_inside}
 use Rattle.pv_script.specs.Passing.{Passes}
 
 -- a sum that stops at the ends of 32 bits
@@ -80,3 +80,13 @@ pub pass-more : (program : Program) (old mid new : Context) (n : ℕ) → ((p : 
     → ((p : Process) → next (in_context p program mid) ≡ inside (in_context p program new)) → (p : Process) → Passes (n + 1) (in_context p program old) (in_context p program new)
 pass-more program old mid new n passed step p =
     subst (λ k. Passes k (in_context p program old) (in_context p program new)) (sym (add-one n)) (in_context p program mid, passed p, step p)
+
+-- at most one, and not none where one comes, is one
+pub one_passed : (program : Program) (old new : Context) (n : ℕ) → n ≤ 1 → ((p : Process) → Passes n (in_context p program old) (in_context p program new)) → (n < 1 → is_inside program new ≡ false)
+    → is_inside program old ≡ true → (p : Process) → next (in_context p program old) ≡ inside (in_context p program new)
+one_passed program old new zero few passed whole comes p =
+    let same : is_inside program new ≡ is_inside program old = ap (λ (q : Process). is_some_on_registers (slice_get program (q.line - 1))) (passed p) in
+    let none : is_inside program new ≡ false = whole (omega arith) in
+    cc
+one_passed program old new (suc zero) few passed whole comes p = sym (ap next (passed p).1) ∙ (passed p).2
+one_passed program old new (suc (suc n)) few passed whole comes p = absurd (omega arith)

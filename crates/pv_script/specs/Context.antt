@@ -17,6 +17,10 @@ pub record Context : Type 0 where
 unfoldable pub first_context : Context
 first_context = record { line = 1; registers = no_registers; buffer = no_bytes }
 
+-- a context at another line
+abbrev pub at_line : ℕ → Context → Context
+at_line line c = record c { line = line }
+
 -- a process with a program and a context
 abbrev pub in_context : Process → Program → Context → Process
 in_context p program c = record p { program = program; line = c.line; registers = c.registers; buffer = c.buffer }

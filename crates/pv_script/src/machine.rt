@@ -1,5 +1,6 @@
 //! What runs a program: the line that comes next, eight registers, and a buffer of 4,096 bytes.
-ghost use Rattle.std.specs.Prelude.{◌≡◌, ◌<◌, ◌≤◌, ◌+ℤ◌, ◌++◌, true, false, Some, length, drop, take, slice_index, IfOk};
+ghost use Rattle.std.specs.Prelude.{◌≡◌, ◌-◌, ◌<◌, ◌≤◌, ◌+ℤ◌, ◌++◌, true, false, Some, length, drop, take, slice_get, slice_index, IfOk, IfSome};
+ghost use Rattle.std.specs.Option.{option_copied, is_some};
 ghost use Rattle.std.specs.Borrow.{sem};
 ghost use Rattle.pv_model.specs.Answer.{at_next_line, with_front};
 ghost use Rattle.pv_model.specs.CallRef.{call_of};
@@ -88,7 +89,40 @@ fn is_on_registers(instruction: &Instruction) -> bool
     )
 }
 
-ghost use Rattle.pv_script.specs.Context.{first_context, in_context, Changes, is_on_registers, is_inside, IsNext, is_plain};
+// The instruction of a line, if one on registers or a jump stands there.
+#[inline]
+fn inside_at(program: &Program, line: u16) -> Option<&Instruction>
+    ensures there { IfSome (option_copied result) (λ i. slice_get program.now (line - 1) ≡ Some i) }
+    ensures comes { is_some result ≡ is_some_on_registers (slice_get program.now (line - 1)) }
+{
+    match program.at(line) {
+        Some(instruction) if is_on_registers(instruction) => Some(instruction),
+        _ => None,
+    }
+}
+
+// The line behind this one, at most the one behind the last.
+#[inline]
+fn line_after(line: u16, program: &Program) -> u16
+    ensures { (c : Context) → Changes at_next_line program.now (at_line line c) (at_line result c) }
+{
+    let count = program.len() as u16;
+    if line <= count { line + 1 } else { count + 1 }
+}
+
+// The target if a test holds, and else the line behind this one.
+#[inline]
+fn jump_if(holds: bool, line: u16, target: u16, program: &Program) -> u16
+    ensures { (c : Context) → Changes (λ p. jump_if holds p target) program.now (at_line line c) (at_line result c) }
+{
+    if holds {
+        target
+    } else {
+        line_after(line, program)
+    }
+}
+
+ghost use Rattle.pv_script.specs.Context.{Context, first_context, in_context, at_line, Changes, is_on_registers, is_some_on_registers, is_inside, IsNext, is_plain};
 ghost use Rattle.pv_script.specs.Passing.{Passes};
 
 impl Machine {
@@ -137,12 +171,7 @@ impl Machine {
     pub fn advance(&mut self, program: &Program)
         ensures { Changes at_next_line program.now self.old self.new }
     {
-        let count = program.len() as u16;
-        if self.line <= count {
-            self.line += 1;
-        } else {
-            self.line = count + 1;
-        }
+        self.line = line_after(self.line, program);
     }
 
     /// Sets the registers that tell what a call came to: r0 to the value, r1 to the error, 0 where there is none.
@@ -274,57 +303,48 @@ impl Machine {
         self.registers[number.number()] = value;
     }
 
-    // Sets a register, and goes on to the next line.
-    fn set(&mut self, number: Register, value: i32, program: &Program)
-        ensures { Changes (λ p. at_next_line (with_register p number value)) program.now self.old self.new }
+    // Sets a register, and answers the line behind this one.
+    #[inline]
+    fn set(&mut self, line: u16, number: Register, value: i32, program: &Program) -> u16
+        ensures { Changes (λ p. at_next_line (with_register p number value)) program.now (at_line line self.old) (at_line result self.new) }
     {
         self.assign(number, value);
-        self.advance(program);
+        line_after(line, program)
     }
 
-    // Goes on at a line if a test holds, and else at the next one.
-    fn jump_if(&mut self, holds: bool, line: u16, program: &Program)
-        ensures { Changes (λ p. jump_if holds p line) program.now self.old self.new }
-    {
-        if holds {
-            self.line = line;
-        } else {
-            self.advance(program);
-        }
-    }
-
-    // Makes an instruction on registers or a jump.
+    // Makes an instruction on registers, or a jump, that stands at this line: answers the line that comes next.
+    #[inline]
     #[tactic(auto, unfolding(pv_model::specs::Program::perform))]
-    fn make(&mut self, instruction: &Instruction, program: &Program)
+    fn make(&mut self, line: u16, instruction: &Instruction, program: &Program) -> u16
         requires { is_on_registers instruction.now ≡ true }
-        ensures { (p : Process) → perform (in_context p program.now self.old) instruction.now ≡ inside (in_context p program.now self.new) }
+        ensures { (p : Process) → perform (in_context p program.now (at_line line self.old)) instruction.now ≡ inside (in_context p program.now (at_line result self.new)) }
     {
         match instruction {
-            Instruction::Set(register, n) => self.set(*register, *n, program),
+            Instruction::Set(register, n) => self.set(line, *register, *n, program),
             Instruction::Add(register, n) => {
                 let sum = held_sum(self.value(*register), *n);
-                self.set(*register, sum, program);
+                self.set(line, *register, sum, program)
             }
             Instruction::Put(text) => {
                 self.put_front(text.as_slice());
-                self.advance(program);
+                line_after(line, program)
             }
             Instruction::Peek(register, place) => {
                 let byte = byte_at(self.buffer(), *place);
-                self.set(*register, i32::from(byte), program);
+                self.set(line, *register, i32::from(byte), program)
             }
-            Instruction::Jump(line) => self.line = *line,
-            Instruction::JumpIfZero(register, line) => {
+            Instruction::Jump(target) => *target,
+            Instruction::JumpIfZero(register, target) => {
                 let holds = is_zero(self.value(*register));
-                self.jump_if(holds, *line, program);
+                jump_if(holds, line, *target, program)
             }
-            Instruction::JumpIfNotZero(register, line) => {
+            Instruction::JumpIfNotZero(register, target) => {
                 let holds = !is_zero(self.value(*register));
-                self.jump_if(holds, *line, program);
+                jump_if(holds, line, *target, program)
             }
-            Instruction::JumpIfNegative(register, line) => {
+            Instruction::JumpIfNegative(register, target) => {
                 let holds = is_negative(self.value(*register));
-                self.jump_if(holds, *line, program);
+                jump_if(holds, line, *target, program)
             }
             _ => unreachable!(),
         }
@@ -336,13 +356,12 @@ impl Machine {
         ensures made { result ≡ true → (p : Process) → next (in_context p program.now self.old) ≡ inside (in_context p program.now self.new) }
         ensures kept { result ≡ false → self.new ≡ self.old }
     {
-        match program.at(self.line) {
-            Some(instruction) if is_on_registers(instruction) => {
-                self.make(instruction, program);
-                true
-            }
-            _ => false,
+        if inside_at(program, self.line).is_none() {
+            return false;
         }
+        // By `pass`, so that `make` has one caller, and is a part of its loop.
+        self.pass(program, 1);
+        true
     }
 
     /// Makes the instructions on registers and the jumps as they come, at most so many: answers how many.
@@ -352,9 +371,16 @@ impl Machine {
         ensures whole { result < most → is_inside program.now self.new ≡ false }
     {
         let mut made = 0;
-        while made < most && self.register(program) {
+        // In a local, since one in memory is written and read again at each instruction.
+        let mut line = self.line;
+        while made < most {
+            let Some(instruction) = inside_at(program, line) else {
+                break;
+            };
+            line = self.make(line, instruction, program);
             made += 1;
         }
+        self.line = line;
         made
     }
 }
