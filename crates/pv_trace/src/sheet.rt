@@ -97,6 +97,43 @@ fn spaces(count: usize) -> &'static [u8]
     &b"     "[..count]
 }
 
+// A number of at most five digits, right in five places.
+#[tactic(auto, using(std::proofs::lemmas::Fmt::decimal_digit, crate::proofs::Digits::two_digits, crate::proofs::Digits::three_digits, crate::proofs::Digits::four_digits, crate::proofs::Digits::five_digits))]
+fn five_places(number: u32) -> [u8; 5]
+    requires { number < 100000 }
+    ensures { result ≡ pad_left 5 (decimal number) }
+{
+    if number < 10 {
+        [b' ', b' ', b' ', b' ', digit(number)]
+    } else if number < 100 {
+        [b' ', b' ', b' ', digit(number / 10), digit(number % 10)]
+    } else if number < 1_000 {
+        [
+            b' ',
+            b' ',
+            digit(number / 100),
+            digit(number / 10 % 10),
+            digit(number % 10),
+        ]
+    } else if number < 10_000 {
+        [
+            b' ',
+            digit(number / 1_000),
+            digit(number / 100 % 10),
+            digit(number / 10 % 10),
+            digit(number % 10),
+        ]
+    } else {
+        [
+            digit(number / 10_000),
+            digit(number / 1_000 % 10),
+            digit(number / 100 % 10),
+            digit(number / 10 % 10),
+            digit(number % 10),
+        ]
+    }
+}
+
 // A number of any length, right in five places.
 #[inline(never)]
 fn put_pid(out: &mut Sheet, pid: u32)
@@ -104,10 +141,14 @@ fn put_pid(out: &mut Sheet, pid: u32)
     ensures text { out.new.items ≡ out.old.items ++ pad_left 5 (decimal pid) }
     ensures growth { length out.new.items ≤ length out.old.items + 45 }
 {
-    let mut buffer = Buffer::new();
-    let digits = buffer.format(pid).as_bytes();
-    put(out, spaces(5usize.saturating_sub(digits.len())));
-    put(out, digits);
+    if pid < 100_000 {
+        put(out, &five_places(pid));
+    } else {
+        let mut buffer = Buffer::new();
+        let digits = buffer.format(pid).as_bytes();
+        put(out, spaces(5usize.saturating_sub(digits.len())));
+        put(out, digits);
+    }
 }
 
 // The front of a line: the number of its process, right in five places, and its word with the blanks around it. Where
@@ -130,7 +171,9 @@ pub(crate) fn put_front(out: &mut Sheet, pid: u32, word: &[u8; 7])
     }
 }
 
-// The digits of a few bytes, two for each.
+// The digits of a few bytes, two for each, in one piece. It becomes a part of its caller, which knows the length of all
+// pieces but the last.
+#[inline(always)]
 fn put_hex_part(out: &mut Sheet, bytes: &[u8])
     requires few { length bytes.now ≤ PART }
     requires room { length out.old.items + 2 * length bytes.now ≤ SHEET }
@@ -145,17 +188,19 @@ fn put_hex_part(out: &mut Sheet, bytes: &[u8])
     put(out, &digits[..2 * bytes.len()]);
 }
 
+// The digits of bytes, two for each.
 pub(crate) fn put_hex(out: &mut Sheet, bytes: &[u8])
     requires { length out.old.items + 2 * length bytes.now ≤ SHEET }
     ensures text { out.new.items ≡ out.old.items ++ hex bytes.now }
     ensures growth { length out.new.items ≤ length out.old.items + 2 * length bytes.now }
 {
     let mut left = bytes;
-    while !left.is_empty() {
-        let (part, behind) = left.split_at(left.len().min(PART));
+    while left.len() >= PART {
+        let (part, behind) = left.split_at(PART);
         put_hex_part(out, part);
         left = behind;
     }
+    put_hex_part(out, left);
 }
 
 // A byte of a text that is not written as it is.
