@@ -1,11 +1,11 @@
 -- From one name to the next: in a directory, and from directory to directory.
-use Rattle.std.proofs.Common.{◌≡◌, ◌≢◌, ℕ, ◌+◌, ◌<◌, ◌≤◌, true, false, not, eqb, length, Option, None, Some, refl, ap, sym, subst, ◌∙◌, ◌⊎◌, ⊎_elim, inl, inr, arith}
-use Rattle.std.specs.Option.{IsSome, option_eq}
+use Rattle.std.proofs.Common.{◌≡◌, ◌≢◌, ℕ, ◌+◌, ◌<◌, ◌≤◌, true, false, length, Option, None, Some, refl, ap, sym, subst, ◌∙◌, ◌⊎◌, ⊎_elim, inl, inr, arith}
+use Rattle.std.specs.Option.{IsSome}
 use Rattle.std.specs.FinMap.Entries.{is_sorted}
 use Rattle.std.specs.Ordering.{is_lt}
 use Rattle.std.specs.declared.cmp.Ordering.{Ordering}
 use Rattle.std.specs.declared.cmp.Ordering.TheVariants.{Less, Equal, Greater}
-use Rattle.std.proofs.lemmas.Bool.{cases_lt, eq-eqb}
+use Rattle.std.proofs.lemmas.Bool.{cases_lt}
 use Rattle.pv_model.specs.Bytes.{Bytes}
 use Rattle.pv_model.specs.Calls.Descriptors.{is_behind, next_name}
 use Rattle.pv_model.specs.Tree.{Tree, entries_at, find_entry, is_directory_at}
@@ -162,7 +162,5 @@ from-of last first behind d cut same = subst (λ k. IsFrom last k behind) (sym s
 -- ---- tests
 
 -- a node that is found is not the one that is looked for
-pub unlike : (o : Option ℕ) (n : ℕ) → not (option_eq eqb o (Some n)) ≡ true → o ≢ Some n
-unlike o n is same =
-    let here : not (eqb n n) ≡ true = subst (λ (x : Option ℕ). not (option_eq eqb x (Some n)) ≡ true) same is in
-    let both : true ≡ false = sym here ∙ ap not (eq-eqb n n refl) in cc both
+pub unlike : (o : Option ℕ) (m n : ℕ) → o ≡ Some m → m ≢ n → o ≢ Some n
+unlike o m n is apart same = let both : Some m ≡ Some n = sym is ∙ same in apart cc

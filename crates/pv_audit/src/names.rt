@@ -13,11 +13,16 @@ fn next_in(tree: &Tree, directory: u16, node: u16, last: Option<&[u8]>) -> Optio
     requires directory { IsTrue (is_directory_at tree.now.tree directory) }
     ensures { IsNextIn tree.now.tree directory node (option_copied last.entry) result }
 {
-    let mut name = tree.next_after(directory, last)?;
-    while tree.find(directory, name.as_slice()) != Some(node) {
-        name = tree.next_after(directory, Some(name.as_slice()))?;
+    if !tree.leads_to(directory, node) {
+        return None;
     }
-    Some(name)
+    let mut before = 0;
+    let mut entry = tree.next_entry(directory, last, before)?;
+    while entry.1 != node {
+        before = before.saturating_add(1);
+        entry = tree.next_entry(directory, Some(entry.0.as_slice()), before)?;
+    }
+    Some(entry.0)
 }
 
 /// The next name of a node, with the number of the directory in which it stands: the least that is greater than the last

@@ -61,6 +61,14 @@ listed_at (e ∷ es) q listed =
     listed_cases e es q ((j : ℕ) × (j < length (e ∷ es)) × ((d : Bytes × ℕ) → (get_or (e ∷ es) j d).0 ≡ q)) (λ same. (0, omega arith, λ d. sym same))
     (λ there. let at = listed_at es q there in (suc at.0, omega arith, λ d. at.2 d)) listed
 
+-- a name that is listed stands in a slot
+pub listed_in : (v : Version) (bytes : Bytes) (other : Bytes) → IsListed (in_order (slot_entries v bytes)) other → (j : ℕ) × (j < slot_count v bytes) × (slot_name (slot_at v bytes j) ≡ other)
+listed_in v bytes other listed =
+    let at = listed_at (slot_entries v bytes) other (ap is_some (sym (find-in_order other (slot_entries v bytes))) ∙ listed) in
+    let within : at.0 < slot_count v bytes = omega (arith, length-slot_entries v bytes) in
+    let none : Bytes × ℕ = ([], 0) in
+    (at.0, within, ap (λ (e : Bytes × ℕ). e.0) (sym (get_or-slot_entries v bytes at.0 none within)) ∙ at.2 none)
+
 neither_less : (a b : Bytes) → by_name b a ≢ Less → by_name a b ≢ Less → a ≡ b
 neither_less a b not_back not_forth = elim (by_name a b) as (λ o. by_name a b ≡ o → a ≡ b) [
   | Less ↦ λ is. absurd (not_forth is)
@@ -95,20 +103,13 @@ module _ (v : Version) (bytes : Bytes) (up : Ascend v bytes (slot_count v bytes)
   not_behind (Some last) k within is j before behind =
       not_less j (k - 1) (omega arith) (omega arith) (ap (λ (q : Bytes). by_name q (slot_name (slot_at v bytes j))) is.1 ∙ less_from (by_name last (slot_name (slot_at v bytes j))) behind)
 
-  listed_in : (other : Bytes) → IsListed (in_order (slot_entries v bytes)) other → (j : ℕ) × (j < slot_count v bytes) × (slot_name (slot_at v bytes j) ≡ other)
-  listed_in other listed =
-      let at = listed_at (slot_entries v bytes) other (ap is_some (sym (find-in_order other (slot_entries v bytes))) ∙ listed) in
-      let within : at.0 < slot_count v bytes = omega (arith, length-slot_entries v bytes) in
-      let none : Bytes × ℕ = ([], 0) in
-      (at.0, within, ap (λ (e : Bytes × ℕ). e.0) (sym (get_or-slot_entries v bytes at.0 none within)) ∙ at.2 none)
-
   module _ (last : Option Bytes) (k : ℕ) (d : IsDistinct (slot_entries v bytes)) (within : k ≤ slot_count v bytes) (is : IsSlotBehind last v bytes k) where
     least_there : k < slot_count v bytes → IsLeastBehind last (in_order (slot_entries v bytes)) (slot_name (slot_at v bytes k))
     least_there below = record {
       listed = slot_listed v bytes k d below;
       behind = behind_from last k is k (omega arith) below;
       least = λ other listed behind less.
-          let at = listed_in other listed in
+          let at = listed_in v bytes other listed in
           elim (cases_lt at.0 k) [
             | inl before ↦ not_behind last k within is at.0 before (ap (is_behind last) at.2 ∙ behind)
             | inr from ↦ not_less k at.0 (omega arith) at.1 (ap (λ (q : Bytes). by_name q (slot_name (slot_at v bytes k))) at.2 ∙ less)
@@ -117,7 +118,7 @@ module _ (v : Version) (bytes : Bytes) (up : Ascend v bytes (slot_count v bytes)
 
     none_there : slot_count v bytes ≤ k → IsNextName last (in_order (slot_entries v bytes)) None
     none_there past = λ other listed behind.
-        let at = listed_in other listed in
+        let at = listed_in v bytes other listed in
         not_behind last k within is at.0 (omega (arith, at.1)) (ap (is_behind last) at.2 ∙ behind)
 
     -- the next name stands in the slot behind that of the last one

@@ -11,6 +11,7 @@ pub mod Images
 pub mod Indexed
 pub mod Leading
 pub mod Mapped
+pub mod Named
 pub mod Next
 pub mod Outcomes
 pub mod Passes

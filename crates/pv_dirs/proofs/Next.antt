@@ -1,5 +1,5 @@
 -- The next name of entries in order, behind the last one.
-use Rattle.std.proofs.Common.{◌≡◌, ℕ, ◌+◌, ◌<◌, ◌++◌, length, take, get_or, Bool, true, false, cond, ◌&&◌, [], ◌∷◌, Option, None, Some, is_some, T, refl, ap, sym, subst, ◌∙◌}
+use Rattle.std.proofs.Common.{◌≡◌, ◌≢◌, ℕ, ◌+◌, ◌<◌, ◌++◌, length, take, get_or, Bool, true, false, cond, ◌&&◌, [], ◌∷◌, Option, None, Some, is_some, T, refl, ap, sym, subst, ◌∙◌}
 use Rattle.std.proofs.lemmas.List.{take_more}
 use Rattle.std.specs.Ordering.{is_lt, is_some_and, nat_cmp, ordering_reverse}
 use Rattle.std.specs.Cmp.Lexicographic.{slice_cmp, slice_partial_cmp, lists_agrees}
@@ -12,7 +12,7 @@ use Rattle.pv_model.specs.Tree.{Entries}
 use Rattle.pv_dirs.specs.Slots.{in_order, IsDistinct}
 use Rattle.pv_dirs.specs.Listing.{is_before, IsListed, IsLeastBehind, IsNextName}
 use Rattle.pv_dirs.proofs.Closing.{distinct_before}
-use Rattle.pv_dirs.proofs.Entries.{distinct_front, sorted-in_order, in_order-append, by_name, total, same_name, tied, tied-same, tied_itself}
+use Rattle.pv_dirs.proofs.Entries.{distinct_front, sorted-in_order, find-in_order, in_order-append, by_name, total, same_name, tied, tied-same, tied_itself}
 
 pub less_from : (o : Ordering) → is_lt o ≡ true → o ≡ Less
 less_from Less is = refl
@@ -150,6 +150,12 @@ next_name-more last es k e d within at =
 
 pub next_name_in_order : (last : Option Bytes) (es : Entries) → IsNextName last (in_order es) (next_name last (in_order es))
 next_name_in_order last es = next_name_is last (in_order es) (from_T (is_sorted by_name (in_order es)) (sorted-in_order es))
+
+-- an entry has the next name
+pub next_found : (last : Option Bytes) (es : Entries) (name : Bytes) → Some name ≡ next_name last (in_order es) → find by_name name es ≢ None
+next_found last es name is none =
+    let least : IsLeastBehind last (in_order es) name = subst (IsNextName last (in_order es)) (sym is) (next_name_in_order last es) in
+    let no = sym (ap is_some (find-in_order name es ∙ none)) ∙ least.listed in cc
 
 -- ---- going over slots
 

@@ -5,7 +5,9 @@ use Rattle.std.proofs.lemmas.List.{drop-take, drop-drop, drop_all, length-take, 
 use Rattle.pv_model.specs.declared.version.Version.{Version}
 use Rattle.pv_model.specs.Bytes.{Bytes}
 use Rattle.pv_model.specs.Room.{entry_length}
-use Rattle.pv_dirs.specs.Slots.{slot_at, slot_name, IsRun}
+use Rattle.pv_dirs.specs.Slots.{slot_at, slot_name, slot_number, IsRun}
+use Rattle.pv_dirs.proofs.SlotBytes.{front_number}
+use Rattle.pv_dirs.proofs.Strides.{slot_least}
 
 -- some of the bytes, as far as they go
 pub run_taken : (v : Version) (bytes run : Bytes) (k n at : ℕ) → at ≡ entry_length v * k → run ≡ take n (drop at bytes) → IsRun v bytes k run
@@ -39,3 +41,10 @@ run_behind v bytes run k l long is =
 -- the name in it
 pub run_name : (v : Version) (bytes run : Bytes) (k l : ℕ) → l ≡ entry_length v → IsRun v bytes k run → l ≤ length run → slot_name (take l run) ≡ slot_name (slot_at v bytes k)
 run_name v bytes run k l long is whole = ap (λ n. slot_name (take n run)) long ∙ ap slot_name (run_slot v bytes run k is (omega (arith, long, whole)))
+
+-- the number in it
+pub run_number : (v : Version) (bytes run : Bytes) (k : ℕ) → IsRun v bytes k run → 2 ≤ length run → slot_number run ≡ slot_number (slot_at v bytes k)
+unfolding slot_at
+run_number v bytes run k is long =
+    let rest : Bytes = drop (entry_length v * k) bytes in
+    ap slot_number is ∙ front_number (length run) rest long ∙ sym (front_number (entry_length v) rest (omega (arith, slot_least v)))

@@ -41,7 +41,7 @@ pub front_name : (l : ℕ) (xs : Bytes) → 4 + get_or xs 2 0 ≤ l → slot_nam
 unfolding slot_name
 front_name l xs fits = ap (λ n. take n (drop 4 (take l xs))) (get_or-take l xs 2 0 (omega arith)) ∙ front_part (get_or xs 2 0) l xs fits
 
-pub front_number : (l : ℕ) (xs : Bytes) → 4 ≤ l → slot_number (take l xs) ≡ slot_number xs
+pub front_number : (l : ℕ) (xs : Bytes) → 2 ≤ l → slot_number (take l xs) ≡ slot_number xs
 unfolding slot_number
 front_number l xs fits = ap₂ (λ a b. a + 256 * (b + 256 * 0)) (get_or-take l xs 0 0 (omega arith)) (get_or-take l xs 1 0 (omega arith))
 

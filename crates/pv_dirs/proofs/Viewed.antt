@@ -1,12 +1,15 @@
 -- What a clause about the tree says of the files that it is made of.
 use Rattle.std.proofs.Common.{◌≡◌, ℕ, true, false, length, refl, sym, ap, subst, ◌∙◌, [], ◌∷◌, arith}
 use Rattle.std.specs.Prelude.{IsSome}
-use Rattle.pv_model.specs.Tree.{Entries, Tree, node_at, is_directory_at, entries_at}
+use Rattle.std.specs.FinMap.Entries.{find}
+use Rattle.pv_model.specs.Bytes.{Bytes}
+use Rattle.pv_model.specs.Tree.{Entries, Tree, node_at, is_directory_at, entries_at, find_entry}
 use Rattle.pv_inodes.specs.Files.{Contained, Files, IsUsed, bytes_at}
 use Rattle.pv_dirs.specs.Slots.{slot_count, slot_entries, in_order}
 use Rattle.pv_dirs.specs.Trees.{tree_of, IsHolding, bytes_at as bytes_in}
 use Rattle.pv_dirs.proofs.Contents.{IsContent, content, bytes_at-tree_of}
-use Rattle.pv_dirs.proofs.TreeOf.{used_in, directory_used, entries_at-tree_of, length-entries_at, version-tree_of}
+use Rattle.pv_dirs.proofs.Entries.{by_name}
+use Rattle.pv_dirs.proofs.TreeOf.{used_in, directory_used, entries_at-tree_of, find_entry-tree_of, length-entries_at, version-tree_of}
 
 nothing_in : (es : Entries) → length es ≡ 0 → es ≡ []
 nothing_in [] none = refl
@@ -34,6 +37,9 @@ module _ (f : Files) (t : Tree) (n : ℕ) (view : tree_of f ≡ t) where
 
   pub viewed_entries : is_directory_at t n ≡ true → entries_at t n ≡ in_order (slot_entries f.version (bytes_at f n))
   viewed_entries is = ap (λ (u : Tree). entries_at u n) (sym view) ∙ entries_at-tree_of f n (viewed_directory is)
+
+  pub viewed_find : (name : Bytes) → is_directory_at t n ≡ true → find_entry t n name ≡ find by_name name (slot_entries f.version (bytes_at f n))
+  viewed_find name is = ap (λ (u : Tree). find_entry u n name) (sym view) ∙ find_entry-tree_of f n name (viewed_directory is)
 
   pub viewed_length : (b : ℕ) → IsHolding f b → is_directory_at t n ≡ true → length (entries_at t n) ≡ slot_count f.version (bytes_at f n)
   viewed_length b h is = ap (λ (u : Tree). length (entries_at u n)) (sym view) ∙ length-entries_at f b n h (viewed_directory is)

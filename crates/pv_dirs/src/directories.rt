@@ -2,6 +2,7 @@
 ghost use Rattle.std.specs.Prelude.{◌≡◌, ◌+◌, ◌-◌, ◌*◌, ◌<◌, ◌≤◌, ◌↔◌, suc, min, false, [], ◌++◌, length, take, drop, replicate, vec_len, All, IsTrue, None, Some, IsSome, IsNone, IfNone, IfSome, IfOk, OnOk, OnErr, option_map};
 ghost use Rattle.std.specs.Option.{option_copied};
 ghost use Rattle.pv_model.specs.declared.limits.TheConstants.{BLOCK, INODES};
+ghost use Rattle.pv_model.specs.Bytes.{Bytes};
 ghost use Rattle.pv_model.specs.Calls.Descriptors.{next_name};
 ghost use Rattle.pv_model.specs.Effect.{size_of};
 ghost use Rattle.pv_model.specs.Image.{inode_blocks, greatest_blocks};
@@ -16,7 +17,9 @@ mod ordering;
 
 use crate::index::Index;
 use crate::indexing::ascends;
-use crate::scan::{count, find, is_directory, least_behind, number, slot, start};
+use crate::scan::{
+    count, find, has_number, is_directory, least_behind, next_entry, number, slot, start,
+};
 use crate::slot::Slot;
 use pv_inodes::{Inodes, Space};
 use pv_model::{Name, Sort, Version};
@@ -162,6 +165,31 @@ impl Directories {
         ensures least { IsNextName (option_copied last.entry) (entries_at self.now directory) result }
     {
         least_behind(&self.inodes, &self.index, directory, last)
+    }
+
+    /// The least name of a directory, in byte order, that comes behind the last one, and the number of its node; without
+    /// a last one the least of all. None where no name comes behind it. `before` is a guess of how many names come before
+    /// the answer: it is the same with any, and found at once where the guess is right and the names ascend from slot to slot.
+    pub fn next_entry(
+        &self,
+        directory: u16,
+        last: Option<&[u8]>,
+        before: u32,
+    ) -> Option<(Name, u16)>
+        requires { IsTrue (is_directory_at self.now directory) }
+        ensures value { option_map (λ e. e.0) result ≡ next_name (option_copied last.entry) (entries_at self.now directory) }
+        ensures least { IsNextName (option_copied last.entry) (entries_at self.now directory) (option_map (λ e. e.0) result) }
+        ensures node { IfSome result (λ e. find_entry self.now directory e.0 ≡ Some e.1) }
+    {
+        next_entry(&self.inodes, &self.index, directory, last, before)
+    }
+
+    /// Whether an entry of a directory names a node.
+    pub fn leads_to(&self, directory: u16, node: u16) -> bool
+        requires { IsTrue (is_directory_at self.now directory) }
+        ensures { IsTrue result ↔ ((name : Bytes) × (find_entry self.now directory name ≡ Some node)) }
+    {
+        has_number(&self.inodes, directory, node)
     }
 
     /// Whether a directory has no entry.

@@ -40,26 +40,28 @@ impl From<Failed> for ListStop {
 }
 
 // Puts the next name of a directory at the end of a path, in the place of the one before it, and answers its node:
-// none where no name comes next, and then the path is the directory's. The first `base` bytes are the directory's path.
+// none where no name comes next, and then the path is the directory's. The first `base` bytes are the directory's path,
+// and `before` is a guess of how many of its names come before.
 fn next_child(
     tree: &Tree,
     directory: u16,
     base: usize,
     path: &mut Vec<u8>,
+    before: u32,
 ) -> Result<Option<u16>, AllocError>
     requires well_formed { IsWellFormed tree.now.tree }
     requires directory { IsTrue (is_directory_at tree.now.tree directory) }
     requires within { base ≤ vec_len path.old }
     ensures { IfOk result (λ child. IsNextChild (entries_at tree.now.tree directory) (last_name (drop base path.old.items)) (take base path.old.items) child path.new.items) }
 {
-    let next = tree.next_after(directory, path.get(base + 1..));
+    let next = tree.next_entry(directory, path.get(base + 1..), before);
     path.truncate(base);
-    let Some(name) = next else {
+    let Some((name, child)) = next else {
         return Ok(None);
     };
     path.push(b'/')?;
     path.extend_from_slice(name.as_slice())?;
-    Ok(tree.find(directory, name.as_slice()))
+    Ok(Some(child))
 }
 
 // Writes what is said of a node at the end of a path, and of all that is in it, so deep.
@@ -86,8 +88,10 @@ fn write_within<R: Remarks, W: Sink>(
         return Ok(());
     }
     let base = path.len();
-    while let Some(child) = next_child(tree, node, base, path)? {
+    let mut before = 0;
+    while let Some(child) = next_child(tree, node, base, path, before)? {
         write_within(out, tree, remarks, depth - 1, path, child)?;
+        before = before.saturating_add(1);
     }
     Ok(())
 }

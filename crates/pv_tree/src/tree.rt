@@ -1,6 +1,7 @@
 //! A tree on the blocks of an image, with who holds what.
-ghost use Rattle.std.specs.Prelude.{◌≡◌, ◌+◌, ◌-◌, ◌*◌, ◌≤◌, ◌↔◌, min, replicate, slice_set, vec_len, ◌==◌, All, false, [], ◌++◌, length, take, drop, IfOk, IsTrue, Some, IsSome, option_map};
+ghost use Rattle.std.specs.Prelude.{◌≡◌, ◌+◌, ◌-◌, ◌*◌, ◌≤◌, ◌↔◌, min, replicate, slice_set, vec_len, ◌==◌, All, false, [], ◌++◌, length, take, drop, IfOk, IfSome, IsTrue, Some, IsSome, option_map};
 ghost use Rattle.std.specs.Option.{option_copied};
+ghost use Rattle.pv_model.specs.Bytes.{Bytes};
 ghost use Rattle.pv_model.specs.Calls.Descriptors.{next_name};
 ghost use Rattle.pv_model.specs.Effect.{size_of};
 ghost use Rattle.pv_model.specs.Image.{inode_blocks, greatest_blocks};
@@ -230,6 +231,31 @@ impl Tree {
         ensures least { IsNextName (option_copied last.entry) (entries_at self.now.tree directory) result }
     {
         self.directories.next_after(directory, last)
+    }
+
+    /// The least name of a directory, in byte order, that comes behind the last one, and the number of its node; without
+    /// a last one the least of all. None where no name comes behind it. `before` is a guess of how many names come before
+    /// the answer: it is the same with any, and found at once where the guess is right and the names ascend from slot to slot.
+    pub fn next_entry(
+        &self,
+        directory: u16,
+        last: Option<&[u8]>,
+        before: u32,
+    ) -> Option<(Name, u16)>
+        requires { IsTrue (is_directory_at self.now.tree directory) }
+        ensures value { option_map (λ e. e.0) result ≡ next_name (option_copied last.entry) (entries_at self.now.tree directory) }
+        ensures least { IsNextName (option_copied last.entry) (entries_at self.now.tree directory) (option_map (λ e. e.0) result) }
+        ensures node { IfSome result (λ e. find_entry self.now.tree directory e.0 ≡ Some e.1) }
+    {
+        self.directories.next_entry(directory, last, before)
+    }
+
+    /// Whether an entry of a directory names a node.
+    pub fn leads_to(&self, directory: u16, node: u16) -> bool
+        requires { IsTrue (is_directory_at self.now.tree directory) }
+        ensures { IsTrue result ↔ ((name : Bytes) × (find_entry self.now.tree directory name ≡ Some node)) }
+    {
+        self.directories.leads_to(directory, node)
     }
 
     /// Whether a directory has no entry.

@@ -46,6 +46,16 @@ take-get [] i x is = cc
 take-get (y ∷ xs) zero x is = let same : y ≡ x = cc in ap (λ z. z ∷ []) same
 take-get {X = X} (y ∷ xs) (suc i) x is = ap (λ (zs : List X). y ∷ zs) (take-get xs i x is)
 
+-- the front of a pair that is found, and that there is one
+pub front-some : (o : Option (Bytes × ℕ)) (name next : Bytes) (node : ℕ) → o ≡ Some (name, node) → option_map (λ e. e.0) o ≡ Some next → name ≡ next
+front-some o name next node is first = let got : Some name ≡ Some next = sym (ap (option_map (λ (e : Bytes × ℕ). e.0)) is) ∙ first in cc
+
+pub some-is : (m n : ℕ) → Some m ≡ Some n → m ≡ n
+some-is m n is = cc
+
+pub front-none : (o : Option (Bytes × ℕ)) (next : Bytes) → o ≡ None → option_map (λ e. e.0) o ≡ Some next → ⊥
+front-none o next is first = let got : None ≡ Some next = sym (ap (option_map (λ (e : Bytes × ℕ). e.0)) is) ∙ first in cc
+
 -- ---- entries in order
 
 below-get : (q : Bytes) (es : Entries) (i : ℕ) (e : Bytes × ℕ) → below_all by_name q es ≡ true → slice_get es i ≡ Some e → is_lt (by_name q e.0) ≡ true

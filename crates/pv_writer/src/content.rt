@@ -1,9 +1,9 @@
 //! What a node contains.
-ghost use Rattle.std.specs.Prelude.{◌≡◌, ◌≤◌, ◌++◌, false, length, flat_map, IsTrue, IsSome, OnOk};
+ghost use Rattle.std.specs.Prelude.{◌≡◌, ◌≤◌, ◌++◌, false, length, flat_map, option_map, Some, IsTrue, IsSome, IfSome, OnOk};
 ghost use Rattle.pv_dirs.specs.Trees.{bytes_at};
 ghost use Rattle.pv_model.specs.Calls.Descriptors.{next_name};
 ghost use Rattle.pv_model.specs.Room.{greatest_length};
-ghost use Rattle.pv_model.specs.Tree.{greatest_name, node_at, entries_at, is_directory_at};
+ghost use Rattle.pv_model.specs.Tree.{greatest_name, node_at, entries_at, find_entry, is_directory_at};
 ghost use Rattle.pv_writer.specs.Spelling.{content_of, slot_of};
 
 use crate::filling::{put_u16, put_zeros};
@@ -24,14 +24,15 @@ fn put_slot(bytes: &mut Vec<u8>, version: Version, name: &[u8], node: u16) -> Re
     put_zeros(bytes, behind)
 }
 
-// The name of a directory that comes behind the last one.
-fn next(tree: &Tree, directory: u16, last: &Option<Name>) -> Option<Name>
+// The name of a directory that comes behind the last one, with its node. `before` is a guess of how many come before it.
+fn next(tree: &Tree, directory: u16, last: &Option<Name>, before: u32) -> Option<(Name, u16)>
     requires { IsTrue (is_directory_at tree.now.tree directory) }
-    ensures { result ≡ next_name last.now (entries_at tree.now.tree directory) }
+    ensures name { option_map (λ e. e.0) result ≡ next_name last.now (entries_at tree.now.tree directory) }
+    ensures node { IfSome result (λ e. find_entry tree.now.tree directory e.0 ≡ Some e.1) }
 {
     match last {
-        None => tree.next_after(directory, None),
-        Some(name) => tree.next_after(directory, Some(name.as_slice())),
+        None => tree.next_entry(directory, None, before),
+        Some(name) => tree.next_entry(directory, Some(name.as_slice()), before),
     }
 }
 
@@ -48,11 +49,8 @@ fn put_slots(
 {
     let _ = tree.sizes();
     let mut last: Option<Name> = None;
-    for _entry in 0..tree.size(directory) {
-        let Some(name) = next(tree, directory, &last) else {
-            unreachable!()
-        };
-        let Some(node) = tree.find(directory, name.as_slice()) else {
+    for entry in 0..tree.size(directory) {
+        let Some((name, node)) = next(tree, directory, &last, entry) else {
             unreachable!()
         };
         put_slot(bytes, version, name.as_slice(), node)?;

@@ -1,4 +1,4 @@
-use Rattle.std.proofs.Common.{Bor, ℕ, List, ◌≡◌, ◌≤◌, length, ap, take, ◌∙◌}
+use Rattle.std.proofs.Common.{◌≡◌, ◌≤◌, length, ap, take, ◌∙◌}
 use Rattle.pv_model.specs.Room.{entry_length}
 use Rattle.pv_inodes.specs.Files.{bytes_at}
 use Rattle.pv_dirs.specs.Slots.{slot_at, slot_name}

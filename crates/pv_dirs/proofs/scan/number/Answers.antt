@@ -16,4 +16,4 @@ returns c =
     let lent = c.lend.ensures ∙ ap (λ n. take (512 - n % 512) (drop n (bytes_at c.args.inodes.now c.args.directory))) c.start.ensures in
     c.read_u16.ensures ∙ ap slot_number lent
     ∙ front_number (512 - at % 512) rest (omega (arith, slot_front v c.args.k))
-    ∙ sym (front_number (entry_length v) rest (slot_least v))
+    ∙ sym (front_number (entry_length v) rest (omega (arith, slot_least v)))

@@ -2,31 +2,20 @@ use Rattle.std.proofs.Common.{◌≡◌, ℕ, ◌+◌, ◌++◌, length, Some, s
 use Rattle.pv_model.specs.Bytes.{Bytes}
 use Rattle.pv_model.specs.Tree.{entries_at, find_entry}
 use Rattle.pv_writer.specs.Spelling.{slot_of}
-use Rattle.pv_writer.proofs.Listed.{met, all-met, listing-start, listing-step, IsListing}
+use Rattle.pv_writer.proofs.Listed.{front-none, front-some, some-is, met, all-met, listing-start, listing-step, IsListing}
 use Rattle.pv_writer.proofs.content.put_slots.Goals as goal
 
 pub unreachable-requires : goal.unreachable-requires
 unreachable-requires c =
     let t = c.args.tree.now.tree in
-    let e = met t c.args.directory c.sizes.ensures.standing.well_formed c.args.version c.loop-entry._entry c.size-entry-end.result c.args.bytes.now.items c.loop-entry.bytes.items c.loop-entry.last c.requires.directory c.size-entry-end.ensures.value c.loop-entry-test.true c.loop-entry.invariant in
-    let next = c.next.ensures ∙ e.1.next in
-    cc (next, c.in_default.is)
-
-pub unreachable-requires-in_default-find : goal.unreachable-requires-in_default-find
-unreachable-requires-in_default-find c =
-    let t = c.args.tree.now.tree in
-    let e = met t c.args.directory c.sizes.ensures.standing.well_formed c.args.version c.loop-entry._entry c.size-entry-end.result c.args.bytes.now.items c.loop-entry.bytes.items c.loop-entry.last c.requires.directory c.size-entry-end.ensures.value c.loop-entry-test.true c.loop-entry.invariant in
-    let next = c.next.ensures ∙ e.1.next in
-    let name : c.as_slice.result.now ≡ e.0.0 = cc (next, c.in-Some.is, c.as_slice.ensures.value) in
-    let found = c.find.ensures ∙ ap (find_entry t c.args.directory) name ∙ e.1.found in
-    cc (found, c.in_default-find.is)
+    let e = met t c.args.directory c.sizes.ensures.standing.well_formed c.args.version c.loop-entry.entry c.size-entry-end.result c.args.bytes.now.items c.loop-entry.bytes.items c.loop-entry.last c.requires.directory c.size-entry-end.ensures.value c.loop-entry-test.true c.loop-entry.invariant in
+    front-none _ e.0.0 c.in_default.is (c.next.ensures.name ∙ e.1.next)
 
 pub put_slot-requires : goal.put_slot-requires
 put_slot-requires c =
     let t = c.args.tree.now.tree in
-    let e = met t c.args.directory c.sizes.ensures.standing.well_formed c.args.version c.loop-entry._entry c.size-entry-end.result c.args.bytes.now.items c.loop-entry.bytes.items c.loop-entry.last c.requires.directory c.size-entry-end.ensures.value c.loop-entry-test.true c.loop-entry.invariant in
-    let next = c.next.ensures ∙ e.1.next in
-    let name : c.as_slice-in-loop-entry.result.now ≡ e.0.0 = cc (next, c.in-Some.is, c.as_slice-in-loop-entry.ensures.value) in
+    let e = met t c.args.directory c.sizes.ensures.standing.well_formed c.args.version c.loop-entry.entry c.size-entry-end.result c.args.bytes.now.items c.loop-entry.bytes.items c.loop-entry.last c.requires.directory c.size-entry-end.ensures.value c.loop-entry-test.true c.loop-entry.invariant in
+    let name = c.as_slice.ensures.value ∙ front-some _ c.in-Some.name e.0.0 c.in-Some.node c.in-Some.is (c.next.ensures.name ∙ e.1.next) in
     let short = e.1.short in
     omega (arith, ap length name, short, c.requires.names)
 
@@ -37,17 +26,15 @@ pub loop-entry-preserved : goal.loop-entry-preserved
 loop-entry-preserved c =
     let t = c.args.tree.now.tree in
     let es = entries_at t c.args.directory in
-    let e = met t c.args.directory c.sizes.ensures.standing.well_formed c.args.version c.loop-entry._entry c.size-entry-end.result c.args.bytes.now.items c.loop-entry.bytes.items c.loop-entry.last c.requires.directory c.size-entry-end.ensures.value c.loop-entry-test.true c.loop-entry.invariant in
-    let next = c.next.ensures ∙ e.1.next in
-    let name : c.in-Some.name ≡ e.0.0 = cc (next, c.in-Some.is) in
-    let slice : c.as_slice.result.now ≡ e.0.0 = c.as_slice.ensures.value ∙ name in
-    let found = c.find.ensures ∙ ap (find_entry t c.args.directory) slice ∙ e.1.found in
-    let node : c.in-Some-find.node ≡ e.0.1 = cc (found, c.in-Some-find.is) in
-    let slot : (c.as_slice-in-loop-entry.result.now, c.in-Some-find.node) ≡ e.0 = λ i. ((c.as_slice-in-loop-entry.ensures.value ∙ name) i, node i) in
-    subst (λ (o : Bytes). IsListing c.args.version es (c.loop-entry._entry + 1) c.args.bytes.now.items c.put_slot.new.bytes.items (Some o)) (sym name)
-    (listing-step c.args.version es c.loop-entry._entry c.args.bytes.now.items c.loop-entry.bytes.items c.loop-entry.last e.0 c.loop-entry.invariant e.1.there c.put_slot.new.bytes.items
+    let e = met t c.args.directory c.sizes.ensures.standing.well_formed c.args.version c.loop-entry.entry c.size-entry-end.result c.args.bytes.now.items c.loop-entry.bytes.items c.loop-entry.last c.requires.directory c.size-entry-end.ensures.value c.loop-entry-test.true c.loop-entry.invariant in
+    let name = front-some _ c.in-Some.name e.0.0 c.in-Some.node c.in-Some.is (c.next.ensures.name ∙ e.1.next) in
+    let both : Some c.in-Some.node ≡ Some e.0.1 = sym c.in-Some.ensures.node ∙ ap (find_entry t c.args.directory) name ∙ e.1.found in
+    let node = some-is c.in-Some.node e.0.1 both in
+    let slot : (c.as_slice.result.now, c.in-Some.node) ≡ e.0 = λ i. ((c.as_slice.ensures.value ∙ name) i, node i) in
+    subst (λ (o : Bytes). IsListing c.args.version es (c.loop-entry.entry + 1) c.args.bytes.now.items c.put_slot.new.bytes.items (Some o)) (sym name)
+    (listing-step c.args.version es c.loop-entry.entry c.args.bytes.now.items c.loop-entry.bytes.items c.loop-entry.last e.0 c.loop-entry.invariant e.1.there c.put_slot.new.bytes.items
     (c.in_ok-put_slot.ensures ∙ ap (λ (s : Bytes × ℕ). c.loop-entry.bytes.items ++ slot_of c.args.version s) slot))
 
 pub returns : goal.returns
 returns c =
-    all-met c.args.tree.now.tree c.args.directory c.sizes.ensures.standing.well_formed c.args.version c.loop-entry._entry c.size-entry-end.result c.args.bytes.now.items c.loop-entry.bytes.items c.loop-entry.last c.requires.directory c.size-entry-end.ensures.value c.loop-entry-test.false c.loop-entry.invariant
+    all-met c.args.tree.now.tree c.args.directory c.sizes.ensures.standing.well_formed c.args.version c.loop-entry.entry c.size-entry-end.result c.args.bytes.now.items c.loop-entry.bytes.items c.loop-entry.last c.requires.directory c.size-entry-end.ensures.value c.loop-entry-test.false c.loop-entry.invariant

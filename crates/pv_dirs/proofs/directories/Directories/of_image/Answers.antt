@@ -1,6 +1,5 @@
 use Rattle.std.proofs.Common.{◌≡◌, ◌-◌, ◌/◌, ap, sym, subst, ◌∙◌, refl, arith}
 use Rattle.pv_model.specs.Tree.{Tree}
-use Rattle.pv_inodes.specs.Files.{Files}
 use Rattle.pv_dirs.specs.Trees.{tree_of, IsHolding}
 use Rattle.pv_dirs.proofs.Images.{image-inodes, image-sizes, image-holding, image-tree}
 use Rattle.pv_dirs.proofs.TreeOf.{blocks-tree_of}
