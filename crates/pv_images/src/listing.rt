@@ -59,7 +59,8 @@ fn list_bytes<W: Sink>(alloc: Global, bytes: Vec<u8>, out: &mut W) -> Result<(),
     ensures empty { OnOk result (W.waits out.new ≡ 0) }
     ensures stopped { IfErr result (λ fault. W.waits out.old ≡ 0 → WaitsOnlyIfUnlisted fault (W.waits out.new)) }
 {
-    let store = mount(alloc, bytes)?;
+    let mut store = mount(alloc, bytes)?;
+    store.sort_slots();
     match write_all(alloc, store.tree(), out) {
         Ok(()) => Ok(()),
         Err(ListStop::Memory) => Err(ListFault::Memory),

@@ -1,6 +1,7 @@
 //! Runs on images.
 ghost use Rattle.std.specs.Prelude.{◌≡◌, ◌⊎◌, ◌≤◌, length, Some, Ok, Err, IfOk, IfErr, IfSome, OnOk, OnErr};
 ghost use Rattle.pv_model.specs.Grammar.Programs.{program_of};
+ghost use Rattle.pv_model.specs.Mount.{mounted};
 ghost use Rattle.pv_model.specs.Start.{image_started};
 ghost use Rattle.pv_model.specs.Step.{boot};
 ghost use Rattle.pv_model.specs.Stream.{Rose};
@@ -10,22 +11,40 @@ ghost use Rattle.pv_run.specs.Streams.{GivesMoreThan};
 
 use crate::stream::{SOURCE_BYTES, read_whole};
 use crate::turns::{Ready, Summary, make_turns, start_on};
-use pv_model::{Failed, RunFault, Sink, Source};
+use pv_model::{Failed, ImageFault, RunFault, Sink, Source};
 use pv_mount::mount;
 use pv_trace::write_through;
-use pv_tree::Tree;
+use pv_tree::{Store, Tree};
 use pv_writer::to_bytes;
 use std::alloc::Global;
 
-// What a run on an image starts from, by the text of its schedule.
-pub(crate) fn start_image(alloc: Global, image: Vec<u8>, schedule: &[u8]) -> Result<Ready, RunFault>
+// The store of the tree that an image holds. `listed` tells whether all its directories will be listed, so that it is worth
+// to put their slots in order.
+fn store_of(alloc: Global, image: Vec<u8>, listed: bool) -> Result<Store, ImageFault>
+    ensures mounted { IfOk result (λ store. mounted image.items ≡ Ok store) }
+    ensures refused { IfErr result (λ fault. (fault ≡ ImageFault.Memory) ⊎ (mounted image.items ≡ Err fault)) }
+{
+    let mut store = mount(alloc, image)?;
+    if listed {
+        store.sort_slots();
+    }
+    Ok(store)
+}
+
+// What a run on an image starts from, by the text of its schedule. `listed` is as in `store_of`.
+pub(crate) fn start_image(
+    alloc: Global,
+    image: Vec<u8>,
+    schedule: &[u8],
+    listed: bool,
+) -> Result<Ready, RunFault>
     requires { length schedule.now ≤ SOURCE_BYTES }
     ensures asked { IfOk result (λ r. image_started image.items schedule.now ≡ Ok (started_from r.session r.schedule)) }
     ensures machine { IfOk result (λ r. boot program_of r.session.tree ≡ Some r.session) }
     ensures fault { IfErr result (λ f. RefusesStart f (image_started image.items schedule.now)) }
     ensures kind { IfErr result IsImageFault }
 {
-    let store = mount(alloc, image)?;
+    let store = store_of(alloc, image, listed)?;
     start_on(alloc, store, schedule)
 }
 
@@ -72,7 +91,7 @@ fn run_image<W: Sink, O: Sink>(
     ensures stopped { IfErr result (λ fault. W.waits trace.old ≡ 0 → WaitsOnlyIfCut fault (W.waits trace.new)) }
     ensures handed { OnOk result (O.waits image.new ≡ 0) }
 {
-    let mut ready = start_image(alloc, bytes, schedule)?;
+    let mut ready = start_image(alloc, bytes, schedule, true)?;
     let summary = make_turns(alloc, &mut ready, trace)?;
     write_image(alloc, ready.session.tree(), image)?;
     Ok(summary)

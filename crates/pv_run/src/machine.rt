@@ -25,7 +25,7 @@ fn machine_of(alloc: Global, image: Vec<u8>, schedule: &[u8]) -> Result<Session,
     let Ready {
         mut session,
         schedule,
-    } = start_image(alloc, image, schedule)?;
+    } = start_image(alloc, image, schedule, false)?;
     match pass_schedule(alloc, &mut session, schedule.turns()) {
         Ok(()) => Ok(session),
         Err(StepFault::NoMemory) => Err(RunFault::Memory),

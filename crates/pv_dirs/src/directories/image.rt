@@ -7,7 +7,6 @@ ghost use Rattle.pv_dirs.specs.Images.{IsImage};
 use super::Directories;
 use crate::index::Index;
 use crate::indexing::add_all;
-use crate::sorting::sort_all;
 use pv_inodes::Inodes;
 use pv_model::Version;
 use pv_model::limits::BLOCK;
@@ -15,7 +14,7 @@ use std::alloc::{AllocError, Global};
 
 impl Directories {
     /// The tree of the image that these bytes are, of this version and with so many inodes. The bytes are
-    /// its blocks from then on, so nothing is copied. Its slots are put in the order of the names.
+    /// its blocks from then on, so nothing is copied, and its slots stand where they stood.
     ///
     /// # Errors
     ///
@@ -32,8 +31,7 @@ impl Directories {
         let table = inodes as usize * version.layout().inode_length;
         let block_count = (bytes.len() / BLOCK - table.div_ceil(BLOCK) - 1) as u16;
         let mut index = Box::new(alloc, Index::empty())?;
-        let mut inodes = Inodes::of_image(bytes, inodes, version);
-        sort_all(&mut inodes);
+        let inodes = Inodes::of_image(bytes, inodes, version);
         add_all(&inodes, &mut index);
         Ok(Directories {
             inodes,
