@@ -1,75 +1,13 @@
--- From one name to the next: in a directory, and from directory to directory.
-use Rattle.std.proofs.Common.{◌≡◌, ◌≢◌, ℕ, ◌+◌, ◌<◌, ◌≤◌, true, false, length, Option, None, Some, refl, ap, sym, subst, ◌∙◌, ◌⊎◌, ⊎_elim, inl, inr, arith}
-use Rattle.std.specs.Option.{IsSome}
-use Rattle.std.specs.FinMap.Entries.{is_sorted}
-use Rattle.std.specs.Ordering.{is_lt}
-use Rattle.std.specs.declared.cmp.Ordering.{Ordering}
-use Rattle.std.specs.declared.cmp.Ordering.TheVariants.{Less, Equal, Greater}
+-- From one name to the next, from directory to directory.
+use Rattle.std.proofs.Common.{◌≡◌, ℕ, ◌+◌, ◌<◌, ◌≤◌, true, false, length, Option, None, Some, refl, ap, sym, subst, ◌∙◌, ◌⊎◌, ⊎_elim, inl, inr, arith}
 use Rattle.std.proofs.lemmas.Bool.{cases_lt}
 use Rattle.pv_model.specs.Bytes.{Bytes}
-use Rattle.pv_model.specs.Calls.Descriptors.{is_behind, next_name}
-use Rattle.pv_model.specs.Tree.{Tree, entries_at, find_entry, is_directory_at}
+use Rattle.pv_model.specs.Calls.Descriptors.{is_behind}
+use Rattle.pv_model.specs.Tree.{Tree, find_entry, is_directory_at}
 use Rattle.pv_tree_laws.proofs.Changes.{has_entry-directory, directory-below}
-use Rattle.pv_tree_laws.proofs.Entries.{by_name}
-use Rattle.pv_dirs.specs.Listing as dirs
-use Rattle.pv_listing.specs.Lines.{entries_behind}
-use Rattle.pv_listing.proofs.Children.{behind_more, next-first}
-use Rattle.pv_audit.specs.NextName.{is_after, IsNextIn, IsNextName}
-use Rattle.pv_audit.proofs.Rising.{Named, same-name, after-cases, after-lower, after-same, never, bool_cases}
-
-not_less : (o : Ordering) → o ≢ Less → is_lt o ≡ false
-not_less Less isnt = absurd (isnt refl)
-not_less Equal isnt = refl
-not_less Greater isnt = refl
-
--- ---- in a directory
-
-module _ (t : Tree) (d n : ℕ) (last : Option Bytes) where
-  -- no name of the node behind the last one comes before this one
-  pub record IsSoFar (name : Bytes) : Type 0 where
-    pub behind : is_behind last name ≡ true
-    pub least : (other : Bytes) → find_entry t d other ≡ Some n → is_behind last other ≡ true → is_behind (Some other) name ≡ false
-
-  listed : (name : Bytes) → find_entry t d name ≡ Some n → dirs.IsListed (entries_at t d) name
-  listed name is = subst IsSome (sym is) refl
-
-  pub so_far-first : (name : Bytes) → dirs.IsNextName last (entries_at t d) (Some name) → IsSoFar name
-  so_far-first name next = record {
-    behind = next.behind;
-    least = λ other is after. not_less (by_name other name) (next.least other (listed other is) after);
-  }
-
-  -- one that is not the node's is left behind
-  apart : (name other : Bytes) → find_entry t d name ≢ Some n → find_entry t d other ≡ Some n → is_behind (Some other) name ≡ false → is_behind (Some name) other ≡ true
-  apart name other isnt is low =
-      ⊎_elim (λ yes. yes)
-      (λ none. let same : name ≡ other = same-name name other none low in absurd (isnt (ap (find_entry t d) same ∙ is)))
-      (bool_cases (is_behind (Some name) other))
-
-  pub so_far-next : (name next : Bytes) → IsSoFar name → find_entry t d name ≢ Some n → dirs.IsNextName (Some name) (entries_at t d) (Some next) → IsSoFar next
-  so_far-next name next so isnt more = record {
-    behind = behind_more last name next so.behind more.behind;
-    least = λ other is after.
-        not_less (by_name other next) (more.least other (listed other is) (apart name other isnt is (so.least other is after)));
-  }
-
-  pub so_far-found : (name : Bytes) → IsSoFar name → find_entry t d name ≡ Some n → IsNextIn t d n last (Some name)
-  so_far-found name so is = record { named = is; behind = so.behind; least = so.least }
-
-  pub none-first : dirs.IsNextName last (entries_at t d) None → IsNextIn t d n last None
-  none-first none = λ other is. never (is_behind last other) (λ after. none other (listed other is) after)
-
-  pub none-next : (name : Bytes) → IsSoFar name → find_entry t d name ≢ Some n → dirs.IsNextName (Some name) (entries_at t d) None → IsNextIn t d n last None
-  none-next name so isnt none =
-      λ other is. never (is_behind last other) (λ after. none other (listed other is) (apart name other isnt is (so.least other is after)))
-
-pub behind-fewer : (t : Tree) (d : ℕ) (name next : Bytes) → is_sorted by_name (entries_at t d) ≡ true → next_name (Some name) (entries_at t d) ≡ Some next
-    → length (entries_behind (Some next) (entries_at t d)) < length (entries_behind (Some name) (entries_at t d))
-behind-fewer t d name next sorted is =
-    let first = next-first (Some name) (entries_at t d) next sorted is in
-    omega (arith, ap length first.1.first)
-
--- ---- from directory to directory
+use Rattle.pv_dirs.specs.Listing.{IsNextNameOf}
+use Rattle.pv_audit.specs.NextName.{is_after, IsNextName}
+use Rattle.pv_audit.proofs.Rising.{Named, after-cases, after-lower, after-same, never, bool_cases}
 
 -- what comes behind the last name: names of greater directories, and of this one those behind a name
 pub record IsCut (last : Option Named) (first : ℕ) (behind : Option Bytes) : Type 0 where
@@ -118,7 +56,7 @@ module _ (t : Tree) (n : ℕ) (last : Option Named) where
       split a b le = ⊎_elim (λ less. inl less) (λ other. inr (omega arith)) (cases_lt a b)
 
   -- where the directory has no such name
-  pub down-none : (d : ℕ) (from : Option Bytes) → IsDownTo d → IsFrom last d from → IsNextIn t d n from None → IsDownTo (d + 1)
+  pub down-none : (d : ℕ) (from : Option Bytes) → IsDownTo d → IsFrom last d from → IsNextNameOf t d n from None → IsDownTo (d + 1)
   unfolding IsFrom
   down-none d from down is none = at_next d down (λ name there. is name ∙ none name there)
 
@@ -127,7 +65,7 @@ module _ (t : Tree) (n : ℕ) (last : Option Named) where
   down-past d down isnt =
       at_next d down (λ name there. let both : true ≡ false = sym (has_entry-directory t d name n there) ∙ isnt in cc both)
 
-  pub down-found : (d : ℕ) (from : Option Bytes) (name : Bytes) → IsDownTo d → IsFrom last d from → IsNextIn t d n from (Some name) → IsNextName t n last (Some (d, name))
+  pub down-found : (d : ℕ) (from : Option Bytes) (name : Bytes) → IsDownTo d → IsFrom last d from → IsNextNameOf t d n from (Some name) → IsNextName t n last (Some (d, name))
   unfolding IsFrom
   down-found d from name down is next = record {
     named = next.named;
@@ -158,9 +96,3 @@ from-higher last first behind d cut less = λ name. cut.higher (d, name) less
 
 pub from-of : (last : Option Named) (first : ℕ) (behind : Option Bytes) (d : ℕ) → IsCut last first behind → d ≡ first → IsFrom last d behind
 from-of last first behind d cut same = subst (λ k. IsFrom last k behind) (sym same) (from-here last first behind cut)
-
--- ---- tests
-
--- a node that is found is not the one that is looked for
-pub unlike : (o : Option ℕ) (m n : ℕ) → o ≡ Some m → m ≢ n → o ≢ Some n
-unlike o m n is apart same = let both : Some m ≡ Some n = sym is ∙ same in apart cc

@@ -33,7 +33,7 @@ same_name Greater a b is isnt other =
     let turned : by_name b a ≡ Less = nat_list_cmp_total.antisymm b a ∙ ap ordering_reverse is in
     let yes : is_behind (Some b) a ≡ true = ap is_lt turned in cc
 
-pub same-name : (a b : Bytes) → is_behind (Some a) b ≡ false → is_behind (Some b) a ≡ false → a ≡ b
+same-name : (a b : Bytes) → is_behind (Some a) b ≡ false → is_behind (Some b) a ≡ false → a ≡ b
 same-name a b isnt other = same_name (by_name a b) a b refl isnt other
 
 -- ---- names with directories

@@ -14,17 +14,6 @@ is_after (Some last) name = nat_lt last.0 name.0 || ((last.0 == name.0) && is_be
 abbrev pub first_after : Option (ℕ × Bytes) → List (ℕ × Bytes) → Option (ℕ × Bytes)
 first_after last names = find (is_after last) names
 
--- a name of a node in a directory is the least of those behind the last one
-pub record IsLeastIn (t : Tree) (d n : ℕ) (last : Option Bytes) (name : Bytes) : Type 0 where
-  pub named : find_entry t d name ≡ Some n
-  pub behind : IsTrue (is_behind last name)
-  pub least : (other : Bytes) → find_entry t d other ≡ Some n → IsTrue (is_behind last other) → IsFalse (is_behind (Some other) name)
-
--- the next name of a node in a directory, or none where none comes behind the last one
-abbrev pub IsNextIn : Tree → ℕ → ℕ → Option Bytes → Option Bytes → Type 0
-IsNextIn t d n last next =
-    MatchOption next ((other : Bytes) → find_entry t d other ≡ Some n → IsFalse (is_behind last other)) (IsLeastIn t d n last)
-
 -- a name of a node is the least of those that come behind the last one
 pub record IsLeastAfter (t : Tree) (n : ℕ) (last : Option (ℕ × Bytes)) (name : ℕ × Bytes) : Type 0 where
   pub named : find_entry t name.0 name.1 ≡ Some n

@@ -39,7 +39,7 @@ lesser_of_two a b = elim (by_name a b) as (λ o. by_name a b ≡ o → better tr
 ] refl
 
 -- what is not less than a name is not less than one below that
-stays : (a c x : Bytes) → is_lt (by_name c x) ≡ true → is_lt (by_name a x) ≡ false → is_lt (by_name a c) ≡ false
+pub stays : (a c x : Bytes) → is_lt (by_name c x) ≡ true → is_lt (by_name a x) ≡ false → is_lt (by_name a c) ≡ false
 stays a c x below not_below = elim (is_lt (by_name a c)) as (λ b. is_lt (by_name a c) ≡ b → b ≡ false) [
   | true ↦ λ is. let less = total.trans a c x (less_from (by_name a c) is) (less_from (by_name c x) below) in let no = sym (ap is_lt less) ∙ not_below in cc
   | false ↦ λ is. refl

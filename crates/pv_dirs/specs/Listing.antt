@@ -1,12 +1,12 @@
 -- The names of a directory in byte order, one after the other.
-use Rattle.std.specs.Prelude.{ℕ, ◌≡◌, ◌<◌, length, slice_index, ◌≢◌, ◌&&◌, if◌then◌else◌, Bool, true, IsTrue, Option, None, Some, IsSome, MatchOption}
+use Rattle.std.specs.Prelude.{ℕ, ◌≡◌, ◌<◌, length, slice_index, ◌≢◌, ◌&&◌, if◌then◌else◌, Bool, true, IsTrue, IsFalse, Option, None, Some, IsSome, MatchOption}
 use Rattle.std.specs.Cmp.Lexicographic.{slice_cmp}
 use Rattle.std.specs.FinMap.Entries.{find}
 use Rattle.std.specs.Ordering.{nat_cmp, is_lt}
 use Rattle.std.specs.declared.cmp.Ordering.TheVariants.{Less}
 use Rattle.pv_model.specs.Bytes.{Bytes}
 use Rattle.pv_model.specs.Calls.Descriptors.{is_behind}
-use Rattle.pv_model.specs.Tree.{Entries}
+use Rattle.pv_model.specs.Tree.{Entries, Tree, find_entry}
 
 -- the first name, or else the second
 abbrev pub first_of : Option Bytes → Option Bytes → Option Bytes
@@ -39,3 +39,19 @@ pub record IsLeastBehind (last : Option Bytes) (es : Entries) (name : Bytes) : T
 -- the next name behind the last one, or none where none comes behind it
 abbrev pub IsNextName : Option Bytes → Entries → Option Bytes → Type 0
 IsNextName last es next = MatchOption next ((other : Bytes) → IsListed es other → is_behind last other ≢ true) (IsLeastBehind last es)
+
+-- ---- of some names
+
+-- a name is the least of those among some names that come behind the last one
+pub record IsLeastOf (IsOne : Bytes → Type 0) (last : Option Bytes) (name : Bytes) : Type 0 where
+  pub named : IsOne name
+  pub behind : IsTrue (is_behind last name)
+  pub least : (other : Bytes) → IsOne other → IsTrue (is_behind last other) → IsFalse (is_behind (Some other) name)
+
+-- the next of some names, or none where none of them comes behind the last one
+abbrev pub IsNextOf : (Bytes → Type 0) → Option Bytes → Option Bytes → Type 0
+IsNextOf IsOne last next = MatchOption next ((other : Bytes) → IsOne other → IsFalse (is_behind last other)) (IsLeastOf IsOne last)
+
+-- the next name of a node in a directory, or none where none comes behind the last one
+abbrev pub IsNextNameOf : Tree → ℕ → ℕ → Option Bytes → Option Bytes → Type 0
+IsNextNameOf t d n last next = IsNextOf (λ name. find_entry t d name ≡ Some n) last next

@@ -38,6 +38,10 @@ name_at v bytes k = if nat_lt k (slot_count v bytes) then Some (slot_name (slot_
 abbrev pub slot_entry : Version → Bytes → ℕ → Bytes × ℕ
 slot_entry v bytes k = (slot_name (slot_at v bytes k), slot_number (slot_at v bytes k))
 
+-- one of so many slots has the number and the name
+abbrev pub IsInSlots : Version → Bytes → ℕ → ℕ → Bytes → Type 0
+IsInSlots v bytes count n name = (k : ℕ) × (k < count) × (slot_number (slot_at v bytes k) ≡ n) × (slot_name (slot_at v bytes k) ≡ name)
+
 -- the entries in the order of their slots
 unfoldable pub slot_entries : Version → Bytes → Entries
 slot_entries v bytes = map (slot_entry v bytes) (range_with_len 0 (slot_count v bytes))

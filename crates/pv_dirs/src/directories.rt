@@ -2,13 +2,12 @@
 ghost use Rattle.std.specs.Prelude.{◌≡◌, ◌+◌, ◌-◌, ◌*◌, ◌<◌, ◌≤◌, ◌↔◌, suc, min, false, [], ◌++◌, length, take, drop, replicate, vec_len, All, IsTrue, None, Some, IsSome, IsNone, IfNone, IfSome, IfOk, OnOk, OnErr, option_map};
 ghost use Rattle.std.specs.Option.{option_copied};
 ghost use Rattle.pv_model.specs.declared.limits.TheConstants.{BLOCK, INODES};
-ghost use Rattle.pv_model.specs.Bytes.{Bytes};
 ghost use Rattle.pv_model.specs.Calls.Descriptors.{next_name};
 ghost use Rattle.pv_model.specs.Effect.{size_of};
 ghost use Rattle.pv_model.specs.Image.{inode_blocks, greatest_blocks};
 ghost use Rattle.pv_model.specs.Room.{greatest_length};
 ghost use Rattle.pv_model.specs.Tree.{node_at, entries_at, is_directory_at, find_entry, is_name, with_node, with_entry, without_entry, new_number};
-ghost use Rattle.pv_dirs.specs.Listing.{IsNextName};
+ghost use Rattle.pv_dirs.specs.Listing.{IsNextName, IsNextNameOf};
 ghost use Rattle.pv_dirs.specs.Trees.{sort_of, new_node, bytes_at, written, cut, without_node, total_need, LacksRoom, grown_length};
 
 mod counting;
@@ -18,7 +17,7 @@ mod ordering;
 use crate::index::Index;
 use crate::indexing::ascends;
 use crate::scan::{
-    count, find, has_number, is_directory, least_behind, next_entry, number, slot, start,
+    count, find, is_directory, least_behind, next_entry, next_with, number, slot, start,
 };
 use crate::slot::Slot;
 use pv_inodes::{Inodes, Space};
@@ -184,12 +183,13 @@ impl Directories {
         next_entry(&self.inodes, &self.index, directory, last, before)
     }
 
-    /// Whether an entry of a directory names a node.
-    pub fn leads_to(&self, directory: u16, node: u16) -> bool
+    /// The least name of a directory, in byte order, that names a node and comes behind the last one; without a last one
+    /// the least of all that do. None where no such name comes behind it.
+    pub fn next_name_of(&self, directory: u16, node: u16, last: Option<&[u8]>) -> Option<Name>
         requires { IsTrue (is_directory_at self.now directory) }
-        ensures { IsTrue result ↔ ((name : Bytes) × (find_entry self.now directory name ≡ Some node)) }
+        ensures { IsNextNameOf self.now directory node (option_copied last.entry) result }
     {
-        has_number(&self.inodes, directory, node)
+        next_with(&self.inodes, directory, node, last)
     }
 
     /// Whether a directory has no entry.

@@ -1,7 +1,6 @@
 //! A tree on the blocks of an image, with who holds what.
 ghost use Rattle.std.specs.Prelude.{◌≡◌, ◌+◌, ◌-◌, ◌*◌, ◌≤◌, ◌↔◌, min, replicate, slice_set, vec_len, ◌==◌, All, false, [], ◌++◌, length, take, drop, IfOk, IfSome, IsTrue, Some, IsSome, option_map};
 ghost use Rattle.std.specs.Option.{option_copied};
-ghost use Rattle.pv_model.specs.Bytes.{Bytes};
 ghost use Rattle.pv_model.specs.Calls.Descriptors.{next_name};
 ghost use Rattle.pv_model.specs.Effect.{size_of};
 ghost use Rattle.pv_model.specs.Image.{inode_blocks, greatest_blocks};
@@ -10,7 +9,7 @@ ghost use Rattle.pv_model.specs.Tree.{node_at, entries_at, is_directory_at, find
 ghost use Rattle.std.specs.List.{list_any};
 ghost use Rattle.pv_model.specs.declared.limits.TheConstants.{BLOCK};
 ghost use Rattle.pv_model.specs.Calls.Paths.{contains_directory};
-ghost use Rattle.pv_dirs.specs.Listing.{IsNextName};
+ghost use Rattle.pv_dirs.specs.Listing.{IsNextName, IsNextNameOf};
 ghost use Rattle.pv_dirs.specs.Trees.{sort_of, bytes_at};
 ghost use Rattle.pv_tree.specs.Changes.{root_alone};
 ghost use Rattle.pv_tree.specs.Holding.{holds_at};
@@ -250,12 +249,13 @@ impl Tree {
         self.directories.next_entry(directory, last, before)
     }
 
-    /// Whether an entry of a directory names a node.
-    pub fn leads_to(&self, directory: u16, node: u16) -> bool
+    /// The least name of a directory, in byte order, that names a node and comes behind the last one; without a last one
+    /// the least of all that do. None where no such name comes behind it.
+    pub fn next_name_of(&self, directory: u16, node: u16, last: Option<&[u8]>) -> Option<Name>
         requires { IsTrue (is_directory_at self.now.tree directory) }
-        ensures { IsTrue result ↔ ((name : Bytes) × (find_entry self.now.tree directory name ≡ Some node)) }
+        ensures { IsNextNameOf self.now.tree directory node (option_copied last.entry) result }
     {
-        self.directories.leads_to(directory, node)
+        self.directories.next_name_of(directory, node, last)
     }
 
     /// Whether a directory has no entry.

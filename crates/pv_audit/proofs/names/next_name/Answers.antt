@@ -8,8 +8,8 @@ use Rattle.pv_audit.proofs.NextOnes.{IsFrom, from-of, from-higher, down-none, do
 use Rattle.pv_audit.proofs.names.next_name.Goals as goal
 use Rattle.pv_audit.proofs.names.next_name.Goals.{then-directory-first, else-directory-first}
 
-pub returns-in-Some-next_in-clause-least : goal.returns-in-Some-next_in-clause-least
-returns-in-Some-next_in-clause-least c =
+pub returns-in-Some-next_name_of-clause-least : goal.returns-in-Some-next_name_of-clause-least
+returns-in-Some-next_name_of-clause-least c =
     let d = c.loop-directory.directory in
     let from : IsFrom (last_of c.args.last) d (option_copied c.if-directory-first.from) =
     elim c.if-directory-first.branch [
@@ -20,12 +20,12 @@ returns-in-Some-next_in-clause-least c =
           subst (λ (o : Option (Bor Bytes)). IsFrom (last_of c.args.last) d (option_copied o)) (sym w.from-is)
           (from-higher (last_of c.args.last) c.match-last.first.0 (option_copied c.match-last.first.1) d c.loop-directory.invariant.cut (omega (arith, w.if-directory-first.false, c.loop-directory.auto.directory)))
     ] in
-    down-found c.args.tree.now.tree c.args.node (last_of c.args.last) d (option_copied c.if-directory-first.from) c.in-Some-next_in.name c.loop-directory.invariant.down from c.in-Some-next_in.ensures
+    down-found c.args.tree.now.tree c.args.node (last_of c.args.last) d (option_copied c.if-directory-first.from) c.in-Some-next_name_of.name c.loop-directory.invariant.down from c.in-Some-next_name_of.ensures
 
-pub returns-in-Some-next_in-clause-value : goal.returns-in-Some-next_in-clause-value
-returns-in-Some-next_in-clause-value c =
+pub returns-in-Some-next_name_of-clause-value : goal.returns-in-Some-next_name_of-clause-value
+returns-in-Some-next_name_of-clause-value c =
     next-found c.args.tree.now.tree (ordered c.args.tree.now.tree c.sizes-directory-end.ensures.standing.well_formed.each_node) c.args.node (last_of c.args.last)
-    (Some (c.loop-directory.directory, c.in-Some-next_in.name)) (returns-in-Some-next_in-clause-least c)
+    (Some (c.loop-directory.directory, c.in-Some-next_name_of.name)) (returns-in-Some-next_name_of-clause-least c)
 
 pub loop-directory-preserved : goal.loop-directory-preserved
 loop-directory-preserved c =
