@@ -1,5 +1,5 @@
 //! The directories of an image.
-ghost use Rattle.std.specs.Prelude.{◌≡◌, ◌+◌, ◌-◌, ◌*◌, ◌<◌, ◌≤◌, ◌↔◌, suc, min, false, [], ◌++◌, length, take, drop, replicate, vec_len, All, IsTrue, None, Some, IsSome, IsNone, IfNone, IfSome, IfOk, OnOk, OnErr, option_map};
+ghost use Rattle.std.specs.Prelude.{◌≡◌, ◌+◌, ◌-◌, ◌*◌, ◌%◌, ◌<◌, ◌≤◌, ◌↔◌, suc, min, false, [], ◌++◌, length, take, drop, replicate, vec_len, All, IsTrue, None, Some, IsSome, IsNone, IfNone, IfSome, IfOk, OnOk, OnErr, option_map};
 ghost use Rattle.std.specs.Option.{option_copied};
 ghost use Rattle.pv_model.specs.declared.limits.TheConstants.{BLOCK, INODES};
 ghost use Rattle.pv_model.specs.Calls.Descriptors.{next_name};
@@ -242,6 +242,17 @@ impl Directories {
         index.remove(directory, name, hole as u16);
         index.change(directory, moved.name(), last as u16, hole as u16);
         Some(gone)
+    }
+
+    /// The bytes of a file or a link from `at` on, as far as they stand in one block, where they stand: they end with that
+    /// block, or where the bytes end.
+    pub fn lend(&self, inode: u16, at: u32) -> &[u8]
+        requires used { IsSome (node_at self.now inode) }
+        requires other { is_directory_at self.now inode ≡ false }
+        requires within { at < length (bytes_at self.now inode) }
+        ensures { result.now ≡ take (BLOCK - at % BLOCK) (drop at (bytes_at self.now inode)) }
+    {
+        self.inodes.lend(inode, at)
     }
 
     /// Copies the bytes of a file or a link, from `at` on, to the front of the buffer. The result is how

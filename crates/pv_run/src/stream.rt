@@ -12,6 +12,10 @@ pub const SOURCE_BYTES: usize = 67_108_864;
 // How many bytes a source is asked for at a time.
 const CHUNK: usize = 65_536;
 
+// Room that is asked for before a source is read: more than most give, so that it seldom grows. It costs nothing until
+// it is written.
+const ROOM: usize = 8_388_608;
+
 /// A source over bytes in memory.
 #[derive(Drop)]
 pub struct Bytes<'a> {
@@ -112,7 +116,7 @@ pub fn read_whole<S: Source>(alloc: Global, source: &mut S) -> Result<Vec<u8>, R
     ensures read { result ≡ Err RunFault.Read → Rose (S.failures source.old) (S.failures source.new) ⊎ GivesMoreThan SOURCE_BYTES (S.remaining source.old) }
     ensures fault { IfErr result IsReadOrMemory }
 {
-    let mut bytes = Vec::new(alloc);
+    let mut bytes = Vec::with_capacity(alloc, ROOM)?;
     let mut chunk = [0; CHUNK];
     while bytes.len() <= SOURCE_BYTES {
         let count = read_some(source, &mut chunk)?;

@@ -59,15 +59,19 @@ fn put_slots(
     Ok(())
 }
 
-// Appends the bytes of a file, or of a link's text: they are read into the room behind what stands there.
+// Appends the bytes of a file, or of a link's text, block by block.
 fn put_bytes(bytes: &mut Vec<u8>, tree: &Tree, node: u16) -> Result<(), AllocError>
     requires used { IsSome (node_at tree.now.tree node) }
     requires other { is_directory_at tree.now.tree node ≡ false }
     ensures { OnOk result (bytes.new.items ≡ bytes.old.items ++ bytes_at tree.now.tree node) }
 {
-    let start = bytes.len();
-    put_zeros(bytes, tree.size(node) as usize)?;
-    let _count = tree.read_at(node, 0, &mut bytes[start..]);
+    let size = tree.size(node);
+    let mut at = 0;
+    while at < size {
+        let part = tree.lend(node, at);
+        bytes.extend_from_slice(part)?;
+        at += part.len() as u32;
+    }
     Ok(())
 }
 

@@ -1,0 +1,13 @@
+use Rattle.std.proofs.Common.{◌≡◌, ◌≤◌, ◌-◌, ◌++◌, length, take}
+use Rattle.pv_dirs.specs.Trees.{bytes_at}
+use Rattle.pv_writer.proofs.content.put_bytes.Given as goal
+
+-- the bytes so far stand behind what stood there
+abbrev pub invariant-loop-at : goal.invariant-loop-at
+invariant-loop-at l = record {
+  within : l.at ≤ length (bytes_at l.tree.tree l.node);
+  text : l.bytes.items ≡ l.fn.bytes.items ++ take l.at (bytes_at l.tree.tree l.node);
+}
+
+abbrev pub decreases-loop-at : goal.decreases-loop-at
+decreases-loop-at l = l.size - l.at
