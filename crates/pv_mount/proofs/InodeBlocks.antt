@@ -1,36 +1,21 @@
 -- The blocks that inodes use, and which of them are refused.
-use Rattle.std.proofs.Common.{◌≡◌, ℕ, zero, suc, ◌+◌, ◌-◌, ◌≤◌, ◌<◌, List, [], ◌∷◌, ◌++◌, length, get_or, Bool, true, false, ap, sym, ◌∙◌, refl, arith, ltb-true, ltb-false, ◌%◌}
-use Rattle.std.proofs.lemmas.Bool.{and_parts, or_parts, or_left, or_right}
+use Rattle.std.proofs.Common.{◌≡◌, ℕ, zero, suc, ◌+◌, ◌-◌, ◌≤◌, List, [], ◌∷◌, ◌++◌, Bool, true, false, ap, sym, ◌∙◌, refl, arith, ltb-false, ◌%◌}
+use Rattle.std.proofs.lemmas.Bool.{or_parts, or_right}
 use Rattle.std.proofs.lemmas.Grind.{flat_map-append}
 use Rattle.std.proofs.lemmas.List.{append-nil}
-use Rattle.std.proofs.lemmas.List.Folds.{list_all_at, list_any-append}
+use Rattle.std.proofs.lemmas.List.Folds.{list_any-append}
 use Rattle.std.specs.Prelude.{not, ◌&&◌, ◌||◌, ◌==◌, nat_lt, nat_le, flat_map, cond}
-use Rattle.std.specs.List.{list_any, list_all, range_with_len}
+use Rattle.std.specs.List.{list_any, range_with_len}
 use Rattle.pv_blocks.specs.declared.block_set.BlockSet.{BlockSet}
 use Rattle.pv_blocks.specs.BlockSet.{is_member}
 use Rattle.pv_model.specs.declared.version.Version.{Version}
 use Rattle.pv_model.specs.Bytes.{Bytes}
-use Rattle.pv_model.specs.Image.{inode_blocks, size, used_content, used_index}
-use Rattle.pv_model.specs.Mount.{block_number, inode_number, has_bad_block, has_bad_inode, is_data_block, is_free, kind, stands_twice, used_before, used_by}
+use Rattle.pv_model.specs.Image.{size, used_content, used_index}
+use Rattle.pv_model.specs.Mount.{has_bad_block, has_bad_inode, is_data_block, is_free, kind, stands_twice, used_before, used_by}
 use Rattle.pv_model.specs.Room.{entry_length, greatest_length}
 use Rattle.pv_mount.specs.Claims.{is_refused, is_taken_by, HasUsedBefore}
 
 -- ---- lists
-
-all_pass : (p : ℕ → Bool) (xs : List ℕ) (i : ℕ) → list_all p xs ≡ true → i < length xs → p (get_or xs i 0) ≡ true
-all_pass p xs i all within =
-    elim (p (get_or xs i 0)) as (λ b. p (get_or xs i 0) ≡ b → b ≡ true) [
-      | true ↦ λ is. refl
-      | false ↦ λ is. let none = list_all_at p xs i 0 within is in absurd cc
-    ] refl
-
-one_fails : (p : ℕ → Bool) (xs : List ℕ) → list_all p xs ≡ false → list_any (λ k. not (p k)) xs ≡ true
-one_fails p [] is = absurd cc
-one_fails p (x ∷ xs) is =
-    elim (p x) as (λ b. p x ≡ b → (b && list_all p xs) ≡ false → (not b || list_any (λ k. not (p k)) xs) ≡ true) [
-      | true ↦ λ here rest. one_fails p xs rest
-      | false ↦ λ here rest. refl
-    ] refl is
 
 pub same_tests : (p q : ℕ → Bool) → ((k : ℕ) → p k ≡ q k) → (xs : List ℕ) → list_any p xs ≡ list_any q xs
 same_tests p q same [] = refl
@@ -71,27 +56,11 @@ module _ (v : Version) (bytes : Bytes) where
       let lengths = or_parts no_sort too_long fronts.0 in
       ltb-false (greatest_length v) long lengths.1
 
-  pub blocks_within : (xs : List ℕ) → list_all (is_data_block v bytes) xs ≡ true → (i : ℕ) → i < length xs → get_or xs i 0 < block_number bytes
-  blocks_within xs all i within =
-      let is = all_pass (is_data_block v bytes) xs i all within in
-      let k = get_or xs i 0 in
-      ltb-true k (block_number bytes) (and_parts (nat_lt (inode_blocks v (inode_number bytes)) k) (nat_lt k (block_number bytes)) is).1
-
   pub used_by-free : (n : ℕ) → is_free v bytes n ≡ true → used_by v bytes n ≡ []
   used_by-free n free = ap (λ b. cond b [] (used_content v bytes n ++ used_index v bytes n)) free
 
   pub used_by-used : (n : ℕ) → is_free v bytes n ≡ false → used_by v bytes n ≡ used_content v bytes n ++ used_index v bytes n
   used_by-used n used = ap (λ b. cond b [] (used_content v bytes n ++ used_index v bytes n)) used
-
-  -- an index block that is no data block is a fault
-  pub bad_index : (n : ℕ) → is_free v bytes n ≡ false → list_all (is_data_block v bytes) (used_index v bytes n) ≡ false → has_bad_block v bytes n ≡ true
-  unfolding has_bad_block
-  bad_index n used outside =
-      let other = λ (k : ℕ). not (is_data_block v bytes k) in
-      or_left (list_any other (used_by v bytes n) || stands_twice ◌==◌ (used_by v bytes n)) (list_any (λ k. list_any (λ o. o == k) (used_before v bytes n)) (used_by v bytes n))
-      (or_left (list_any other (used_by v bytes n)) (stands_twice ◌==◌ (used_by v bytes n))
-      (ap (list_any other) (used_by-used n used) ∙ list_any-append other (used_content v bytes n) (used_index v bytes n)
-      ∙ or_right (list_any other (used_content v bytes n)) (list_any other (used_index v bytes n)) (one_fails (is_data_block v bytes) (used_index v bytes n) outside)))
 
   -- what is at fault is what the set refuses
   pub bad_block-refused : (used : BlockSet) (n : ℕ) → HasUsedBefore used v bytes n → is_refused (is_data_block v bytes) (is_member used) (used_by v bytes n) ≡ has_bad_block v bytes n

@@ -37,7 +37,7 @@ size_covered : (s : ℕ) → s ≤ 512 * rounded_up s 512
 size_covered s = omega arith
 
 module _ (v : Version) (bytes : Bytes) where
-  is_data-within : (k : ℕ) → not (is_data_block v bytes k) ≡ false → k < block_number bytes
+  pub is_data-within : (k : ℕ) → not (is_data_block v bytes k) ≡ false → k < block_number bytes
   is_data-within k is =
       let data_block = is_data_block v bytes k in
       let yes : data_block ≡ true = elim data_block as (λ b. not b ≡ false → b ≡ true) [ true ↦ λ h. refl | false ↦ λ h. sym h ] is in

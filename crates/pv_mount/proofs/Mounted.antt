@@ -2,7 +2,7 @@
 use Rattle.std.proofs.Common.{◌≡◌, ◌∙◌, sym, subst, arith, ℕ, ◌+◌, ◌≤◌, length, Ok}
 use Rattle.pv_model.specs.declared.version.Version.{Version}
 use Rattle.pv_model.specs.Bytes.{Bytes}
-use Rattle.pv_model.specs.Image.{IsImageOf, field, inode_blocks}
+use Rattle.pv_model.specs.Image.{IsImageOf, field}
 use Rattle.pv_model.specs.Mount.{mounted}
 use Rattle.pv_model.specs.Tree.{Tree}
 use Rattle.pv_dirs.specs.Images.{IsImage}

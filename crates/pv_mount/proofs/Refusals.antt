@@ -1,11 +1,15 @@
--- Which lists of blocks are refused.
-use Rattle.std.proofs.Common.{◌≡◌, ℕ, zero, suc, ◌+◌, ◌<◌, List, [], ◌∷◌, length, take, get_or, Bool, true, false, inl, inr, ap, sym, ◌∙◌, refl, arith}
-use Rattle.std.proofs.lemmas.Bool.{or_cases, or_parts, or_from, or_left, or_right}
+-- Which lists of blocks are refused, and what is left to be claimed of one.
+use Rattle.std.proofs.Common.{◌≡◌, ℕ, List, [], ◌∷◌, ◌++◌, Bool, true, false, ap, sym, ◌∙◌, refl, arith}
+use Rattle.std.proofs.lemmas.Bool.{or_parts, or_from, or_right, true_from_ne_false}
 use Rattle.std.proofs.lemmas.Bool.Decides.{nat_tests}
-use Rattle.std.proofs.lemmas.List.Folds.{list_any_more, list_any_at}
+use Rattle.std.proofs.lemmas.List.Folds.{list_any-append}
+use Rattle.std.proofs.lemmas.List.Sorted.{IsPermutation-append_comm, list_any-IsPermutation}
+use Rattle.std.proofs.lemmas.Map.Keys.{IsDistinct-IsPermutation}
 use Rattle.std.specs.Prelude.{not, ◌||◌, ◌==◌}
 use Rattle.std.specs.List.{list_any}
+use Rattle.pv_image_laws.proofs.Ranges.{apart-once, distinct-once, once-apart, once-distinct}
 use Rattle.pv_model.specs.Mount.{stands_twice}
+use Rattle.pv_mount.proofs.InodeBlocks.{or_none, same_tests}
 use Rattle.pv_mount.specs.Claims.{is_refused, is_taken_by}
 
 pub eq_flips : (a b : ℕ) → (a == b) ≡ (b == a)
@@ -14,80 +18,161 @@ eq_flips a b = grind (arith, nat_tests)
 moved : (b a t : Bool) → (b || (a || t)) ≡ ((a || b) || t)
 moved b a t = elim a as (λ a. (b || (a || t)) ≡ ((a || b) || t)) [ true ↦ or_right b true refl | false ↦ refl ]
 
--- what is among those before stands twice
-pub twice_at : (xs : List ℕ) (i : ℕ) → i < length xs → list_any (λ other. other == get_or xs i 0) (take i xs) ≡ true → stands_twice ◌==◌ xs ≡ true
-twice_at [] i within is = absurd (omega arith)
-twice_at (x ∷ xs) zero within is = absurd cc
-twice_at (x ∷ xs) (suc i) within is =
-    let inner : i < length xs = omega arith in
-    elim (or_cases (x == get_or xs i 0) (list_any (λ other. other == get_or xs i 0) (take i xs)) is) [
-      | inl same ↦ or_left (list_any (λ y. x == y) xs) (stands_twice ◌==◌ xs) (list_any_at (λ y. x == y) xs i 0 inner same)
-      | inr among ↦ or_right (list_any (λ y. x == y) xs) (stands_twice ◌==◌ xs) (twice_at xs i inner among)
-    ]
+-- tests that fail together
+same_false : (a b : Bool) → (a ≡ false → b ≡ false) → (b ≡ false → a ≡ false) → a ≡ b
+same_false true true there back = refl
+same_false true false there back = back refl
+same_false false true there back = sym (there refl)
+same_false false false there back = refl
 
--- one more that is not among those before
-pub twice_more : (xs : List ℕ) (i : ℕ) → i < length xs → stands_twice ◌==◌ (take i xs) ≡ false → list_any (λ other. other == get_or xs i 0) (take i xs) ≡ false
-    → stands_twice ◌==◌ (take (i + 1) xs) ≡ false
-twice_more [] i within none new = absurd (omega arith)
-twice_more (x ∷ xs) zero within none new = refl
-twice_more (x ∷ xs) (suc i) within none new =
-    let inner : i < length xs = omega arith in
-    let nones = or_parts (list_any (λ y. x == y) (take i xs)) (stands_twice ◌==◌ (take i xs)) none in
-    let news = or_parts (x == get_or xs i 0) (list_any (λ other. other == get_or xs i 0) (take i xs)) new in
-    let plus : suc i + 1 ≡ suc (i + 1) = omega arith in
-    ap (λ m. stands_twice ◌==◌ (take m (x ∷ xs))) plus
-    ∙ or_from (list_any (λ y. x == y) (take (i + 1) xs)) (stands_twice ◌==◌ (take (i + 1) xs))
-    (list_any_more (λ y. x == y) xs i 0 inner ∙ or_from (list_any (λ y. x == y) (take i xs)) (x == get_or xs i 0) nones.0 news.0)
-    (twice_more xs i inner nones.1 news.1)
+-- what passes neither of two tests
+neither : (p q : ℕ → Bool) (xs : List ℕ) → list_any p xs ≡ false → list_any q xs ≡ false → list_any (λ k. p k || q k) xs ≡ false
+neither p q [] left right = refl
+neither p q (x ∷ xs) left right =
+    let a = or_parts (p x) (list_any p xs) left in
+    let b = or_parts (q x) (list_any q xs) right in
+    or_from (p x || q x) (list_any (λ k. p k || q k) xs) (or_from (p x) (q x) a.0 b.0) (neither p q xs a.1 b.1)
 
-module _ (may_be_used taken : ℕ → Bool) where
-  -- each of the first blocks may be used
-  pub record AreClaimed (blocks : List ℕ) : Type 0 where
-    pub may_be : list_any (λ k. not (may_be_used k)) blocks ≡ false
+neither-parts : (p q : ℕ → Bool) (xs : List ℕ) → list_any (λ k. p k || q k) xs ≡ false → (list_any p xs ≡ false) × (list_any q xs ≡ false)
+neither-parts p q [] none = (refl, refl)
+neither-parts p q (x ∷ xs) none =
+    let parts = or_parts (p x || q x) (list_any (λ k. p k || q k) xs) none in
+    let here = or_parts (p x) (q x) parts.0 in
+    let rest = neither-parts p q xs parts.1 in
+    (or_from (p x) (list_any p xs) here.0 rest.0, or_from (q x) (list_any q xs) here.1 rest.1)
+
+once_flips : (xs ys : List ℕ) → stands_twice ◌==◌ (xs ++ ys) ≡ false → stands_twice ◌==◌ (ys ++ xs) ≡ false
+once_flips xs ys once =
+    distinct-once ◌==◌ (ys ++ xs) (IsDistinct-IsPermutation ◌==◌ eq_flips (xs ++ ys) (ys ++ xs) (IsPermutation-append_comm xs ys) (once-distinct ◌==◌ (xs ++ ys) once))
+
+-- one more is taken
+pub one_more : (now new : ℕ → Bool) (x : ℕ) → ((k : ℕ) → new k ≡ (k == x || now k)) → (k : ℕ) → new k ≡ is_taken_by now (x ∷ []) k
+one_more now new x after k =
+    after k ∙ ap (λ b. b || now k) (eq_flips k x ∙ sym (or_none (x == k)))
+
+pub taken_flips : (taken : ℕ → Bool) (xs ys : List ℕ) (k : ℕ) → is_taken_by taken (xs ++ ys) k ≡ is_taken_by taken (ys ++ xs) k
+taken_flips taken xs ys k = ap (λ b. b || taken k) (list_any-IsPermutation (λ other. other == k) (xs ++ ys) (ys ++ xs) (IsPermutation-append_comm xs ys))
+
+module _ (may_be_used : ℕ → Bool) where
+  abbrev may_not : ℕ → Bool
+  may_not k = not (may_be_used k)
+
+  -- each block of a list may be used, stands there once, and is not taken
+  pub record AreFree (taken : ℕ → Bool) (blocks : List ℕ) : Type 0 where
+    pub may_be : list_any may_not blocks ≡ false
     pub once : stands_twice ◌==◌ blocks ≡ false
     pub free : list_any taken blocks ≡ false
 
-  pub none-claimed : AreClaimed []
-  none-claimed = record { may_be = refl; once = refl; free = refl }
+  pub free-parts : (taken : ℕ → Bool) (xs : List ℕ) → is_refused may_be_used taken xs ≡ false → AreFree taken xs
+  unfolding is_refused
+  free-parts taken xs fine =
+      let front = or_parts (list_any may_not xs || stands_twice ◌==◌ xs) (list_any taken xs) fine in
+      let parts = or_parts (list_any may_not xs) (stands_twice ◌==◌ xs) front.0 in
+      record { may_be = parts.0; once = parts.1; free = front.1 }
 
-  pub claimed_more : (xs : List ℕ) (i : ℕ) → i < length xs → AreClaimed (take i xs) → may_be_used (get_or xs i 0) ≡ true → is_taken_by taken (take i xs) (get_or xs i 0) ≡ false
-      → AreClaimed (take (i + 1) xs)
-  claimed_more xs i within before may new =
-      let news = or_parts (list_any (λ other. other == get_or xs i 0) (take i xs)) (taken (get_or xs i 0)) new in
+  free-all : (taken : ℕ → Bool) (xs : List ℕ) → AreFree taken xs → is_refused may_be_used taken xs ≡ false
+  unfolding is_refused
+  free-all taken xs are =
+      or_from (list_any may_not xs || stands_twice ◌==◌ xs) (list_any taken xs) (or_from (list_any may_not xs) (stands_twice ◌==◌ xs) are.may_be are.once) are.free
+
+  -- the front of a list, and what is behind it
+  free-front : (taken : ℕ → Bool) (xs ys : List ℕ) → AreFree taken (xs ++ ys) → AreFree taken xs × AreFree (is_taken_by taken xs) ys
+  free-front taken xs ys are =
+      let may = or_parts (list_any may_not xs) (list_any may_not ys) (sym (list_any-append may_not xs ys) ∙ are.may_be) in
+      let apart = once-apart xs ys are.once in
+      let free = or_parts (list_any taken xs) (list_any taken ys) (sym (list_any-append taken xs ys) ∙ are.free) in (
+        record { may_be = may.0; once = apart.0; free = free.0 },
+        record { may_be = may.1; once = apart.1; free = neither (λ k. list_any (λ other. other == k) xs) taken ys apart.2 free.1 },
+      )
+
+  free-append : (taken : ℕ → Bool) (xs ys : List ℕ) → AreFree taken xs → AreFree (is_taken_by taken xs) ys → AreFree taken (xs ++ ys)
+  free-append taken xs ys front behind =
+      let parts = neither-parts (λ k. list_any (λ other. other == k) xs) taken ys behind.free in
       record {
-        may_be = list_any_more (λ k. not (may_be_used k)) xs i 0 within ∙ or_from (list_any (λ k. not (may_be_used k)) (take i xs)) (not (may_be_used (get_or xs i 0))) before.may_be (ap not may);
-        once = twice_more xs i within before.once news.0;
-        free = list_any_more taken xs i 0 within ∙ or_from (list_any taken (take i xs)) (taken (get_or xs i 0)) before.free news.1;
+        may_be = list_any-append may_not xs ys ∙ or_from (list_any may_not xs) (list_any may_not ys) front.may_be behind.may_be;
+        once = apart-once xs ys front.once behind.once parts.0;
+        free = list_any-append taken xs ys ∙ or_from (list_any taken xs) (list_any taken ys) front.free parts.1;
       }
 
-  -- the taken ones, with one more block
-  pub taken_more : (xs : List ℕ) (i k : ℕ) → i < length xs → (k == get_or xs i 0 || is_taken_by taken (take i xs) k) ≡ is_taken_by taken (take (i + 1) xs) k
-  taken_more xs i k within =
-      let more = list_any_more (λ other. other == k) xs i 0 within in
-      let flip = eq_flips k (get_or xs i 0) in
-      let A = list_any (λ other. other == k) (take i xs) in
-      ap (λ b. b || (A || taken k)) flip ∙ moved (get_or xs i 0 == k) A (taken k) ∙ ap (λ b. b || taken k) (sym more)
+  -- behind a front that is not refused, what follows decides
+  refused_behind : (taken : ℕ → Bool) (xs ys : List ℕ) → is_refused may_be_used taken xs ≡ false
+      → is_refused may_be_used (is_taken_by taken xs) ys ≡ is_refused may_be_used taken (xs ++ ys)
+  refused_behind taken xs ys fine =
+      let front = free-parts taken xs fine in
+      same_false (is_refused may_be_used (is_taken_by taken xs) ys) (is_refused may_be_used taken (xs ++ ys))
+      (λ behind. free-all taken (xs ++ ys) (free-append taken xs ys front (free-parts (is_taken_by taken xs) ys behind)))
+      (λ all. free-all (is_taken_by taken xs) ys (free-front taken xs ys (free-parts taken (xs ++ ys) all)).1)
 
-  pub claimed-all : (xs : List ℕ) → AreClaimed xs → is_refused may_be_used taken xs ≡ false
-  unfolding is_refused
-  claimed-all xs are =
-      or_from (list_any (λ k. not (may_be_used k)) xs || stands_twice ◌==◌ xs) (list_any taken xs)
-      (or_from (list_any (λ k. not (may_be_used k)) xs) (stands_twice ◌==◌ xs) are.may_be are.once) are.free
+  -- a front that is refused decides
+  refused_front : (taken : ℕ → Bool) (xs ys : List ℕ) → is_refused may_be_used taken xs ≡ true → is_refused may_be_used taken (xs ++ ys) ≡ true
+  refused_front taken xs ys is =
+      true_from_ne_false (is_refused may_be_used taken (xs ++ ys)) (λ all.
+      let fine = free-all taken xs (free-front taken xs ys (free-parts taken (xs ++ ys) all)).0 in
+      cc)
 
-  -- a block that may not be used refuses the list
-  pub refused_at : (xs : List ℕ) (i : ℕ) → i < length xs → may_be_used (get_or xs i 0) ≡ false → is_refused may_be_used taken xs ≡ true
+  same_refused : (taken other : ℕ → Bool) → ((k : ℕ) → taken k ≡ other k) → (xs : List ℕ) → is_refused may_be_used taken xs ≡ is_refused may_be_used other xs
   unfolding is_refused
-  refused_at xs i within never =
-      or_left (list_any (λ k. not (may_be_used k)) xs || stands_twice ◌==◌ xs) (list_any taken xs)
-      (or_left (list_any (λ k. not (may_be_used k)) xs) (stands_twice ◌==◌ xs) (list_any_at (λ k. not (may_be_used k)) xs i 0 within (ap not never)))
+  same_refused taken other same xs = ap (λ b. list_any may_not xs || stands_twice ◌==◌ xs || b) (same_tests taken other same xs)
 
-  -- so does one that is taken
-  pub refused_taken : (xs : List ℕ) (i : ℕ) → i < length xs → is_taken_by taken (take i xs) (get_or xs i 0) ≡ true → is_refused may_be_used taken xs ≡ true
+  pub refused_flips : (taken : ℕ → Bool) (xs ys : List ℕ) → is_refused may_be_used taken (xs ++ ys) ≡ is_refused may_be_used taken (ys ++ xs)
+  refused_flips taken xs ys =
+      same_false (is_refused may_be_used taken (xs ++ ys)) (is_refused may_be_used taken (ys ++ xs)) (flipped xs ys) (flipped ys xs) where
+        flipped : (xs ys : List ℕ) → is_refused may_be_used taken (xs ++ ys) ≡ false → is_refused may_be_used taken (ys ++ xs) ≡ false
+        flipped xs ys fine =
+            let are = free-parts taken (xs ++ ys) fine in
+            let moves = IsPermutation-append_comm ys xs in
+            free-all taken (ys ++ xs) (record {
+              may_be = list_any-IsPermutation may_not (ys ++ xs) (xs ++ ys) moves ∙ are.may_be;
+              once = once_flips xs ys are.once;
+              free = list_any-IsPermutation taken (ys ++ xs) (xs ++ ys) moves ∙ are.free;
+            })
+
+  pub none_refused : (taken : ℕ → Bool) → is_refused may_be_used taken [] ≡ false
   unfolding is_refused
-  refused_taken xs i within is =
-      elim (or_cases (list_any (λ other. other == get_or xs i 0) (take i xs)) (taken (get_or xs i 0)) is) [
-        | inl among ↦
-            or_left (list_any (λ k. not (may_be_used k)) xs || stands_twice ◌==◌ xs) (list_any taken xs)
-            (or_right (list_any (λ k. not (may_be_used k)) xs) (stands_twice ◌==◌ xs) (twice_at xs i within among))
-        | inr before ↦ or_right (list_any (λ k. not (may_be_used k)) xs || stands_twice ◌==◌ xs) (list_any taken xs) (list_any_at taken xs i 0 within before)
-      ]
+  none_refused taken = refl
+
+  -- ---- one by one
+
+  pub one_claimed : (taken : ℕ → Bool) (x : ℕ) → may_be_used x ≡ true → taken x ≡ false → is_refused may_be_used taken (x ∷ []) ≡ false
+  one_claimed taken x may new = free-all taken (x ∷ []) (record { may_be = or_from (may_not x) false (ap not may) refl; once = refl; free = or_from (taken x) false new refl })
+
+  pub one_unusable : (taken : ℕ → Bool) (x : ℕ) → may_be_used x ≡ false → is_refused may_be_used taken (x ∷ []) ≡ true
+  one_unusable taken x never =
+      true_from_ne_false (is_refused may_be_used taken (x ∷ [])) (λ fine. let is = (or_parts (may_not x) false (free-parts taken (x ∷ []) fine).may_be).0 in let not = ap not never in cc)
+
+  pub one_taken : (taken : ℕ → Bool) (x : ℕ) → taken x ≡ true → is_refused may_be_used taken (x ∷ []) ≡ true
+  one_taken taken x is = true_from_ne_false (is_refused may_be_used taken (x ∷ [])) (λ fine. let new = (or_parts (taken x) false (free-parts taken (x ∷ []) fine).free).0 in cc)
+
+  module _ (first : ℕ → Bool) (blocks : List ℕ) where
+    -- what is left of the blocks decides with what is taken now as all of them did with what was taken first
+    pub record IsLeft (now : ℕ → Bool) (left : List ℕ) : Type 0 where
+      pub refused : is_refused may_be_used now left ≡ is_refused may_be_used first blocks
+      pub taken : (k : ℕ) → is_taken_by now left k ≡ is_taken_by first blocks k
+
+    pub all_left : IsLeft first blocks
+    all_left = record { refused = refl; taken = λ k. refl }
+
+    pub left_less : (now new : ℕ → Bool) (left xs ys : List ℕ) → left ≡ xs ++ ys → IsLeft now left → is_refused may_be_used now xs ≡ false → ((k : ℕ) → new k ≡ is_taken_by now xs k)
+        → IsLeft new ys
+    left_less now new left xs ys split before fine more = record {
+      refused = same_refused new (is_taken_by now xs) more ys ∙ refused_behind now xs ys fine ∙ ap (is_refused may_be_used now) (sym split) ∙ before.refused;
+      taken = λ k.
+          let among = λ (l : List ℕ). list_any (λ other. other == k) l in
+          ap (λ b. among ys || b) (more k) ∙ moved (among ys) (among xs) (now k) ∙ ap (λ b. b || now k) (sym (list_any-append (λ other. other == k) xs ys))
+          ∙ ap (λ l. is_taken_by now l k) (sym split) ∙ before.taken k;
+    }
+
+    pub left_refused : (now : ℕ → Bool) (left xs ys : List ℕ) → left ≡ xs ++ ys → IsLeft now left → is_refused may_be_used now xs ≡ true → is_refused may_be_used first blocks ≡ true
+    left_refused now left xs ys split before is = sym before.refused ∙ ap (is_refused may_be_used now) split ∙ refused_front now xs ys is
+
+    pub none_left : (now : ℕ → Bool) (left : List ℕ) → left ≡ [] → IsLeft now left → is_refused may_be_used first blocks ≡ false
+    none_left now left none before = sym before.refused ∙ ap (is_refused may_be_used now) none ∙ none_refused now
+
+    pub none_left-taken : (now : ℕ → Bool) (left : List ℕ) → left ≡ [] → IsLeft now left → (k : ℕ) → now k ≡ is_taken_by first blocks k
+    none_left-taken now left none before k = sym (ap (λ l. is_taken_by now l k) none) ∙ before.taken k
+
+    -- two fronts that are claimed, one behind the other
+    pub two_less : (middle new : ℕ → Bool) (xs ys zs : List ℕ) → blocks ≡ xs ++ (ys ++ zs) → is_refused may_be_used first xs ≡ false → ((k : ℕ) → middle k ≡ is_taken_by first xs k)
+        → is_refused may_be_used middle ys ≡ false → ((k : ℕ) → new k ≡ is_taken_by middle ys k) → IsLeft new zs
+    two_less middle new xs ys zs split fine more fine_too more_too =
+        left_less middle new (ys ++ zs) ys zs refl (left_less first middle blocks xs (ys ++ zs) split all_left fine more) fine_too more_too

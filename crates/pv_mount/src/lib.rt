@@ -5,7 +5,8 @@
 //! that inodes use, `slots` what directories and links contain, and `places` where inodes stand in the tree.
 //! Below them `fields` reads numbers that stand in bytes, `image` has `Image`, bytes whose sizes are in order,
 //! `contents` the contents of inodes, `targets` the inodes that directories name, and `reach` those that are reached
-//! from the root. Each pass reads a content once; the names of a directory are sorted.
+//! from the root. Each pass reads a content once; where the names of a directory do not ascend from slot to
+//! slot, a key of each is sorted, and where two keys are the same, the names are.
 #![tactic(auto)]
 
 ghost use Rattle.std.specs.Prelude.{◌≡◌, ◌⊎◌, IfErr, IfOk};
@@ -29,7 +30,7 @@ use pv_model::{ImageFault, Version};
 use std::alloc::Global;
 
 /// Tests whether bytes are an image: the answer is the version of its format. It takes memory for the content of one
-/// inode at a time and for the names in it, and for a count of each inode's names.
+/// inode at a time, for the names in it and their keys, and for a count of each inode's names.
 ///
 /// # Errors
 ///
@@ -43,7 +44,7 @@ pub fn check(alloc: Global, bytes: &[u8]) -> Result<Version, ImageFault>
     if let Some(n) = image.least_bad_inode() {
         return Err(ImageFault::Inode(n));
     }
-    if let Some(n) = image.least_bad_block(alloc)? {
+    if let Some(n) = image.least_bad_block() {
         return Err(ImageFault::Block(n));
     }
     if let Some(n) = image.least_bad_content(alloc)? {

@@ -1,10 +1,12 @@
 //! The slots of directories, and what is at fault in the contents of inodes.
-ghost use Rattle.std.specs.Prelude.{◌≡◌, ◌+◌, ◌*◌, ◌/◌, ◌<◌, ◌≤◌, bytes_eq, false, length, map, IfNone, IfOk, IfSome};
+ghost use Rattle.std.specs.Prelude.{◌≡◌, ◌==◌, ◌+◌, ◌*◌, ◌/◌, ◌<◌, ◌≤◌, bytes_eq, false, length, map, ◌↔◌, IsTrue, IfNone, IfOk, IfSome};
+ghost use Rattle.std.specs.Cmp.Lexicographic.{slice_cmp};
 ghost use Rattle.std.specs.List.{list_any};
+ghost use Rattle.std.specs.Ordering.{nat_cmp, is_lt};
 ghost use Rattle.pv_model.specs.Mount.{has_bad_block, has_bad_content, has_bad_inode, is_bad_slot, kind, slot_length, slot_name, slots_at, slots_of, stands_twice, PassesLeast, PassesNone};
 ghost use Rattle.pv_model.specs.Room.{entry_length};
 ghost use Rattle.pv_mount.specs.Numbers.{IsNumber};
-ghost use Rattle.pv_mount.specs.Slots.{are_bad_slots, slot_at};
+ghost use Rattle.pv_mount.specs.Slots.{are_bad_slots, name_key, slot_at, slot_key, NamesAscend};
 
 use crate::fields::{u8_at, u16_at};
 use crate::image::Image;
@@ -18,6 +20,9 @@ const LENGTH: usize = 2;
 // Where a slot has its name.
 const NAME: usize = 4;
 
+// In the key of a name, a byte counts so many times as much as the one behind it.
+const FACTOR: u64 = 0x9E37_79B9_7F4A_7C15;
+
 // The name in a slot.
 fn slot_name(slot: &[u8]) -> &[u8]
     requires { 4 + slot_length slot.now ≤ length slot.now }
@@ -25,6 +30,37 @@ fn slot_name(slot: &[u8]) -> &[u8]
 {
     let length = u8_at(slot, LENGTH) as usize;
     &slot[NAME..NAME + length]
+}
+
+// Whether a name comes before another one.
+fn is_before(name: &[u8], other: &[u8]) -> bool
+    ensures { result ≡ is_lt (slice_cmp nat_cmp name.now other.now) }
+{
+    name < other
+}
+
+// The key of a name: a sum of its bytes, of which the last 64 bits are left. Equal names have equal keys.
+fn key_of(name: &[u8]) -> u64
+    ensures { result ≡ name_key name.now }
+{
+    let mut key: u64 = 0;
+    for byte in name {
+        key = key.wrapping_mul(FACTOR).wrapping_add(u64::from(*byte));
+    }
+    key
+}
+
+// Whether a key stands twice among keys, which are put into order.
+fn are_keys_shared(keys: &mut [u64]) -> bool
+    ensures { result ≡ stands_twice ◌==◌ keys.old }
+{
+    keys.sort_unstable();
+    for i in 1..keys.len() {
+        if keys[i - 1] == keys[i] {
+            return true;
+        }
+    }
+    false
 }
 
 // Whether a name stands twice among names, which are put into order.
@@ -84,6 +120,20 @@ impl Image<'_> {
         false
     }
 
+    // Whether the names in the slots of a directory's content ascend from slot to slot, as in images that are written.
+    fn names_ascend(&self, content: &[u8]) -> bool
+        requires { list_any (is_bad_slot self.now.version self.now.bytes.now) (slots_of self.now.version (length content.now / entry_length self.now.version) content.now) ≡ false }
+        ensures { IsTrue result ↔ NamesAscend self.now.version (length content.now / entry_length self.now.version) content.now }
+    {
+        for i in 1..self.slot_count(content) {
+            let before = slot_name(self.slot(content, i - 1));
+            if !is_before(before, slot_name(self.slot(content, i))) {
+                return false;
+            }
+        }
+        true
+    }
+
     // The names in the slots of a directory's content.
     fn names<'b>(&self, alloc: Global, content: &'b [u8]) -> Result<Vec<&'b [u8]>, AllocError>
         requires { list_any (is_bad_slot self.now.version self.now.bytes.now) (slots_of self.now.version (length content.now / entry_length self.now.version) content.now) ≡ false }
@@ -97,12 +147,33 @@ impl Image<'_> {
         Ok(names)
     }
 
-    // Whether a slot of a directory's content is none, or a name stands twice.
+    // The keys of the names in the slots of a directory's content.
+    fn keys(&self, alloc: Global, content: &[u8]) -> Result<Vec<u64>, AllocError>
+        requires { list_any (is_bad_slot self.now.version self.now.bytes.now) (slots_of self.now.version (length content.now / entry_length self.now.version) content.now) ≡ false }
+        ensures { IfOk result (λ keys. keys.items ≡ map slot_key (slots_of self.now.version (length content.now / entry_length self.now.version) content.now)) }
+    {
+        let count = self.slot_count(content);
+        let mut keys = Vec::with_capacity(alloc, count)?;
+        for i in 0..count {
+            keys.push(key_of(slot_name(self.slot(content, i))))?;
+        }
+        Ok(keys)
+    }
+
+    // Whether a slot of a directory's content is none, or a name stands twice. Names that ascend need not be sorted,
+    // nor those of which no two have the same key: numbers are sorted in less time than names.
     fn are_bad_slots(&self, alloc: Global, content: &[u8]) -> Result<bool, AllocError>
         ensures { IfOk result (λ bad. bad ≡ are_bad_slots self.now.version self.now.bytes.now (slots_of self.now.version (length content.now / entry_length self.now.version) content.now)) }
     {
         if self.has_bad_slot(content) {
             return Ok(true);
+        }
+        if self.names_ascend(content) {
+            return Ok(false);
+        }
+        let mut keys = self.keys(alloc, content)?;
+        if !are_keys_shared(keys.as_mut_slice()) {
+            return Ok(false);
         }
         let mut names = self.names(alloc, content)?;
         Ok(stands_twice(names.as_mut_slice()))

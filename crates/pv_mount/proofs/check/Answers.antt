@@ -18,44 +18,40 @@ returns-in-Some-clause-refused c =
     let sizes = subst (λ b. HasSizes b image.version) (sym same) c.in_ok-image.ensures.sizes in
     inr (ap mounted (sym same) ∙ answered image.bytes.now (Inode c.in-Some.n) (bad_inode image.version c.in-Some.n sizes c.in-Some.ensures.least))
 
+pub returns-in-Some-least_bad_block-clause-refused : goal.returns-in-Some-least_bad_block-clause-refused
+returns-in-Some-least_bad_block-clause-refused c =
+    let image = c.in_ok-image.image in
+    let same = c.in_ok-image.ensures.bytes in
+    let sizes = subst (λ b. HasSizes b image.version) (sym same) c.in_ok-image.ensures.sizes in
+    inr (ap mounted (sym same) ∙ answered image.bytes.now (Block c.in-Some-least_bad_block.n) (bad_block image.version c.in-Some-least_bad_block.n sizes c.in_default.ensures.none c.in-Some-least_bad_block.ensures.least))
+
 pub returns-in-Some-2-clause-refused : goal.returns-in-Some-2-clause-refused
 returns-in-Some-2-clause-refused c =
     let image = c.in_ok-image.image in
     let same = c.in_ok-image.ensures.bytes in
     let sizes = subst (λ b. HasSizes b image.version) (sym same) c.in_ok-image.ensures.sizes in
     let least = rw c.in-Some-2.is at c.in_ok-n.ensures.least in
-    inr (ap mounted (sym same) ∙ answered image.bytes.now (Block c.in-Some-2.n) (bad_block image.version c.in-Some-2.n sizes c.in_default.ensures.none least))
-
-pub returns-in-Some-3-clause-refused : goal.returns-in-Some-3-clause-refused
-returns-in-Some-3-clause-refused c =
-    let image = c.in_ok-image.image in
-    let same = c.in_ok-image.ensures.bytes in
-    let sizes = subst (λ b. HasSizes b image.version) (sym same) c.in_ok-image.ensures.sizes in
-    let blocks = rw c.in_default-2.is at c.in_ok-n.ensures.none in
-    let least = rw c.in-Some-3.is at c.in_ok-n-2.ensures.least in
-    inr (ap mounted (sym same) ∙ answered image.bytes.now (Dir c.in-Some-3.n) (bad_content image.version c.in-Some-3.n sizes c.in_default.ensures.none blocks least))
+    inr (ap mounted (sym same) ∙ answered image.bytes.now (Dir c.in-Some-2.n) (bad_content image.version c.in-Some-2.n sizes c.in_default.ensures.none c.in_default-least_bad_block.ensures.none least))
 
 pub least_bad_place-requires-clause-root : goal.least_bad_place-requires-clause-root
 least_bad_place-requires-clause-root c =
     let image = c.in_ok-image.image in
     root_within image.version image.bytes.now (subst (λ b. HasSizes b image.version) (sym c.in_ok-image.ensures.bytes) c.in_ok-image.ensures.sizes)
 
-pub returns-in-Some-4-clause-refused : goal.returns-in-Some-4-clause-refused
-returns-in-Some-4-clause-refused c =
+pub returns-in-Some-3-clause-refused : goal.returns-in-Some-3-clause-refused
+returns-in-Some-3-clause-refused c =
     let image = c.in_ok-image.image in
     let same = c.in_ok-image.ensures.bytes in
     let sizes = subst (λ b. HasSizes b image.version) (sym same) c.in_ok-image.ensures.sizes in
-    let blocks = rw c.in_default-2.is at c.in_ok-n.ensures.none in
-    let contents = rw c.in_default-3.is at c.in_ok-n-2.ensures.none in
-    let least = rw c.in-Some-4.is at c.in_ok-n-3.ensures.least in
-    inr (ap mounted (sym same) ∙ answered image.bytes.now (NoTree c.in-Some-4.n) (bad_place image.version c.in-Some-4.n sizes c.in_default.ensures.none blocks contents least))
+    let contents = rw c.in_default-2.is at c.in_ok-n.ensures.none in
+    let least = rw c.in-Some-3.is at c.in_ok-n-2.ensures.least in
+    inr (ap mounted (sym same) ∙ answered image.bytes.now (NoTree c.in-Some-3.n) (bad_place image.version c.in-Some-3.n sizes c.in_default.ensures.none c.in_default-least_bad_block.ensures.none contents least))
 
 pub returns-clause-accepted : goal.returns-clause-accepted
 returns-clause-accepted c =
     let image = c.in_ok-image.image in
     let same = c.in_ok-image.ensures.bytes in
     let sizes = subst (λ b. HasSizes b image.version) (sym same) c.in_ok-image.ensures.sizes in
-    let blocks = rw c.in_default-2.is at c.in_ok-n.ensures.none in
-    let contents = rw c.in_default-3.is at c.in_ok-n-2.ensures.none in
-    let places = rw c.in_default-4.is at c.in_ok-n-3.ensures.none in
-    (tree_in image.version image.bytes.now, ap mounted (sym same) ∙ accepted image.bytes.now image.version sizes c.in_default.ensures.none blocks contents places, refl)
+    let contents = rw c.in_default-2.is at c.in_ok-n.ensures.none in
+    let places = rw c.in_default-3.is at c.in_ok-n-2.ensures.none in
+    (tree_in image.version image.bytes.now, ap mounted (sym same) ∙ accepted image.bytes.now image.version sizes c.in_default.ensures.none c.in_default-least_bad_block.ensures.none contents places, refl)

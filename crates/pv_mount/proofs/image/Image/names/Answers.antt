@@ -1,18 +1,14 @@
 use Rattle.std.proofs.Common.{◌≡◌, ◌<◌, ◌/◌, ℕ, List, Bor, length, map, ap, subst, ◌∙◌, arith}
-use Rattle.pv_model.specs.Mount.{is_bad_slot, slot_name, slots_of}
+use Rattle.pv_model.specs.Mount.{slot_name, slots_of}
 use Rattle.pv_model.specs.Room.{entry_length}
-use Rattle.pv_mount.proofs.SlotRows.{name_short, name_within, names_more, no_slot_at}
+use Rattle.pv_mount.proofs.SlotRows.{name_fits, names_more}
 use Rattle.pv_mount.proofs.image.Image.names.Goals as goal
 
 pub slot_name-requires : goal.slot_name-requires
 slot_name-requires c =
-    let v = c.args.self.now.version in
-    let bad = is_bad_slot v c.args.self.now.bytes.now in
-    let slot = c.slot.result.now in
-    let count = length c.args.content.now / entry_length v in
+    let count = length c.args.content.now / entry_length c.args.self.now.version in
     let less : c.loop-i.i < count = subst (λ m. c.loop-i.i < m) c.slot_count-count.ensures c.loop-i-test.true in
-    name_within v slot c.slot.ensures.length
-    (name_short v c.args.self.now.bytes.now slot (ap bad c.slot.ensures.bytes ∙ no_slot_at bad v c.args.content.now count c.loop-i.i less c.requires))
+    name_fits c.args.self.now.version c.args.self.now.bytes.now c.args.content.now c.slot.result.now count c.loop-i.i c.requires less c.slot.ensures.bytes c.slot.ensures.length
 
 pub loop-i-preserved : goal.loop-i-preserved
 loop-i-preserved c =

@@ -1,31 +1,39 @@
-use Rattle.std.proofs.Common.{◌++◌, take, drop, append-nil, ap, sym, ◌∙◌}
+use Rattle.std.proofs.Common.{◌≡◌, ◌++◌, ◌-◌, ℕ, length, min, take, drop, append-nil, ap, sym, ◌∙◌, arith}
 use Rattle.std.specs.Prelude.{flat_map}
 use Rattle.std.proofs.lemmas.List.{take_all, take_rest}
 use Rattle.pv_model.specs.Image.{block, block_count, inode}
 use Rattle.pv_mount.specs.Rows.{pointer_row}
-use Rattle.pv_mount.proofs.PointerRows.{used_content-rows, joined_more}
+use Rattle.pv_mount.proofs.PointerRows.{content_more, take-row, used_content-rows}
 use Rattle.pv_mount.proofs.image.Image.used_content.Goals as goal
 
 pub loop-k-init : goal.loop-k-init
 loop-k-init c =
-    let row = pointer_row 10 (drop 8 (inode c.args.self.now.version c.args.self.now.bytes.now c.args.n)) in
-    rw (c.in_ok-add_pointers.ensures, c.in_ok-list.ensures.items, c.inode.ensures.bytes, take_rest (inode c.args.self.now.version c.args.self.now.bytes.now c.args.n) 8) (sym (append-nil row))
+    let v = c.args.self.now.version in
+    let bytes = c.args.self.now.bytes.now in
+    let count = block_count v bytes c.args.n in
+    let behind = drop 8 (inode v bytes c.args.n) in
+    rw (c.in_ok-add_pointers.ensures, c.in_ok-list.ensures.items, c.inode.ensures.bytes, take_rest (inode v bytes c.args.n) 8)
+    (ap (λ m. pointer_row m behind) (c.min.ensures ∙ ap (λ m. min m 10) c.block_count-count.ensures) ∙ sym (take-row count 10 behind) ∙ ap (take count) (sym (append-nil (pointer_row 10 behind))))
 
 pub loop-k-preserved : goal.loop-k-preserved
 loop-k-preserved c =
+    let v = c.args.self.now.version in
     let bytes = c.args.self.now.bytes.now in
-    joined_more (pointer_row 10 (drop 8 (inode c.args.self.now.version bytes c.args.n))) (λ k. pointer_row 256 (block bytes k)) c.args.index.now c.loop-k.k-index
-    c.loop-k-test.true c.loop-k.list.items c.add_pointers-in-loop-k.new.list.items (pointer_row 256 c.block.result.now) c.loop-k.invariant c.in_ok-add_pointers-2.ensures
-    (ap (λ b. pointer_row 256 b) c.block.ensures.bytes)
+    let count = block_count v bytes c.args.n in
+    let list = c.loop-k.list.items in
+    let told : c.block_count-count.result ≡ count = c.block_count-count.ensures in
+    let left : c.saturating_sub-left.result ≡ count - length list = omega (arith, c.saturating_sub-left.ensures, c.len.ensures, c.loop-k.list.ok.0, told) in
+    c.in_ok-add_pointers-2.ensures
+    ∙ ap (λ m. list ++ pointer_row m c.block.result.now) (c.min-in-loop-k.ensures ∙ ap (λ m. min m 256) left)
+    ∙ ap (λ b. list ++ pointer_row (min (count - length list) 256) b) c.block.ensures.bytes
+    ∙ content_more count (pointer_row 10 (drop 8 (inode v bytes c.args.n))) bytes c.args.index.now c.loop-k.k-index c.loop-k-test.true list c.loop-k.invariant
 
 pub returns : goal.returns
 returns c =
     let v = c.args.self.now.version in
     let bytes = c.args.self.now.bytes.now in
     let front = pointer_row 10 (drop 8 (inode v bytes c.args.n)) in
-    let f = λ (k : _). pointer_row 256 (block bytes k) in
-    c.truncate.ensures.items
-    ∙ ap (λ m. take m c.loop-k.list.items) c.block_count.ensures
-    ∙ ap (λ l. take (block_count v bytes c.args.n) l) c.loop-k.invariant
+    let f = λ (k : ℕ). pointer_row 256 (block bytes k) in
+    c.loop-k.invariant
     ∙ ap (λ ks. take (block_count v bytes c.args.n) (front ++ flat_map f ks)) (take_all c.loop-k.k-index c.args.index.now c.loop-k-test.false ∙ c.requires.index)
     ∙ sym (used_content-rows v bytes c.args.n)
