@@ -1,6 +1,6 @@
 -- What an instruction on registers, or a jump, makes of a context.
 use Rattle.std.proofs.Common.{◌≡◌, ◌∙◌, ◌+◌, ap, sym, subst, add-one, ℕ, zero, suc, ◌-◌, ◌<◌, ◌≤◌, ℤ, pos, negsuc, ◌+ℤ◌, Bool, true, false, not, ltb, inl, inr, arith}
-use Rattle.std.specs.Prelude.{slice_get, slice_index, replicate}
+use Rattle.std.specs.Prelude.{slice_get, slice_index}
 use Rattle.std.specs.Int.{w32, saturate_signed}
 use Rattle.std.proofs.lemmas.Bool.{cases_lt, lt-ltb, le-ltb}
 use Rattle.pv_model.specs.declared.instruction.Instruction.{Instruction}
@@ -8,8 +8,8 @@ use Rattle.pv_model.specs.declared.instruction.Instruction.TheVariants.{Set, Add
 use Rattle.pv_model.specs.Answer.{at_next_line, with_front}
 use Rattle.pv_model.specs.Bytes.{Bytes}
 use Rattle.pv_model.specs.Program.{clamp, is_zero, is_negative, register, with_register, jump_if, inside, perform, next}
-use Rattle.pv_model.specs.State.{Program, Process, no_registers}
-use Rattle.pv_script.specs.Context.{Context, first_context, in_context, Changes, is_some_on_registers, is_inside}
+use Rattle.pv_model.specs.State.{Program, Process}
+use Rattle.pv_script.specs.Context.{Context, in_context, Changes, is_some_on_registers, is_inside}
 use Rattle.pv_script.specs.Passing.{Passes}
 
 -- a sum that stops at the ends of 32 bits
@@ -24,11 +24,6 @@ clamped (negsuc n) =
       | inl above ↦ let t : ltb 2147483647 n ≡ true = lt-ltb 2147483647 n above in rw t (ap negsuc (omega arith))
       | inr within ↦ let t : ltb 2147483647 n ≡ false = le-ltb 2147483647 n within in rw t (ap negsuc (omega arith))
     ]
-
--- a context whose buffer is all zero, before a first step
-pub first : (buffer : Bytes) (n : ℕ) → buffer ≡ replicate n 0 → n ≡ 4096 → record { line = 1; registers = no_registers; buffer = buffer } ≡ first_context
-unfolding first_context
-first buffer n zeros size = ap (λ b. let it : Context = record { line = 1; registers = no_registers; buffer = b } in it) (zeros ∙ ap (λ k. replicate k 0) size)
 
 module _ (program : Program) (old new : Context) (i : Instruction) where
   assigned : (r : ℕ) (value : ℤ) → Changes (λ p. at_next_line (with_register p r value)) program old new → (v : ℤ) → value ≡ v

@@ -1,3 +1,4 @@
+pub mod Buffers
 pub mod Contexts
 pub mod WholePrograms
 pub mod WholeSchedules

@@ -1,13 +1,22 @@
--- What becomes of a machine when its buffer was lent.
+-- What becomes of a machine, and of its buffer, when the buffer was lent.
 use Rattle.std.specs.Prelude.{◌++◌, length, take, drop}
 use Rattle.std.specs.Borrow.{Array, Lends, MutBor, Fml, u8}
 use Rattle.pv_model.specs.Bytes.{Bytes}
+use Rattle.pv_script.specs.contracts.buffer.Buffer.{the_row as buffer_row}
 use Rattle.pv_script.specs.contracts.machine.Machine.{the_row}
 use Rattle.pv_script.specs.Context.{Context}
 
+-- a buffer with these bytes at its front, which stays as long
+abbrev pub with_bytes : Bytes → Bytes → Bytes
+with_bytes buffer bytes = take (length buffer) (bytes ++ drop (length bytes) buffer)
+
 -- a machine with these bytes at the front of its buffer, which stays as long
 abbrev pub with_buffer : Context → Bytes → Context
-with_buffer m bytes = record m { buffer = take (length m.buffer) (bytes ++ drop (length bytes) m.buffer) }
+with_buffer m bytes = record m { buffer = with_bytes m.buffer bytes }
+
+-- the buffer ends with the last bytes behind the result
+abbrev pub LendsBytes : MutBor Bytes → MutBor Bytes → Fml
+LendsBytes b r = Lends buffer_row (Array u8 0) b r (with_bytes b.now)
 
 -- the machine ends with the last bytes behind the result in its buffer
 abbrev pub LendsBuffer : MutBor Context → MutBor Bytes → Fml

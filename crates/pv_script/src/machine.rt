@@ -2,6 +2,7 @@
 ghost use Rattle.std.specs.Prelude.{◌≡◌, ◌-◌, ◌<◌, ◌≤◌, ◌+ℤ◌, ◌++◌, true, false, Some, length, drop, take, slice_get, slice_index, IfOk, IfSome};
 ghost use Rattle.std.specs.Option.{option_copied, is_some};
 ghost use Rattle.std.specs.Borrow.{sem};
+ghost use Rattle.pv_model.specs.declared.limits.TheConstants.{BUFFER};
 ghost use Rattle.pv_model.specs.Answer.{at_next_line, with_front};
 ghost use Rattle.pv_model.specs.CallRef.{call_of};
 ghost use Rattle.pv_model.specs.Calls.Processes.{with_result};
@@ -9,7 +10,8 @@ ghost use Rattle.pv_model.specs.Program.{operand, clamp, is_zero, is_negative, r
 ghost use Rattle.pv_model.specs.State.{Process, Program as Instructions};
 
 use crate::Program;
-use pv_model::limits::{BUFFER, REGISTERS};
+use crate::buffer::Buffer;
+use pv_model::limits::REGISTERS;
 use pv_model::{CallRef, Instruction, Operand, Origin, Register, Start};
 use std::alloc::{AllocError, Global};
 use std::marker::Model;
@@ -19,28 +21,15 @@ use std::marker::Model;
 pub struct Machine {
     line: u16,
     registers: [i32; REGISTERS],
-    buffer: Vec<u8>,
+    buffer: Buffer,
 }
 
 impl Model for Machine {
-    ghost use Rattle.pv_model.specs.declared.limits.TheConstants.{BUFFER};
     ghost use Rattle.pv_script.specs.Context.{Context};
 
     ghost Value = { Context };
 
-    ghost use Rattle.std.specs.Prelude.{vec_len, ◌≡◌};
-
-    ghost view = { λ m. record { line = m.line; registers = m.registers; buffer = m.buffer.items } };
-
-    ghost invariant = { λ m. vec_len m.buffer ≡ BUFFER };
-}
-
-// Puts bytes to the front of others.
-fn put_to_front(buffer: &mut [u8], bytes: &[u8])
-    requires { length bytes.now ≤ length buffer.old }
-    ensures { buffer.new ≡ bytes.now ++ drop (length bytes.now) buffer.old }
-{
-    buffer[..bytes.len()].copy_from_slice(bytes);
+    ghost view = { λ m. record { line = m.line; registers = m.registers; buffer = m.buffer } };
 }
 
 // The sum of two numbers, held within 32 bits.
@@ -137,7 +126,7 @@ impl Machine {
         Ok(Machine {
             line: 1,
             registers: [0; REGISTERS],
-            buffer: vec![in alloc; 0; BUFFER]?,
+            buffer: Buffer::new(alloc)?,
         })
     }
 
@@ -147,7 +136,7 @@ impl Machine {
     {
         self.line = 1;
         self.registers = [0; REGISTERS];
-        self.buffer.fill(0);
+        self.buffer.clear();
     }
 
     /// Becomes as another.
@@ -156,7 +145,7 @@ impl Machine {
     {
         self.line = other.line;
         self.registers = other.registers;
-        self.buffer.copy_from_slice(&other.buffer);
+        self.buffer.copy_from(&other.buffer);
     }
 
     /// The 4,096 bytes of the buffer.
@@ -164,7 +153,7 @@ impl Machine {
         ensures value { result.now ≡ self.now.buffer }
         ensures size { length result.now ≡ BUFFER }
     {
-        &self.buffer
+        self.buffer.as_slice()
     }
 
     /// Goes on to the next line, at most to the one behind the last.
@@ -188,7 +177,7 @@ impl Machine {
         ensures value { result.now ≡ self.old.buffer }
         ensures size { length result.now ≡ BUFFER }
     {
-        &mut self.buffer
+        self.buffer.as_mut_slice()
     }
 
     /// Puts bytes, at most 4,096, to the front of the buffer.
@@ -196,7 +185,7 @@ impl Machine {
         requires { length bytes.now ≤ BUFFER }
         ensures { (program : Instructions) → Changes (with_front bytes.now) program self.old self.new }
     {
-        put_to_front(&mut self.buffer, bytes);
+        self.buffer.put_front(bytes);
     }
 
     // The number that is written, or stands in a register.

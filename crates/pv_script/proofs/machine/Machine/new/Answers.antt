@@ -4,4 +4,4 @@ use Rattle.pv_script.proofs.machine.Machine.new.Goals as goal
 
 pub returns : goal.returns
 unfolding first_context
-returns c = rw (c.in_ok-vec.ensures.items_if_clones_equal (λ y e. e)) refl
+returns c = rw c.in_ok-new.ensures refl

@@ -1,5 +1,7 @@
-use Rattle.pv_script.proofs.Contexts.{first}
+use Rattle.std.proofs.Common.{refl}
+use Rattle.pv_script.specs.Context.{first_context}
 use Rattle.pv_script.proofs.machine.Machine.reset.Goals as goal
 
 pub returns : goal.returns
-returns c = first _ _ (c.fill.ensures.items (λ y e. e)) c.self.invariant
+unfolding first_context
+returns c = rw c.clear.ensures refl

@@ -1,0 +1,10 @@
+-- How much of a buffer was written.
+use Rattle.std.specs.Prelude.{◌≡◌, ◌≤◌, ◌-◌, ℕ, length, drop, replicate}
+use Rattle.pv_model.specs.declared.limits.TheConstants.{BUFFER}
+use Rattle.pv_model.specs.Bytes.{Bytes}
+
+-- the bytes are those of a buffer, and all behind the first `used` are zero
+pub record IsZeroBehind (bytes : Bytes) (used : ℕ) : Type 0 where
+  pub whole : length bytes ≡ BUFFER
+  pub within : used ≤ BUFFER
+  pub behind : drop used bytes ≡ replicate (BUFFER - used) 0
