@@ -6,6 +6,7 @@ use Rattle.pv_model.specs.declared.fault.ParseFault.TheVariants.{Line, Memory as
 use Rattle.pv_model.specs.declared.kernel_fault.BootFault.{BootFault}
 use Rattle.pv_model.specs.declared.kernel_fault.BootFault.TheVariants.{Memory}
 use Rattle.pv_model.specs.declared.call.Call.{Call}
+use Rattle.pv_model.specs.CallRef.{call_of}
 use Rattle.pv_model.specs.Grammar.Programs.{read_program}
 use Rattle.pv_model.specs.Program.{inside, calls_for, next}
 use Rattle.pv_model.specs.RunFault.{of_init}
@@ -15,6 +16,7 @@ use Rattle.pv_model.specs.Tree.{Tree, Node, directory_node, file_node, link_node
 use Rattle.pv_parts.specs.Changes.{IsRegistered, MovesInside, PassesInside}
 use Rattle.pv_parts.specs.Counts.{processes_of}
 use Rattle.pv_parts.proofs.Alone.{passes-same, some-at}
+use Rattle.pv_calls.specs.Kernel.{IsCallable}
 use Rattle.pv_procs.specs.declared.processes.Ahead.{Ahead}
 use Rattle.pv_procs.specs.declared.processes.Ahead.TheVariants.{Gone, Register, Call as AtCall}
 use Rattle.pv_procs.specs.ProcessTable.{ProcessTable, process_in}
@@ -26,7 +28,7 @@ use Rattle.pv_runs.proofs.Ranges.{program_of-spells}
 use Rattle.std.specs.Result.{result_ok}
 
 -- a call that comes next in a process of a whole state may be made
-pub callable : (s : State) (pid : ℕ) (me : Process) (call : Call) → IsWhole s → process_at s pid ≡ Some me → next me ≡ calls_for call → is_call call ≡ true
+callable : (s : State) (pid : ℕ) (me : Process) (call : Call) → IsWhole s → process_at s pid ≡ Some me → next me ≡ calls_for call → is_call call ≡ true
 callable s pid me call whole at is = subst (IsGoodNext me) is (good-next me (whole.processes.running pid me at))
 
 -- an instruction inside a process leaves it in its ranges, and using and holding what it did
@@ -64,12 +66,17 @@ module _ (s t : State) (pid : ℕ) where
   pub registered-whole : (ahead : Ahead) → IsWhole s → IsRegistered ahead pid s t → IsWhole t
   registered-whole Gone whole same = subst IsWhole (sym same.1) whole
   registered-whole Register whole made = moved-whole (λ me after. next me ≡ inside after) stays-running whole made
-  registered-whole AtCall whole same = subst IsWhole (sym same.1) whole
+  registered-whole (AtCall call) whole same = subst IsWhole (sym same.1) whole
+
+  pub registered-callable : (ahead : Ahead) → IsWhole s → IsRegistered ahead pid s t → IsCallable ahead
+  registered-callable Gone whole same = tt
+  registered-callable Register whole made = tt
+  registered-callable (AtCall call) whole same = callable s pid same.0.0 (call_of call) whole same.0.1 same.0.2
 
   pub registered-tree : (ahead : Ahead) → IsRegistered ahead pid s t → t.tree ≡ s.tree
   registered-tree Gone same = ap (λ (x : State). x.tree) same.1
   registered-tree Register made = moved-tree (λ me after. next me ≡ inside after) made
-  registered-tree AtCall same = ap (λ (x : State). x.tree) same.1
+  registered-tree (AtCall call) same = ap (λ (x : State). x.tree) same.1
 
   -- several, one after another
   pub passed-whole : (n : ℕ) → IsWhole s → PassesInside n pid s t → IsWhole t

@@ -9,8 +9,9 @@ ghost use Rattle.pv_model.specs.Start.{booted};
 ghost use Rattle.pv_model.specs.State.{Process, process_at};
 ghost use Rattle.pv_model.specs.Trace.{buffer_of};
 ghost use Rattle.pv_model.specs.Tree.{find_entry};
+ghost use Rattle.pv_calls.specs.Kernel.{IsCallable};
 ghost use Rattle.pv_parts.specs.Changes.{IsRegistered, PassesInside};
-ghost use Rattle.pv_procs.specs.Turns.{AwaitsCall, CallsNext, IsAtCall};
+ghost use Rattle.pv_procs.specs.Turns.{AwaitsCall};
 
 use crate::carry::carry_out;
 use pv_cache::CachedLookup;
@@ -20,6 +21,7 @@ use pv_parts::Parts;
 use pv_paths::behind::Behind;
 use pv_paths::programs::init;
 use pv_procs::Ahead;
+use pv_script::CallTexts;
 use pv_tree::{Store, Tree};
 use std::alloc::Global;
 use std::marker::Model;
@@ -92,26 +94,14 @@ impl<L: Lookup + Drop> Kernel<L> {
         })
     }
 
-    /// The call that comes next in a process, as `register` answers, with its texts where they stand in its program: past
-    /// the last line, an exit.
-    pub fn next(&self, pid: u32) -> CallRef<'_>
-        requires { IsAtCall (process_at self.now.state pid) }
-        ensures next { CallsNext (Some result) (process_at self.now.state pid) }
-        ensures callable { IsTrue (is_call (call_of result)) }
-    {
-        match self.parts.processes().next(pid) {
-            Some(call) => call,
-            None => unreachable!(),
-        }
-    }
-
-    /// Makes the instruction on registers, or the jump, that comes next in a process, if one does: answers what came
-    /// next.
-    pub fn register(&mut self, pid: u32) -> Ahead
+    /// What comes next in a process: an instruction on registers or a jump, which is made, or a call, with its texts
+    /// kept: past the last line, an exit.
+    pub fn ahead<'a>(&mut self, pid: u32, texts: &'a mut CallTexts) -> Ahead<'a>
         ensures state { IsRegistered result pid self.old.state self.new.state }
+        ensures callable { IsCallable result }
         ensures walks { self.new.walks ≡ self.old.walks }
     {
-        self.parts.register(pid)
+        self.parts.ahead(pid, texts)
     }
 
     /// Makes the instructions on registers and the jumps that come next in a process, at most so many, one after

@@ -151,13 +151,13 @@ module _ (tree : HeldTree) (c : Counted) (ps qs : ProcessTable) (pid : ℕ) wher
   pub counted-registered : (ahead : Ahead) → IsCountedUp tree c ps → is_sorted nat_cmp ps.processes ≡ true → Registered ahead pid ps qs → IsCountedUp tree c qs
   counted-registered Gone up sorted same = subst (IsCountedUp tree c) (sym same.1) up
   counted-registered Register up sorted made = counted-moved (λ me after. next me ≡ inside after) inside-same up sorted made
-  counted-registered Call up sorted same = subst (IsCountedUp tree c) (sym same.1) up
+  counted-registered (Call call) up sorted same = subst (IsCountedUp tree c) (sym same.1) up
 
   pub registered-is : (s : State) (ahead : Ahead) → state_of tree c ps ≡ s → Registered ahead pid ps qs → IsRegistered ahead pid s (state_of tree c qs)
   registered-is s Gone seen same =
       (sym (ap (λ (t : State). process_at t pid) seen) ∙ same.0, ap (state_of tree c) same.1 ∙ seen)
   registered-is s Register seen made = moved-is (λ me after. next me ≡ inside after) s seen made
-  registered-is s Call seen same =
+  registered-is s (Call call) seen same =
       ((same.0.0, sym (ap (λ (t : State). process_at t pid) seen) ∙ same.0.1, same.0.2), ap (state_of tree c) same.1 ∙ seen)
 
   -- several, one after another

@@ -16,7 +16,7 @@ use Rattle.pv_model.specs.Unveil.{Table}
 use Rattle.pv_procs.specs.declared.processes.Ahead.{Ahead}
 use Rattle.pv_procs.specs.declared.processes.Ahead.TheVariants.{Gone, Register, Call}
 use Rattle.pv_procs.specs.ProcessTable.{ProcessTable, with_process as process_put}
-use Rattle.pv_procs.specs.Turns.{IsAtCall}
+use Rattle.pv_procs.specs.Turns.{CallsNext}
 use Rattle.pv_script.specs.Passing.{Passes}
 use Rattle.pv_unveil.specs.Added.{add_to}
 use Rattle.pv_unveil.specs.Unveiled.{Unveiled}
@@ -42,7 +42,7 @@ PassesInside (suc n) pid s new = MovesInside (Passes (suc n)) s pid new
 abbrev pub IsRegistered : Ahead → ℕ → State → State → Type 0
 IsRegistered Gone pid s new = (process_at s pid ≡ None) × (new ≡ s)
 IsRegistered Register pid s new = StepsInside s pid new
-IsRegistered Call pid s new = IsAtCall (process_at s pid) × (new ≡ s)
+IsRegistered (Call call) pid s new = CallsNext call (process_at s pid) × (new ≡ s)
 
 abbrev pub unveiled_of : Process → Unveiled
 unveiled_of p = record { table = p.table; locked = p.locked }

@@ -5,7 +5,7 @@ ghost use Rattle.pv_procs.specs.ProcessTable.{process_in};
 use crate::answers::expect_same;
 use pv_model::{CallRef, Errno, Perms, Promises, Target};
 use pv_procs::{Ahead, Processes, Reap, Record};
-use pv_script::Program;
+use pv_script::{CallTexts, Program};
 use std::process::Abort;
 
 fn expect_live(rt: &impl Abort, processes: &Processes, pid: u32)
@@ -65,12 +65,33 @@ fn program<R: Abort + AllocGlobal>(rt: &R, text: &[u8]) -> Program {
 }
 
 // The name of a call.
-fn name_of(call: Option<CallRef<'_>>) -> Option<&'static str> {
+fn name_of(call: CallRef<'_>) -> &'static str {
     match call {
-        Some(CallRef::GetPid) => Some("getpid"),
-        Some(CallRef::Exit(0)) => Some("exit 0"),
-        Some(_) => Some("another"),
-        None => None,
+        CallRef::GetPid => "getpid",
+        CallRef::Exit(0) => "exit 0",
+        _ => "another",
+    }
+}
+
+// What comes next in a process.
+#[derive(Clone, Copy, Debug, PartialEq, Eq)]
+enum Coming {
+    // Nothing: it is not live.
+    Gone,
+    // An instruction on registers, which is made.
+    Register,
+    // A call of this name.
+    Call(&'static str),
+}
+
+use Coming::{Call, Gone, Register};
+
+fn comes_next(processes: &mut Processes, pid: u32) -> Coming {
+    let mut texts = CallTexts::new();
+    match processes.ahead(pid, &mut texts) {
+        Ahead::Gone => Gone,
+        Ahead::Register => Register,
+        Ahead::Call(call) => Call(name_of(call)),
     }
 }
 
@@ -145,18 +166,15 @@ enum Sight {
     Parent(Option<u32>),
     // Whether a wait of it would wait.
     Waits(bool),
-    // The call that comes next, if one does.
-    Next(Option<&'static str>),
 }
 
-use Sight::{Live, Next, Parent, Waits};
+use Sight::{Live, Parent, Waits};
 
 fn expect_sight(rt: &impl Abort, processes: &Processes, pid: u32, sight: Sight) {
     match sight {
         Live(live) => expect_same(rt, processes.live(pid), live),
         Parent(parent) => expect_same(rt, processes.parent_of(pid), parent),
         Waits(waits) => expect_same(rt, processes.waits(pid), waits),
-        Next(name) => expect_same(rt, name_of(processes.next(pid)), name),
     }
 }
 
@@ -171,15 +189,15 @@ enum Step {
     Is(u32, Sight),
     // A process waits for a child.
     Wait(u32, Reap),
-    // An instruction on registers is made, if one comes next.
-    Register(u32, Ahead),
+    // What comes next in a process.
+    Next(u32, Coming),
     // At most so many of them are made in one piece, which answers how many.
     Registers(u32, u32, u32),
     // Children of process 1 come and go, from number 2 to below this one.
     Pass(u32),
 }
 
-use Step::{Does, Has, Is, Pass, Register, Registers, Wait};
+use Step::{Does, Has, Is, Next, Pass, Registers, Wait};
 
 fn pass<R: Abort + AllocGlobal>(rt: &R, processes: &mut Processes, below: u32) {
     for number in 2..below {
@@ -195,7 +213,7 @@ fn expect_step<R: Abort + AllocGlobal>(rt: &R, processes: &mut Processes, step: 
         Has(pid, part) => expect_part(rt, processes, pid, part),
         Is(pid, sight) => expect_sight(rt, processes, pid, sight),
         Wait(pid, answer) => expect_same(rt, processes.reap(pid), answer),
-        Register(pid, answer) => expect_same(rt, processes.register(pid), answer),
+        Next(pid, wanted) => expect_same(rt, comes_next(processes, pid), wanted),
         Registers(pid, most, made) => expect_same(rt, processes.pass(pid, most), made),
         Pass(below) => pass(rt, processes, below),
     }
@@ -251,24 +269,22 @@ const LOADED_PROGRAMS: &[Step] = &[
     Does(2, Load(TWO_LINES)),
     Has(2, Closed),
     Has(2, Lines(2)),
-    Is(2, Next(None)),
     Does(2, Advance),
-    Is(2, Next(Some("getpid"))),
+    Next(2, Call("getpid")),
     // The program that is loaded again is told something before its first step.
     Does(2, Load(TWO_LINES)),
     Does(2, Tell),
     Does(2, Put(b"xyz")),
     Has(2, Front(b"xyz")),
-    Is(1, Next(Some("exit 0"))),
+    Next(1, Call("exit 0")),
     // It is loaded once more, and its first instruction is made.
     Does(2, Load(TWO_LINES)),
-    Register(2, Ahead::Register),
-    Is(2, Next(Some("getpid"))),
-    Register(2, Ahead::Call),
-    Is(2, Next(Some("getpid"))),
+    Next(2, Register),
+    // A call comes next until the process goes on.
+    Next(2, Call("getpid")),
+    Next(2, Call("getpid")),
     Does(2, End(0)),
-    Register(2, Ahead::Gone),
-    Is(2, Next(None)),
+    Next(2, Gone),
 ];
 
 // Process 2 makes its instructions in pieces, and process 3 the same ones each for itself.
@@ -280,25 +296,22 @@ const PIECES: &[Step] = &[
     Registers(2, 0, 0),
     // A piece ends in the middle of the loop.
     Registers(2, 4, 4),
-    Register(3, Ahead::Register),
-    Register(3, Ahead::Register),
-    Register(3, Ahead::Register),
-    Register(3, Ahead::Register),
-    Is(2, Next(None)),
-    Is(3, Next(None)),
+    Next(3, Register),
+    Next(3, Register),
+    Next(3, Register),
+    Next(3, Register),
     // The next one ends before the call.
     Registers(2, 100, 3),
-    Register(3, Ahead::Register),
-    Register(3, Ahead::Register),
-    Register(3, Ahead::Register),
-    Is(2, Next(Some("getpid"))),
-    Is(3, Next(Some("getpid"))),
+    Next(3, Register),
+    Next(3, Register),
+    Next(3, Register),
+    Next(2, Call("getpid")),
+    Next(3, Call("getpid")),
     Registers(2, 100, 0),
-    Register(3, Ahead::Call),
     // Behind the last line an exit comes.
     Does(2, Load(JUMP_AT_THE_END)),
     Registers(2, 100, 2),
-    Is(2, Next(Some("exit 0"))),
+    Next(2, Call("exit 0")),
     Registers(2, 100, 0),
     // A process that has ended makes none.
     Does(2, End(0)),

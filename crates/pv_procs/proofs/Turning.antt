@@ -1,5 +1,5 @@
 -- The machine of a live process turns, on the places.
-use Rattle.std.proofs.Common.{◌≡◌, ℕ, zero, suc, ◌<◌, ◌==◌, cond, position, true, false, List, [], ◌∷◌, length, Option, None, Some, IsTrue, IsSome, is_some, refl, sym, subst, ap, ◌∙◌, arith}
+use Rattle.std.proofs.Common.{◌≡◌, ℕ, zero, suc, ◌<◌, ◌==◌, cond, position, true, false, List, [], ◌∷◌, length, None, Some, IsSome, is_some, refl, sym, subst, ap, ◌∙◌, arith}
 use Rattle.std.proofs.Math.ListN.{get_or, set}
 use Rattle.std.proofs.lemmas.Cmp.{nat_cmp_total}
 use Rattle.std.proofs.lemmas.List.{set-get_or}
@@ -8,14 +8,16 @@ use Rattle.std.specs.FinMap.Entries.{find, find-put}
 use Rattle.std.specs.List.{HoldsAt}
 use Rattle.std.specs.Ordering.{is_eq, nat_cmp}
 use Rattle.pv_model.specs.declared.call_ref.CallRef.{CallRef}
+use Rattle.pv_model.specs.CallRef.{call_of}
+use Rattle.pv_model.specs.Program.{calls_for, next}
 use Rattle.pv_model.specs.State.{Process, live, live_process}
-use Rattle.pv_script.specs.Context.{Context, IsNext, in_context, is_inside}
+use Rattle.pv_script.specs.Context.{Context, in_context, is_inside}
 use Rattle.pv_script.specs.Passing.{Passes}
 use Rattle.pv_procs.specs.declared.place.Place.{Place}
 use Rattle.pv_procs.specs.declared.shared.Shared.{Shared}
 use Rattle.pv_procs.specs.Places.{IsKept, process_of, ascends, program_at, table_of}
 use Rattle.pv_procs.specs.ProcessTable.{ProcessTable, process_in, with_process, update, update_live}
-use Rattle.pv_procs.specs.Turns.{AwaitsCall, CallsNext, IsAtCall, Moves, PassesIn, context_of}
+use Rattle.pv_procs.specs.Turns.{AwaitsCall, CallsNext, Moves, PassesIn, context_of}
 use Rattle.pv_procs.proofs.Finding.{IsAt, found-at, living, status-at, process-at, changed-at}
 use Rattle.pv_procs.proofs.Ends.{program-within}
 
@@ -61,13 +63,6 @@ put-there : (ps : ProcessTable) (pid : ℕ) (p : Process) → process_in (with_p
 put-there ps pid p =
     ap live_process (find-put nat_cmp nat_cmp_total pid pid (live p) ps.processes ∙ ap (λ o. cond (is_eq o) (Some (live p)) (find nat_cmp pid ps.processes)) (tied_itself nat_cmp_total pid))
 
--- what comes next in the process that is live
-pub calls-next : (me : Process) (lives : Option Process) → lives ≡ Some me → (call : Option CallRef) → IsNext me.program (context_of me) call → CallsNext call lives
-calls-next me lives is None within = λ found at.
-    let same : me ≡ found = cc in
-    subst (λ (p : Process). IsTrue (is_inside p.program (context_of p))) same within
-calls-next me lives is (Some call) comes = (me, is, comes me)
-
 module _ (places : List Place) (programs : List Shared) (last : ℕ) (ps : ProcessTable) (seen : table_of places programs last ≡ ps) (pid : ℕ) (asc : ascends places ≡ true)
     (k : ℕ) (place : Place) (at : IsAt places pid k place) (none : place.status ≡ None) (m : Context) where
   abbrev me : Process
@@ -99,10 +94,10 @@ module _ (places : List Place) (programs : List Shared) (last : ℕ) (ps : Proce
       ap (λ n. table_of (set places k (record place { «record» = record place.record { machine = n } })) programs last) same
       ∙ ap (λ p. table_of (set places k p) programs last) at.is ∙ ap (λ xs. table_of xs programs last) (set-get_or places k place) ∙ seen
 
-  -- it made no instruction
-  pub at-call : m ≡ place.record.machine → is_inside me.program place.record.machine ≡ false
-      → IsAtCall (process_in ps pid) × (table_of (set places k (record place { «record» = record place.record { machine = m } })) programs last ≡ ps)
-  at-call same call = ((me, lives, call), unchanged same)
+  -- a call comes next
+  pub at-call : (call : CallRef) → m ≡ place.record.machine → next me ≡ calls_for (call_of call)
+      → CallsNext call (process_in ps pid) × (table_of (set places k (record place { «record» = record place.record { machine = m } })) programs last ≡ ps)
+  at-call call same comes = ((me, lives, comes), unchanged same)
 
   -- it made so many
   pub passed : (n : ℕ) → Passes n me (in_context me me.program m) → PassesIn n pid ps (table_of (set places k (record place { «record» = record place.record { machine = m } })) programs last)

@@ -1,5 +1,5 @@
 -- What comes next in a process.
-use Rattle.std.specs.Prelude.{◌≡◌, ℕ, zero, suc, false, IsTrue, Option, None, Some}
+use Rattle.std.specs.Prelude.{◌≡◌, ℕ, zero, suc, false, Option, None, Some}
 use Rattle.pv_model.specs.declared.call_ref.CallRef.{CallRef}
 use Rattle.pv_model.specs.CallRef.{call_of}
 use Rattle.pv_model.specs.Program.{inside, calls_for, next}
@@ -13,14 +13,9 @@ use Rattle.pv_procs.specs.ProcessTable.{ProcessTable, process_in, with_process}
 abbrev pub context_of : Process → Context
 context_of p = record { line = p.line; registers = p.registers; buffer = p.buffer }
 
--- the call that comes next in what may be a live process: none where it is not, or where an instruction inside it does
-abbrev pub CallsNext : Option CallRef → Option Process → Type 0
-CallsNext (Some call) lives = (me : Process) × (lives ≡ Some me) × (next me ≡ calls_for (call_of call))
-CallsNext None lives = (me : Process) → lives ≡ Some me → IsTrue (is_inside me.program (context_of me))
-
--- a process is live, and a call comes next in it
-abbrev pub IsAtCall : Option Process → Type 0
-IsAtCall lives = (me : Process) × (lives ≡ Some me) × (is_inside me.program (context_of me) ≡ false)
+-- a process is live, and this call comes next in it
+abbrev pub CallsNext : CallRef → Option Process → Type 0
+CallsNext call lives = (me : Process) × (lives ≡ Some me) × (next me ≡ calls_for (call_of call))
 
 -- whether a process that is live has a call next
 abbrev pub AwaitsCall : Option Process → Type 0
@@ -47,4 +42,4 @@ PassesIn (suc n) pid old new = Moves (Passes (suc n)) pid old new
 abbrev pub Registered : Ahead → ℕ → ProcessTable → ProcessTable → Type 0
 Registered Gone pid old new = (process_in old pid ≡ None) × (new ≡ old)
 Registered Register pid old new = Performs pid old new
-Registered Call pid old new = IsAtCall (process_in old pid) × (new ≡ old)
+Registered (Call call) pid old new = CallsNext call (process_in old pid) × (new ≡ old)

@@ -23,19 +23,19 @@ use crate::place::{
 use crate::shared::{Shared, first_programs, free_program, let_go, take_up};
 use pv_model::limits::{LAST_PROCESS, PROCESSES};
 use pv_model::{CallRef, Errno};
-use pv_script::Program;
+use pv_script::{CallTexts, Program};
 use std::alloc::{AllocError, Global};
 use std::marker::Model;
 
 /// What comes next in a process.
-#[derive(Clone, Copy, Debug, PartialEq, Eq)]
-pub enum Ahead {
+#[derive(Clone, Copy)]
+pub enum Ahead<'a> {
     /// Nothing: it is not live.
     Gone,
     /// An instruction on registers, or a jump.
     Register,
     /// A call.
-    Call,
+    Call(CallRef<'a>),
 }
 
 /// What wait(2) finds.
@@ -78,7 +78,7 @@ impl Processes {
     ghost use Rattle.pv_procs.specs.Parts.{record_of};
     ghost use Rattle.pv_procs.specs.ProcessTable.{IsProcessTable, state_with, process_in, with_process, update, first_processes, after_inside};
     ghost use Rattle.pv_procs.specs.Reaping.{waited};
-    ghost use Rattle.pv_procs.specs.Turns.{AwaitsCall, CallsNext, PassesIn, Registered};
+    ghost use Rattle.pv_procs.specs.Turns.{AwaitsCall, PassesIn, Registered};
 
     /// Process 1 alone, with its program, before its first step.
     ///
@@ -250,24 +250,9 @@ impl Processes {
         &self.programs[place.program].program
     }
 
-    /// The call that comes next in a process, with its texts where they stand in its program: past the last line, an
-    /// exit. None where the process is not live, or where an instruction on registers or a jump comes next, which
-    /// `register` makes.
-    pub fn next(&self, pid: u32) -> Option<CallRef<'_>>
-        ensures { CallsNext result (process_in self.now pid) }
-    {
-        let k = index_of_live(&self.places, pid)?;
-        let place = &self.places[k];
-        place
-            .record
-            .get()
-            .machine
-            .next(&self.programs[place.program].program)
-    }
-
-    /// Makes the instruction on registers, or the jump, that comes next in a process, if one does: answers what came
-    /// next.
-    pub fn register(&mut self, pid: u32) -> Ahead
+    /// What comes next in a process: an instruction on registers or a jump, which is made, or a call, with its texts
+    /// kept: past the last line, an exit.
+    pub fn ahead<'a>(&mut self, pid: u32, texts: &'a mut CallTexts) -> Ahead<'a>
         ensures { Registered result pid self.old self.new }
     {
         let Some(k) = index_of_live(&self.places, pid) else {
@@ -275,10 +260,9 @@ impl Processes {
         };
         let place = &mut self.places[k];
         let shared = &self.programs[place.program];
-        if place.record.get_mut().machine.register(&shared.program) {
-            Ahead::Register
-        } else {
-            Ahead::Call
+        match place.record.get_mut().machine.ahead(&shared.program, texts) {
+            Some(call) => Ahead::Call(call),
+            None => Ahead::Register,
         }
     }
 

@@ -12,7 +12,9 @@ pub mod instruction;
 pub mod machine;
 pub mod program;
 pub mod schedule;
+pub mod texts;
 
 pub use machine::Machine;
 pub use program::Program;
 pub use schedule::Schedule;
+pub use texts::CallTexts;

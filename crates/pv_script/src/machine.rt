@@ -1,6 +1,6 @@
 //! What runs a program: the line that comes next, eight registers, and a buffer of 4,096 bytes.
-ghost use Rattle.std.specs.Prelude.{◌≡◌, ◌-◌, ◌<◌, ◌≤◌, ◌+ℤ◌, ◌++◌, true, false, Some, length, drop, take, slice_get, slice_index, IfOk, IfSome};
-ghost use Rattle.std.specs.Option.{option_copied, is_some};
+ghost use Rattle.std.specs.Prelude.{◌≡◌, ◌-◌, ◌<◌, ◌≤◌, ◌+ℤ◌, ◌++◌, true, false, Some, length, drop, take, slice_get, slice_index, IfOk, IfSome, OnSome};
+ghost use Rattle.std.specs.Option.{IfNone, option_copied, is_some};
 ghost use Rattle.std.specs.Borrow.{sem};
 ghost use Rattle.pv_model.specs.declared.limits.TheConstants.{BUFFER};
 ghost use Rattle.pv_model.specs.Answer.{at_next_line, with_front};
@@ -9,8 +9,8 @@ ghost use Rattle.pv_model.specs.Calls.Processes.{with_result};
 ghost use Rattle.pv_model.specs.Program.{operand, clamp, is_zero, is_negative, register, start_of_origin, with_register, jump_if, inside, calls_for, perform, next};
 ghost use Rattle.pv_model.specs.State.{Process, Program as Instructions};
 
-use crate::Program;
 use crate::buffer::Buffer;
+use crate::{CallTexts, Program};
 use pv_model::limits::REGISTERS;
 use pv_model::{CallRef, Instruction, Operand, Origin, Register, Start};
 use std::alloc::{AllocError, Global};
@@ -236,45 +236,46 @@ impl Machine {
         }
     }
 
-    // The call of an instruction, with its texts where they stand.
+    // The call of an instruction, with its texts kept.
     #[tactic(auto, unfolding(pv_model::specs::Program::perform))]
-    fn call<'a>(&self, instruction: &'a Instruction) -> CallRef<'a>
+    fn call<'a>(&self, instruction: &Instruction, texts: &'a mut CallTexts) -> CallRef<'a>
         requires { is_on_registers instruction.now ≡ false }
         ensures { (p : Process) (program : Instructions) → perform (in_context p program self.now) instruction.now ≡ calls_for (call_of result) }
     {
         match instruction {
             Instruction::Pledge(promises, execpromises) => {
-                CallRef::Pledge(promises.as_ref(), execpromises.as_ref())
+                let (first, second) = texts.options(promises.as_ref(), execpromises.as_ref());
+                CallRef::Pledge(first, second)
             }
-            Instruction::Unveil(path, letters) => CallRef::Unveil(path.as_ref(), letters.as_ref()),
-            Instruction::Execve(path) => CallRef::Execve(path),
-            Instruction::Chdir(path) => CallRef::Chdir(path),
-            Instruction::Stat(path) => CallRef::Stat(path),
-            Instruction::Lstat(path) => CallRef::Lstat(path),
-            Instruction::Readlink(path) => CallRef::Readlink(path),
-            Instruction::Unlink(path) => CallRef::Unlink(path),
-            Instruction::Mkdir(path) => CallRef::Mkdir(path),
-            Instruction::Rmdir(path) => CallRef::Rmdir(path),
-            Instruction::Open(path, flags) => CallRef::Open(path, *flags),
+            Instruction::Unveil(path, letters) => {
+                let (path, letters) = texts.options(path.as_ref(), letters.as_ref());
+                CallRef::Unveil(path, letters)
+            }
+            Instruction::Execve(path) => CallRef::Execve(texts.one(path)),
+            Instruction::Chdir(path) => CallRef::Chdir(texts.one(path)),
+            Instruction::Stat(path) => CallRef::Stat(texts.one(path)),
+            Instruction::Lstat(path) => CallRef::Lstat(texts.one(path)),
+            Instruction::Readlink(path) => CallRef::Readlink(texts.one(path)),
+            Instruction::Unlink(path) => CallRef::Unlink(texts.one(path)),
+            Instruction::Mkdir(path) => CallRef::Mkdir(texts.one(path)),
+            Instruction::Rmdir(path) => CallRef::Rmdir(texts.one(path)),
+            Instruction::Open(path, flags) => CallRef::Open(texts.one(path), *flags),
             Instruction::OpenAt(origin, path, flags) => {
-                CallRef::OpenAt(self.start(*origin), path, *flags)
+                CallRef::OpenAt(self.start(*origin), texts.one(path), *flags)
             }
-            Instruction::Rename(path, new) => CallRef::Rename(path, new),
-            Instruction::Link(path, new) => CallRef::Link(path, new),
-            Instruction::Symlink(text, path) => CallRef::Symlink(text, path),
+            Instruction::Rename(path, new) => {
+                let (path, new) = texts.two(path, new);
+                CallRef::Rename(path, new)
+            }
+            Instruction::Link(path, new) => {
+                let (path, new) = texts.two(path, new);
+                CallRef::Link(path, new)
+            }
+            Instruction::Symlink(text, path) => {
+                let (text, path) = texts.two(text, path);
+                CallRef::Symlink(text, path)
+            }
             _ => self.plain_call(instruction),
-        }
-    }
-
-    /// The call that comes next, with its texts where they stand in the program: past the last line, an exit. None where
-    /// an instruction on registers or a jump comes next, which `register` makes.
-    pub fn next<'a>(&self, program: &'a Program) -> Option<CallRef<'a>>
-        ensures { IsNext program.now self.now result }
-    {
-        match program.at(self.line) {
-            Some(instruction) if is_on_registers(instruction) => None,
-            Some(instruction) => Some(self.call(instruction)),
-            None => Some(CallRef::Exit(0)),
         }
     }
 
@@ -339,18 +340,22 @@ impl Machine {
         }
     }
 
-    /// Makes the instruction on registers, or the jump, that comes next: answers whether one does.
-    pub fn register(&mut self, program: &Program) -> bool
-        ensures comes { result ≡ is_inside program.now self.old }
-        ensures made { result ≡ true → (p : Process) → next (in_context p program.now self.old) ≡ inside (in_context p program.now self.new) }
-        ensures kept { result ≡ false → self.new ≡ self.old }
+    /// The call that comes next, with its texts kept: past the last line, an exit. Where an instruction on registers or a
+    /// jump comes next, it is made, and the answer is None.
+    pub fn ahead<'a>(&mut self, program: &Program, texts: &'a mut CallTexts) -> Option<CallRef<'a>>
+        ensures call { IsNext program.now self.old result }
+        ensures kept { OnSome result (self.new ≡ self.old) }
+        ensures made { IfNone result ((p : Process) → next (in_context p program.now self.old) ≡ inside (in_context p program.now self.new)) }
     {
-        if inside_at(program, self.line).is_none() {
-            return false;
+        match program.at(self.line) {
+            Some(instruction) if is_on_registers(instruction) => {
+                // By `pass`, so that `make` has one caller, and is a part of its loop.
+                self.pass(program, 1);
+                None
+            }
+            Some(instruction) => Some(self.call(instruction, texts)),
+            None => Some(CallRef::Exit(0)),
         }
-        // By `pass`, so that `make` has one caller, and is a part of its loop.
-        self.pass(program, 1);
-        true
     }
 
     /// Makes the instructions on registers and the jumps as they come, at most so many: answers how many.

@@ -15,10 +15,9 @@ ghost use Rattle.pv_session.specs.Running.{BeginsLines, FailsBy, ToldLines, step
 use pv_audit::{audit, audit_node};
 use pv_cache::CachedLookup;
 use pv_calls::Kernel;
-use pv_model::{
-    AuditFault, BootFault, CallRef, CallTexts, Failed, Outcome, Sink, StepFault, Verdict,
-};
+use pv_model::{AuditFault, BootFault, CallRef, Failed, Outcome, Sink, StepFault, Verdict};
 use pv_procs::Ahead;
+use pv_script::CallTexts;
 use pv_trace::{Sheet, write_call_lines, write_gone_line};
 use pv_tree::{Store, Tree};
 use std::alloc::Global;
@@ -77,7 +76,7 @@ fn trace_call<W: Sink>(
     call: CallRef<'_>,
     trace: &mut W,
 ) -> Result<u8, Stop>
-    requires next { CallsNext (Some call) (process_at kernel.old.state pid) }
+    requires next { CallsNext call (process_at kernel.old.state pid) }
     requires callable { IsTrue (is_call (call_of call)) }
     ensures after { OnOk result (kernel.new.state ≡ (stepped kernel.old.state pid).after) }
     ensures whole { OnOk result (ToldLines (stepped kernel.old.state pid).lines (W.told trace.old) (W.told trace.new)) }
@@ -128,13 +127,10 @@ impl Session {
         ensures unchanged { OnErr result (self.new ≡ self.old) }
     {
         let kernel = &mut *self.kernel;
-        match kernel.register(pid) {
+        match kernel.ahead(pid, &mut self.texts) {
             Ahead::Gone => Ok(Outcome::Gone),
             Ahead::Register => Ok(Outcome::Value(0)),
-            Ahead::Call => {
-                let call = self.texts.keep(kernel.next(pid));
-                kernel.call(alloc, pid, call)
-            }
+            Ahead::Call(call) => kernel.call(alloc, pid, call),
         }
     }
 
@@ -216,16 +212,13 @@ impl Session {
         ensures quiet { OnOk result (W.failures trace.new ≡ W.failures trace.old) }
     {
         let kernel = &mut *self.kernel;
-        match kernel.register(pid) {
+        match kernel.ahead(pid, &mut self.texts) {
             Ahead::Gone => {
                 write_gone_line(trace, &mut *self.sheet, pid)?;
                 Ok(1)
             }
             Ahead::Register => Ok(0),
-            Ahead::Call => {
-                let call = self.texts.keep(kernel.next(pid));
-                trace_call(alloc, kernel, &mut *self.sheet, pid, call, trace)
-            }
+            Ahead::Call(call) => trace_call(alloc, kernel, &mut *self.sheet, pid, call, trace),
         }
     }
 }

@@ -4,7 +4,7 @@ use pv_model::{
     CallRef, Instruction, Mode, OpenFlags, Operand, Origin, ParseFault, ScheduleFault, Start, What,
     Whence,
 };
-use pv_script::{Machine, Program, Schedule};
+use pv_script::{CallTexts, Machine, Program, Schedule};
 use std::process::Abort;
 
 // The same bytes over and over.
@@ -457,10 +457,11 @@ fn starts_of_an_openat(rt: HostRuntime) {
 }
 
 // A machine opens from the working directory next.
-fn expect_open_from_working<R: Abort>(rt: &R, machine: &Machine, program: &Program) {
+fn expect_open_from_working<R: Abort>(rt: &R, machine: &mut Machine, program: &Program) {
+    let mut texts = CallTexts::new();
     assert!(rt;
         matches!(
-            machine.next(program),
+            machine.ahead(program, &mut texts),
             Some(CallRef::OpenAt(Start::WorkingDirectory, _, _))
         )
     );
@@ -470,11 +471,13 @@ fn expect_open_from_working<R: Abort>(rt: &R, machine: &Machine, program: &Progr
 fn starts_that_a_machine_gives(rt: HostRuntime) {
     let program = read(&rt, STARTS);
     let mut machine = fresh(&rt);
-    expect_open_from_working(&rt, &machine, &program);
+    expect_open_from_working(&rt, &mut machine, &program);
     advance_twice(&mut machine, &program);
+    let mut texts = CallTexts::new();
+    assert!(rt; machine.ahead(&program, &mut texts).is_none());
     assert!(rt;
         matches!(
-            run_to_call(&mut machine, &program),
+            machine.ahead(&program, &mut texts),
             Some(CallRef::OpenAt(Start::Descriptor(-7), _, _))
         )
     );
@@ -514,24 +517,55 @@ fn calls_on_two_paths(rt: HostRuntime) {
     expect_symlink(&rt, line(&program, 10), b"k", b"l");
 }
 
-// Makes the instructions on registers that come next, at most a hundred, up to a call.
-fn run_to_call<'a>(machine: &mut Machine, program: &'a Program) -> Option<CallRef<'a>> {
+// The first call of a program that is read and let go, with its texts kept.
+fn first_call<'a, R: Abort + AllocGlobal>(
+    rt: &R,
+    bytes: &[u8],
+    texts: &'a mut CallTexts,
+) -> Option<CallRef<'a>> {
+    fresh(rt).ahead(&read(rt, bytes), texts)
+}
+
+// The first call of a program is a rename of these paths.
+fn expect_rename<R: Abort + AllocGlobal>(rt: &R, bytes: &[u8], path: &[u8], new: &[u8]) {
+    let mut texts = CallTexts::new();
+    match first_call(rt, bytes, &mut texts) {
+        Some(CallRef::Rename(from, to)) => {
+            expect_equal(rt, from.as_slice(), path);
+            expect_equal(rt, to.as_slice(), new);
+        }
+        _ => panic!(rt; "no rename"),
+    }
+}
+
+// The first call of a program is a pledge of execpromises alone.
+fn expect_execpromises<R: Abort + AllocGlobal>(rt: &R, bytes: &[u8], wanted: &[u8]) {
+    let mut texts = CallTexts::new();
+    match first_call(rt, bytes, &mut texts) {
+        Some(CallRef::Pledge(None, Some(given))) => expect_equal(rt, given.as_slice(), wanted),
+        _ => panic!(rt; "no pledge"),
+    }
+}
+
+#[test]
+fn texts_outlive_their_program(rt: HostRuntime) {
+    expect_rename(&rt, b"rename \"g\" \"hi\"\n", b"g", b"hi");
+    expect_execpromises(&rt, b"pledge null \"stdio\"\n", b"stdio");
+}
+
+// The code with which a program exits, if an exit is its first call: at most a hundred instructions on registers are
+// made before it.
+fn exit_code<R: Abort + AllocGlobal>(rt: &R, bytes: &[u8]) -> Option<i32> {
+    let program = read(rt, bytes);
+    let mut machine = fresh(rt);
     for _ in 0..100 {
-        if !machine.register(program) {
-            return machine.next(program);
+        match machine.ahead(&program, &mut CallTexts::new()) {
+            Some(CallRef::Exit(code)) => return Some(code),
+            Some(_) => return None,
+            None => {}
         }
     }
     None
-}
-
-// The code with which a program exits, if an exit is its first call.
-fn exit_code<R: Abort + AllocGlobal>(rt: &R, bytes: &[u8]) -> Option<i32> {
-    let program = read(rt, bytes);
-    let mut machine = Machine::new(rt.alloc()).expect(rt, "a machine");
-    match run_to_call(&mut machine, &program) {
-        Some(CallRef::Exit(code)) => Some(code),
-        _ => None,
-    }
 }
 
 // The first call of a program is an exit with this code, or none where no exit is.
@@ -603,8 +637,9 @@ fn expect_buffer<R: Abort>(rt: &R, machine: &Machine, bytes: &[u8]) {
 }
 
 // The machine asks for its number next.
-fn expect_getpid<R: Abort>(rt: &R, machine: &Machine, program: &Program) {
-    assert!(rt; matches!(machine.next(program), Some(CallRef::GetPid)));
+fn expect_getpid<R: Abort>(rt: &R, machine: &mut Machine, program: &Program) {
+    let mut texts = CallTexts::new();
+    assert!(rt; matches!(machine.ahead(program, &mut texts), Some(CallRef::GetPid)));
 }
 
 fn fresh<R: Abort + AllocGlobal>(rt: &R) -> Machine {
@@ -614,12 +649,13 @@ fn fresh<R: Abort + AllocGlobal>(rt: &R) -> Machine {
 // The machine makes this read next, and its buffer begins with these bytes.
 fn expect_read<R: Abort>(
     rt: &R,
-    machine: &Machine,
+    machine: &mut Machine,
     program: &Program,
     read: (i32, i32),
     bytes: &[u8],
 ) {
-    match machine.next(program) {
+    let mut texts = CallTexts::new();
+    match machine.ahead(program, &mut texts) {
         Some(CallRef::Read(d, count)) => expect_same(rt, (d, count), read),
         _ => panic!(rt; "no read"),
     }
@@ -629,9 +665,9 @@ fn expect_read<R: Abort>(
 #[test]
 fn answers_that_a_machine_is_told(rt: HostRuntime) {
     let program = read(&rt, ANSWERED);
-    expect_getpid(&rt, &fresh(&rt), &program);
-    let machine = told(&rt, &program);
-    expect_read(&rt, &machine, &program, (-1, 9), b"hello\0");
+    expect_getpid(&rt, &mut fresh(&rt), &program);
+    let mut machine = told(&rt, &program);
+    expect_read(&rt, &mut machine, &program, (-1, 9), b"hello\0");
 }
 
 // A copy of a machine, told 0 without an error.
@@ -645,10 +681,10 @@ fn child_of<R: Abort + AllocGlobal>(rt: &R, machine: &Machine) -> Machine {
 #[test]
 fn a_copy_of_a_machine(rt: HostRuntime) {
     let program = read(&rt, ANSWERED);
-    let machine = told(&rt, &program);
-    let child = child_of(&rt, &machine);
-    expect_read(&rt, &child, &program, (0, 0), b"hello\0");
-    expect_read(&rt, &machine, &program, (-1, 9), b"hello\0");
+    let mut machine = told(&rt, &program);
+    let mut child = child_of(&rt, &machine);
+    expect_read(&rt, &mut child, &program, (0, 0), b"hello\0");
+    expect_read(&rt, &mut machine, &program, (-1, 9), b"hello\0");
 }
 
 // A machine that was told something, and begins again.
@@ -661,8 +697,8 @@ fn begun_again<R: Abort + AllocGlobal>(rt: &R, program: &Program) -> Machine {
 #[test]
 fn a_machine_that_begins_again(rt: HostRuntime) {
     let program = read(&rt, ANSWERED);
-    let machine = begun_again(&rt, &program);
-    expect_getpid(&rt, &machine, &program);
+    let mut machine = begun_again(&rt, &program);
+    expect_getpid(&rt, &mut machine, &program);
     expect_buffer(&rt, &machine, b"\0\0\0\0\0");
 }
 
@@ -679,8 +715,9 @@ fn advance_twice(machine: &mut Machine, program: &Program) {
 }
 
 // The machine exits next, with 0.
-fn expect_end<R: Abort>(rt: &R, machine: &Machine, program: &Program) {
-    assert!(rt; matches!(machine.next(program), Some(CallRef::Exit(0))));
+fn expect_end<R: Abort>(rt: &R, machine: &mut Machine, program: &Program) {
+    let mut texts = CallTexts::new();
+    assert!(rt; matches!(machine.ahead(program, &mut texts), Some(CallRef::Exit(0))));
 }
 
 // Past the last line stands an exit, and nothing behind it.
@@ -690,8 +727,8 @@ fn a_machine_past_the_last_line(rt: HostRuntime) {
     let short = no_lines(&rt);
     let mut machine = begun_again(&rt, &program);
     advance_twice(&mut machine, &short);
-    expect_end(&rt, &machine, &short);
-    expect_getpid(&rt, &machine, &program);
+    expect_end(&rt, &mut machine, &short);
+    expect_getpid(&rt, &mut machine, &program);
 }
 
 // The schedule of these bytes.

@@ -1,9 +1,10 @@
 //! Each call once, as two lookups answer it, full tables, and memory that is refused.
 use crate::store_of;
 use pv_calls::Kernel;
-use pv_model::{CallTexts, Cause, Errno, Outcome, StepFault, Taken};
+use pv_model::{Cause, Errno, Outcome, StepFault, Taken};
 use pv_namei::Lookup;
 use pv_procs::Ahead;
+use pv_script::CallTexts;
 use pv_tree::Tree;
 use std::alloc::Global;
 use std::process::Abort;
@@ -102,14 +103,11 @@ fn step<L: Lookup + Drop>(
     alloc: Global,
     pid: u32,
 ) -> Result<Outcome, StepFault> {
-    match kernel.register(pid) {
+    let mut texts = CallTexts::new();
+    match kernel.ahead(pid, &mut texts) {
         Ahead::Gone => Ok(Outcome::Gone),
         Ahead::Register => Ok(Outcome::Value(0)),
-        Ahead::Call => {
-            let mut texts = CallTexts::new();
-            let call = texts.keep(kernel.next(pid));
-            kernel.call(alloc, pid, call)
-        }
+        Ahead::Call(call) => kernel.call(alloc, pid, call),
     }
 }
 

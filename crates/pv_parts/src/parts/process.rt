@@ -12,6 +12,7 @@ use super::Parts;
 use pv_model::limits::BUFFER;
 use pv_procs::Ahead;
 use pv_promises::Pledge;
+use pv_script::CallTexts;
 use pv_tree::Tree;
 
 // Reads at most so many bytes of a file, from `at` on, to the front of a buffer: answers how many.
@@ -25,13 +26,13 @@ fn read_part(tree: &Tree, node: u16, at: u32, count: usize, buffer: &mut [u8]) -
 }
 
 impl Parts {
-    /// Makes the instruction on registers, or the jump, that comes next in a process, if one does: answers what came
-    /// next.
-    pub fn register(&mut self, pid: u32) -> Ahead
+    /// What comes next in a process: an instruction on registers or a jump, which is made, or a call, with its texts
+    /// kept: past the last line, an exit.
+    pub fn ahead<'a>(&mut self, pid: u32, texts: &'a mut CallTexts) -> Ahead<'a>
         ensures { IsRegistered result pid self.old self.new }
     {
         self.processes.facts();
-        self.processes.register(pid)
+        self.processes.ahead(pid, texts)
     }
 
     /// Makes the instructions on registers and the jumps that come next in a process, at most so many, one after

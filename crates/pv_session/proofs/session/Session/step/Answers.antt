@@ -7,32 +7,41 @@ use Rattle.pv_session.specs.Running.{stepped}
 use Rattle.pv_session.proofs.Stepping.{Asks, called-after, called-outcome, step-gone, inside-after, inside-outcome}
 use Rattle.pv_calls.specs.Kernel.{Running}
 use Rattle.pv_session.proofs.session.Session.step.Goals as goal
+use Rattle.pv_session.proofs.session.Session.step.Goals.{in-Gone, in-Register, in-Call}
 
-pub returns-in-Gone-clause-after : goal.returns-in-Gone-clause-after
-returns-in-Gone-clause-after c =
-    let gone = c.in-Gone.ensures.state in
-    gone.1 ∙ sym (ap (λ (x : Stepped). x.after) (step-gone c.deref_mut-kernel.result.now.state c.args.pid gone.0)) ∙ ap (λ s. (stepped s c.args.pid).after) (ap (λ (k : Running). k.state) c.deref_mut-kernel.ensures.value ∙ c.self.view_is)
+pub returns-clause-after : goal.returns-clause-after
+returns-clause-after c =
+    let old = c.deref_mut-kernel.result.now.state in
+    let s = c.ahead.new.self.state in
+    let seen = ap (λ (k : Running). k.state) c.deref_mut-kernel.ensures.value ∙ c.self.view_is in
+    elim c.match-ahead.branch [
+      | in-Gone w ↦
+          let gone = w.in-Gone.ensures.state in
+          rw (w.result-is, w.self-inside-is) (gone.1 ∙ sym (ap (λ (x : Stepped). x.after) (step-gone old c.args.pid gone.0)) ∙ ap (λ t. (stepped t c.args.pid).after) seen)
+      | in-Register w ↦
+          rw (w.result-is, w.self-inside-is) (inside-after old c.args.pid s w.in-Register.ensures.state ∙ ap (λ t. (stepped t c.args.pid).after) seen)
+      | in-Call w ↦
+          let comes = w.in-Call.ensures.state in
+          let asks = subst (λ (t : State). Asks t c.args.pid (call_of w.in-Call.call)) (sym comes.1) comes.0 in
+          rw (w.result-is, w.self-inside-is)
+          (subst (λ (t : State). OnOk w.call.result (w.call.new.self.state ≡ (stepped t c.args.pid).after)) (comes.1 ∙ seen)
+          (called-after s c.args.pid (call_of w.in-Call.call) w.call.new.self w.call.result asks w.call.ensures.answered))
+    ]
 
-pub returns-in-Gone-clause-outcome : goal.returns-in-Gone-clause-outcome
-returns-in-Gone-clause-outcome c =
-    sym (ap (λ (x : Stepped). x.outcome) (step-gone c.deref_mut-kernel.result.now.state c.args.pid c.in-Gone.ensures.state.0)) ∙ ap (λ s. (stepped s c.args.pid).outcome) (ap (λ (k : Running). k.state) c.deref_mut-kernel.ensures.value ∙ c.self.view_is)
-
-pub returns-in-Register-clause-after : goal.returns-in-Register-clause-after
-returns-in-Register-clause-after c = inside-after c.deref_mut-kernel.result.now.state c.args.pid c.register.new.self.state c.in-Register.ensures.state ∙ ap (λ s. (stepped s c.args.pid).after) (ap (λ (k : Running). k.state) c.deref_mut-kernel.ensures.value ∙ c.self.view_is)
-
-pub returns-in-Register-clause-outcome : goal.returns-in-Register-clause-outcome
-returns-in-Register-clause-outcome c = inside-outcome c.deref_mut-kernel.result.now.state c.args.pid c.register.new.self.state c.in-Register.ensures.state ∙ ap (λ s. (stepped s c.args.pid).outcome) (ap (λ (k : Running). k.state) c.deref_mut-kernel.ensures.value ∙ c.self.view_is)
-
-pub returns-in-Call-clause-after : goal.returns-in-Call-clause-after
-returns-in-Call-clause-after c =
-    let s = c.register.new.self.state in
-    let asks = subst (Asks s c.args.pid) (sym c.keep-call.ensures) c.next.ensures.next in
-    subst (λ (t : State). OnOk c.call.result (c.call.new.self.state ≡ (stepped t c.args.pid).after)) (c.in-Call.ensures.state.1 ∙ (ap (λ (k : Running). k.state) c.deref_mut-kernel.ensures.value ∙ c.self.view_is))
-    (called-after s c.args.pid (call_of c.keep-call.result) c.call.new.self c.call.result asks c.call.ensures.answered)
-
-pub returns-in-Call-clause-outcome : goal.returns-in-Call-clause-outcome
-returns-in-Call-clause-outcome c =
-    let s = c.register.new.self.state in
-    let asks = subst (Asks s c.args.pid) (sym c.keep-call.ensures) c.next.ensures.next in
-    subst (λ (t : State). IfOk c.call.result (λ outcome. outcome ≡ (stepped t c.args.pid).outcome)) (c.in-Call.ensures.state.1 ∙ (ap (λ (k : Running). k.state) c.deref_mut-kernel.ensures.value ∙ c.self.view_is))
-    (called-outcome s c.args.pid (call_of c.keep-call.result) c.call.new.self c.call.result asks c.call.ensures.answered)
+pub returns-clause-outcome : goal.returns-clause-outcome
+returns-clause-outcome c =
+    let old = c.deref_mut-kernel.result.now.state in
+    let s = c.ahead.new.self.state in
+    let seen = ap (λ (k : Running). k.state) c.deref_mut-kernel.ensures.value ∙ c.self.view_is in
+    elim c.match-ahead.branch [
+      | in-Gone w ↦
+          rw w.result-is (sym (ap (λ (x : Stepped). x.outcome) (step-gone old c.args.pid w.in-Gone.ensures.state.0)) ∙ ap (λ t. (stepped t c.args.pid).outcome) seen)
+      | in-Register w ↦
+          rw w.result-is (inside-outcome old c.args.pid s w.in-Register.ensures.state ∙ ap (λ t. (stepped t c.args.pid).outcome) seen)
+      | in-Call w ↦
+          let comes = w.in-Call.ensures.state in
+          let asks = subst (λ (t : State). Asks t c.args.pid (call_of w.in-Call.call)) (sym comes.1) comes.0 in
+          rw w.result-is
+          (subst (λ (t : State). IfOk w.call.result (λ outcome. outcome ≡ (stepped t c.args.pid).outcome)) (comes.1 ∙ seen)
+          (called-outcome s c.args.pid (call_of w.in-Call.call) w.call.new.self w.call.result asks w.call.ensures.answered))
+    ]

@@ -29,15 +29,15 @@ returns-in_ok-write_gone_line-in-Gone-clause-lines g c =
 
 pub returns-in-Register-clause-after : goal.returns-in-Register-clause-after
 returns-in-Register-clause-after g c =
-    inside-after c.deref_mut-kernel.result.now.state c.args.pid c.register.new.self.state c.in-Register.ensures.state ∙ ap (λ s. (stepped s c.args.pid).after) (ap (λ (k : Running). k.state) c.deref_mut-kernel.ensures.value ∙ c.self.view_is)
+    inside-after c.deref_mut-kernel.result.now.state c.args.pid c.ahead.new.self.state c.in-Register.ensures.state ∙ ap (λ s. (stepped s c.args.pid).after) (ap (λ (k : Running). k.state) c.deref_mut-kernel.ensures.value ∙ c.self.view_is)
 
 pub returns-in-Register-clause-whole : goal.returns-in-Register-clause-whole
 returns-in-Register-clause-whole g c =
-    let is = sym (ap (λ (x : Stepped). x.lines) (inside-is c.deref_mut-kernel.result.now.state c.args.pid c.register.new.self.state c.in-Register.ensures.state))
+    let is = sym (ap (λ (x : Stepped). x.lines) (inside-is c.deref_mut-kernel.result.now.state c.args.pid c.ahead.new.self.state c.in-Register.ensures.state))
     ∙ ap (λ s. (stepped s c.args.pid).lines) (ap (λ (k : Running). k.state) c.deref_mut-kernel.ensures.value ∙ c.self.view_is) in
     subst (λ (ls : List Line). ToldLines ls (g.W.Sink.told c.args.trace.now) (g.W.Sink.told c.args.trace.now)) is (told-none (g.W.Sink.told c.args.trace.now))
 
 pub returns-in-Register-clause-lines : goal.returns-in-Register-clause-lines
 returns-in-Register-clause-lines g c =
-    ap length (sym (ap (λ (x : Stepped). x.lines) (inside-is c.deref_mut-kernel.result.now.state c.args.pid c.register.new.self.state c.in-Register.ensures.state))
+    ap length (sym (ap (λ (x : Stepped). x.lines) (inside-is c.deref_mut-kernel.result.now.state c.args.pid c.ahead.new.self.state c.in-Register.ensures.state))
     ∙ ap (λ s. (stepped s c.args.pid).lines) (ap (λ (k : Running). k.state) c.deref_mut-kernel.ensures.value ∙ c.self.view_is))

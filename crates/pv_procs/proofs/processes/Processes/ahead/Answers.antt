@@ -1,7 +1,8 @@
-use Rattle.std.proofs.Common.{◌≡◌, ◌∙◌, false, sym, subst, refl, slice_set}
-use Rattle.pv_model.specs.Program.{inside, next}
+use Rattle.std.proofs.Common.{◌≡◌, sym, subst, refl, slice_set}
+use Rattle.pv_model.specs.CallRef.{call_of}
+use Rattle.pv_model.specs.Program.{inside, calls_for, next}
 use Rattle.pv_model.specs.State.{Program, Process}
-use Rattle.pv_script.specs.Context.{in_context, is_inside}
+use Rattle.pv_script.specs.Context.{in_context}
 use Rattle.pv_procs.specs.declared.processes.Ahead.{Ahead}
 use Rattle.pv_procs.specs.Places.{process_of, program_at, table_of}
 use Rattle.pv_procs.specs.ProcessTable.{ProcessTable}
@@ -9,8 +10,8 @@ use Rattle.pv_procs.specs.Turns.{Registered}
 use Rattle.pv_procs.proofs.Finding.{found-at}
 use Rattle.pv_procs.proofs.Keeping.{kept-set, roomy-set}
 use Rattle.pv_procs.proofs.Turning.{at-call, moved, stands}
-use Rattle.pv_procs.proofs.processes.Processes.register.Goals as goal
-use Rattle.pv_procs.proofs.processes.Processes.register.Goals.{then-register, else-register}
+use Rattle.pv_procs.proofs.processes.Processes.ahead.Goals as goal
+use Rattle.pv_procs.proofs.processes.Processes.ahead.Goals.{in-Some-ahead, in-None}
 
 pub index_of_live-requires : goal.index_of_live-requires
 index_of_live-requires c = rw c.deref.ensures.value c.self.invariant.0.ascending
@@ -31,18 +32,19 @@ returns c =
     let stood = stands i.places.items i.programs.items i.last c.self.invariant.0 c.args.pid k place c.index-shared.result.now
     (rw c.deref.ensures.value at c.in-Some.ensures.place) (rw c.deref.ensures.value at c.in-Some.ensures.live) c.index_mut-place.ensures.value c.index-shared.ensures in
     let me : Process = process_of (program_at i.programs.items place.program) place in
-    let machine = c.register.new.self in
+    let machine = c.ahead.new.self in
     let turned : ProcessTable = table_of (slice_set i.places.items k (record place { «record» = record place.record { machine = machine } })) i.programs.items i.last in
-    rw c.get_mut.ensures.value (elim c.if-register.branch [
-      | then-register w ↦
-          let made = rw c.get_mut.ensures.value at c.register.ensures.made w.if-register.true in
+    rw c.get_mut.ensures.value (elim c.match-ahead.branch [
+      | in-Some-ahead w ↦
+          let call = w.in-Some-ahead.call in
+          let kept = rw c.get_mut.ensures.value at w.in-Some-ahead.ensures.kept in
+          let comes = rw c.get_mut.ensures.value at w.in-Some-ahead.ensures.call in
+          let next_is = subst (λ (instructions : Program). (p : Process) → next (in_context p instructions place.record.machine) ≡ calls_for (call_of call)) (sym stood.program) comes in
+          subst (λ (a : Ahead). Registered a c.args.pid c.args.self.now turned) (sym w.result-is)
+          (at-call i.places.items i.programs.items i.last c.args.self.now c.self.view_is c.args.pid c.self.invariant.0.ascending k place stood.at stood.live machine call kept (next_is me))
+      | in-None w ↦
+          let made = rw c.get_mut.ensures.value at w.in-None.ensures.made in
           let step = subst (λ (instructions : Program). (p : Process) → next (in_context p instructions place.record.machine) ≡ inside (in_context p instructions machine)) (sym stood.program) made in
           subst (λ (a : Ahead). Registered a c.args.pid c.args.self.now turned) (sym w.result-is)
           (moved i.places.items i.programs.items i.last c.args.self.now c.self.view_is c.args.pid c.self.invariant.0.ascending k place stood.at stood.live machine (λ p after. next p ≡ inside after) (step me))
-      | else-register w ↦
-          let kept = rw c.get_mut.ensures.value at c.register.ensures.kept w.if-register.false in
-          let comes = rw c.get_mut.ensures.value at (sym c.register.ensures.comes ∙ w.if-register.false) in
-          let call = subst (λ (instructions : Program). is_inside instructions place.record.machine ≡ false) (sym stood.program) comes in
-          subst (λ (a : Ahead). Registered a c.args.pid c.args.self.now turned) (sym w.result-is)
-          (at-call i.places.items i.programs.items i.last c.args.self.now c.self.view_is c.args.pid c.self.invariant.0.ascending k place stood.at stood.live machine kept call)
     ])
