@@ -78,13 +78,27 @@ fn stands_at(places: &[Place], k: usize, pid: u32) -> bool
     place.number == pid
 }
 
+// Where the place of a process stands while no process after it has gone.
+fn from_the_end(places: &[Place], pid: u32) -> usize {
+    let last = match places.last() {
+        Some(last) => last.number,
+        None => 0,
+    };
+    let behind = last.saturating_sub(pid) as usize;
+    places.len().saturating_sub(behind).saturating_sub(1)
+}
+
 // The index of a process's place: the places stand in the order of their numbers. It is looked for first where it
-// stands while no process before it has gone.
+// stands while no process before it has gone, and then where it stands while none after it has.
 pub(crate) fn index_of(places: &[Place], pid: u32) -> Option<usize>
     requires { ascends places.now ≡ true }
     ensures { result ≡ position (λ place. place.number == pid) places.now }
 {
     let guess = (pid as usize).saturating_sub(1);
+    if stands_at(places, guess, pid) {
+        return Some(guess);
+    }
+    let guess = from_the_end(places, pid);
     if stands_at(places, guess, pid) {
         return Some(guess);
     }

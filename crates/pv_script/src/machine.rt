@@ -236,7 +236,9 @@ impl Machine {
         }
     }
 
-    // The call of an instruction, with its texts kept.
+    // The call of an instruction, with its texts kept. Not inlined, so that `ahead` stays small and is a part of the loops
+    // over steps.
+    #[inline(never)]
     #[tactic(auto, unfolding(pv_model::specs::Program::perform))]
     fn call<'a>(&self, instruction: &Instruction, texts: &'a mut CallTexts) -> CallRef<'a>
         requires { is_on_registers instruction.now ≡ false }
