@@ -27,7 +27,7 @@ fn main(rt: HostRuntime) -> ExitCode {
     let mut system = System {
         files: HostFiles::new(&rt),
         input: Input::new(rt.reader()),
-        output: Buffered::new(Output::new(io::writer(&rt))),
+        output: Buffered::new(rt.alloc(), Output::new(io::writer(&rt))),
         errors: Output::new(rt.stderr()),
     };
     let status = match words_of(&rt) {

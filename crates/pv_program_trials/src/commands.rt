@@ -422,7 +422,7 @@ fn answer_of_broken(rt: &(impl Abort + AllocGlobal), command: Command<'_>) -> Re
             written: &cell,
         },
         input: Broken { failures: 0 },
-        output: Buffered::new(Broken { failures: 0 }),
+        output: Buffered::new(rt.alloc(), Broken { failures: 0 }),
         errors: (),
     };
     perform(rt.alloc(), command, &mut system)

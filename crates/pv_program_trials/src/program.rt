@@ -66,7 +66,7 @@ fn expect_run(
     output: &[u8],
     errors: &[u8],
 ) {
-    let gathering = Buffered::new(Gathered::new(rt.alloc()));
+    let gathering = Buffered::new(rt.alloc(), Gathered::new(rt.alloc()));
     let mut system = system_with(rt.alloc(), gathering);
     let ended = run(rt.alloc(), words, &mut system);
     assert!(rt; ended == status);
@@ -76,7 +76,7 @@ fn expect_run(
 
 // Runs words that ask for help, whose text is on the standard output, all of it.
 fn expect_help(rt: &(impl Abort + AllocGlobal), words: &[&str]) {
-    let gathering = Buffered::new(Gathered::new(rt.alloc()));
+    let gathering = Buffered::new(rt.alloc(), Gathered::new(rt.alloc()));
     let mut system = system_with(rt.alloc(), gathering);
     let ended = run(rt.alloc(), words, &mut system);
     assert!(rt; ended == 0);
@@ -111,7 +111,7 @@ fn expect_failed_write_to<O: Sink + Drop>(
 // Runs words over a standard output that takes nothing, also where it gathers what it is given first.
 fn expect_failed_write(rt: &(impl Abort + AllocGlobal), words: &[&str], errors: &[u8]) {
     expect_failed_write_to(rt, words, Broken { failures: 0 }, errors);
-    let gathering = Buffered::new(Broken { failures: 0 });
+    let gathering = Buffered::new(rt.alloc(), Broken { failures: 0 });
     expect_failed_write_to(rt, words, gathering, errors);
 }
 

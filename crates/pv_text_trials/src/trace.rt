@@ -382,7 +382,7 @@ fn expect_bytes<R: Abort>(rt: &R, out: &Buffered<Narrow>, count: usize, last: &[
 
 // A sink behind five bytes, with which nothing was handed on, and a whole piece.
 fn with_a_piece<R: Abort + AllocGlobal>(rt: &R) -> Buffered<Narrow> {
-    let mut out = Buffered::new(sink_of(rt, 2 * MORE, 2 * MORE));
+    let mut out = Buffered::new(rt.alloc(), sink_of(rt, 2 * MORE, 2 * MORE));
     expect_whole(rt, &mut out, b"abc");
     expect_whole(rt, &mut out, b"de");
     expect_writes(rt, &out, 0);
@@ -420,7 +420,7 @@ fn more_than_a_piece_is_written_through(rt: HostRuntime) {
 
 // A sink has what it has room for, and no more comes of another flush.
 fn expect_room<R: Abort + AllocGlobal>(rt: &R, room: usize) {
-    let mut out = Buffered::new(sink_of(rt, room, 2));
+    let mut out = Buffered::new(rt.alloc(), sink_of(rt, room, 2));
     expect_whole(rt, &mut out, b"abcde");
     expect_flush(rt, &mut out, false);
     expect_failures(rt, &out, 1);

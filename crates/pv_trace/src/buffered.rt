@@ -1,34 +1,39 @@
 //! Bytes that are gathered, and handed on in large pieces.
-ghost use Rattle.std.specs.Prelude.{◌≡◌, ◌+◌, ◌++◌, ◌≤◌, [], drop, length, OnOk, OnErr};
+ghost use Rattle.std.specs.Prelude.{◌≡◌, ◌+◌, ◌++◌, ◌≤◌, [], drop, length, vec_len, OnOk, OnErr};
 ghost use Rattle.pv_model.specs.Stream.{Rose};
 ghost use Rattle.pv_trace.specs.Streams.{and_all};
+ghost use Rattle.pv_trace.specs.declared.buffered.TheConstants.{PIECE};
 
-use crate::page::Page;
 use crate::stream::write_some;
 use pv_model::{Failed, Sink};
+use std::alloc::Global;
 
 /// How many bytes may wait.
 pub const PIECE: usize = 65_536;
 
-/// A sink that gathers what it is given, and hands it on to another when it is full, or by `flush`. It takes no memory.
+/// A sink that gathers what it is given, and hands it on to another when it is full, or by `flush`. Where it has no
+/// memory for more, it hands on at once.
 ///
 /// Nothing is handed on when it is dropped: its owner calls `flush` at the end.
 #[derive(Drop)]
 pub struct Buffered<W: Sink + Drop> {
     sink: W,
-    waiting: Page<PIECE>,
+    waiting: Vec<u8>,
+    ghost few: { vec_len waiting ≤ PIECE },
 }
 
 impl<W: Sink + Drop> Buffered<W> {
     /// A sink that hands on to this one, and that was given nothing yet.
-    pub fn new(sink: W) -> Buffered<W>
+    pub fn new(alloc: Global, sink: W) -> Buffered<W>
         ensures sink { result.sink ≡ sink }
         ensures empty { result.waiting.items ≡ [] }
     {
-        Buffered {
-            sink,
-            waiting: Page::new(),
-        }
+        // Room that is not written takes no page.
+        let waiting = match Vec::with_capacity(alloc, PIECE) {
+            Ok(waiting) => waiting,
+            Err(_) => Vec::new(alloc),
+        };
+        Buffered { sink, waiting }
     }
 
     /// The sink that is handed on to.
@@ -38,17 +43,15 @@ impl<W: Sink + Drop> Buffered<W> {
         &self.sink
     }
 
-    // Forgets so many bytes at the front, which were handed on. It stands apart from a write, which seldom comes here: it
-    // has room for a page, and a stack is touched page by page for what a call may need.
-    #[inline(never)]
+    // Forgets so many bytes at the front, which were handed on.
     fn forget(&mut self, count: usize)
         requires { count ≤ length self.old.waiting.items }
         ensures waiting { self.new.waiting.items ≡ drop count self.old.waiting.items }
         ensures sink { self.new.sink ≡ self.old.sink }
     {
-        let mut rest = Page::new();
-        rest.extend(&self.waiting.as_slice()[count..]);
-        self.waiting = rest;
+        let left = self.waiting.len() - count;
+        self.waiting.rotate_left(count);
+        self.waiting.truncate(left);
     }
 
     // Hands on all that waits here: where that fails, what was not taken still waits.
@@ -81,14 +84,20 @@ impl<W: Sink + Drop> Sink for Buffered<W> {
 
     ghost failures = { λ s. W.failures s.sink };
 
-    #[tactic(auto, using(crate::proofs::Streaming::more_waits))]
+    #[tactic(auto, using(crate::proofs::Streaming::more_waits, crate::proofs::Streaming::told_nothing))]
     fn write(&mut self, buffer: &[u8]) -> Result<usize, Failed> {
-        if self.waiting.room() < buffer.len() {
+        let count = buffer.len().min(PIECE);
+        let bytes = &buffer[..count];
+        if self.waiting.len().saturating_add(count) > PIECE {
             self.hand_on()?;
         }
-        let count = buffer.len().min(PIECE);
-        self.waiting.extend(&buffer[..count]);
-        Ok(count)
+        match self.waiting.extend_from_slice(bytes) {
+            Ok(()) => Ok(count),
+            Err(_) => {
+                self.hand_on()?;
+                self.sink.write(bytes)
+            }
+        }
     }
 
     fn flush(&mut self) -> Result<(), Failed> {

@@ -1,5 +1,5 @@
 //! Bytes that are gathered in place.
-ghost use Rattle.std.specs.Prelude.{◌≡◌, ◌+◌, ◌-◌, ◌++◌, ◌≤◌, [], length};
+ghost use Rattle.std.specs.Prelude.{◌≡◌, ◌+◌, ◌++◌, ◌≤◌, [], length};
 
 use std::marker::Model;
 
@@ -46,13 +46,6 @@ impl<const N: usize> Page<N> {
         ensures fits { length result.now ≤ N }
     {
         &self.bytes[..self.len]
-    }
-
-    /// How many bytes it has room for.
-    pub fn room(&self) -> usize
-        ensures { result + length self.now.items ≡ N }
-    {
-        N - self.len
     }
 
     /// Puts bytes behind those that it has; there is room for them.

@@ -11,7 +11,7 @@ fn main(rt: HostRuntime) -> ExitCode {
     let mut system = System {
         files: HostFiles::new(&rt),
         input: Input::new(rt.reader()),
-        output: Buffered::new(Output::new(io::writer(&rt))),
+        output: Buffered::new(rt.alloc(), Output::new(io::writer(&rt))),
         errors: (),
     };
     match perform(rt.alloc(), Command::RunTree("-"), &mut system) {
