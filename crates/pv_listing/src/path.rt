@@ -1,5 +1,5 @@
 //! Paths, as a line has them.
-ghost use Rattle.std.specs.Prelude.{◌≡◌, ◌++◌, ◌+◌, ◌*◌, ◌<◌, ◌≤◌, length, flat_map, OnOk, OnErr};
+ghost use Rattle.std.specs.Prelude.{◌≡◌, ◌<◌, ◌≤◌, length, take, flat_map, OnOk, OnErr};
 ghost use Rattle.pv_model.specs.Listing.{listed_path as path_of_line};
 ghost use Rattle.pv_model.specs.Stream.{Rose};
 ghost use Rattle.pv_model.specs.Trace.{quote, quote_byte};
@@ -9,18 +9,14 @@ use arrayvec::ArrayVec;
 use pv_model::{Failed, Sink, hex_digit, is_plain};
 use pv_trace::write_whole;
 
-// How many bytes of a text are written at a time.
-const PIECE: usize = 64;
-
-// Bytes that these may have, as a program writes them.
-const QUOTED: usize = 256;
+// Bytes that one byte of a text has at most, as a program writes it.
+const QUOTED: usize = 4;
 
 // A byte of a text, as a program writes it in its shortest form.
-fn add_byte(quoted: &mut ArrayVec<u8, QUOTED>, byte: u8)
-    requires { length quoted.old.items + 4 ≤ QUOTED }
-    ensures text { quoted.new.items ≡ quoted.old.items ++ quote_byte byte }
-    ensures growth { length quoted.new.items ≤ length quoted.old.items + 4 }
+fn quoted(byte: u8) -> ArrayVec<u8, QUOTED>
+    ensures { result.items ≡ quote_byte byte }
 {
+    let mut quoted = ArrayVec::new();
     if is_plain(byte) {
         let _ = quoted.try_push(byte);
     } else {
@@ -31,21 +27,22 @@ fn add_byte(quoted: &mut ArrayVec<u8, QUOTED>, byte: u8)
             hex_digit(byte % 16),
         ]);
     }
-}
-
-// A piece of a text, as a program writes it.
-fn quoted(piece: &[u8]) -> ArrayVec<u8, QUOTED>
-    requires { length piece.now ≤ PIECE }
-    ensures { result.items ≡ flat_map quote_byte piece.now }
-{
-    let mut quoted = ArrayVec::new();
-    for byte in piece {
-        add_byte(&mut quoted, *byte);
-    }
     quoted
 }
 
-// A text of any length, as a program writes it between its marks.
+// How many bytes at the front of a text stand for themselves.
+fn plain_count(text: &[u8]) -> usize
+    ensures within { result ≤ length text.now }
+    ensures same { flat_map quote_byte (take result text.now) ≡ take result text.now }
+{
+    let mut count = 0;
+    while count < text.len() && is_plain(text[count]) {
+        count += 1;
+    }
+    count
+}
+
+// A text of any length, as a program writes it between its marks. What stands for itself is written in one piece.
 #[tactic(auto, using(crate::proofs::Rests::rest_all, crate::proofs::Rests::told_text))]
 fn write_bytes<W: Sink>(out: &mut W, text: &[u8]) -> Result<(), Failed>
     ensures whole { OnOk result (W.told out.new ≡ and_all (W.told out.old) (flat_map quote_byte text.now)) }
@@ -55,9 +52,16 @@ fn write_bytes<W: Sink>(out: &mut W, text: &[u8]) -> Result<(), Failed>
 {
     let mut rest = text;
     while !rest.is_empty() {
-        let (piece, behind) = rest.split_at(rest.len().min(PIECE));
-        write_whole(out, quoted(piece).as_slice())?;
-        rest = behind;
+        let plain = plain_count(rest);
+        if plain > 0 {
+            let (piece, behind) = rest.split_at(plain);
+            write_whole(out, piece)?;
+            rest = behind;
+        } else {
+            let (first, behind) = rest.split_at(1);
+            write_whole(out, quoted(first[0]).as_slice())?;
+            rest = behind;
+        }
     }
     Ok(())
 }
