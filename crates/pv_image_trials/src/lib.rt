@@ -3,7 +3,7 @@
 //!
 //! It has tests alone: `image` and `building` read manifests and make their trees, `listing` tells of trees, `writer` writes
 //! their images, `mount` judges images, and `migrate` makes new ones of old. `trees` and `bytes` have what they begin with,
-//! and `answers` what they compare by.
+//! `sinks` where they write, and `answers` what they compare by.
 #![tactic(auto)]
 
 #[cfg(test)]
@@ -20,6 +20,8 @@ mod listing;
 mod migrate;
 #[cfg(test)]
 mod mount;
+#[cfg(test)]
+mod sinks;
 #[cfg(test)]
 mod trees;
 #[cfg(test)]

@@ -1,8 +1,9 @@
-//! Listings and other remarks, and sinks that take little.
-ghost use Rattle.std.specs.Prelude.{◌≤◌, [], ◌∷◌, None};
+//! Listings and other remarks, to sinks that take little too.
+ghost use Rattle.std.specs.Prelude.{◌≤◌, [], ◌∷◌};
 
 use crate::answers::{expect, expect_equal, expect_same};
 use crate::bytes::front;
+use crate::sinks::{Narrow, sink_of};
 use crate::trees::Step::{Link, Make, Write};
 use crate::trees::{Step, make, tree_of};
 use pv_listing::{ListStop, Remarks, write_lines, write_listing, write_path};
@@ -12,46 +13,6 @@ use pv_tree::{Store, Tree};
 use std::alloc::{AllocError, Global};
 use std::process::Abort;
 
-// A sink that takes so many bytes, at most so many a write.
-#[derive(Drop)]
-struct Narrow {
-    bytes: Vec<u8>,
-    room: usize,
-    width: usize,
-    failures: u64,
-}
-
-impl Sink for Narrow {
-    ghost told = { λ _. None };
-
-    ghost waits = { λ _. 0 };
-
-    ghost failures = { λ s. s.failures };
-
-    fn write(&mut self, buffer: &[u8]) -> Result<usize, Failed> {
-        let count = buffer.len().min(self.room).min(self.width);
-        if count > 0 && self.bytes.extend_from_slice(&buffer[..count]).is_ok() {
-            self.room -= count;
-            return Ok(count);
-        }
-        self.failures = self.failures.saturating_add(1);
-        Err(Failed)
-    }
-
-    fn flush(&mut self) -> Result<(), Failed> {
-        Ok(())
-    }
-}
-
-fn sink_of<R: AllocGlobal>(rt: &R, room: usize, width: usize) -> Narrow {
-    Narrow {
-        bytes: Vec::new(rt.alloc()),
-        room,
-        width,
-        failures: 0,
-    }
-}
-
 // A sink of so much room, at most so many bytes a write, to which a tree was listed, and what that answered.
 fn listed<R: AllocGlobal>(
     rt: &R,
@@ -59,7 +20,7 @@ fn listed<R: AllocGlobal>(
     room: usize,
     width: usize,
 ) -> (Narrow, Result<(), ListStop>) {
-    let mut out = sink_of(rt, room, width);
+    let mut out = sink_of(rt.alloc(), room, width);
     let answer = write_listing(rt.alloc(), tree, &mut out);
     (out, answer)
 }
@@ -170,7 +131,7 @@ fn expect_dots<R: Abort + AllocGlobal>(
     answer: Result<(), ListStop>,
     wanted: &[u8],
 ) {
-    let mut out = sink_of(rt, room, 1_000);
+    let mut out = sink_of(rt.alloc(), room, 1_000);
     expect_same(rt, write_lines(rt.alloc(), tree, &Dots, &mut out), answer);
     expect_equal(rt, out.bytes.as_slice(), wanted);
 }
@@ -185,7 +146,7 @@ fn each_name_is_told_as_the_remarks_say(rt: HostRuntime) -> Result<(), AllocErro
 
 // A path is written so, and an end of line behind it.
 fn expect_path<R: Abort + AllocGlobal>(rt: &R, path: &[u8], wanted: &[u8]) {
-    let mut out = sink_of(rt, 100_000, 100_000);
+    let mut out = sink_of(rt.alloc(), 100_000, 100_000);
     expect(rt, write_path(&mut out, path).is_ok());
     expect(rt, write_whole(&mut out, b"\n").is_ok());
     expect_equal(rt, out.bytes.as_slice(), wanted);
@@ -329,7 +290,7 @@ fn a_full_sink_may_end_within_a_long_path(rt: HostRuntime) -> Result<(), AllocEr
 
 // A sink with memory for all that it is told.
 fn ready_sink<R: AllocGlobal>(rt: &R) -> Result<Narrow, AllocError> {
-    let mut out = sink_of(rt, 1_000_000, 1_000_000);
+    let mut out = sink_of(rt.alloc(), 1_000_000, 1_000_000);
     out.bytes.reserve(100_000)?;
     Ok(out)
 }

@@ -1,7 +1,8 @@
 //! Images of version 1, and what they become.
-use crate::answers::expect_same;
-use crate::bytes::{expect_pieces, put_all};
-use pv_migrate::migrate;
+use crate::answers::{expect_equal, expect_same};
+use crate::bytes::{expect_pieces, front, put_all};
+use crate::sinks::{sink_of, wide_sink};
+use pv_migrate::{MigratingStop, migrate};
 use pv_model::{ImageFault, MigrateFault};
 use std::alloc::{AllocError, Global};
 use std::process::Abort;
@@ -35,7 +36,10 @@ fn migrated<R: Abort + AllocGlobal>(
     inodes: u32,
 ) -> Result<Vec<u8>, AllocError> {
     let bytes = motd_image(rt.alloc(), &[])?;
-    Ok(migrate(rt.alloc(), bytes, blocks, inodes).expect(rt, "there is room"))
+    let mut image = wide_sink(rt.alloc());
+    let answer = migrate(rt.alloc(), bytes, blocks, inodes, &mut image);
+    expect_same(rt, answer, Ok(()));
+    Ok(image.bytes)
 }
 
 const SMALLEST: &[(usize, &[u8])] = &[
@@ -72,8 +76,10 @@ fn expect_fault(
     sizes: (u32, u32),
     fault: MigrateFault,
 ) {
-    let answer = migrate(alloc, bytes, sizes.0, sizes.1);
-    expect_same(rt, answer.err(), Some(fault));
+    let mut image = wide_sink(alloc);
+    let answer = migrate(alloc, bytes, sizes.0, sizes.1, &mut image);
+    expect_same(rt, answer, Err(MigratingStop::Refused(fault)));
+    expect_same(rt, image.bytes.len(), 0);
 }
 
 const TOO_SMALL: &[(u32, u32)] = &[
@@ -126,5 +132,16 @@ fn a_migrated_image_is_not_migrated_again(rt: HostRuntime) -> Result<(), AllocEr
     let bytes = migrated(&rt, 8, 16)?;
     let fault = MigrateFault::Image(ImageFault::Magic);
     expect_fault(&rt, rt.alloc(), bytes, (8, 16), fault);
+    Ok(())
+}
+
+#[test]
+fn a_sink_without_room_is_told_a_beginning(rt: HostRuntime) -> Result<(), AllocError> {
+    let whole = migrated(&rt, 400, 16)?;
+    let bytes = motd_image(rt.alloc(), &[])?;
+    let mut image = sink_of(rt.alloc(), 100_000, 1_000);
+    let answer = migrate(rt.alloc(), bytes, 400, 16, &mut image);
+    expect_same(&rt, answer, Err(MigratingStop::Write));
+    expect_equal(&rt, image.bytes.as_slice(), front(&whole, 100_000));
     Ok(())
 }

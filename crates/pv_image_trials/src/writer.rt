@@ -2,12 +2,13 @@
 ghost use Rattle.std.specs.Prelude.{◌≤◌};
 
 use crate::answers::{expect, expect_equal, expect_same};
-use crate::bytes::{expect_pieces, put_all};
+use crate::bytes::{expect_pieces, front, put_all};
+use crate::sinks::{sink_of, wide_sink};
 use crate::trees::Step::{Make, Write};
 use crate::trees::{Step, tree_of};
 use pv_model::{Sort, Version};
 use pv_tree::{Store, Tree};
-use pv_writer::{needed_blocks, to_bytes, write_as};
+use pv_writer::{WriteFault, needed_blocks, write_as, write_tree};
 use std::alloc::{AllocError, Global};
 use std::process::Abort;
 
@@ -21,6 +22,13 @@ fn tree_of_one_inode(alloc: Global, blocks: u16) -> Result<Tree, AllocError>
     Ok(Box::into_inner(store.into_tree()))
 }
 
+// The bytes of the image of a tree.
+fn image_of(rt: &impl Abort, alloc: Global, tree: &Tree) -> Vec<u8> {
+    let mut image = wide_sink(alloc);
+    expect_same(rt, write_tree(alloc, tree, &mut image), Ok(()));
+    image.bytes
+}
+
 // The image of a tree has so many bytes, with these pieces among zeros.
 fn expect_whole(
     rt: &impl Abort,
@@ -31,8 +39,7 @@ fn expect_whole(
 ) -> Result<(), AllocError> {
     let mut wanted = vec![in alloc; 0; length]?;
     put_all(&mut wanted, pieces);
-    let bytes = to_bytes(alloc, tree)?;
-    expect_equal(rt, &bytes, &wanted);
+    expect_equal(rt, &image_of(rt, alloc, tree), &wanted);
     Ok(())
 }
 
@@ -74,6 +81,7 @@ fn a_held_node_without_a_name_is_not_written(rt: HostRuntime) -> Result<(), Allo
 
 // What is put into a tree of version 1 with so many data blocks, how many it needs in an image of a version, and the
 // image.
+#[derive(Clone, Copy)]
 struct Image {
     count: u16,
     steps: &'static [Step<'static>],
@@ -136,6 +144,30 @@ const ELEVEN_BLOCKS: Image = Image {
     ],
 };
 
+// An image that is written piece by piece: the first ends with the blocks of one file, the next begins with another's,
+// and there are zeros alone in the last.
+const LARGE: Image = Image {
+    count: 400,
+    steps: &[
+        Make(1, b"f", Sort::File, 2),
+        Write(2, 70_000, b"x"),
+        Make(1, b"g", Sort::File, 3),
+        Write(3, 100, b"y"),
+    ],
+    version: Version::V1,
+    need: 140,
+    length: 512 * 402,
+    pieces: &[
+        (544, b"\x02\x00\x01\x00\x71\x11\x01\x00\x03\x00\x04"),
+        (570, b"\x0c\x00\x8c\x00\x00\x00"),
+        (576, b"\x02\x00\x01\x00\x65\x00\x00\x00\x8d\x00\x00"),
+        (512 * 3 + 70_000, b"x\x00"),
+        (512 * 140, b"\x0d\x00\x0e\x00"),
+        (512 * 140 + 252, b"\x8b\x00\x00\x00"),
+        (512 * 141 + 99, b"\x00y\x00"),
+    ],
+};
+
 // Longer inodes and slots, in 30 blocks with 17 inodes.
 const SECOND: Image = Image {
     count: 21,
@@ -158,35 +190,28 @@ const SECOND: Image = Image {
 };
 
 // The bytes of the image of a tree, which needs so many blocks.
-fn written(rt: &impl Abort, alloc: Global, tree: &Tree, need: u32) -> Result<Vec<u8>, AllocError> {
+fn written(rt: &impl Abort, alloc: Global, tree: &Tree, need: u32) -> Vec<u8> {
     assert!(rt; tree.sizes().version == Version::V1);
     expect_same(rt, needed_blocks(tree, Version::V1), need);
-    to_bytes(alloc, tree)
+    image_of(rt, alloc, tree)
 }
 
 // The bytes of an image of version 2 of 30 blocks and 17 inodes, of a tree of the first version, which needs so many
 // blocks in it.
-fn rewritten(
-    rt: &impl Abort,
-    alloc: Global,
-    tree: &Tree,
-    need: u32,
-) -> Result<Vec<u8>, AllocError> {
+fn rewritten(rt: &impl Abort, alloc: Global, tree: &Tree, need: u32) -> Vec<u8> {
     let sizes = tree.sizes();
     assert!(rt; sizes.version == Version::V1);
     assert!(rt; sizes.inodes <= 17);
     let needed = needed_blocks(tree, Version::V2);
     expect_same(rt, needed, need);
     assert!(rt; needed <= 26);
-    write_as(alloc, tree, Version::V2, 30, 17)
+    let mut image = wide_sink(alloc);
+    let answer = write_as(alloc, tree, Version::V2, 30, 17, &mut image);
+    expect_same(rt, answer, Ok(()));
+    image.bytes
 }
 
-fn bytes_of(
-    rt: &impl Abort,
-    alloc: Global,
-    tree: &Tree,
-    image: &Image,
-) -> Result<Vec<u8>, AllocError> {
+fn bytes_of(rt: &impl Abort, alloc: Global, tree: &Tree, image: &Image) -> Vec<u8> {
     match image.version {
         Version::V1 => written(rt, alloc, tree, image.need),
         Version::V2 => rewritten(rt, alloc, tree, image.need),
@@ -195,15 +220,46 @@ fn bytes_of(
 
 fn expect_image(rt: &impl Abort, alloc: Global, image: &Image) -> Result<(), AllocError> {
     let tree = tree_of(rt, alloc, image.count, image.steps)?;
-    let bytes = bytes_of(rt, alloc, &tree, image)?;
+    let bytes = bytes_of(rt, alloc, &tree, image);
     expect_pieces(rt, &bytes, image.length, image.pieces);
     Ok(())
 }
 
 #[test]
 fn nodes_and_blocks_stand_in_their_places(rt: HostRuntime) -> Result<(), AllocError> {
-    for image in &[A_DIRECTORY_AND_A_FILE, TEN_BLOCKS, ELEVEN_BLOCKS, SECOND] {
+    for image in &[
+        A_DIRECTORY_AND_A_FILE,
+        TEN_BLOCKS,
+        ELEVEN_BLOCKS,
+        LARGE,
+        SECOND,
+    ] {
         expect_image(&rt, rt.alloc(), image)?;
+    }
+    Ok(())
+}
+
+// A sink of less room than an image wants has just the beginning of it, and failed once.
+fn expect_beginning(rt: &impl Abort, alloc: Global, tree: &Tree, room: usize, image: &[u8]) {
+    let mut sink = sink_of(alloc, room, 1_000);
+    expect_same(
+        rt,
+        write_tree(alloc, tree, &mut sink),
+        Err(WriteFault::Write),
+    );
+    expect_equal(rt, sink.bytes.as_slice(), front(image, room));
+    expect_same(rt, sink.failures, 1);
+}
+
+// In the first block, in the first piece, in a later one, and before the last byte.
+const ROOMS: &[usize] = &[0, 10, 60_000, 100_000, 512 * 402 - 1];
+
+#[test]
+fn a_sink_without_room_is_told_a_beginning(rt: HostRuntime) -> Result<(), AllocError> {
+    let tree = tree_of(&rt, rt.alloc(), LARGE.count, LARGE.steps)?;
+    let image = image_of(&rt, rt.alloc(), &tree);
+    for &room in ROOMS {
+        expect_beginning(&rt, rt.alloc(), &tree, room, &image);
     }
     Ok(())
 }

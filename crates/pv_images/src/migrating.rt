@@ -3,13 +3,11 @@ ghost use Rattle.std.specs.Prelude.{◌≡◌, ◌⊎◌, IfOk, IfErr, IfSome, O
 ghost use Rattle.pv_model.specs.Stream.{Rose};
 ghost use Rattle.pv_migrate.specs.Migrated.{migrated};
 ghost use Rattle.pv_run.specs.Streams.{GivesMoreThan};
-ghost use Rattle.pv_images.specs.declared.migrating.MigrateStop.TheVariants.{Refused as RefusedStop};
 ghost use Rattle.pv_images.specs.Migrating.{HasMigrated, IsMigrateStop, IsMigratingStop, IsReadOrNoMemory, StandsInOldImage, TellsNothingUnlessBroken};
 
-use pv_migrate::migrate;
-use pv_model::{Failed, MigrateFault, RunFault, Sink, Source};
+use pv_migrate::{MigratingStop, migrate};
+use pv_model::{MigrateFault, RunFault, Sink, Source};
 use pv_run::stream::{SOURCE_BYTES, read_whole};
-use pv_trace::write_through;
 use std::alloc::Global;
 
 /// Why an image is not made into one of version 2, or not whole.
@@ -21,14 +19,6 @@ pub enum MigrateStop {
     Refused(MigrateFault),
     /// The sink failed.
     Write,
-}
-
-impl From<MigrateFault> for MigrateStop {
-    ghost from_gives = { λ f e. e ≡ RefusedStop f };
-
-    fn from(fault: MigrateFault) -> MigrateStop {
-        MigrateStop::Refused(fault)
-    }
 }
 
 // Reads an image whole.
@@ -59,10 +49,10 @@ fn migrate_bytes<W: Sink>(
     ensures write { result ≡ Err MigrateStop.Write → Rose (W.failures out.old) (W.failures out.new) }
     ensures handed { OnOk result (W.waits out.new ≡ 0) }
 {
-    let image = migrate(alloc, bytes, blocks, inodes)?;
-    match write_through(out, &image) {
+    match migrate(alloc, bytes, blocks, inodes, out) {
         Ok(()) => Ok(()),
-        Err(Failed) => Err(MigrateStop::Write),
+        Err(MigratingStop::Refused(fault)) => Err(MigrateStop::Refused(fault)),
+        Err(MigratingStop::Write) => Err(MigrateStop::Write),
     }
 }
 

@@ -1,5 +1,5 @@
 -- What becomes of bytes, in other words.
-use Rattle.std.proofs.Common.{◌≡◌, ℕ, ◌<◌, ◌≤◌, Bool, true, false, length, take, Result, Ok, Err, bytes_eq, get_or, refl, ap, sym, subst, ◌∙◌, ◌⊎◌, inl, inr, ⊎_elim, arith}
+use Rattle.std.proofs.Common.{◌≡◌, ℕ, ◌<◌, ◌≤◌, Bool, true, false, length, take, Option, Result, Ok, Err, bytes_eq, get_or, refl, ap, sym, subst, ◌∙◌, ◌⊎◌, inl, inr, ⊎_elim, arith}
 use Rattle.std.specs.Prelude.{if◌then◌else◌, nat_lt}
 use Rattle.std.proofs.lemmas.Bool.{le-ltb, lt-ltb}
 use Rattle.std.proofs.lemmas.Slice.Eq.{bytes_eq-Decides}
@@ -20,7 +20,9 @@ use Rattle.pv_mount_laws.proofs.Back.{image-mounted}
 use Rattle.pv_mount_laws.proofs.Images.{mounted-image}
 use Rattle.pv_tree_laws.specs.Kept.{EachIsNamed}
 use Rattle.pv_writer.specs.Placed.{placed}
+use Rattle.pv_writer.specs.Told.{TellsImage, BeginsImage}
 use Rattle.pv_migrate.specs.Migrated.{mounted_first, has_room, enlarged, enlarged_within, migrated, IsFirstImageOf, KeepsNodes, Migrates, LacksRoom, IsMigrated}
+use Rattle.pv_migrate.specs.Written.{TellsMigrated, BeginsMigrated}
 use Rattle.pv_migrate.proofs.Enlarged.{roomy, enlarged-keeps, keeps-enlarged, placed-enlarged}
 
 -- ---- images of version 1
@@ -176,19 +178,39 @@ module _ (bytes : Bytes) (blocks inodes : ℕ) where
     room-old : has_room old blocks inodes ≡ true
     room-old = ap (λ (t : Tree). has_room t blocks inodes) (sym same) ∙ room
 
-    pub becomes : migrated bytes blocks inodes ≡ Ok (enlarged old blocks inodes)
+    becomes : migrated bytes blocks inodes ≡ Ok (enlarged old blocks inodes)
     becomes = migrated-room bytes blocks inodes old held room-old
 
     -- the image that is written is one of the new tree
-    pub written-enlarged : (image : Bytes) → IsWrittenImageOf image (placed u V2 blocks inodes) → IsWrittenImageOf image (enlarged old blocks inodes)
+    written-enlarged : (image : Bytes) → IsWrittenImageOf image (placed u V2 blocks inodes) → IsWrittenImageOf image (enlarged old blocks inodes)
     written-enlarged image written =
         subst (IsWrittenImageOf image) (ap (λ (t : Tree). placed t V2 blocks inodes) same ∙ placed-enlarged old named blocks inodes) written
 
-    pub written-migrated : (image : Bytes) → IsWrittenImageOf image (placed u V2 blocks inodes) → IsMigrated bytes blocks inodes image
+    written-migrated : (image : Bytes) → IsWrittenImageOf image (placed u V2 blocks inodes) → IsMigrated bytes blocks inodes image
     written-migrated image written = record {
       old = old;
       new = enlarged old blocks inodes;
       held = first-mounted bytes old held;
       mounts = image-mounted image (enlarged old blocks inodes) (written-enlarged image written).is_image;
       keeps = keeps-of bytes blocks inodes old (first-image bytes old held) room-old;
+    }
+
+    pub tells-migrated : (before after : Option Bytes) → TellsImage (placed u V2 blocks inodes) before after → TellsMigrated bytes blocks inodes before after
+    tells-migrated before after told = record {
+      tree = enlarged old blocks inodes;
+      is_new = becomes;
+      image = told.image;
+      holds = written-enlarged told.image told.holds;
+      kept = written-migrated told.image told.holds;
+      told = told.told;
+    }
+
+    pub begins-migrated : (before after : Option Bytes) → BeginsImage (placed u V2 blocks inodes) before after → BeginsMigrated bytes blocks inodes before after
+    begins-migrated before after begun = record {
+      tree = enlarged old blocks inodes;
+      is_new = becomes;
+      image = begun.image;
+      holds = written-enlarged begun.image begun.holds;
+      kept = written-migrated begun.image begun.holds;
+      told = begun.told;
     }

@@ -3,7 +3,7 @@
 //! The definition, `migrated` in `specs/Migrated`, computes the new tree from the old bytes, or the fault; the laws below say
 //! in other words when it is which. The new tree has the same nodes under the same numbers, in an image of just the sizes
 //! that were asked for. `first` mounts bytes as an image of version 1 alone, `room` tells whether the tree has room, and
-//! `migrating` has the whole.
+//! `migrating` has the whole: it writes the new image to a sink.
 #![tactic(auto)]
 
 ghost use Rattle.pv_migrate.specs.Migrated.{ImagesAreJudgedFirst, MigratesImages, SmallIsWantOfRoom};
@@ -12,7 +12,7 @@ mod first;
 mod migrating;
 mod room;
 
-pub use migrating::migrate;
+pub use migrating::{MigratingStop, migrate};
 
 /// A tree comes of bytes exactly where they are an image of version 1 and there is room for its nodes; it has just these
 /// nodes, under the same numbers, in an image of version 2 of the sizes that were asked for.

@@ -5,25 +5,21 @@ use Rattle.pv_model.specs.declared.fault.ImageFault.TheVariants.{Memory as Image
 use Rattle.pv_model.specs.declared.run_fault.RunFault.TheVariants.{Read, Image, Manifest, Schedule as ScheduleLine, Init, Memory, WriteTrace, WriteImage}
 use Rattle.pv_model.specs.Bytes.{Bytes}
 use Rattle.pv_model.specs.Held.{named_tree}
-use Rattle.pv_model.specs.Image.{IsWrittenImageOf}
 use Rattle.pv_model.specs.Start.{Started}
 use Rattle.pv_model.specs.Tree.{Tree}
 use Rattle.pv_run.specs.Run.{HasBegun, IsTextOf}
 use Rattle.pv_run.specs.declared.turns.Summary.{Summary}
 use Rattle.pv_session.specs.Running.{run_of}
-use Rattle.pv_trace.specs.Streams.{and_all, TellsBeginning}
+use Rattle.pv_trace.specs.Streams.{and_all}
+use Rattle.pv_writer.specs.Told.{TellsImage, BeginsImage as BeginsWrittenImage}
 
 -- what was told grew by bytes that hold a tree: its root and its named nodes
-pub record ToldImage (t : Tree) (before after : Option Bytes) : Type 0 where
-  pub image : Bytes
-  pub holds : IsWrittenImageOf image (named_tree t)
-  pub told : after ≡ and_all before image
+abbrev pub ToldImage : Tree → Option Bytes → Option Bytes → Type 0
+ToldImage t before after = TellsImage (named_tree t) before after
 
 -- bytes that hold a tree were told up to somewhere
-pub record BeginsImage (t : Tree) (before after : Option Bytes) : Type 0 where
-  pub image : Bytes
-  pub holds : IsWrittenImageOf image (named_tree t)
-  pub told : TellsBeginning image before after
+abbrev pub BeginsImage : Tree → Option Bytes → Option Bytes → Type 0
+BeginsImage t before after = BeginsWrittenImage (named_tree t) before after
 
 -- the tree that a run leaves
 abbrev pub last_tree : Started → Tree

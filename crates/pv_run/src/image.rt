@@ -11,11 +11,10 @@ ghost use Rattle.pv_run.specs.Streams.{GivesMoreThan};
 
 use crate::stream::{SOURCE_BYTES, read_whole};
 use crate::turns::{Ready, Summary, make_turns, start_on};
-use pv_model::{Failed, ImageFault, RunFault, Sink, Source};
+use pv_model::{ImageFault, RunFault, Sink, Source};
 use pv_mount::mount;
-use pv_trace::write_through;
 use pv_tree::{Store, Tree};
-use pv_writer::to_bytes;
+use pv_writer::{WriteFault, write_tree};
 use std::alloc::Global;
 
 // The store of the tree that an image holds. `listed` tells whether all its directories will be listed, so that it is worth
@@ -63,10 +62,10 @@ pub fn write_image<O: Sink>(alloc: Global, tree: &Tree, image: &mut O) -> Result
     ensures handed { OnOk result (O.waits image.new ≡ 0) }
     ensures kind { IfErr result IsWriteFault }
 {
-    let bytes = to_bytes(alloc, tree)?;
-    match write_through(image, &bytes) {
+    match write_tree(alloc, tree, image) {
         Ok(()) => Ok(()),
-        Err(Failed) => Err(RunFault::WriteImage),
+        Err(WriteFault::Memory) => Err(RunFault::Memory),
+        Err(WriteFault::Write) => Err(RunFault::WriteImage),
     }
 }
 

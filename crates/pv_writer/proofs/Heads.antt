@@ -63,7 +63,7 @@ module _ (v : Version) (sort count size k : ℕ) (short : size ≤ greatest_leng
   length-front V1 = refl
   length-front V2 = refl
 
-  length-tail : (w : Version) → 4 + (4 + (20 + (2 * index_pointers w + length (behind_pointers w count)))) ≡ inode_length w
+  pub length-tail : (w : Version) → 4 + (4 + (20 + (2 * index_pointers w + length (behind_pointers w count)))) ≡ inode_length w
   length-tail V1 = refl
   length-tail V2 = refl
 

@@ -6,6 +6,7 @@ pub mod Heads
 pub mod Reading
 pub mod NamedTrees
 pub mod Places
+pub mod Windows
 pub mod Writing
 pub mod Law
 pub mod PlacedTrees

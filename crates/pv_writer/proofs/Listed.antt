@@ -1,5 +1,5 @@
 -- The entries of a directory, one by one.
-use Rattle.std.proofs.Common.{◌≡◌, ℕ, zero, suc, ◌+◌, ◌<◌, ◌≤◌, not, nat_le, Bool, true, false, cond, List, [], ◌∷◌, ◌++◌, length, take, Option, None, Some, refl, ap, sym, subst, ◌∙◌, add-one, arith}
+use Rattle.std.proofs.Common.{◌≡◌, ℕ, zero, suc, ◌+◌, ◌*◌, ◌<◌, ◌≤◌, not, nat_le, Bool, true, false, cond, List, [], ◌∷◌, ◌++◌, length, take, Option, None, Some, refl, ap, sym, subst, ◌∙◌, add-one, arith}
 use Rattle.std.specs.Prelude.{bytes_eq, codes, flat_map, option_map, slice_get}
 use Rattle.std.specs.List.{list_all}
 use Rattle.std.specs.FinMap.Entries.{find, is_sorted, below_all}
@@ -11,9 +11,11 @@ use Rattle.std.proofs.lemmas.Cmp.{nat_list_cmp_total}
 use Rattle.std.proofs.lemmas.Grind.{flat_map-append}
 use Rattle.std.proofs.lemmas.List.{append_assoc, append-nil, take_all}
 use Rattle.pv_model.specs.declared.version.Version.{Version}
+use Rattle.pv_model.specs.declared.version.Version.TheVariants.{V1, V2}
 use Rattle.pv_model.specs.Bytes.{Bytes, is_empty}
 use Rattle.pv_model.specs.Calls.Descriptors.{next_name}
 use Rattle.pv_model.specs.Effect.{size_of}
+use Rattle.pv_model.specs.Room.{entry_length}
 use Rattle.pv_model.specs.Tree.{Entries, Node, directory_node, file_node, link_node, Tree, node_at, entries_of, entries_at, is_directory, is_directory_at, find_entry, greatest_name, is_name, is_name_byte, IsWellFormed}
 use Rattle.pv_tree_laws.proofs.Changes.{entries-good}
 use Rattle.pv_tree_laws.proofs.Entries.{by_name, tied_itself, find_behind}
@@ -133,11 +135,16 @@ listing-step v es i before bytes last e so_far is new next =
 
 -- ---- the entries of a directory of a tree
 
-size_entries : (o : Option Node) (n : ℕ) → is_directory o ≡ true → option_map size_of o ≡ Some n → n ≡ length (entries_of o)
+pub size_entries : (o : Option Node) (n : ℕ) → is_directory o ≡ true → option_map size_of o ≡ Some n → n ≡ length (entries_of o)
 size_entries None n is size = cc
 size_entries (Some (directory_node es)) n is size = let same : length es ≡ n = cc in sym same
 size_entries (Some (file_node executable bytes)) n is size = cc
 size_entries (Some (link_node text)) n is size = cc
+
+-- one slot more has room where there is room for all
+pub slot-room : (v : Version) (i n : ℕ) → i < n → entry_length v * i + entry_length v ≤ entry_length v * n
+slot-room V1 i n below = omega arith
+slot-room V2 i n below = omega arith
 
 pub all-get : {X : Type 0} (p : X → Bool) (xs : List X) (i : ℕ) (x : X) → list_all p xs ≡ true → slice_get xs i ≡ Some x → p x ≡ true
 all-get p [] i x all is = cc

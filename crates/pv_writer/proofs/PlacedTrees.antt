@@ -284,6 +284,15 @@ module _ (h : HeldTree) (s : IsStanding h) (v : Version) (blocks inodes : ℕ) w
         by (Some (file_node executable bytes)) at dir many = cc
         by (Some (link_node text)) at dir many = cc
 
+    pub slots-length : (n : ℕ) → is_directory_at h.tree n ≡ true → length (content_of v (node_at h.tree n)) ≡ entry_length v * length (entries_at h.tree n)
+    slots-length n is = by (node_at h.tree n) refl is
+      where
+        by : (o : Option Node) → node_at h.tree n ≡ o → is_directory o ≡ true → length (content_of v o) ≡ entry_length v * length (entries_of o)
+        by None at dir = cc
+        by (Some (directory_node es)) at dir = length-node n (directory_node es) at
+        by (Some (file_node executable bytes)) at dir = cc
+        by (Some (link_node text)) at dir = cc
+
     pub other-length : (n size : ℕ) → is_directory_at h.tree n ≡ false → option_map size_of (node_at h.tree n) ≡ Some size → length (content_of v (node_at h.tree n)) ≡ size
     other-length n size other told = by (node_at h.tree n) other told
       where

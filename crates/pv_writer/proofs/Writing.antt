@@ -1,15 +1,20 @@
 -- The parts of an image, node by node.
-use Rattle.std.proofs.Common.{◌≡◌, ℕ, suc, ◌+◌, ◌-◌, ◌*◌, ◌<◌, ◌≤◌, ◌++◌, length, replicate, true, Option, None, Some, is_some, ap, sym, subst, ◌∙◌, add-one, arith}
+use Rattle.std.proofs.Common.{◌≡◌, ℕ, suc, ◌+◌, ◌-◌, ◌*◌, ◌<◌, ◌≤◌, ◌++◌, length, replicate, true, Option, None, Some, is_some, refl, ap, sym, subst, ◌∙◌, add-one, arith}
 use Rattle.std.proofs.lemmas.List.{append_assoc, append-nil, length-append}
 use Rattle.std.specs.List.{range_with_len}
 use Rattle.pv_model.specs.declared.version.Version.{Version}
+use Rattle.pv_model.specs.declared.version.Version.TheVariants.{V1, V2}
 use Rattle.pv_model.specs.Bytes.{Bytes}
-use Rattle.pv_model.specs.Image.{inode_blocks}
+use Rattle.pv_model.specs.Image.{inode_blocks, inode_length}
 use Rattle.pv_model.specs.Tree.{Node, Tree, node_at, names_of}
-use Rattle.pv_writer.specs.Spelling.{padded, spelled, contained, content_of, blocks_for, direct_for, index_for, content_blocks, behind_content, taken_of, inode_of, blocks_of, first_data, first_of, first_block, all_inodes, all_contents, image_bytes}
+use Rattle.pv_trace.specs.Streams.{TellsBeginning}
+use Rattle.pv_writer.specs.Spelling.{padded, spelled, contained, content_of, blocks_for, direct_for, index_for, content_blocks, behind_content, taken_of, inode_of, blocks_of, taken_before, first_data, first_of, joined, blocks_at, first_block, all_inodes, all_contents, image_bytes}
+use Rattle.pv_writer.specs.Told.{IsPut}
 use Rattle.pv_writer.specs.Writable.{IsWritable, AreWritten}
-use Rattle.pv_writer.proofs.Pieces.{length-padded}
+use Rattle.pv_writer.proofs.Pieces.{joined-more, length-padded}
 use Rattle.pv_writer.proofs.Places.{few-blocks, length-all_contents, length-all_inodes, length-first_block, table-fits, taken_before-grows}
+use Rattle.pv_trace.proofs.Telling.{begins_first}
+use Rattle.pv_writer.proofs.Windows.{put-behind, put-cut, put-more, put-on, put-start, put-within}
 
 -- the blocks of a content are the content, and what stands behind it
 pub content-split : (k : ℕ) (bytes : Bytes) → content_blocks k bytes ≡ bytes ++ behind_content k (length bytes)
@@ -42,6 +47,17 @@ padded-behind n m xs ys long =
 filled : (n m k : ℕ) (xs ys now new : Bytes) → length xs ≡ n → k ≡ n + m → now ≡ xs ++ ys → new ≡ padded k now → new ≡ xs ++ padded m ys
 filled n m k xs ys now new long whole so_far is =
     is ∙ ap (λ j. padded j now) whole ∙ ap (padded (n + m)) so_far ∙ padded-behind n m xs ys long
+
+-- one inode more has room where there is room for all
+row-room : (v : Version) (i n : ℕ) → i < n → inode_length v * i + inode_length v ≤ inode_length v * n
+row-room V1 i n below = omega arith
+row-room V2 i n below = omega arith
+
+-- the contents of the nodes up to a number stand behind other bytes: a front of all that was told, and the others wait in a window; and the block behind theirs
+pub record ArePut (t : Tree) (n : ℕ) (before : Bytes) (entry now : Option Bytes) (window : Bytes) (next : ℕ) : Type 0 where
+  pub all : Bytes
+  pub put : IsPut entry now window all
+  pub written : AreWritten all_contents t n before all next
 
 module _ (u : Tree) (w : IsWritable u) where
   start : (next : ℕ) → next ≡ first_data u.version u.inodes → next ≡ first_of u 1
@@ -133,30 +149,124 @@ module _ (u : Tree) (w : IsWritable u) where
         length-padded (512 * inode_blocks u.version u.inodes) (all_inodes u u.inodes) fit,
       )
 
-  -- ---- the contents behind it
+  pub inode-room : (n : ℕ) (front now : Bytes) → length front ≡ 512 → n < u.inodes → now ≡ front ++ all_inodes u n
+      → length now + inode_length u.version ≤ 512 * (inode_blocks u.version u.inodes + 1)
+  inode-room n front now long within so_far =
+      omega (
+        arith,
+        ap (λ (xs : Bytes). length xs) so_far,
+        length-append front (all_inodes u n),
+        long,
+        length-all_inodes u w n,
+        table-fits u.version u.inodes,
+        row-room u.version n u.inodes within,
+      )
+
+  -- ---- the contents behind it, in a window
+
+  behind_table : Bytes
+  behind_table = padded (512 * u.blocks) (all_contents u u.inodes)
+
+  pub put-none : (window : Bytes) (told : Option Bytes) (next : ℕ) → next ≡ first_data u.version u.inodes → ArePut u 0 window told told window next
+  put-none window told next is = record { all = window; put = put-start told window; written = contents-start window next is }
+
+  -- the blocks of one node more
+  pub put-node : (n : ℕ) (before : Bytes) (entry now : Option Bytes) (window new : Bytes) (k taken : ℕ) (o : Option Node) → ArePut u n before entry now window k
+      → o ≡ node_at u (suc n) → new ≡ window ++ blocks_of u.version k o → taken ≡ taken_of u.version o → ArePut u (n + 1) before entry now new (k + taken)
+  put-node n before entry now window new k taken o p is next_content many = record {
+    all = p.all ++ blocks_of u.version k o;
+    put = put-more entry now window p.all new (blocks_of u.version k o) p.put next_content;
+    written = contents-step n before p.all (p.all ++ blocks_of u.version k o) k (k + taken) o p.written is refl (ap (λ j. k + j) many);
+  }
+
+  -- some of the window was told
+  pub told-node : (n : ℕ) (before : Bytes) (entry mid after : Option Bytes) (window new : Bytes) (k : ℕ) → ArePut u n before entry mid window k → IsPut mid after new window
+      → ArePut u n before entry after new k
+  told-node n before entry mid after window new k p q = record { all = p.all; put = put-on entry mid after window p.all new p.put q; written = p.written }
+
+  -- the contents begin with those of the nodes up to a number
+  begins-contents : (n : ℕ) → n ≤ u.inodes → (more : Bytes) × (behind_table ≡ all_contents u n ++ more)
+  unfolding behind_table padded all_contents
+  begins-contents n within =
+      let found = joined-more (blocks_at u) n (u.inodes - n) in
+      let all : n + (u.inodes - n) ≡ u.inodes = omega arith in
+      let zeros = replicate (512 * u.blocks - length (joined (blocks_at u) u.inodes)) 0 in
+      (found.0 ++ zeros, ap (λ (xs : Bytes). xs ++ zeros) (ap (joined (blocks_at u)) (sym all) ∙ found.1) ∙ append_assoc (joined (blocks_at u) n) found.0 zeros)
+
+  pub cut-node : (n : ℕ) (before : Bytes) (entry mid after : Option Bytes) (window : Bytes) (k : ℕ) → n ≤ u.inodes → ArePut u n before entry mid window k → TellsBeginning window mid after
+      → TellsBeginning (before ++ padded (512 * u.blocks) (all_contents u u.inodes)) entry after
+  unfolding behind_table
+  cut-node n before entry mid after window k within p begun =
+      let found = begins-contents n within in
+      let whole : p.all ++ found.0 ≡ before ++ behind_table =
+      ap (λ (xs : Bytes). xs ++ found.0) p.written.so_far ∙ append_assoc before (all_contents u n) found.0 ∙ ap (λ (xs : Bytes). before ++ xs) (sym found.1) in
+      subst (λ (xs : Bytes). TellsBeginning xs entry after) whole (begins_first p.all found.0 entry after (put-cut entry mid after window p.all p.put begun))
+
+  length-put : (n : ℕ) (before : Bytes) (entry now : Option Bytes) (window : Bytes) (k : ℕ) → ArePut u n before entry now window k → length window ≤ length before + 512 * taken_before u (suc n)
+  length-put n before entry now window k p =
+      omega (arith, put-within entry now window p.all p.put, ap (λ (xs : Bytes). length xs) p.written.so_far, length-append before (all_contents u n), length-all_contents u w n)
+
+  pub node-room : (n : ℕ) (before : Bytes) (entry now : Option Bytes) (window : Bytes) (k blocks : ℕ) (o : Option Node) → ArePut u n before entry now window k → n < u.inodes → o ≡ node_at u (suc n)
+      → length before ≡ 512 * (inode_blocks u.version u.inodes + 1) → blocks ≡ inode_blocks u.version u.inodes + 1 + u.blocks → length window + 512 * taken_of u.version o ≤ 512 * blocks
+  node-room n before entry now window k blocks o p within is long whole =
+      omega (
+        arith,
+        length-put n before entry now window k p,
+        ap (taken_of u.version) is,
+        taken_before-grows u (suc (suc n)) (suc u.inodes) (omega arith),
+        w.room,
+        long,
+        whole,
+      )
+
+  -- ---- and zeros behind them
 
   all-contents : (n : ℕ) (front now : Bytes) → n ≡ u.inodes → now ≡ front ++ all_contents u n → now ≡ front ++ all_contents u u.inodes
   all-contents n front now all so_far = so_far ∙ ap (λ k. front ++ all_contents u k) all
 
-  pub contents-room : (n blocks : ℕ) (front now : Bytes) → length front ≡ 512 * (inode_blocks u.version u.inodes + 1) → n ≡ u.inodes
-      → blocks ≡ inode_blocks u.version u.inodes + 1 + u.blocks → now ≡ front ++ all_contents u n → length now ≤ 512 * blocks
-  contents-room n blocks front now long all whole so_far =
-      let is = ap (λ (xs : Bytes). length xs) (all-contents n front now all so_far) in
-      omega (arith, is, length-append front (all_contents u u.inodes), long, length-all_contents u w u.inodes, w.room, whole)
+  last-block : (n next : ℕ) → n ≡ u.inodes → next ≡ first_of u (suc n) → next ≡ first_data u.version u.inodes + taken_before u (suc u.inodes)
+  unfolding first_of
+  last-block n next all is = is ∙ ap (λ k. first_data u.version u.inodes + taken_before u (suc k)) all
 
-  pub contents-are : (n blocks : ℕ) (front now new : Bytes) → length front ≡ 512 * (inode_blocks u.version u.inodes + 1) → n ≡ u.inodes
-      → blocks ≡ inode_blocks u.version u.inodes + 1 + u.blocks → now ≡ front ++ all_contents u n → new ≡ padded (512 * blocks) now
-      → new ≡ front ++ padded (512 * u.blocks) (all_contents u u.inodes)
-  contents-are n blocks front now new long all whole so_far is =
-      filled (512 * (inode_blocks u.version u.inodes + 1)) (512 * u.blocks) (512 * blocks) front (all_contents u u.inodes) now new long (omega (arith, whole)) (all-contents n front now all so_far) is
+  pub blocks-left : (n next blocks : ℕ) → n ≡ u.inodes → next ≡ first_of u (suc n) → blocks ≡ inode_blocks u.version u.inodes + 1 + u.blocks → next ≤ blocks
+  blocks-left n next blocks all is whole = omega (arith, last-block n next all is, w.room, whole)
+
+  pub zeros-room : (n : ℕ) (before : Bytes) (entry now : Option Bytes) (window : Bytes) (next blocks : ℕ) → ArePut u n before entry now window next → n ≡ u.inodes
+      → length before ≡ 512 * (inode_blocks u.version u.inodes + 1) → blocks ≡ inode_blocks u.version u.inodes + 1 + u.blocks → length window + 512 * (blocks - next) ≤ 512 * blocks
+  zeros-room n before entry now window next blocks p all long whole =
+      omega (
+        arith,
+        length-put n before entry now window next p,
+        last-block n next all p.written.block_behind,
+        ap (λ k. taken_before u (suc k)) all,
+        w.room,
+        long,
+        whole,
+      )
+
+  zeros-behind : (k : ℕ) (before all : Bytes) → k ≡ 512 * u.blocks - length (all_contents u u.inodes) → all ≡ before ++ all_contents u u.inodes
+      → all ++ replicate k 0 ≡ before ++ padded (512 * u.blocks) (all_contents u u.inodes)
+  unfolding padded
+  zeros-behind k before all count so_far =
+      ap (λ (xs : Bytes). xs ++ replicate k 0) so_far ∙ append_assoc before (all_contents u u.inodes) (replicate k 0)
+      ∙ ap (λ j. before ++ (all_contents u u.inodes ++ replicate j 0)) count
+
+  pub put-zeros : (n : ℕ) (before : Bytes) (entry now : Option Bytes) (window : Bytes) (next blocks : ℕ) → ArePut u n before entry now window next → n ≡ u.inodes
+      → blocks ≡ inode_blocks u.version u.inodes + 1 + u.blocks
+      → IsPut entry now (window ++ replicate (512 * (blocks - next)) 0) (before ++ padded (512 * u.blocks) (all_contents u u.inodes))
+  put-zeros n before entry now window next blocks p all whole =
+      let count : 512 * (blocks - next) ≡ 512 * u.blocks - length (all_contents u u.inodes) = omega (arith, last-block n next all p.written.block_behind, length-all_contents u w u.inodes, whole) in
+      subst (λ (xs : Bytes). IsPut entry now (window ++ replicate (512 * (blocks - next)) 0) xs)
+      (zeros-behind (512 * (blocks - next)) before p.all count (all-contents n before p.all all p.written.so_far))
+      (put-behind entry now window p.all (replicate (512 * (blocks - next)) 0) p.put)
 
   -- the whole image
-  pub image-written : (blocks : ℕ) (now new : Bytes) → blocks ≡ first_data u.version u.inodes + u.blocks
+  pub image-written : (blocks : ℕ) (now : Bytes) → blocks ≡ first_data u.version u.inodes + u.blocks
       → now ≡ first_block u.version blocks u.inodes ++ padded (512 * inode_blocks u.version u.inodes) (all_inodes u u.inodes)
-      → new ≡ now ++ padded (512 * u.blocks) (all_contents u u.inodes) → new ≡ image_bytes u
+      → now ++ padded (512 * u.blocks) (all_contents u u.inodes) ≡ image_bytes u
   unfolding image_bytes
-  image-written blocks now new whole with_table behind =
+  image-written blocks now whole with_table =
       let rows = padded (512 * inode_blocks u.version u.inodes) (all_inodes u u.inodes) in
       let contents = padded (512 * u.blocks) (all_contents u u.inodes) in
-      behind ∙ ap (λ (xs : Bytes). xs ++ contents) (with_table ∙ ap (λ k. first_block u.version k u.inodes ++ rows) whole)
+      ap (λ (xs : Bytes). xs ++ contents) (with_table ∙ ap (λ k. first_block u.version k u.inodes ++ rows) whole)
       ∙ append_assoc (first_block u.version (first_data u.version u.inodes + u.blocks) u.inodes) rows contents

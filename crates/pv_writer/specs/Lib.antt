@@ -1,3 +1,4 @@
 pub mod Placed
 pub mod Spelling
+pub mod Told
 pub mod Writable

@@ -1,13 +1,14 @@
 //! The inode of a node, and the blocks of its content.
-ghost use Rattle.std.specs.Prelude.{◌≡◌, ◌+◌, ◌*◌, ◌^◌, ◌<◌, ◌≤◌, ◌++◌, vec_len, length, OnOk};
+ghost use Rattle.std.specs.Prelude.{◌≡◌, ◌+◌, ◌-◌, ◌*◌, ◌^◌, ◌<◌, ◌≤◌, ◌++◌, vec_capacity, vec_len, length};
+ghost use Rattle.pv_model.specs.declared.limits.TheConstants.{BLOCK};
 ghost use Rattle.pv_model.specs.declared.version.Version.TheVariants.{V2};
+ghost use Rattle.pv_model.specs.Image.{inode_length};
 ghost use Rattle.pv_model.specs.Room.{greatest_length};
 ghost use Rattle.pv_writer.specs.Spelling.{before_size, behind_content, behind_pointers, blocks_for, direct_for, index_for, inode_bytes, taken};
 
-use crate::filling::{fill, put_pointers, put_u16, put_u32, put_zeros};
+use crate::filling::{put, put_pointers, put_u16, put_u32, put_zeros};
 use pv_model::Version;
 use pv_model::limits::BLOCK;
-use std::alloc::AllocError;
 
 // Pointers of an inode to blocks of its content.
 const DIRECT: u16 = 10;
@@ -43,9 +44,12 @@ pub(crate) fn extent_of(size: usize) -> Extent
 }
 
 // Appends what stands before the size of an inode, behind its first two bytes.
-fn put_before_size(bytes: &mut Vec<u8>, version: Version, names: u32) -> Result<(), AllocError>
-    requires { version ≡ Version.V1 → names < 2 ^ 16 }
-    ensures { OnOk result (bytes.new.items ≡ bytes.old.items ++ before_size version names) }
+fn put_before_size(bytes: &mut Vec<u8>, version: Version, names: u32)
+    requires names { version ≡ Version.V1 → names < 2 ^ 16 }
+    requires room { vec_len bytes.old + 2 ≤ vec_capacity bytes.old }
+    ensures items { bytes.new.items ≡ bytes.old.items ++ before_size version names }
+    ensures len { vec_len bytes.new ≡ vec_len bytes.old + 2 }
+    ensures capacity { vec_capacity bytes.old ≤ vec_capacity bytes.new }
 {
     match version {
         Version::V1 => put_u16(bytes, names as u16),
@@ -54,14 +58,17 @@ fn put_before_size(bytes: &mut Vec<u8>, version: Version, names: u32) -> Result<
 }
 
 // Appends what stands behind the pointers of an inode.
-fn put_behind_pointers(bytes: &mut Vec<u8>, version: Version, names: u32) -> Result<(), AllocError>
-    ensures { OnOk result (bytes.new.items ≡ bytes.old.items ++ behind_pointers version names) }
+fn put_behind_pointers(bytes: &mut Vec<u8>, version: Version, names: u32)
+    requires { vec_len bytes.old + length (behind_pointers version names) ≤ vec_capacity bytes.old }
+    ensures items { bytes.new.items ≡ bytes.old.items ++ behind_pointers version names }
+    ensures len { vec_len bytes.new ≡ vec_len bytes.old + length (behind_pointers version names) }
+    ensures capacity { vec_capacity bytes.old ≤ vec_capacity bytes.new }
 {
     match version {
         Version::V1 => put_zeros(bytes, 2),
         Version::V2 => {
-            put_u32(bytes, names)?;
-            put_zeros(bytes, 22)
+            put_u32(bytes, names);
+            put_zeros(bytes, 22);
         }
     }
 }
@@ -76,40 +83,42 @@ pub(crate) fn put_inode(
     names: u32,
     size: usize,
     first: u16,
-) -> Result<(), AllocError>
+)
     requires names { version ≡ Version.V1 → names < 2 ^ 16 }
     requires size { size ≤ greatest_length version }
     requires blocks { first + taken size < 2 ^ 16 }
-    ensures { OnOk result (bytes.new.items ≡ bytes.old.items ++ inode_bytes version sort names size first) }
+    requires room { vec_len bytes.old + inode_length version ≤ vec_capacity bytes.old }
+    ensures items { bytes.new.items ≡ bytes.old.items ++ inode_bytes version sort names size first }
+    ensures len { vec_len bytes.new ≡ vec_len bytes.old + inode_length version }
+    ensures capacity { vec_capacity bytes.old ≤ vec_capacity bytes.new }
 {
     let extent = extent_of(size);
     let index_length = 2 * version.layout().index_pointers as usize;
-    bytes.extend_from_slice(&[sort, 0])?;
-    put_before_size(bytes, version, names)?;
-    put_u32(bytes, size as u32)?;
-    put_pointers(bytes, first, extent.direct, 2 * DIRECT as usize)?;
-    put_pointers(bytes, first + extent.filled, extent.index, index_length)?;
-    put_behind_pointers(bytes, version, names)
+    put(bytes, &[sort, 0]);
+    put_before_size(bytes, version, names);
+    put_u32(bytes, size as u32);
+    put_pointers(bytes, first, extent.direct, 2 * DIRECT as usize);
+    put_pointers(bytes, first + extent.filled, extent.index, index_length);
+    put_behind_pointers(bytes, version, names);
 }
 
 /// Appends what stands behind a content of so many bytes in its blocks, of which the first is told: zeros up to the end
 /// of those that it fills, and then the numbers of those past the tenth.
 #[tactic(auto, unfolding(crate::specs::Spelling::behind_content))]
-pub(crate) fn put_behind_content(
-    bytes: &mut Vec<u8>,
-    size: usize,
-    first: u16,
-) -> Result<(), AllocError>
+pub(crate) fn put_behind_content(bytes: &mut Vec<u8>, size: usize, first: u16)
     requires size { size ≤ greatest_length V2 }
     requires blocks { first + taken size < 2 ^ 16 }
-    ensures { OnOk result (bytes.new.items ≡ bytes.old.items ++ behind_content first size) }
+    requires room { vec_len bytes.old + (BLOCK * taken size - size) ≤ vec_capacity bytes.old }
+    ensures items { bytes.new.items ≡ bytes.old.items ++ behind_content first size }
+    ensures len { vec_len bytes.new ≡ vec_len bytes.old + (BLOCK * taken size - size) }
+    ensures capacity { vec_capacity bytes.old ≤ vec_capacity bytes.new }
 {
     let extent = extent_of(size);
-    put_zeros(bytes, BLOCK * extent.filled as usize - size)?;
+    put_zeros(bytes, BLOCK * extent.filled as usize - size);
     put_pointers(
         bytes,
         first + extent.direct,
         extent.filled - extent.direct,
         BLOCK * extent.index as usize,
-    )
+    );
 }

@@ -1,55 +1,47 @@
-use Rattle.std.proofs.Common.{inr, sym, ap, subst, ◌∙◌, arith}
-use Rattle.std.proofs.lemmas.Result.{err_from_is_err_and}
+use Rattle.std.proofs.Common.{◌≡◌, ◌∙◌, ℕ, true, Result, Err, sym, ap, subst, arith}
 use Rattle.pv_model.specs.Tree.{Tree}
 use Rattle.pv_tree_laws.specs.Kept.{EachIsNamed}
-use Rattle.pv_migrate.specs.Migrated.{enlarged, has_room}
+use Rattle.pv_writer.specs.declared.fault.WriteFault.{WriteFault}
+use Rattle.pv_writer.specs.declared.fault.WriteFault.TheVariants.{Write}
+use Rattle.pv_migrate.specs.Migrated.{has_room}
 use Rattle.pv_migrate.proofs.Enlarged.{roomy, named_need-needed}
-use Rattle.pv_migrate.proofs.Migrations.{refuses-image, migrated-small, becomes, written-enlarged, written-migrated}
+use Rattle.pv_migrate.proofs.Migrations.{begins-migrated, tells-migrated}
 use Rattle.pv_migrate.proofs.migrating.migrate.Goals as goal
 
-pub returns-in_err-store-clause-refused : goal.returns-in_err-store-clause-refused
-returns-in_err-store-clause-refused c =
-    let p = err_from_is_err_and c.from_residual.result c.from_residual.ensures.1 in
-    rw p.1 (refuses-image c.args.bytes.items c.args.blocks c.args.inodes c.in_err-store.field-0.0 p.0 p.2 c.in_err-store.ensures.refused)
-
-pub returns-then-not-has_room-clause-refused : goal.returns-then-not-has_room-clause-refused
-returns-then-not-has_room-clause-refused c =
-    inr (migrated-small c.args.bytes.items c.args.blocks c.args.inodes c.in_ok-store.store c.in_ok-store.ensures.mounted
-    (ap (λ (t : Tree). has_room t c.args.blocks c.args.inodes) (sym c.tree-tree.ensures.tree) ∙ sym c.has_room.ensures ∙ c.if-not-has_room.true))
+-- the same of the tree that is lent
+room-of : (t old : Tree) (blocks inodes : ℕ) → t ≡ old → has_room old blocks inodes ≡ true → has_room t blocks inodes ≡ true
+room-of t old blocks inodes same room = ap (λ (u : Tree). has_room u blocks inodes) same ∙ room
 
 pub overflow_cast-blocks : goal.overflow_cast-blocks
-overflow_cast-blocks c =
-    let r = roomy c.tree-tree.result.now.tree c.args.blocks c.args.inodes (sym c.has_room.ensures ∙ c.if-not-has_room.false) in
-    omega (arith, r.few_blocks)
+overflow_cast-blocks g c = omega (arith, (roomy c.in_ok-store.store c.args.blocks c.args.inodes c.in_ok-store.ensures.room).few_blocks)
 
 pub overflow_cast-inodes : goal.overflow_cast-inodes
-overflow_cast-inodes c =
-    let r = roomy c.tree-tree.result.now.tree c.args.blocks c.args.inodes (sym c.has_room.ensures ∙ c.if-not-has_room.false) in
-    omega (arith, r.few_inodes)
+overflow_cast-inodes g c = omega (arith, (roomy c.in_ok-store.store c.args.blocks c.args.inodes c.in_ok-store.ensures.room).few_inodes)
 
 pub write_as-requires-clause-sizes : goal.write_as-requires-clause-sizes
-write_as-requires-clause-sizes c = (roomy c.tree-tree.result.now.tree c.args.blocks c.args.inodes (sym c.has_room.ensures ∙ c.if-not-has_room.false)).sizes
+write_as-requires-clause-sizes g c = (roomy c.in_ok-store.store c.args.blocks c.args.inodes c.in_ok-store.ensures.room).sizes
 
 pub write_as-requires-clause-inodes : goal.write_as-requires-clause-inodes
-write_as-requires-clause-inodes c = (roomy c.tree-tree.result.now.tree c.args.blocks c.args.inodes (sym c.has_room.ensures ∙ c.if-not-has_room.false)).as_many
+write_as-requires-clause-inodes g c =
+    (roomy c.tree.result.now.tree c.args.blocks c.args.inodes (room-of c.tree.result.now.tree c.in_ok-store.store c.args.blocks c.args.inodes c.tree.ensures.tree c.in_ok-store.ensures.room)).as_many
 
 pub write_as-requires-clause-room : goal.write_as-requires-clause-room
-write_as-requires-clause-room c =
-    let r = roomy c.tree-tree.result.now.tree c.args.blocks c.args.inodes (sym c.has_room.ensures ∙ c.if-not-has_room.false) in
-    let named = subst EachIsNamed (sym c.tree-tree.ensures.tree) c.facts.ensures.named in
-    omega (arith, r.enough, r.table, named_need-needed c.tree-tree.result.now.tree named)
+write_as-requires-clause-room g c =
+    let r = roomy c.tree.result.now.tree c.args.blocks c.args.inodes (room-of c.tree.result.now.tree c.in_ok-store.store c.args.blocks c.args.inodes c.tree.ensures.tree c.in_ok-store.ensures.room) in
+    let named = subst EachIsNamed (sym c.tree.ensures.tree) c.facts.ensures.named in
+    omega (arith, r.enough, r.table, named_need-needed c.tree.result.now.tree named)
 
-pub returns-clause-written : goal.returns-clause-written
-returns-clause-written c =
-    let room = sym c.has_room.ensures ∙ c.if-not-has_room.false in (
-      enlarged c.in_ok-store.store c.args.blocks c.args.inodes,
-      becomes c.args.bytes.items c.args.blocks c.args.inodes c.in_ok-store.store c.tree-tree.result.now.tree c.in_ok-store.ensures.mounted c.tree-tree.ensures.tree c.facts.ensures.named room,
-      written-enlarged c.args.bytes.items c.args.blocks c.args.inodes c.in_ok-store.store c.tree-tree.result.now.tree c.in_ok-store.ensures.mounted c.tree-tree.ensures.tree
-          c.facts.ensures.named room c.in_ok-write_as.field-0.items c.in_ok-write_as.ensures,
-    )
+pub returns-in-Ok-clause-written : goal.returns-in-Ok-clause-written
+returns-in-Ok-clause-written g c =
+    tells-migrated c.args.bytes.items c.args.blocks c.args.inodes c.in_ok-store.store c.tree.result.now.tree c.in_ok-store.ensures.mounted c.tree.ensures.tree c.facts.ensures.named
+    (room-of c.tree.result.now.tree c.in_ok-store.store c.args.blocks c.args.inodes c.tree.ensures.tree c.in_ok-store.ensures.room)
+    (g.W.Sink.told c.args.out.now) (g.W.Sink.told c.write_as.new.image) c.in-Ok.ensures.whole
 
-pub returns-clause-kept : goal.returns-clause-kept
-returns-clause-kept c =
-    let room = sym c.has_room.ensures ∙ c.if-not-has_room.false in
-    written-migrated c.args.bytes.items c.args.blocks c.args.inodes c.in_ok-store.store c.tree-tree.result.now.tree c.in_ok-store.ensures.mounted c.tree-tree.ensures.tree
-    c.facts.ensures.named room c.in_ok-write_as.field-0.items c.in_ok-write_as.ensures
+failed : (r : Result (Unit {0}) WriteFault) (f : WriteFault) → r ≡ Err f → f ≡ Write → r ≡ Err Write
+failed r f is same = subst (λ (e : WriteFault). r ≡ Err e) same is
+
+pub returns-clause-refused : goal.returns-clause-refused
+returns-clause-refused g c =
+    begins-migrated c.args.bytes.items c.args.blocks c.args.inodes c.in_ok-store.store c.tree.result.now.tree c.in_ok-store.ensures.mounted c.tree.ensures.tree c.facts.ensures.named
+    (room-of c.tree.result.now.tree c.in_ok-store.store c.args.blocks c.args.inodes c.tree.ensures.tree c.in_ok-store.ensures.room)
+    (g.W.Sink.told c.args.out.now) (g.W.Sink.told c.write_as.new.image) (c.write_as.ensures.cut (failed c.write_as.result c.in-Err-Write.field-0 c.in-Err-Write.is c.in-Err-Write.field-0-is))

@@ -1,4 +1,4 @@
-use Rattle.std.proofs.Common.{◌≡◌, ◌≤◌, ◌-◌, ◌++◌, length, take}
+use Rattle.std.proofs.Common.{◌≡◌, ◌≤◌, ◌+◌, ◌-◌, ◌++◌, length, take, vec_capacity, vec_len}
 use Rattle.pv_dirs.specs.Trees.{bytes_at}
 use Rattle.pv_writer.proofs.content.put_bytes.Given as goal
 
@@ -7,6 +7,8 @@ abbrev pub invariant-loop-at : goal.invariant-loop-at
 invariant-loop-at l = record {
   within : l.at ≤ length (bytes_at l.tree.tree l.node);
   text : l.bytes.items ≡ l.fn.bytes.items ++ take l.at (bytes_at l.tree.tree l.node);
+  len : vec_len l.bytes ≡ vec_len l.fn.bytes + l.at;
+  room : vec_capacity l.fn.bytes ≤ vec_capacity l.bytes;
 }
 
 abbrev pub decreases-loop-at : goal.decreases-loop-at

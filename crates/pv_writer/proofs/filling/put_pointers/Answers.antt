@@ -1,17 +1,10 @@
-use Rattle.std.proofs.Common.{◌≡◌, ◌+◌, ◌-◌, ◌*◌, ◌≤◌, ◌++◌, ℕ, length, replicate, ap, sym, ◌∙◌, arith}
+use Rattle.std.proofs.Common.{◌≡◌, ◌+◌, ◌-◌, ◌*◌, ◌≤◌, ◌++◌, ℕ, replicate, ap, sym, ◌∙◌, arith}
 use Rattle.std.specs.List.{range_with_len}
-use Rattle.std.proofs.lemmas.List.{append_assoc, length-append}
-use Rattle.std.proofs.lemmas.Result.{on_ok_weaker}
+use Rattle.std.proofs.lemmas.List.{append_assoc}
 use Rattle.pv_model.specs.Bytes.{Bytes, little_endian}
 use Rattle.pv_writer.specs.Spelling.{padded, spelled}
 use Rattle.pv_writer.proofs.Ranges.{length-spelled_row, spelled-more}
 use Rattle.pv_writer.proofs.filling.put_pointers.Goals as goal
-
-pub put_zeros-requires : goal.put_zeros-requires
-put_zeros-requires c =
-    let all : c.loop-block.block - c.args.first ≡ c.args.count = omega arith in
-    let long = ap length c.loop-block.invariant ∙ length-append c.args.bytes.now.items (spelled (range_with_len c.args.first (c.loop-block.block - c.args.first))) in
-    omega (arith, long, length-spelled_row c.args.first (c.loop-block.block - c.args.first))
 
 -- one number more
 one-more : (old now new : Bytes) (first block : ℕ) → first ≤ block → now ≡ old ++ spelled (range_with_len first (block - first)) → new ≡ now ++ little_endian 2 block
@@ -25,8 +18,11 @@ one-more old now new first block from so_far next =
     ∙ ap (λ (xs : Bytes). old ++ xs) (sym (spelled-more first n)) ∙ ap (λ k. old ++ spelled (range_with_len first k)) further
 
 pub loop-block-preserved : goal.loop-block-preserved
-loop-block-preserved c =
-    one-more c.args.bytes.now.items c.loop-block.bytes.items c.put_u16.new.bytes.items c.args.first c.loop-block.block (omega arith) c.loop-block.invariant c.in_ok-put_u16.ensures
+loop-block-preserved c = record {
+  numbers = one-more c.args.bytes.now.items c.loop-block.bytes.items c.put_u16.new.bytes.items c.args.first c.loop-block.block (omega arith) c.loop-block.invariant.numbers c.put_u16.ensures.items;
+  len = omega (arith, c.put_u16.ensures.len, c.loop-block.invariant.len);
+  room = omega (arith, c.put_u16.ensures.capacity, c.loop-block.invariant.room);
+}
 
 -- and the zeros behind them
 with-zeros : (old now new : Bytes) (first count n length : ℕ) → n ≡ count → now ≡ old ++ spelled (range_with_len first n) → new ≡ now ++ replicate (length - 2 * count) 0
@@ -38,8 +34,7 @@ with-zeros old now new first count n size all so_far behind =
     ∙ append_assoc old row (replicate (size - 2 * count) 0)
     ∙ ap (λ k. old ++ (row ++ replicate (size - k) 0)) (sym (length-spelled_row first count))
 
-pub returns : goal.returns
-returns c =
-    on_ok_weaker c.put_zeros.result
-    (with-zeros c.args.bytes.now.items c.loop-block.bytes.items c.put_zeros.new.bytes.items c.args.first c.args.count (c.loop-block.block - c.args.first) c.args.length (omega arith) c.loop-block.invariant)
-    c.put_zeros.ensures
+pub returns-clause-items : goal.returns-clause-items
+returns-clause-items c =
+    with-zeros c.args.bytes.now.items c.loop-block.bytes.items c.put_zeros.new.bytes.items c.args.first c.args.count (c.loop-block.block - c.args.first) c.args.length (omega arith)
+    c.loop-block.invariant.numbers c.put_zeros.ensures.items

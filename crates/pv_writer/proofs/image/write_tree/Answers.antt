@@ -1,15 +1,16 @@
 use Rattle.std.proofs.Common.{◌≡◌, ℕ, ◌+◌, ◌≤◌, true, le_refl, sym, ap, subst, ◌∙◌, arith}
-use Rattle.std.proofs.lemmas.Result.{IfOk-weaker}
+use Rattle.std.proofs.lemmas.Result.{on_ok_weaker}
 use Rattle.pv_model.specs.declared.version.Version.{Version}
 use Rattle.pv_model.specs.Held.{named_tree}
-use Rattle.pv_model.specs.Image.{inode_blocks, IsWrittenImageOf}
+use Rattle.pv_model.specs.Image.{inode_blocks}
 use Rattle.pv_model.specs.Mount.{are_image_sizes}
 use Rattle.pv_model.specs.Tree.{Tree, greatest_name}
 use Rattle.pv_tree.specs.Holding.{HeldTree}
 use Rattle.pv_tree.specs.Standing.{IsStanding}
 use Rattle.pv_writer.specs.Placed.{placed, named_need}
+use Rattle.pv_writer.specs.Told.{BeginsImage, TellsImage}
 use Rattle.pv_writer.proofs.PlacedTrees.{named-fits, own-sizes, placed-itself}
-use Rattle.pv_writer.proofs.image.to_bytes.Goals as goal
+use Rattle.pv_writer.proofs.image.write_tree.Goals as goal
 
 -- sizes that are the tree's own
 record AreOwn (t : Tree) (v : Version) (all n : ℕ) : Type 0 where
@@ -43,7 +44,7 @@ itself h s v all n o =
     ∙ ap (placed t t.version (inode_blocks t.version t.inodes + 1 + t.blocks)) o.inodes ∙ placed-itself t s.well_formed.numbers
 
 pub write_as-requires : goal.write_as-requires
-write_as-requires c =
+write_as-requires g c =
     let h = c.args.tree.now in
     let s = c.sizes-sizes.ensures.standing in
     let v = c.sizes-sizes.result.version in
@@ -57,13 +58,22 @@ write_as-requires c =
       room = roomy h s v all n o;
     }
 
-pub returns : goal.returns
-returns c =
+pub returns-clause-whole : goal.returns-clause-whole
+returns-clause-whole g c =
     let h = c.args.tree.now in
     let s = c.sizes-sizes.ensures.standing in
     let v = c.sizes-sizes.result.version in
     let n = c.sizes-sizes.result.inodes in
     let o = own h.tree v c.table_blocks.result c.sizes-sizes.result.blocks n c.sizes-sizes.ensures.version c.sizes-sizes.ensures.blocks c.sizes-sizes.ensures.inodes c.table_blocks.ensures in
     let all = c.table_blocks.result + 1 + c.sizes-sizes.result.blocks in
-    IfOk-weaker c.write_as.result (λ bytes. IsWrittenImageOf bytes.items (placed h.tree v all n)) (λ bytes. IsWrittenImageOf bytes.items (named_tree h.tree))
-    (λ bytes is. subst (λ (u : Tree). IsWrittenImageOf bytes.items u) (itself h s v all n o) is) c.write_as.ensures
+    on_ok_weaker c.write_as.result (subst (λ (u : Tree). TellsImage u (g.O.Sink.told c.args.image.now) (g.O.Sink.told c.write_as.new.image)) (itself h s v all n o)) c.write_as.ensures.whole
+
+pub returns-clause-cut : goal.returns-clause-cut
+returns-clause-cut g c failed =
+    let h = c.args.tree.now in
+    let s = c.sizes-sizes.ensures.standing in
+    let v = c.sizes-sizes.result.version in
+    let n = c.sizes-sizes.result.inodes in
+    let o = own h.tree v c.table_blocks.result c.sizes-sizes.result.blocks n c.sizes-sizes.ensures.version c.sizes-sizes.ensures.blocks c.sizes-sizes.ensures.inodes c.table_blocks.ensures in
+    let all = c.table_blocks.result + 1 + c.sizes-sizes.result.blocks in
+    subst (λ (u : Tree). BeginsImage u (g.O.Sink.told c.args.image.now) (g.O.Sink.told c.write_as.new.image)) (itself h s v all n o) (c.write_as.ensures.cut failed)

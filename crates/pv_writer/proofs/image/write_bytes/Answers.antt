@@ -1,0 +1,31 @@
+use Rattle.std.proofs.Common.{◌≡◌, ℕ, ◌+◌, ◌-◌, ◌≤◌, subst, arith}
+use Rattle.pv_model.specs.Bytes.{Bytes}
+use Rattle.pv_model.specs.Image.{inode_blocks}
+use Rattle.pv_trace.specs.Streams.{and_all, TellsBeginning}
+use Rattle.pv_writer.specs.Placed.{placed}
+use Rattle.pv_writer.proofs.Writing.{image-written, length-with_table}
+use Rattle.pv_writer.proofs.image.write_bytes.Goals as goal
+
+pub write_contents-requires-clause-behind : goal.write_contents-requires-clause-behind
+unfolding placed
+write_contents-requires-clause-behind g c =
+    length-with_table (placed c.args.tree.now.tree c.args.version c.args.blocks c.args.inodes) c.requires.writable c.args.blocks c.in_ok-window.window.items c.in_ok-window.ensures.items
+
+whole-image : (blocks table : ℕ) → table + 1 ≤ blocks → blocks ≡ table + 1 + (blocks - (table + 1))
+whole-image blocks table fits = omega arith
+
+pub returns-in-Ok-clause-whole : goal.returns-in-Ok-clause-whole
+unfolding placed
+returns-in-Ok-clause-whole g c =
+    let u = placed c.args.tree.now.tree c.args.version c.args.blocks c.args.inodes in
+    let whole = whole-image c.args.blocks (inode_blocks c.args.version c.args.inodes) c.requires.sizes in
+    let is = image-written u c.requires.writable c.args.blocks c.in_ok-window.window.items whole c.in_ok-window.ensures.items in
+    subst (λ (xs : Bytes). g.O.Sink.told c.write_contents.new.image ≡ and_all (g.O.Sink.told c.args.image.now) xs) is c.in-Ok.ensures.whole
+
+pub returns-clause-cut : goal.returns-clause-cut
+unfolding placed
+returns-clause-cut g c failed =
+    let u = placed c.args.tree.now.tree c.args.version c.args.blocks c.args.inodes in
+    let whole = whole-image c.args.blocks (inode_blocks c.args.version c.args.inodes) c.requires.sizes in
+    let is = image-written u c.requires.writable c.args.blocks c.in_ok-window.window.items whole c.in_ok-window.ensures.items in
+    subst (λ (xs : Bytes). TellsBeginning xs (g.O.Sink.told c.args.image.now) (g.O.Sink.told c.write_contents.new.image)) is c.in-Err.ensures.cut
