@@ -10,13 +10,14 @@
 #   make wrong    the wrong bodies alone, with further ones that the gate leaves out, of every crate, or make wrong CRATE=pv_tree of one
 #   make check    every crate, over what earlier checks kept
 #   make bench    proves and runs the benchmark, and prints times
+#   make speed    times the proved program on the workloads of docs/SPEED.md, or make speed OTHER=program beside another
 #   make man      the manual pages, tried by mandoc(1)
 #   make install PREFIX=/usr/local       the program and its manual pages
 
 PREFIX ?= /usr/local
 MANDIR ?= $(PREFIX)/share/man
 
-.PHONY: all demo try examples refusals test wrong check bench man install clean
+.PHONY: all demo try examples refusals test wrong check bench speed man install clean
 
 all: bin/pvsim
 
@@ -58,6 +59,9 @@ check:
 bench:
 	cd crates/pv_bench && rt run > /dev/null
 	crates/pv_bench/out/pv_bench full
+
+speed: bin/pvsim
+	tools/speed bin/pvsim $(OTHER)
 
 man:
 	cd man && mandoc -T lint pvsim.1 pvsim.5
