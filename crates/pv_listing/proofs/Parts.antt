@@ -1,12 +1,12 @@
 -- The parts of a line.
-use Rattle.std.proofs.Common.{◌≡◌, ℕ, true, false, [], ◌∷◌, ◌++◌, ◌∙◌, ap, ap₂, Option, None, Some, option_map, codes, refl}
+use Rattle.std.proofs.Common.{◌≡◌, ℕ, true, false, [], ◌∷◌, ◌++◌, ◌∙◌, ap, ap₂, append_assoc, sym, Option, None, Some, option_map, codes, flat_map, refl}
 use Rattle.std.specs.Fmt.{decimal}
 use Rattle.std.specs.Prelude.{IsSome}
 use Rattle.pv_model.specs.declared.sort.Sort.{Sort}
 use Rattle.pv_model.specs.Bytes.{Bytes}
 use Rattle.pv_model.specs.Effect.{size_of}
 use Rattle.pv_model.specs.Listing.{sort_letter, listed_path, node_line}
-use Rattle.pv_model.specs.Trace.{quote}
+use Rattle.pv_model.specs.Trace.{quote_byte}
 use Rattle.pv_model.specs.Tree.{Node, directory_node, file_node, link_node}
 use Rattle.pv_dirs.specs.Trees.{sort_of}
 use Rattle.pv_listing.specs.Lines.{letter_of, node_front}
@@ -26,8 +26,18 @@ front_is n (Some node) sort size is measures =
     let long : size_of node ≡ size = cc measures in
     ap₂ (λ (l : Bytes) (z : ℕ). l ++ codes " " ++ decimal n ++ codes " " ++ decimal z ++ codes " ") (letter-is node ∙ ap letter_of same) long
 
--- a line in three pieces
-pub line-is : (front path : Bytes) (n : ℕ) (node : Option Node) → IsSome node → front ≡ node_front n node
-    → (front ++ quote (listed_path path)) ++ 10 ∷ [] ≡ node_line path n node
+-- a text with its marks, between what stands before it and the end
+marked : (front text : Bytes) → ((front ++ 34 ∷ []) ++ text) ++ 34 ∷ 10 ∷ [] ≡ (front ++ 34 ∷ (text ++ 34 ∷ [])) ++ 10 ∷ []
+marked front text =
+    append_assoc (front ++ 34 ∷ []) text (34 ∷ 10 ∷ [])
+    ∙ append_assoc front (34 ∷ []) (text ++ 34 ∷ 10 ∷ [])
+    ∙ ap (λ (bs : Bytes). front ++ 34 ∷ bs) (sym (append_assoc text (34 ∷ []) (10 ∷ [])))
+    ∙ sym (append_assoc front (34 ∷ (text ++ 34 ∷ [])) (10 ∷ []))
+
+-- a line in three pieces: what stands before the path, the path between its marks, and the end
+pub line-is : (front path : Bytes) (n : ℕ) (node : Option Node) → IsSome node → front ≡ node_front n node ++ codes "\""
+    → (front ++ flat_map quote_byte (listed_path path)) ++ codes "\"\n" ≡ node_line path n node
 line-is front path n None some is = cc some
-line-is front path n (Some node) some is = ap (λ (bs : Bytes). (bs ++ quote (listed_path path)) ++ 10 ∷ []) is
+line-is front path n (Some node) some is =
+    let text = flat_map quote_byte (listed_path path) in
+    ap (λ (bs : Bytes). (bs ++ text) ++ codes "\"\n") is ∙ marked (node_front n (Some node)) text

@@ -4,12 +4,11 @@ ghost use Rattle.pv_model.specs.Listing.{node_line};
 ghost use Rattle.pv_model.specs.Tree.{node_at};
 ghost use Rattle.pv_listing.specs.Lines.{letter_of, node_front};
 
-use crate::path::write_path;
+use crate::path::write_between;
 use crate::remarks::Remarks;
 use arrayvec::ArrayVec;
 use itoa::Buffer;
 use pv_model::{Failed, Sink, Sort};
-use pv_trace::write_whole;
 use pv_tree::Tree;
 
 // Bytes before the path of a line, and more.
@@ -51,16 +50,18 @@ fn add_number(front: &mut Front, number: u32)
     add_word(front, buffer.format(number).as_bytes());
 }
 
-// What a line says of a node before its path: what it is, its number, and its size as stat(2) gives it.
+// What a line says of a node before its path: what it is, its number, and its size as stat(2) gives it; and the mark before
+// the path.
 #[tactic(auto, using(crate::proofs::Parts::front_is))]
 fn front_of(tree: &Tree, node: u16) -> Front
     requires { IsSome (node_at tree.now.tree node) }
-    ensures { result.items ≡ node_front node (node_at tree.now.tree node) }
+    ensures { result.items ≡ node_front node (node_at tree.now.tree node) ++ codes "\"" }
 {
     let mut front = Front::new();
     add_word(&mut front, letter(tree.kind(node)));
     add_number(&mut front, u32::from(node));
     add_number(&mut front, tree.size(node));
+    let _ = front.try_push(b'"');
     front
 }
 
@@ -78,8 +79,7 @@ impl<'a> Remarks for NodeLines<'a> {
         if !self.tree.is_used(node) {
             return Ok(());
         }
-        write_whole(out, front_of(self.tree, node).as_slice())?;
-        write_path(out, path)?;
-        write_whole(out, b"\n")
+        let front = front_of(self.tree, node);
+        write_between(out, front.as_slice(), path, b"\"\n")
     }
 }

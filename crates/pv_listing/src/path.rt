@@ -1,5 +1,5 @@
 //! Paths, as a line has them.
-ghost use Rattle.std.specs.Prelude.{◌≡◌, ◌<◌, ◌≤◌, length, take, flat_map, OnOk, OnErr};
+ghost use Rattle.std.specs.Prelude.{◌≡◌, ◌++◌, flat_map, OnOk, OnErr};
 ghost use Rattle.pv_model.specs.Listing.{listed_path as path_of_line};
 ghost use Rattle.pv_model.specs.Stream.{Rose};
 ghost use Rattle.pv_model.specs.Trace.{quote, quote_byte};
@@ -7,7 +7,7 @@ ghost use Rattle.pv_trace.specs.Streams.{and_all, TellsBeginning};
 
 use arrayvec::ArrayVec;
 use pv_model::{Failed, Sink, hex_digit, is_plain};
-use pv_trace::write_whole;
+use pv_trace::{plain_count, write_whole};
 
 // Bytes that one byte of a text has at most, as a program writes it.
 const QUOTED: usize = 4;
@@ -28,18 +28,6 @@ fn quoted(byte: u8) -> ArrayVec<u8, QUOTED>
         ]);
     }
     quoted
-}
-
-// How many bytes at the front of a text stand for themselves.
-fn plain_count(text: &[u8]) -> usize
-    ensures within { result ≤ length text.now }
-    ensures same { flat_map quote_byte (take result text.now) ≡ take result text.now }
-{
-    let mut count = 0;
-    while count < text.len() && is_plain(text[count]) {
-        count += 1;
-    }
-    count
 }
 
 // A text of any length, as a program writes it between its marks. What stands for itself is written in one piece.
@@ -73,6 +61,29 @@ fn listed_path(path: &[u8]) -> &[u8]
     if path.is_empty() { b"/" } else { path }
 }
 
+/// Writes a path as `write_path` does, between what stands before it, with its first mark, and what stands behind it, with
+/// its second.
+///
+/// # Errors
+///
+/// `Failed` where a write failed: the sink was told a beginning of it all.
+#[tactic(auto, using(pv_trace::proofs::Telling::told_both, pv_trace::proofs::Telling::begins_first, pv_trace::proofs::Telling::begins_then))]
+pub(crate) fn write_between<W: Sink>(
+    out: &mut W,
+    before: &[u8],
+    path: &[u8],
+    behind: &[u8],
+) -> Result<(), Failed>
+    ensures whole { OnOk result (W.told out.new ≡ and_all (W.told out.old) ((before.now ++ flat_map quote_byte (path_of_line path.now)) ++ behind.now)) }
+    ensures beginning { OnErr result (TellsBeginning ((before.now ++ flat_map quote_byte (path_of_line path.now)) ++ behind.now) (W.told out.old) (W.told out.new)) }
+    ensures failed { OnErr result (Rose (W.failures out.old) (W.failures out.new)) }
+    ensures quiet { OnOk result (W.failures out.new ≡ W.failures out.old) }
+{
+    write_whole(out, before)?;
+    write_bytes(out, listed_path(path))?;
+    write_whole(out, behind)
+}
+
 /// Writes a path of any length as a line has it: as a program writes a text in its shortest form, the root's as a slash.
 ///
 /// It takes no memory.
@@ -80,14 +91,11 @@ fn listed_path(path: &[u8]) -> &[u8]
 /// # Errors
 ///
 /// `Failed` where a write failed: the sink was told a beginning of the text.
-#[tactic(auto, using(pv_trace::proofs::Telling::told_both, pv_trace::proofs::Telling::begins_first, pv_trace::proofs::Telling::begins_then))]
 pub fn write_path<W: Sink>(out: &mut W, path: &[u8]) -> Result<(), Failed>
     ensures whole { OnOk result (W.told out.new ≡ and_all (W.told out.old) (quote (path_of_line path.now))) }
     ensures beginning { OnErr result (TellsBeginning (quote (path_of_line path.now)) (W.told out.old) (W.told out.new)) }
     ensures failed { OnErr result (Rose (W.failures out.old) (W.failures out.new)) }
     ensures quiet { OnOk result (W.failures out.new ≡ W.failures out.old) }
 {
-    write_whole(out, b"\"")?;
-    write_bytes(out, listed_path(path))?;
-    write_whole(out, b"\"")
+    write_between(out, b"\"", path, b"\"")
 }

@@ -1,6 +1,6 @@
 pub mod Digits
 pub mod Flags
+pub mod Fronts
 pub mod Paths
 pub mod Streaming
-pub mod Table
 pub mod Telling

@@ -86,13 +86,13 @@ impl<W: Sink + Drop> Sink for Buffered<W> {
 
     #[tactic(auto, using(crate::proofs::Streaming::more_waits, crate::proofs::Streaming::told_nothing))]
     fn write(&mut self, buffer: &[u8]) -> Result<usize, Failed> {
-        let count = buffer.len().min(PIECE);
-        let bytes = &buffer[..count];
-        if self.waiting.len().saturating_add(count) > PIECE {
+        let mut bytes = buffer;
+        if bytes.len() > PIECE - self.waiting.len() {
             self.hand_on()?;
+            bytes = &buffer[..buffer.len().min(PIECE)];
         }
         match self.waiting.extend_from_slice(bytes) {
-            Ok(()) => Ok(count),
+            Ok(()) => Ok(bytes.len()),
             Err(_) => {
                 self.hand_on()?;
                 self.sink.write(bytes)

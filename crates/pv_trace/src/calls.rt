@@ -4,21 +4,23 @@ ghost use Rattle.std.specs.Fmt.{signed_decimal};
 ghost use Rattle.std.specs.List.{join_by};
 ghost use Rattle.pv_model.specs.declared.limits.TheConstants.{TEXT};
 ghost use Rattle.pv_model.specs.CallRef.{call_of};
-ghost use Rattle.pv_model.specs.Trace.{quote, quote_or_null, flag_text, start_text, call_name, call_text, call_line, mode_text as trace_mode_text, whence_text as trace_whence_text};
+ghost use Rattle.pv_model.specs.Trace.{quote, quote_or_null, flag_text, start_text, call_name, call_text, call_line, mode_text, whence_text};
 ghost use Rattle.pv_trace.specs.declared.sheet.TheConstants.{SHEET};
 ghost use Rattle.pv_trace.specs.Words.{flags_bytes};
 
 use crate::sheet::{Sheet, put, put_quoted, put_quoted_or_null, put_signed};
 use pv_model::{CallRef, Mode, OpenFlags, Start, Text, Whence};
 
-fn mode_text(mode: Mode) -> &'static [u8]
-    ensures text { result.now ≡ trace_mode_text mode }
-    ensures few { length result.now ≤ 2 }
+// What a file is opened for. Each word is put by itself, here and below, so that its length is known where it is copied.
+fn put_mode(out: &mut Sheet, mode: Mode)
+    requires { length out.old.items + 2 ≤ SHEET }
+    ensures text { out.new.items ≡ out.old.items ++ mode_text mode }
+    ensures growth { length out.new.items ≤ length out.old.items + 2 }
 {
     match mode {
-        Mode::Read => b"r",
-        Mode::Write => b"w",
-        Mode::ReadWrite => b"rw",
+        Mode::Read => put(out, b"r"),
+        Mode::Write => put(out, b"w"),
+        Mode::ReadWrite => put(out, b"rw"),
     }
 }
 
@@ -41,7 +43,7 @@ fn put_flags(out: &mut Sheet, flags: OpenFlags)
     ensures text { out.new.items ≡ out.old.items ++ flags_bytes flags }
     ensures growth { length out.new.items ≤ length out.old.items + 48 }
 {
-    put(out, mode_text(flags.mode));
+    put_mode(out, flags.mode);
     put_flag(out, flags.append, b"append");
     put_flag(out, flags.create, b"create");
     put_flag(out, flags.truncate, b"trunc");
@@ -51,14 +53,16 @@ fn put_flags(out: &mut Sheet, flags: OpenFlags)
     put_flag(out, flags.close_on_exec, b"cloexec");
 }
 
-fn whence_text(whence: Whence) -> &'static [u8]
-    ensures text { result.now ≡ trace_whence_text whence }
-    ensures few { length result.now ≤ 3 }
+// Where an offset is counted from.
+fn put_whence(out: &mut Sheet, whence: Whence)
+    requires { length out.old.items + 3 ≤ SHEET }
+    ensures text { out.new.items ≡ out.old.items ++ whence_text whence }
+    ensures growth { length out.new.items ≤ length out.old.items + 3 }
 {
     match whence {
-        Whence::Set => b"set",
-        Whence::Current => b"cur",
-        Whence::End => b"end",
+        Whence::Set => put(out, b"set"),
+        Whence::Current => put(out, b"cur"),
+        Whence::End => put(out, b"end"),
     }
 }
 
@@ -73,7 +77,7 @@ fn put_start(out: &mut Sheet, start: Start)
     }
 }
 
-// The name of a call. Each is put by itself, so that its length is known where it is copied.
+// The name of a call.
 #[tactic(auto, unfolding(pv_model::specs::Trace::call_text))]
 pub(crate) fn put_name(out: &mut Sheet, call: CallRef<'_>)
     requires { length out.old.items + 9 ≤ SHEET }
@@ -166,12 +170,12 @@ fn put_openat(out: &mut Sheet, start: Start, path: &Text, flags: OpenFlags)
 
 fn put_lseek(out: &mut Sheet, descriptor: i32, by: i32, whence: Whence)
     requires { length out.old.items + 87 ≤ SHEET }
-    ensures text { out.new.items ≡ out.old.items ++ join_by (λ bs. bs) (codes ", ") (signed_decimal descriptor ∷ signed_decimal by ∷ trace_whence_text whence ∷ []) }
+    ensures text { out.new.items ≡ out.old.items ++ join_by (λ bs. bs) (codes ", ") (signed_decimal descriptor ∷ signed_decimal by ∷ whence_text whence ∷ []) }
     ensures growth { length out.new.items ≤ length out.old.items + 87 }
 {
     put_two_numbers(out, descriptor, by);
     put(out, b", ");
-    put(out, whence_text(whence));
+    put_whence(out, whence);
 }
 
 // The arguments of a call, joined by commas.

@@ -2,8 +2,8 @@
 //!
 //! `line` has the lines as values, `steps` those of a step, `stream` writes bytes whole, and `buffered` gathers them. The lines
 //! of a step are made on a sheet of fixed size, a `page`, and a sink is given them in one piece: `sheet` puts on it
-//! what lines are made of, `calls` a call with its arguments, and `words` the line of each word. `plain` tells which
-//! bytes of a text stand for themselves. No call takes memory.
+//! what lines are made of, `calls` a call with its arguments, and `words` the line of each word. `plain` tells how
+//! many bytes at the front of a text stand for themselves. No call takes memory.
 //!
 //! A clause sees a line as `pv_model`'s definitions have it.
 #![tactic(auto)]
@@ -21,6 +21,7 @@ mod words;
 pub use buffered::{Buffered, PIECE};
 pub use line::{Line, PromiseVerdict, Returned, UnveilVerdict, Way, Word, write_line};
 pub use page::Page;
+pub use plain::plain_count;
 pub use sheet::{Sheet, put, put_decimal};
 pub use steps::{write_call_lines, write_gone_line};
 pub use stream::{write_through, write_whole};

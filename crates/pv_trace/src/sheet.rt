@@ -8,15 +8,22 @@ ghost use Rattle.pv_model.specs.Trace.{quote, quote_byte, quote_or_null, hex, he
 ghost use Rattle.pv_trace.specs.Words.{letters_bytes};
 
 use crate::page::Page;
-use crate::plain::is_plain;
+use crate::plain::plain_count;
 use itoa::Buffer;
 use pv_model::{Perms, Text, hex_digit};
 
-/// Bytes that a line may have: more than any has.
+/// Bytes that a line may have: more than any has. A CALL or a GIO line can be nearly so long.
 pub const LINE_BYTES: usize = 9_216;
 
-/// Bytes of a sheet: room for the seven lines that a step has at most.
-pub const SHEET: usize = 64_512;
+/// Bytes that a NAMI line may have: more than any has.
+pub const PATH_LINE_BYTES: usize = 4_608;
+
+/// Bytes that a line of any other word may have: more than any has.
+pub const SHORT_LINE_BYTES: usize = 256;
+
+/// Bytes of a sheet: room for the lines of a step, which has at most a CALL and a GIO line, two NAMI lines, and three
+/// short ones.
+pub const SHEET: usize = 2 * LINE_BYTES + 2 * PATH_LINE_BYTES + 3 * SHORT_LINE_BYTES;
 
 // Bytes whose digits go on the sheet in one piece.
 const PART: usize = 64;
@@ -222,15 +229,16 @@ fn put_quoted_bytes(out: &mut Sheet, bytes: &[u8])
     ensures text { out.new.items ≡ out.old.items ++ flat_map quote_byte bytes.now }
     ensures growth { length out.new.items ≤ length out.old.items + 4 * length bytes.now }
 {
-    let mut done = 0;
-    for k in 0..bytes.len() {
-        if !is_plain(bytes[k]) {
-            put(out, &bytes[done..k]);
-            put_escaped(out, bytes[k]);
-            done = k + 1;
-        }
+    let mut rest = bytes;
+    loop {
+        let (plain, behind) = rest.split_at(plain_count(rest));
+        put(out, plain);
+        let Some((first, behind)) = behind.split_first() else {
+            return;
+        };
+        put_escaped(out, *first);
+        rest = behind;
     }
-    put(out, &bytes[done..]);
 }
 
 // Bytes as a program writes them, in their shortest form.

@@ -9,7 +9,7 @@ ghost use Rattle.pv_model.specs.Walks.{letters_or_none, walks_of, walk_number};
 ghost use Rattle.pv_trace.specs.Steps.{path_line, path_lines_of, refusal_verdict, promise_lines_of, unveil_lines_of, moved_lines_of, end_lines_of, lines_by};
 ghost use Rattle.pv_trace.specs.Streams.{and_all, TellsBeginning};
 ghost use Rattle.pv_trace.specs.Words.{promise_verdict_of};
-ghost use Rattle.pv_trace.specs.declared.sheet.TheConstants.{LINE_BYTES, SHEET};
+ghost use Rattle.pv_trace.specs.declared.sheet.TheConstants.{LINE_BYTES, PATH_LINE_BYTES, SHORT_LINE_BYTES, SHEET};
 
 use crate::line::{Line, PromiseVerdict, UnveilVerdict, Way, Word, write_line};
 use crate::sheet::Sheet;
@@ -24,11 +24,11 @@ use pv_model::{CallRef, Cause, Errno, Failed, Outcome, Perms, Sink, Text};
 // below does that puts some.
 #[tactic(auto, using(crate::proofs::Paths::take_one))]
 fn put_one_path(out: &mut Sheet, pid: u32, path: &Text, walks: u8) -> u8
-    requires { length out.old.items + LINE_BYTES ≤ SHEET }
+    requires { length out.old.items + PATH_LINE_BYTES ≤ SHEET }
     ensures text { out.new.items ≡ out.old.items ++ trace_bytes (map (path_line pid) (take walks (path.now ∷ []))) }
     ensures count { result ≡ length (map (path_line pid) (take walks (path.now ∷ []))) }
     ensures few { result ≤ 1 }
-    ensures growth { length out.new.items ≤ length out.old.items + LINE_BYTES }
+    ensures growth { length out.new.items ≤ length out.old.items + PATH_LINE_BYTES }
 {
     if walks > 0 {
         put_path_line(out, pid, path);
@@ -41,11 +41,11 @@ fn put_one_path(out: &mut Sheet, pid: u32, path: &Text, walks: u8) -> u8
 // The lines of the walks along two paths.
 #[tactic(auto, using(crate::proofs::Paths::take_two))]
 fn put_two_paths(out: &mut Sheet, pid: u32, first: &Text, second: &Text, walks: u8) -> u8
-    requires { length out.old.items + 2 * LINE_BYTES ≤ SHEET }
+    requires { length out.old.items + 2 * PATH_LINE_BYTES ≤ SHEET }
     ensures text { out.new.items ≡ out.old.items ++ trace_bytes (map (path_line pid) (take walks (first.now ∷ second.now ∷ []))) }
     ensures count { result ≡ length (map (path_line pid) (take walks (first.now ∷ second.now ∷ []))) }
     ensures few { result ≤ 2 }
-    ensures growth { length out.new.items ≤ length out.old.items + 2 * LINE_BYTES }
+    ensures growth { length out.new.items ≤ length out.old.items + 2 * PATH_LINE_BYTES }
 {
     if walks < 2 {
         put_one_path(out, pid, first, walks)
@@ -59,11 +59,11 @@ fn put_two_paths(out: &mut Sheet, pid: u32, first: &Text, second: &Text, walks: 
 // The lines of the walks that a call began.
 #[tactic(auto, unfolding(pv_model::specs::Trace::walked_paths))]
 fn put_path_lines(out: &mut Sheet, pid: u32, call: CallRef<'_>, walks: u8) -> u8
-    requires { length out.old.items + 2 * LINE_BYTES ≤ SHEET }
+    requires { length out.old.items + 2 * PATH_LINE_BYTES ≤ SHEET }
     ensures text { out.new.items ≡ out.old.items ++ trace_bytes (path_lines_of pid (call_of call.entry) walks) }
     ensures count { result ≡ length (path_lines_of pid (call_of call.entry) walks) }
     ensures few { result ≤ 2 }
-    ensures growth { length out.new.items ≤ length out.old.items + 2 * LINE_BYTES }
+    ensures growth { length out.new.items ≤ length out.old.items + 2 * PATH_LINE_BYTES }
 {
     match call {
         CallRef::Unveil(Some(path), Some(_))
@@ -97,11 +97,11 @@ fn verdict_of(errno: Errno) -> PromiseVerdict
 
 // The line of a promise that decided.
 fn put_promise_lines(out: &mut Sheet, pid: u32, call: CallRef<'_>, outcome: Outcome) -> u8
-    requires { length out.old.items + LINE_BYTES ≤ SHEET }
+    requires { length out.old.items + SHORT_LINE_BYTES ≤ SHEET }
     ensures text { out.new.items ≡ out.old.items ++ trace_bytes (promise_lines_of pid (call_of call.entry) outcome) }
     ensures count { result ≡ length (promise_lines_of pid (call_of call.entry) outcome) }
     ensures few { result ≤ 1 }
-    ensures growth { length out.new.items ≤ length out.old.items + LINE_BYTES }
+    ensures growth { length out.new.items ≤ length out.old.items + SHORT_LINE_BYTES }
 {
     let (promise, verdict) = match outcome {
         Outcome::Killed(promise) => (promise, PromiseVerdict::Killed),
@@ -165,11 +165,11 @@ fn second_letters(call: CallRef<'_>) -> Perms
 
 // The line of an unveil table that decided.
 fn put_unveil_lines(out: &mut Sheet, pid: u32, call: CallRef<'_>, walks: u8, outcome: Outcome) -> u8
-    requires { length out.old.items + LINE_BYTES ≤ SHEET }
+    requires { length out.old.items + SHORT_LINE_BYTES ≤ SHEET }
     ensures text { out.new.items ≡ out.old.items ++ trace_bytes (unveil_lines_of pid (call_of call.entry) walks outcome) }
     ensures count { result ≡ length (unveil_lines_of pid (call_of call.entry) walks outcome) }
     ensures few { result ≤ 1 }
-    ensures growth { length out.new.items ≤ length out.old.items + LINE_BYTES }
+    ensures growth { length out.new.items ≤ length out.old.items + SHORT_LINE_BYTES }
 {
     let verdict = match outcome {
         Outcome::Failed(_, Cause::Unveil(None)) => {
@@ -229,11 +229,11 @@ fn put_moved_lines(
 
 // The last line of a call.
 fn put_end_lines(out: &mut Sheet, pid: u32, call: CallRef<'_>, outcome: Outcome) -> u8
-    requires { length out.old.items + LINE_BYTES ≤ SHEET }
+    requires { length out.old.items + SHORT_LINE_BYTES ≤ SHEET }
     ensures text { out.new.items ≡ out.old.items ++ trace_bytes (end_lines_of pid (call_of call.entry) outcome) }
     ensures count { result ≡ length (end_lines_of pid (call_of call.entry) outcome) }
     ensures few { result ≤ 1 }
-    ensures growth { length out.new.items ≤ length out.old.items + LINE_BYTES }
+    ensures growth { length out.new.items ≤ length out.old.items + SHORT_LINE_BYTES }
 {
     match outcome {
         Outcome::Value(value) => put_value_line(out, pid, call, value),

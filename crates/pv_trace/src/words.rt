@@ -5,7 +5,7 @@ ghost use Rattle.pv_model.specs.CallRef.{call_of};
 ghost use Rattle.pv_model.specs.Errno.{errno_name};
 ghost use Rattle.pv_model.specs.Promise.{promise_name};
 ghost use Rattle.pv_model.specs.Trace.{line, line_bytes, call_word, nami_word, pldg_word, unvl_word, gio_word, ret_word, psig_word, wait_word, gone_word, value_of, error_of, promise_text, promise_verdict_text, unveil_verdict_text, way_text, bytes_text};
-ghost use Rattle.pv_trace.specs.declared.sheet.TheConstants.{LINE_BYTES, SHEET};
+ghost use Rattle.pv_trace.specs.declared.sheet.TheConstants.{LINE_BYTES, PATH_LINE_BYTES, SHORT_LINE_BYTES, SHEET};
 ghost use Rattle.pv_trace.specs.Words.{promise_verdict_of, unveil_verdict_of, way_of, letters_bytes, needed_text, errno_text};
 
 use crate::calls::{put_call, put_name};
@@ -89,13 +89,15 @@ fn put_unveil(out: &mut Sheet, verdict: UnveilVerdict)
     }
 }
 
-fn way_name(way: Way) -> &'static [u8]
-    ensures text { result.now ≡ way_text (way_of way) }
-    ensures few { length result.now ≤ 5 }
+// Which way bytes went.
+fn put_way(out: &mut Sheet, way: Way)
+    requires { length out.old.items + 5 ≤ SHEET }
+    ensures text { out.new.items ≡ out.old.items ++ way_text (way_of way) }
+    ensures growth { length out.new.items ≤ length out.old.items + 5 }
 {
     match way {
-        Way::Gave => b"read",
-        Way::Took => b"wrote",
+        Way::Gave => put(out, b"read"),
+        Way::Took => put(out, b"wrote"),
     }
 }
 
@@ -106,7 +108,7 @@ fn put_moved(out: &mut Sheet, way: Way, bytes: &[u8])
     ensures text { out.new.items ≡ out.old.items ++ bytes_text (way_text (way_of way)) bytes.now }
     ensures growth { length out.new.items ≤ length out.old.items + 2 * BUFFER + 47 }
 {
-    put(out, way_name(way));
+    put_way(out, way);
     if bytes.is_empty() {
         put(out, b" 0");
     } else {
@@ -153,9 +155,9 @@ pub(crate) fn put_call_line(out: &mut Sheet, pid: u32, call: CallRef<'_>)
 /// NAMI: a path that a call walks.
 #[tactic(auto, unfolding(pv_model::specs::Trace::text_line))]
 pub(crate) fn put_path_line(out: &mut Sheet, pid: u32, path: &Text)
-    requires room { length out.old.items + LINE_BYTES ≤ SHEET }
+    requires room { length out.old.items + PATH_LINE_BYTES ≤ SHEET }
     ensures text { out.new.items ≡ out.old.items ++ line_bytes (line pid (nami_word path.now)) }
-    ensures growth { length out.new.items ≤ length out.old.items + LINE_BYTES }
+    ensures growth { length out.new.items ≤ length out.old.items + PATH_LINE_BYTES }
 {
     put_front(out, pid, b" NAMI  ");
     put_quoted(out, path);
@@ -171,9 +173,9 @@ pub(crate) fn put_promise_line(
     promise: Promise,
     verdict: PromiseVerdict,
 )
-    requires room { length out.old.items + LINE_BYTES ≤ SHEET }
+    requires room { length out.old.items + SHORT_LINE_BYTES ≤ SHEET }
     ensures text { out.new.items ≡ out.old.items ++ line_bytes (line pid (pldg_word (call_of call.entry) promise (promise_verdict_of verdict))) }
-    ensures growth { length out.new.items ≤ length out.old.items + LINE_BYTES }
+    ensures growth { length out.new.items ≤ length out.old.items + SHORT_LINE_BYTES }
 {
     put_front(out, pid, b" PLDG  ");
     put_promise(out, call, promise, verdict);
@@ -183,9 +185,9 @@ pub(crate) fn put_promise_line(
 /// UNVL: an unveil table that decided.
 #[tactic(auto, unfolding(pv_model::specs::Trace::text_line))]
 pub(crate) fn put_unveil_line(out: &mut Sheet, pid: u32, verdict: UnveilVerdict)
-    requires room { length out.old.items + LINE_BYTES ≤ SHEET }
+    requires room { length out.old.items + SHORT_LINE_BYTES ≤ SHEET }
     ensures text { out.new.items ≡ out.old.items ++ line_bytes (line pid (unvl_word (unveil_verdict_of verdict))) }
-    ensures growth { length out.new.items ≤ length out.old.items + LINE_BYTES }
+    ensures growth { length out.new.items ≤ length out.old.items + SHORT_LINE_BYTES }
 {
     put_front(out, pid, b" UNVL  ");
     put_unveil(out, verdict);
@@ -208,9 +210,9 @@ pub(crate) fn put_moved_line(out: &mut Sheet, pid: u32, way: Way, bytes: &[u8])
 /// RET: a call answered a value.
 #[tactic(auto, unfolding(pv_model::specs::Trace::text_line))]
 pub(crate) fn put_value_line(out: &mut Sheet, pid: u32, call: CallRef<'_>, value: u32)
-    requires room { length out.old.items + LINE_BYTES ≤ SHEET }
+    requires room { length out.old.items + SHORT_LINE_BYTES ≤ SHEET }
     ensures text { out.new.items ≡ out.old.items ++ line_bytes (line pid (ret_word (call_of call.entry) (value_of value))) }
-    ensures growth { length out.new.items ≤ length out.old.items + LINE_BYTES }
+    ensures growth { length out.new.items ≤ length out.old.items + SHORT_LINE_BYTES }
 {
     put_front(out, pid, b" RET   ");
     put_name(out, call);
@@ -222,9 +224,9 @@ pub(crate) fn put_value_line(out: &mut Sheet, pid: u32, call: CallRef<'_>, value
 /// RET: a call failed.
 #[tactic(auto, unfolding(pv_model::specs::Trace::text_line, crate::specs::Words::errno_text))]
 pub(crate) fn put_error_line(out: &mut Sheet, pid: u32, call: CallRef<'_>, errno: Errno)
-    requires room { length out.old.items + LINE_BYTES ≤ SHEET }
+    requires room { length out.old.items + SHORT_LINE_BYTES ≤ SHEET }
     ensures text { out.new.items ≡ out.old.items ++ line_bytes (line pid (ret_word (call_of call.entry) (error_of errno))) }
-    ensures growth { length out.new.items ≤ length out.old.items + LINE_BYTES }
+    ensures growth { length out.new.items ≤ length out.old.items + SHORT_LINE_BYTES }
 {
     put_front(out, pid, b" RET   ");
     put_name(out, call);
@@ -236,9 +238,9 @@ pub(crate) fn put_error_line(out: &mut Sheet, pid: u32, call: CallRef<'_>, errno
 /// PSIG: the process was killed.
 #[tactic(auto, unfolding(pv_model::specs::Trace::text_line))]
 pub(crate) fn put_killed_line(out: &mut Sheet, pid: u32)
-    requires room { length out.old.items + LINE_BYTES ≤ SHEET }
+    requires room { length out.old.items + SHORT_LINE_BYTES ≤ SHEET }
     ensures text { out.new.items ≡ out.old.items ++ line_bytes (line pid psig_word) }
-    ensures growth { length out.new.items ≤ length out.old.items + LINE_BYTES }
+    ensures growth { length out.new.items ≤ length out.old.items + SHORT_LINE_BYTES }
 {
     put_front(out, pid, b" PSIG  ");
     put(out, b"SIGABRT\n");
@@ -247,9 +249,9 @@ pub(crate) fn put_killed_line(out: &mut Sheet, pid: u32)
 /// WAIT: the call waits.
 #[tactic(auto, unfolding(pv_model::specs::Trace::text_line))]
 pub(crate) fn put_wait_line(out: &mut Sheet, pid: u32)
-    requires room { length out.old.items + LINE_BYTES ≤ SHEET }
+    requires room { length out.old.items + SHORT_LINE_BYTES ≤ SHEET }
     ensures text { out.new.items ≡ out.old.items ++ line_bytes (line pid wait_word) }
-    ensures growth { length out.new.items ≤ length out.old.items + LINE_BYTES }
+    ensures growth { length out.new.items ≤ length out.old.items + SHORT_LINE_BYTES }
 {
     put_front(out, pid, b" WAIT  ");
     put(out, b"blocked\n");
@@ -258,9 +260,9 @@ pub(crate) fn put_wait_line(out: &mut Sheet, pid: u32)
 /// GONE: the process is not live.
 #[tactic(auto, unfolding(pv_model::specs::Trace::text_line))]
 pub(crate) fn put_gone_line(out: &mut Sheet, pid: u32)
-    requires room { length out.old.items + LINE_BYTES ≤ SHEET }
+    requires room { length out.old.items + SHORT_LINE_BYTES ≤ SHEET }
     ensures text { out.new.items ≡ out.old.items ++ line_bytes (line pid gone_word) }
-    ensures growth { length out.new.items ≤ length out.old.items + LINE_BYTES }
+    ensures growth { length out.new.items ≤ length out.old.items + SHORT_LINE_BYTES }
 {
     put_front(out, pid, b" GONE  ");
     put(out, b"no such process\n");
