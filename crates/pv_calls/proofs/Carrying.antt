@@ -1,6 +1,6 @@
 -- From what a call comes to, by its promises, to what it answers.
 use Rattle.std.proofs.Common.{◌≡◌, ◌∙◌, ap, sym, subst, refl, ℕ, negsuc, Bool, true, false, Option, None, Some, Result, Ok, Err}
-use Rattle.std.specs.Prelude.{is_some, IsSome, IfOk, option_map}
+use Rattle.std.specs.Prelude.{IsSome, IfOk, option_map}
 use Rattle.pv_model.specs.declared.call.Call.{Call}
 use Rattle.pv_model.specs.declared.errno.Errno.TheVariants.{ENOSYS}
 use Rattle.pv_model.specs.declared.outcome.Cause.TheVariants.{Promise as ByPromise}
@@ -39,10 +39,8 @@ use Rattle.pv_tree_laws.specs.Kept.{wanted}
 use Rattle.pv_tree_laws.proofs.Keeping.{find-only, wanted-covers}
 use Rattle.pv_tree_laws.proofs.Trees.{sound}
 use Rattle.pv_parts.proofs.Alone.{some-at}
-use Rattle.pv_parts.specs.Counts.{processes_of}
 use Rattle.pv_laws.proofs.Ending.{tree-end}
 use Rattle.pv_model.specs.declared.kernel_fault.StepFault.{StepFault}
-use Rattle.pv_procs.specs.ProcessTable.{ProcessTable, process_in}
 
 nothing_missing : (lenient : Bool) (missing : Option Promise) → unless_missing lenient missing ≡ Allowed → missing ≡ None
 nothing_missing lenient None h = refl
@@ -157,12 +155,20 @@ blocked-carried s pid call sorted blocked = absurd blocked
 
 -- ---- what carry_out is shown by
 
-pub not-live : (s : State) (ps : ProcessTable) (pid : ℕ) → ps ≡ processes_of s → false ≡ is_some (process_in ps pid) → process_at s pid ≡ None
-not-live s ps pid is none = absent (process_at s pid) (ap (λ x. is_some (process_in x pid)) (sym is) ∙ sym none)
+-- whose record is told, and that nobody is live where none is
+pub live-of : (s : State) (pid : ℕ) (r : Record) → option_map record_of (process_at s pid) ≡ Some r → (me : Process) × (process_at s pid ≡ Some me)
+live-of s pid r has = by (process_at s pid) refl has
   where
-    absent : (o : Option Process) → is_some o ≡ false → o ≡ None
-    absent None e = refl
-    absent (Some me) e = absurd cc
+    by : (o : Option Process) → process_at s pid ≡ o → option_map record_of o ≡ Some r → (me : Process) × (process_at s pid ≡ Some me)
+    by None at none = absurd cc
+    by (Some me) at is = (me, at)
+
+pub gone-of : (s : State) (pid : ℕ) → option_map record_of (process_at s pid) ≡ None → process_at s pid ≡ None
+gone-of s pid none = by (process_at s pid) none
+  where
+    by : (o : Option Process) → option_map record_of o ≡ None → o ≡ None
+    by None e = refl
+    by (Some me) e = absurd cc
 
 pub answer-allowed-if : (s : State) (pid : ℕ) (call : Call) (me : Process) → process_at s pid ≡ Some me → (new : State) (r : Result Answer StepFault) → decision me.promises (needs call) ≡ Allowed
     → IfOk r (λ a. IsCarriedOut s pid call new a) → IfOk r (λ a. answer program_of s pid call ≡ answered new a)

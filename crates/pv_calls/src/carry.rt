@@ -328,13 +328,13 @@ pub(crate) fn carry_out<L: Lookup>(
     ensures agrees { L.agrees lookup.new (find_entry parts.new.tree) }
     ensures unchanged { OnErr result (parts.new ≡ parts.old) }
 {
-    if !parts.processes().live(pid) {
+    let Some(record) = parts.live_record(pid) else {
         return Ok(Answer {
             outcome: Outcome::Gone,
             walks: 0,
         });
-    }
-    match parts.record(pid).pledge.decide(call) {
+    };
+    match record.pledge.decide(call) {
         Decision::Allowed => carry_on(alloc, parts, lookup, behind, pid, call),
         Decision::Kill(promise) => {
             parts.end(pid, 6);

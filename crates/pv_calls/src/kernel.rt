@@ -143,10 +143,10 @@ impl<L: Lookup + Drop> Kernel<L> {
         ensures value { result.now ≡ buffer_of (process_at self.now.state pid) }
         ensures size { length result.now ≤ BUFFER }
     {
-        if !self.parts.processes().live(pid) {
-            return &[];
+        match self.parts.live_record(pid) {
+            Some(record) => record.machine.buffer(),
+            None => &[],
         }
-        self.parts.record(pid).machine.buffer()
     }
 
     /// How many walks the last call that gave an outcome began: 0 before one.

@@ -1,5 +1,5 @@
 //! The parts of the system: its tree, its open files, its processes.
-ghost use Rattle.std.specs.Prelude.{◌≡◌, IfOk, IsSome, Some, option_map};
+ghost use Rattle.std.specs.Prelude.{◌≡◌, IfOk, IsSome, Some, option_copied, option_map};
 ghost use Rattle.pv_files.specs.Counted.{IsCounted};
 ghost use Rattle.pv_model.specs.Held.{trim};
 ghost use Rattle.pv_model.specs.State.{first_state, process_at};
@@ -104,5 +104,12 @@ impl Parts {
         ensures { option_map record_of (process_at self.now pid) ≡ Some result.now }
     {
         self.processes.record(pid)
+    }
+
+    /// What a process owns, where it is live.
+    pub fn live_record(&self, pid: u32) -> Option<&Record>
+        ensures { option_map record_of (process_at self.now pid) ≡ option_copied result }
+    {
+        self.processes.live_record(pid)
     }
 }

@@ -38,12 +38,15 @@ pub(crate) struct Walk<'a> {
     pub(crate) needed: Perms,
 }
 
+// `walk_to` and `reach_from` become parts of their callers, so that a place is not copied at each on its way up.
+
 /// The place at the end of a walk from a directory, which no table has judged. Its name stands in the path, or, where a
 /// link was followed, in `behind`.
 ///
 /// # Errors
 ///
 /// An error of the walk.
+#[inline(always)]
 pub(crate) fn walk_to<'a, L: Lookup>(
     parts: &Parts,
     lookup: &mut L,
@@ -75,6 +78,7 @@ pub(crate) fn walk_to<'a, L: Lookup>(
 ///
 /// An error of the walk; else `ENOENT` where no entry governs the place, and `EACCES` where the one that does lacks a
 /// letter: unveil(2).
+#[inline(always)]
 pub(crate) fn reach_from<'a, L: Lookup>(
     parts: &Parts,
     lookup: &mut L,

@@ -172,7 +172,10 @@ use Sight::{Live, Parent, Waits};
 
 fn expect_sight(rt: &impl Abort, processes: &Processes, pid: u32, sight: Sight) {
     match sight {
-        Live(live) => expect_same(rt, processes.live(pid), live),
+        Live(live) => {
+            expect_same(rt, processes.live(pid), live);
+            expect_same(rt, processes.live_record(pid).is_some(), live);
+        }
         Parent(parent) => expect_same(rt, processes.parent_of(pid), parent),
         Waits(waits) => expect_same(rt, processes.waits(pid), waits),
     }

@@ -1,5 +1,5 @@
 //! The processes of the system.
-ghost use Rattle.std.specs.Prelude.{◌≡◌, ◌↔◌, ◌<◌, ◌≤◌, ◌-◌, pos, length, false, is_some, IfOk, IsTrue, IsSome, Some, IfErr, OnErr, option_map, slice_set, position, true};
+ghost use Rattle.std.specs.Prelude.{◌≡◌, ◌↔◌, ◌<◌, ◌≤◌, ◌-◌, pos, length, false, is_some, IfOk, IsTrue, IsSome, Some, IfErr, OnErr, option_copied, option_map, slice_set, position, true};
 ghost use Rattle.std.specs.FinMap.Entries.{find};
 ghost use Rattle.std.specs.Borrow.{sem};
 ghost use Rattle.std.specs.Ordering.{nat_cmp};
@@ -134,6 +134,16 @@ impl Processes {
     {
         let k = live_index(&self.places, pid);
         self.places[k].record.get()
+    }
+
+    /// What a process owns, where it is live.
+    pub fn live_record(&self, pid: u32) -> Option<&Record>
+        ensures { option_map record_of (process_in self.now pid) ≡ option_copied result }
+    {
+        match index_of_live(&self.places, pid) {
+            Some(k) => Some(self.places[k].record.get()),
+            None => None,
+        }
     }
 
     /// What a live process owns, to be changed.

@@ -1,4 +1,4 @@
-use Rattle.std.proofs.Common.{sym, ◌∙◌, refl, subst}
+use Rattle.std.proofs.Common.{sym, ◌∙◌, ap, option_copied, refl, subst}
 use Rattle.std.specs.Prelude.{IsSome}
 use Rattle.pv_model.specs.CallRef.{call_of}
 use Rattle.pv_model.specs.Tree.{find_entry}
@@ -8,47 +8,52 @@ use Rattle.pv_model.specs.Answer.{at_next_line}
 use Rattle.pv_model.specs.Attempt.{refused}
 use Rattle.pv_model.specs.State.{with_process}
 use Rattle.pv_laws.proofs.Processes.{update-is}
-use Rattle.pv_calls.proofs.Booting.{live-in}
-use Rattle.pv_calls.proofs.Carrying.{answer-gone, answer-allowed-if, answer-refused, killed-so, next-live, decided, find-end, told-tree, not-live}
+use Rattle.pv_calls.proofs.Carrying.{answer-gone, answer-allowed-if, answer-refused, killed-so, next-live, decided, find-end, told-tree, live-of, gone-of}
 use Rattle.pv_calls.proofs.carry.carry_out.Goals as goal
 
-pub returns-then-not-live-clause-answered : goal.returns-then-not-live-clause-answered
-returns-then-not-live-clause-answered g c =
-    answer-gone c.args.parts.now c.args.pid (call_of c.args.call) (not-live c.args.parts.now c.processes.result.now c.args.pid c.processes.ensures (c.if-not-live.ensures {u = tt}))
+pub returns-in_default-clause-answered : goal.returns-in_default-clause-answered
+returns-in_default-clause-answered g c =
+    answer-gone c.args.parts.now c.args.pid (call_of c.args.call) (gone-of c.args.parts.now c.args.pid (c.live_record.ensures ∙ ap option_copied c.in_default.is))
 
 pub tell-requires-clause-live : goal.tell-requires-clause-live
 tell-requires-clause-live g c =
-    let live = live-in c.args.parts.now c.processes.result.now c.processes.result.now c.args.pid c.processes.ensures c.processes.ensures (c.if-not-live.ensures {u = tt}) in
+    let has = c.live_record.ensures ∙ ap option_copied c.in-Some.is in
+    let live = live-of c.args.parts.now c.args.pid c.in-Some.«record».now has in
     next-live c.args.parts.now c.advance.new.self c.args.pid c.advance.ensures (subst IsSome (sym live.1) refl)
 
 pub returns-in-Allowed-clause-answered : goal.returns-in-Allowed-clause-answered
 returns-in-Allowed-clause-answered g c =
-    let live = live-in c.args.parts.now c.processes.result.now c.processes.result.now c.args.pid c.processes.ensures c.processes.ensures (c.if-not-live.ensures {u = tt}) in
+    let has = c.live_record.ensures ∙ ap option_copied c.in-Some.is in
+    let live = live-of c.args.parts.now c.args.pid c.in-Some.«record».now has in
     answer-allowed-if c.args.parts.now c.args.pid (call_of c.args.call) live.0 live.1 c.carry_on.new.parts c.carry_on.result
-    (decided c.args.parts.now c.args.pid c.record.result.now (call_of c.args.call) c.decide.result c.record.ensures c.decide.ensures live.0 live.1 ∙ c.in-Allowed.is) c.carry_on.ensures.carried
+    (decided c.args.parts.now c.args.pid c.in-Some.«record».now (call_of c.args.call) c.decide.result has c.decide.ensures live.0 live.1 ∙ c.in-Allowed.is) c.carry_on.ensures.carried
 
 pub returns-in-Kill-clause-answered : goal.returns-in-Kill-clause-answered
 returns-in-Kill-clause-answered g c =
-    let live = live-in c.args.parts.now c.processes.result.now c.processes.result.now c.args.pid c.processes.ensures c.processes.ensures (c.if-not-live.ensures {u = tt}) in
+    let has = c.live_record.ensures ∙ ap option_copied c.in-Some.is in
+    let live = live-of c.args.parts.now c.args.pid c.in-Some.«record».now has in
     killed-so c.args.parts.now c.args.pid (call_of c.args.call) live.0 live.1 c.in-Kill.promise c.end.new.self
-    (decided c.args.parts.now c.args.pid c.record.result.now (call_of c.args.call) c.decide.result c.record.ensures c.decide.ensures live.0 live.1 ∙ c.in-Kill.is) (c.end.ensures live.0 live.1)
+    (decided c.args.parts.now c.args.pid c.in-Some.«record».now (call_of c.args.call) c.decide.result has c.decide.ensures live.0 live.1 ∙ c.in-Kill.is) (c.end.ensures live.0 live.1)
 
 pub returns-in-Kill-clause-agrees : goal.returns-in-Kill-clause-agrees
 returns-in-Kill-clause-agrees g c =
-    let live = live-in c.args.parts.now c.processes.result.now c.processes.result.now c.args.pid c.processes.ensures c.processes.ensures (c.if-not-live.ensures {u = tt}) in
+    let has = c.live_record.ensures ∙ ap option_copied c.in-Some.is in
+    let live = live-of c.args.parts.now c.args.pid c.in-Some.«record».now has in
     g.met.L.Lookup.same_answers c.args.lookup.now _ _ c.requires.agrees (find-end c.args.parts.now c.args.pid live.0 6 c.end.new.self c.requires.whole (c.end.ensures live.0 live.1))
 
 pub returns-in-Refuse-clause-answered : goal.returns-in-Refuse-clause-answered
 returns-in-Refuse-clause-answered g c =
-    let live = live-in c.args.parts.now c.processes.result.now c.processes.result.now c.args.pid c.processes.ensures c.processes.ensures (c.if-not-live.ensures {u = tt}) in
+    let has = c.live_record.ensures ∙ ap option_copied c.in-Some.is in
+    let live = live-of c.args.parts.now c.args.pid c.in-Some.«record».now has in
     answer-refused c.args.parts.now c.args.pid (call_of c.args.call) live.0 live.1 c.in-Refuse.promise
-    (decided c.args.parts.now c.args.pid c.record.result.now (call_of c.args.call) c.decide.result c.record.ensures c.decide.ensures live.0 live.1 ∙ c.in-Refuse.is)
+    (decided c.args.parts.now c.args.pid c.in-Some.«record».now (call_of c.args.call) c.decide.result has c.decide.ensures live.0 live.1 ∙ c.in-Refuse.is)
     ∙ c.tell.ensures.told c.args.parts.now (with_process c.args.parts.now c.args.pid (at_next_line live.0)) (at_next_line live.0) (refused 0 ENOSYS (ByPromise c.in-Refuse.promise)) refl
     (c.advance.ensures ∙ update-is c.args.parts.now c.args.pid at_next_line live.0 live.1)
 
 pub returns-in-Refuse-clause-agrees : goal.returns-in-Refuse-clause-agrees
 returns-in-Refuse-clause-agrees g c =
-    let live = live-in c.args.parts.now c.processes.result.now c.processes.result.now c.args.pid c.processes.ensures c.processes.ensures (c.if-not-live.ensures {u = tt}) in
+    let has = c.live_record.ensures ∙ ap option_copied c.in-Some.is in
+    let live = live-of c.args.parts.now c.args.pid c.in-Some.«record».now has in
     let next = with_process c.args.parts.now c.args.pid (at_next_line live.0) in
     let told = c.tell.ensures.told c.args.parts.now next (at_next_line live.0) (refused 0 ENOSYS (ByPromise c.in-Refuse.promise)) refl (c.advance.ensures ∙ update-is c.args.parts.now c.args.pid at_next_line live.0 live.1) in
     subst (λ t. g.L.Lookup.agrees c.args.lookup.now (find_entry t))
