@@ -195,10 +195,7 @@ fn write_bytes<O: Sink>(
     ensures handed { OnOk result (O.waits image.new ≡ 0) }
 {
     let mut window = with_table(alloc, tree, version, blocks, inodes)?;
-    match write_contents(&mut window, tree, version, blocks, inodes, image) {
-        Ok(()) => Ok(()),
-        Err(Failed) => Err(WriteFault::Write),
-    }
+    Ok(write_contents(&mut window, tree, version, blocks, inodes, image)?)
 }
 
 /// The data blocks that the root and the nodes in an entry need in an image of a version in which the tree's names may

@@ -14,18 +14,18 @@ write_contents-requires-clause-behind g c =
 whole-image : (blocks table : ℕ) → table + 1 ≤ blocks → blocks ≡ table + 1 + (blocks - (table + 1))
 whole-image blocks table fits = omega arith
 
-pub returns-in-Ok-clause-whole : goal.returns-in-Ok-clause-whole
+pub returns-clause-whole : goal.returns-clause-whole
 unfolding placed
-returns-in-Ok-clause-whole g c =
+returns-clause-whole g c =
     let u = placed c.args.tree.now.tree c.args.version c.args.blocks c.args.inodes in
     let whole = whole-image c.args.blocks (inode_blocks c.args.version c.args.inodes) c.requires.sizes in
     let is = image-written u c.requires.writable c.args.blocks c.in_ok-window.window.items whole c.in_ok-window.ensures.items in
-    subst (λ (xs : Bytes). g.O.Sink.told c.write_contents.new.image ≡ and_all (g.O.Sink.told c.args.image.now) xs) is c.in-Ok.ensures.whole
+    subst (λ (xs : Bytes). g.O.Sink.told c.write_contents.new.image ≡ and_all (g.O.Sink.told c.args.image.now) xs) is c.in_ok-write_contents.ensures.whole
 
-pub returns-clause-cut : goal.returns-clause-cut
+pub returns-in_err-write_contents-clause-cut : goal.returns-in_err-write_contents-clause-cut
 unfolding placed
-returns-clause-cut g c failed =
+returns-in_err-write_contents-clause-cut g c failed =
     let u = placed c.args.tree.now.tree c.args.version c.args.blocks c.args.inodes in
     let whole = whole-image c.args.blocks (inode_blocks c.args.version c.args.inodes) c.requires.sizes in
     let is = image-written u c.requires.writable c.args.blocks c.in_ok-window.window.items whole c.in_ok-window.ensures.items in
-    subst (λ (xs : Bytes). TellsBeginning xs (g.O.Sink.told c.args.image.now) (g.O.Sink.told c.write_contents.new.image)) is c.in-Err.ensures.cut
+    subst (λ (xs : Bytes). TellsBeginning xs (g.O.Sink.told c.args.image.now) (g.O.Sink.told c.write_contents.new.image)) is c.in_err-write_contents.ensures.cut
