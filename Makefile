@@ -31,7 +31,7 @@ bin/pvsim: $(SOURCES)
 demo:
 	@cat examples/motd.bundle
 	@echo '--- its trace:'
-	@cd crates/pv_try && rt try < ../../examples/motd.bundle
+	@cd crates/pv_cli_try && rt try < ../../examples/motd.bundle
 
 # The proved program runs it where bin/pvsim is there and as new as the code; else an unproved one is made, without the parser of the command line.
 try:
@@ -39,7 +39,7 @@ try:
 	@test -r "$(FILE)$(SOURCE)" || { echo 'no file $(FILE)$(SOURCE)'; exit 2; }
 	@bundle=$$(mktemp); trap 'rm -f $$bundle' EXIT; \
 	if [ -n "$(SOURCE)" ]; then tools/bundle "$(abspath $(SOURCE))"; else cat "$(abspath $(FILE))"; fi > $$bundle || exit 2; \
-	if $(MAKE) -sq bin/pvsim; then bin/pvsim run-tree $$bundle; else cd crates/pv_try && rt try < $$bundle; fi
+	if $(MAKE) -sq bin/pvsim; then bin/pvsim run-tree $$bundle; else cd crates/pv_cli_try && rt try < $$bundle; fi
 
 examples:
 	@tools/examples

@@ -10,9 +10,9 @@ use Rattle.pv_model.specs.declared.verdict.Why.TheVariants.{Reads, NotLocked, Gi
 use Rattle.pv_model.specs.Bytes.{is_empty}
 use Rattle.pv_model.specs.Calls.Restraints.{entries_of_table}
 use Rattle.pv_model.specs.Closed.{opens_or_moves}
-use Rattle.pv_model.specs.Needs.{letters_of_mode}
+use Rattle.pv_model.specs.Needs.{permissions_of_mode}
 use Rattle.pv_model.specs.Numbered.{at_number, numbered}
-use Rattle.pv_model.specs.Perms.{covers, letter_r, letter_w}
+use Rattle.pv_model.specs.Perms.{covers, permission_r, permission_w}
 use Rattle.pv_model.specs.Sealed
 use Rattle.pv_model.specs.State.{OpenFile, Descriptor, Process, State, reads, writes, process_at}
 use Rattle.pv_model.specs.Tree.{names_of}
@@ -46,24 +46,24 @@ not-not : (b : Bool) → not (not b) ≡ b
 not-not true = refl
 not-not false = refl
 
--- ---- modes and letters
+-- ---- modes and permissions
 
-reads-r : (m : Mode) → reads m ≡ covers (letters_of_mode m) letter_r
+reads-r : (m : Mode) → reads m ≡ covers (permissions_of_mode m) permission_r
 reads-r Read = refl
 reads-r Write = refl
 reads-r ReadWrite = refl
 
-writes-w : (m : Mode) → writes m ≡ covers (letters_of_mode m) letter_w
+writes-w : (m : Mode) → writes m ≡ covers (permissions_of_mode m) permission_w
 writes-w Read = refl
 writes-w Write = refl
 writes-w ReadWrite = refl
 
 module _ (s : State) (p : Process) (f : ℕ) where
-  opens-on : (test : Mode → Bool) (needed : Perms) → ((m : Mode) → test m ≡ covers (letters_of_mode m) needed) → (o : Option OpenFile) → Sealed.opens s p f test o ≡ is_on f needed o
+  opens-on : (test : Mode → Bool) (needed : Perms) → ((m : Mode) → test m ≡ covers (permissions_of_mode m) needed) → (o : Option OpenFile) → Sealed.opens s p f test o ≡ is_on f needed o
   opens-on test needed same None = refl
   opens-on test needed same (Some file) = ap (λ b. (file.node == f) && b) (same file.mode)
 
-  descriptors-for : (test : Mode → Bool) (needed : Perms) → ((m : Mode) → test m ≡ covers (letters_of_mode m) needed) → Sealed.descriptors_on s p f test ≡ descriptors_for s.files p.descriptors f needed
+  descriptors-for : (test : Mode → Bool) (needed : Perms) → ((m : Mode) → test m ≡ covers (permissions_of_mode m) needed) → Sealed.descriptors_on s p f test ≡ descriptors_for s.files p.descriptors f needed
   descriptors-for test needed same = λ i. map (λ (d : ℕ × Descriptor). d.0) (filter (λ (d : ℕ × Descriptor). opens-on test needed same (at_number s.files d.1.file) i) (numbered p.descriptors))
 
   -- ---- of which all is found
@@ -72,7 +72,7 @@ module _ (s : State) (p : Process) (f : ℕ) where
   pub record IsAllOf (table : Table) (found : Found) : Type 0 where
     pub gives : found.gives ≡ least (Sealed.giving s p f opens_or_moves table)
     pub above : found.above ≡ least (Sealed.above s p f table)
-    pub writes : found.writes ≡ not (is_empty (Sealed.giving s p f (λ letters. letters.w) table))
+    pub writes : found.writes ≡ not (is_empty (Sealed.giving s p f (λ permissions. permissions.w) table))
 
   by_table : (found : Found) (o : Option Table) → ((table : Table) → o ≡ Some table → IsAllOf table found) → first_of (Sealed.leaks_of_table s p f o)
       ≡ reason_of_table (record_of p) found o
@@ -94,7 +94,7 @@ module _ (s : State) (p : Process) (f : ℕ) where
   unfolding Sealed.leaks
   leaks-reason found all =
       first-least Reads (Sealed.descriptors_on s p f reads) _
-      ∙ (λ i. by_number Reads (least (descriptors-for reads letter_r reads-r i)) (pick (Sealed.is_pledged_without (Rpath ∷ ExecPromise ∷ Cpath ∷ []) p) i))
+      ∙ (λ i. by_number Reads (least (descriptors-for reads permission_r reads-r i)) (pick (Sealed.is_pledged_without (Rpath ∷ ExecPromise ∷ Cpath ∷ []) p) i))
     where
       pick : (b : Bool) → first_of (if b then [] else Sealed.leaks_of_table s p f p.table) ≡ (if b then None else reason_of_table (record_of p) found p.table)
       pick true = refl
@@ -104,13 +104,13 @@ module _ (s : State) (p : Process) (f : ℕ) where
   kept_by found None all = refl
   kept_by found (Some table) all =
       let is = all table refl in
-      let none = sym (not-not (is_empty (Sealed.giving s p f (λ letters. letters.w) table))) ∙ ap not (sym is.writes) in
+      let none = sym (not-not (is_empty (Sealed.giving s p f (λ permissions. permissions.w) table))) ∙ ap not (sym is.writes) in
       ap (λ b. (p.locked && b) && Sealed.is_held_over_exec s p f) none
 
   pub frozen-kept : (found : Found) → ((table : Table) → p.table ≡ Some table → IsAllOf table found) → Sealed.is_frozen_to s p f ≡ is_kept s.files (record_of p) f found
   unfolding Sealed.is_frozen_to
   frozen-kept found all = λ i.
-      (sym (none-empty (Sealed.descriptors_on s p f writes)) ∙ ap (λ (ks : List ℕ). is_none (least ks)) (descriptors-for writes letter_w writes-w)) i
+      (sym (none-empty (Sealed.descriptors_on s p f writes)) ∙ ap (λ (ks : List ℕ). is_none (least ks)) (descriptors-for writes permission_w writes-w)) i
       && (Sealed.is_pledged_without (Wpath ∷ ExecPromise ∷ []) p || kept_by found p.table all i)
 
   module _ (pid : ℕ) (at : process_at s pid ≡ Some p) where
@@ -124,7 +124,7 @@ module _ (s : State) (p : Process) (f : ℕ) where
         record {
           gives = ap (λ (x : Found). x.gives) found ∙ gives-all s.tree (table_of (process_at s pid)) nothing (names_of s.tree f) ∙ ap (λ (t : Table). least (Sealed.giving s p f opens_or_moves t)) same;
           above = ap (λ (x : Found). x.above) found ∙ above-all s.tree (table_of (process_at s pid)) nothing (names_of s.tree f) ∙ ap (λ (t : Table). least (Sealed.above s p f t)) same;
-          writes = ap (λ (x : Found). x.writes) found ∙ writes-all s.tree (table_of (process_at s pid)) nothing (names_of s.tree f) ∙ ap (λ (t : Table). not (is_empty (Sealed.giving s p f (λ letters. letters.w) t))) same;
+          writes = ap (λ (x : Found). x.writes) found ∙ writes-all s.tree (table_of (process_at s pid)) nothing (names_of s.tree f) ∙ ap (λ (t : Table). not (is_empty (Sealed.giving s p f (λ permissions. permissions.w) t))) same;
         }
 
     there : process_at s (noted_by s (names_of s.tree f) (suspect pid)).pid ≡ Some p

@@ -8,8 +8,8 @@ use Rattle.pv_model.specs.Bytes.{is_empty}
 use Rattle.pv_model.specs.Closed.{opens_or_moves}
 use Rattle.pv_model.specs.State.{State, process_at}
 use Rattle.pv_model.specs.Tree.{Tree, ancestors, find_entry, is_directory_at}
-use Rattle.pv_model.specs.Unveil.{Table, letters_at, directory_rights}
-use Rattle.pv_tree_laws.proofs.Changes.{has_entry-directory}
+use Rattle.pv_model.specs.Unveil.{Table, permissions_at, directory_rights}
+use Rattle.pv_laws_trees.proofs.Changes.{has_entry-directory}
 use Rattle.pv_audit.specs.declared.found.Found.{Found}
 use Rattle.pv_audit.specs.declared.suspects.Suspect.{Suspect}
 use Rattle.pv_audit.specs.Findings.{lesser, least, governing, passing, entries_passing, least_above, noted, table_of, note_of, noted_by, are_live}
@@ -20,10 +20,10 @@ use Rattle.pv_audit.proofs.Rising.{Named, names_after, names_on, rises, after-ne
 -- ---- name by name
 
 abbrev pub with_c : Perms → Bool
-with_c letters = letters.c
+with_c permissions = permissions.c
 
 abbrev pub with_w : Perms → Bool
-with_w letters = letters.w
+with_w permissions = permissions.w
 
 module _ (t : Tree) (table : Table) where
   abbrev all_noted : Found → List Named → Found
@@ -58,7 +58,7 @@ module _ (t : Tree) (table : Table) where
   some-cons : (o : Option ℕ) (os : List (Option ℕ)) → (is_some (passing with_w table o) || not (is_empty (entries_passing with_w table os))) ≡ not (is_empty (entries_passing with_w table (o ∷ os)))
   some-cons None os = refl
   some-cons (Some k) os =
-      elim (with_w (letters_at table k)) as (λ b. (is_some (cond b (Some k) None) || not (is_empty (entries_passing with_w table os)))
+      elim (with_w (permissions_at table k)) as (λ b. (is_some (cond b (Some k) None) || not (is_empty (entries_passing with_w table os)))
       ≡ not (is_empty (cond b (k ∷ entries_passing with_w table os) (entries_passing with_w table os)))) [
         | true ↦ refl
         | false ↦ refl

@@ -4,8 +4,8 @@ use Rattle.std.specs.Prelude.{filter_map}
 use Rattle.std.proofs.lemmas.Bool.{cases_lt}
 use Rattle.std.proofs.Math.Nat.{min-eq_left, min-eq_right}
 use Rattle.pv_model.specs.declared.perms.Perms.{Perms}
-use Rattle.pv_model.specs.Unveil.{Table, letters_at}
-use Rattle.pv_rights.proofs.Members.{In, in-map, map-in, in-filter, filter-in, in-kept, kept-in}
+use Rattle.pv_model.specs.Unveil.{Table, permissions_at}
+use Rattle.pv_laws_access.proofs.Members.{In, in-map, map-in, in-filter, filter-in, in-kept, kept-in}
 use Rattle.pv_audit.specs.Findings.{lesser, least, passing, entries_passing}
 
 pub lesser-none : (a : Option ℕ) → lesser a None ≡ a
@@ -81,12 +81,12 @@ least-same xs ys there back = by (least ys) refl
     by None is = least-empty xs (λ j within. least-none ys j is (there j within))
     by (Some m) is = least-is xs m (back m (least-in ys m is)) (λ j within. least-low ys m j is (there j within))
 
--- ---- entries whose letters pass a test
+-- ---- entries whose permissions pass a test
 
 pub least-cons : (test : Perms → Bool) (table : Table) (o : Option ℕ) (os : List (Option ℕ)) → least (entries_passing test table (o ∷ os)) ≡ lesser (passing test table o) (least (entries_passing test table os))
 least-cons test table None os = refl
 least-cons test table (Some k) os =
-    elim (test (letters_at table k)) as (λ b. least (cond b (k ∷ entries_passing test table os) (entries_passing test table os)) ≡ lesser (cond b (Some k) None) (least (entries_passing test table os))) [
+    elim (test (permissions_at table k)) as (λ b. least (cond b (k ∷ entries_passing test table os) (entries_passing test table os)) ≡ lesser (cond b (Some k) None) (least (entries_passing test table os))) [
       | true ↦ refl
       | false ↦ refl
     ]
@@ -99,13 +99,13 @@ passing-append test table (x ∷ xs) ys =
     ∙ ap (λ (o : Option ℕ). lesser o (least (entries_passing test table ys))) (sym (least-cons test table x xs))
 
 module _ (X : Type 0) (test : Perms → Bool) (table : Table) (g : X → Option ℕ) (xs : List X) (k : ℕ) where
-  pub in-passing : (x : X) → In X x xs → g x ≡ Some k → test (letters_at table k) ≡ true → In ℕ k (entries_passing test table (map g xs))
+  pub in-passing : (x : X) → In X x xs → g x ≡ Some k → test (permissions_at table k) ≡ true → In ℕ k (entries_passing test table (map g xs))
   in-passing x within is passes =
-      in-filter ℕ (λ j. test (letters_at table j)) (filter_map (λ (o : Option ℕ). o) (map g xs)) k
+      in-filter ℕ (λ j. test (permissions_at table j)) (filter_map (λ (o : Option ℕ). o) (map g xs)) k
       (in-kept ℕ (map g xs) k (subst (λ o. In (Option ℕ) o (map g xs)) is (in-map X (Option ℕ) g xs x within))) passes
 
-  pub passing-in : In ℕ k (entries_passing test table (map g xs)) → (x : X) × In X x xs × (g x ≡ Some k) × (test (letters_at table k) ≡ true)
+  pub passing-in : In ℕ k (entries_passing test table (map g xs)) → (x : X) × In X x xs × (g x ≡ Some k) × (test (permissions_at table k) ≡ true)
   passing-in is =
-      let kept = filter-in ℕ (λ j. test (letters_at table j)) (filter_map (λ (o : Option ℕ). o) (map g xs)) k is in
+      let kept = filter-in ℕ (λ j. test (permissions_at table j)) (filter_map (λ (o : Option ℕ). o) (map g xs)) k is in
       let found = map-in X (Option ℕ) g xs (Some k) (kept-in ℕ (map g xs) k kept.0) in
       (found.0, found.1, found.2, kept.1)

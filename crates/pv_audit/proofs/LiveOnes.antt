@@ -9,9 +9,9 @@ use Rattle.std.specs.FinMap.Entries.{find, is_sorted, below_all}
 use Rattle.std.proofs.lemmas.Bool.{and_parts, and_from, eq-eqb, ne_eqb, lt-ltb, ltb-true, cases_lt}
 use Rattle.std.proofs.lemmas.List.{map-append}
 use Rattle.pv_model.specs.Held.{live_processes}
-use Rattle.pv_model.specs.State.{Process, Record, live, ended_record, State, live_process, process_at}
-use Rattle.pv_laws.proofs.Members.{find_number_behind}
-use Rattle.pv_rights.proofs.Members.{In}
+use Rattle.pv_model.specs.State.{Process, ProcessRecord, live, ended_record, State, live_process, process_at}
+use Rattle.pv_laws_states.proofs.Members.{find_number_after}
+use Rattle.pv_laws_access.proofs.Members.{In}
 use Rattle.pv_audit.specs.declared.suspects.Suspect.{Suspect}
 use Rattle.pv_audit.specs.Findings.{suspect, are_live}
 use Rattle.pv_audit.proofs.Rising.{never}
@@ -20,7 +20,7 @@ abbrev pub Living : Type 0
 Living = ℕ × Process
 
 abbrev pub Recorded : Type 0
-Recorded = ℕ × Record
+Recorded = ℕ × ProcessRecord
 
 -- those with lower numbers
 abbrev pub live_below : ℕ → List Recorded → List Living
@@ -57,10 +57,10 @@ below-zero [] = refl
 below-zero ((j, live p) ∷ rs) = ap (λ b. cond b ((j, p) ∷ live_below 0 rs) (live_below 0 rs)) (not_lower j 0 (omega arith)) ∙ below-zero rs
 below-zero ((j, ended_record parent status) ∷ rs) = below-zero rs
 
-find_here : (k : ℕ) (r : Record) (rs : List Recorded) → find nat_cmp k ((k, r) ∷ rs) ≡ Some r
+find_here : (k : ℕ) (r : ProcessRecord) (rs : List Recorded) → find nat_cmp k ((k, r) ∷ rs) ≡ Some r
 find_here k r rs = ap (λ b. cond b (Some r) (find nat_cmp k rs)) (sym (unsigned_ties k k) ∙ eq-eqb k k refl)
 
-find_past : (n k : ℕ) (r : Record) (rs : List Recorded) → n ≢ k → find nat_cmp n ((k, r) ∷ rs) ≡ find nat_cmp n rs
+find_past : (n k : ℕ) (r : ProcessRecord) (rs : List Recorded) → n ≢ k → find nat_cmp n ((k, r) ∷ rs) ≡ find nat_cmp n rs
 find_past n k r rs apart = ap (λ b. cond b (Some r) (find nat_cmp n rs)) (sym (unsigned_ties n k) ∙ ne_eqb n k apart)
 
 same_or_not : (n k : ℕ) → (n ≡ k) ⊎ (n ≢ k)
@@ -92,7 +92,7 @@ below-more n ((k, live p) ∷ rs) sorted =
       | true ↦ ap (λ (xs : List Living). (k, p) ∷ xs) further
       | false ↦ further
     ]
-    ∙ ap (λ (o : Option Record). cond (nat_lt k n) ((k, p) ∷ live_below n rs) (live_below n rs) ++ at_most_one n (live_process o)) (sym past))
+    ∙ ap (λ (o : Option ProcessRecord). cond (nat_lt k n) ((k, p) ∷ live_below n rs) (live_below n rs) ++ at_most_one n (live_process o)) (sym past))
     (same_or_not n k)
 below-more n ((k, ended_record parent status) ∷ rs) sorted =
     let parts = and_parts (below_all nat_cmp k rs) (is_sorted nat_cmp rs) sorted in
@@ -102,7 +102,7 @@ below-more n ((k, ended_record parent status) ∷ rs) sorted =
     ap (λ j. find nat_cmp j ((k, ended_record parent status) ∷ rs)) same ∙ find_here k (ended_record parent status) rs in
     none_below k (n + 1) rs parts.0 (omega (arith, same))
     ∙ sym ((λ i. live_below n rs ++ at_most_one n (live_process (found i))) ∙ ap (λ (xs : List Living). xs ++ []) (none_below k n rs parts.0 (omega (arith, same)))))
-    (λ apart. below-more n rs parts.1 ∙ ap (λ (o : Option Record). live_below n rs ++ at_most_one n (live_process o)) (sym (find_past n k (ended_record parent status) rs apart)))
+    (λ apart. below-more n rs parts.1 ∙ ap (λ (o : Option ProcessRecord). live_below n rs ++ at_most_one n (live_process o)) (sym (find_past n k (ended_record parent status) rs apart)))
     (same_or_not n k)
 
 -- past all numbers
@@ -168,9 +168,9 @@ live-in [] p sorted within = absurd within
 live-in ((k, live q) ∷ rs) p sorted within =
     let parts = and_parts (below_all nat_cmp k rs) (is_sorted nat_cmp rs) sorted in
     ⊎_elim (λ same. subst (λ (e : Living). find nat_cmp e.0 ((k, live q) ∷ rs) ≡ Some (live e.1)) same (find_here k (live q) rs))
-    (λ later. find_number_behind p.0 (live p.1) (k, live q) rs sorted (live-in rs p parts.1 later)) within
+    (λ later. find_number_after p.0 (live p.1) (k, live q) rs sorted (live-in rs p parts.1 later)) within
 live-in ((k, ended_record parent status) ∷ rs) p sorted within =
-    find_number_behind p.0 (live p.1) (k, ended_record parent status) rs sorted (live-in rs p (and_parts (below_all nat_cmp k rs) (is_sorted nat_cmp rs) sorted).1 within)
+    find_number_after p.0 (live p.1) (k, ended_record parent status) rs sorted (live-in rs p (and_parts (below_all nat_cmp k rs) (is_sorted nat_cmp rs) sorted).1 within)
 
 module _ (s : State) (sorted : is_sorted nat_cmp s.processes ≡ true) where
   pub live-process : (p : Living) → In Living p (live_processes s.processes) → process_at s p.0 ≡ Some p.1

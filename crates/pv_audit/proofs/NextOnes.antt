@@ -2,17 +2,17 @@
 use Rattle.std.proofs.Common.{◌≡◌, ℕ, ◌+◌, ◌<◌, ◌≤◌, true, false, length, Option, None, Some, refl, ap, sym, subst, ◌∙◌, ◌⊎◌, ⊎_elim, inl, inr, arith}
 use Rattle.std.proofs.lemmas.Bool.{cases_lt}
 use Rattle.pv_model.specs.Bytes.{Bytes}
-use Rattle.pv_model.specs.Calls.Descriptors.{is_behind}
+use Rattle.pv_model.specs.Calls.Descriptors.{is_past}
 use Rattle.pv_model.specs.Tree.{Tree, find_entry, is_directory_at}
-use Rattle.pv_tree_laws.proofs.Changes.{has_entry-directory, directory-below}
+use Rattle.pv_laws_trees.proofs.Changes.{has_entry-directory, directory-below}
 use Rattle.pv_dirs.specs.Listing.{IsNextNameOf}
 use Rattle.pv_audit.specs.NextName.{is_after, IsNextName}
 use Rattle.pv_audit.proofs.Rising.{Named, after-cases, after-lower, after-same, never, bool_cases}
 
--- what comes behind the last name: names of greater directories, and of this one those behind a name
-pub record IsCut (last : Option Named) (first : ℕ) (behind : Option Bytes) : Type 0 where
+-- what comes after the last name: names of greater directories, and of this one those after a name
+pub record IsCut (last : Option Named) (first : ℕ) (following : Option Bytes) : Type 0 where
   pub low : (x : Named) → is_after last x ≡ true → first ≤ x.0
-  pub here : (name : Bytes) → is_after last (first, name) ≡ is_behind behind name
+  pub here : (name : Bytes) → is_after last (first, name) ≡ is_past following name
   pub higher : (x : Named) → first < x.0 → is_after last x ≡ true
 
 pub cut-none : IsCut None 0 None
@@ -21,25 +21,25 @@ cut-none = record { low = λ x is. omega arith; here = λ name. refl; higher = �
 pub cut-some : (d : ℕ) (name : Bytes) → IsCut (Some (d, name)) d (Some name)
 cut-some d name = record {
   low = λ x is. ⊎_elim (λ less. omega arith) (λ same. omega (arith, same.0)) (after-cases (d, name) x is);
-  here = λ other. ⊎_elim (λ yes. after-same (d, name) (d, other) refl yes ∙ sym yes) (λ isnt. unless other isnt ∙ sym isnt) (bool_cases (is_behind (Some name) other));
+  here = λ other. ⊎_elim (λ yes. after-same (d, name) (d, other) refl yes ∙ sym yes) (λ isnt. unless other isnt ∙ sym isnt) (bool_cases (is_past (Some name) other));
   higher = λ x less. after-lower (d, name) x less;
 }
   where
-    unless : (other : Bytes) → is_behind (Some name) other ≡ false → is_after (Some (d, name)) (d, other) ≡ false
+    unless : (other : Bytes) → is_past (Some name) other ≡ false → is_after (Some (d, name)) (d, other) ≡ false
     unless other isnt = never (is_after (Some (d, name)) (d, other))
         (λ is. ⊎_elim (λ (less : d < d). omega arith) (λ same. let both : true ≡ false = sym same.1 ∙ isnt in cc both) (after-cases (d, name) (d, other) is))
 
--- in a directory those behind a name come behind the last one
+-- in a directory those after a name come after the last one
 pub IsFrom : Option Named → ℕ → Option Bytes → Type 0
-IsFrom last d from = (name : Bytes) → is_after last (d, name) ≡ is_behind from name
+IsFrom last d from = (name : Bytes) → is_after last (d, name) ≡ is_past from name
 
 module _ (t : Tree) (n : ℕ) (last : Option Named) where
-  -- the names that come behind the last one stand in no lower directory
+  -- the names that come after the last one stand in no lower directory
   pub record IsDownTo (d : ℕ) : Type 0 where
     pub low : (x : Named) → find_entry t x.0 x.1 ≡ Some n → is_after last x ≡ true → d ≤ x.0
 
-  pub down-first : (first : ℕ) (behind : Option Bytes) → IsCut last first behind → IsDownTo first
-  down-first first behind cut = record { low = λ x is after. cut.low x after }
+  pub down-first : (first : ℕ) (following : Option Bytes) → IsCut last first following → IsDownTo first
+  down-first first following cut = record { low = λ x is after. cut.low x after }
 
   at_next : (d : ℕ) → IsDownTo d → ((name : Bytes) → find_entry t d name ≡ Some n → is_after last (d, name) ≡ false) → IsDownTo (d + 1)
   at_next d down none = record {
@@ -69,15 +69,15 @@ module _ (t : Tree) (n : ℕ) (last : Option Named) where
   unfolding IsFrom
   down-found d from name down is next = record {
     named = next.named;
-    after = is name ∙ next.behind;
+    after = is name ∙ next.following;
     least = λ x there after.
         never (is_after (Some x) (d, name))
         (λ before.
         ⊎_elim (λ (less : x.0 < d). let low = down.low x there after in omega arith)
         (λ same.
         let here : find_entry t d x.1 ≡ Some n = ap (λ k. find_entry t k x.1) (sym same.0) ∙ there in
-        let behind : is_behind from x.1 ≡ true = sym (is x.1) ∙ ap (λ k. is_after last (k, x.1)) (sym same.0) ∙ after in
-        let both : true ≡ false = sym same.1 ∙ next.least x.1 here behind in cc both)
+        let following : is_past from x.1 ≡ true = sym (is x.1) ∙ ap (λ k. is_after last (k, x.1)) (sym same.0) ∙ after in
+        let both : true ≡ false = sym same.1 ∙ next.least x.1 here following in cc both)
         (after-cases x (d, name) before));
   }
 
@@ -86,13 +86,13 @@ module _ (t : Tree) (n : ℕ) (last : Option Named) where
   down-all d down all = λ x there.
       never (is_after last x) (λ after. let low = down.low x there after in let below = directory-below t x.0 (has_entry-directory t x.0 x.1 n there) in absurd (omega arith))
 
-pub from-here : (last : Option Named) (first : ℕ) (behind : Option Bytes) → IsCut last first behind → IsFrom last first behind
+pub from-here : (last : Option Named) (first : ℕ) (following : Option Bytes) → IsCut last first following → IsFrom last first following
 unfolding IsFrom
-from-here last first behind cut = cut.here
+from-here last first following cut = cut.here
 
-pub from-higher : (last : Option Named) (first : ℕ) (behind : Option Bytes) (d : ℕ) → IsCut last first behind → first < d → IsFrom last d None
+pub from-higher : (last : Option Named) (first : ℕ) (following : Option Bytes) (d : ℕ) → IsCut last first following → first < d → IsFrom last d None
 unfolding IsFrom
-from-higher last first behind d cut less = λ name. cut.higher (d, name) less
+from-higher last first following d cut less = λ name. cut.higher (d, name) less
 
-pub from-of : (last : Option Named) (first : ℕ) (behind : Option Bytes) (d : ℕ) → IsCut last first behind → d ≡ first → IsFrom last d behind
-from-of last first behind d cut same = subst (λ k. IsFrom last k behind) (sym same) (from-here last first behind cut)
+pub from-of : (last : Option Named) (first : ℕ) (following : Option Bytes) (d : ℕ) → IsCut last first following → d ≡ first → IsFrom last d following
+from-of last first following d cut same = subst (λ k. IsFrom last k following) (sym same) (from-here last first following cut)

@@ -10,13 +10,13 @@ use Rattle.std.proofs.lemmas.Bool.{and_parts, and_from, or_cases, or_left, or_ri
 use Rattle.std.proofs.lemmas.Cmp.{nat_list_cmp_total}
 use Rattle.std.proofs.lemmas.List.Folds.{list_all-append}
 use Rattle.pv_model.specs.Bytes.{Bytes}
-use Rattle.pv_model.specs.Calls.Descriptors.{is_behind}
+use Rattle.pv_model.specs.Calls.Descriptors.{is_past}
 use Rattle.pv_model.specs.Numbered.{Numbered, at_number, numbered_from}
 use Rattle.pv_model.specs.Tree.{Entries, Node, Tree, entries_of, names_in, names_of}
-use Rattle.pv_tree_laws.proofs.Entries.{by_name, tied-same}
-use Rattle.pv_tree_laws.proofs.Trees.{IsOrdered}
-use Rattle.pv_listing.proofs.Children.{not_behind_itself, behind_more}
-use Rattle.pv_rights.proofs.Members.{In, entry-in, in-entry}
+use Rattle.pv_laws_trees.proofs.Entries.{by_name, tied-same}
+use Rattle.pv_laws_trees.proofs.Trees.{IsOrdered}
+use Rattle.pv_listing.proofs.Children.{not_after_itself, after_more}
+use Rattle.pv_laws_access.proofs.Members.{In, entry-in, in-entry}
 use Rattle.pv_audit.specs.NextName.{is_after, first_after, IsLeastAfter, IsNextName}
 
 -- a name with its directory
@@ -25,29 +25,29 @@ Named = ℕ × Bytes
 
 -- ---- names of one directory
 
--- of two names that are not behind each other neither is another
-same_name : (o : Ordering) (a b : Bytes) → by_name a b ≡ o → is_behind (Some a) b ≡ false → is_behind (Some b) a ≡ false → a ≡ b
-same_name Less a b is isnt other = let yes : is_behind (Some a) b ≡ true = ap is_lt is in cc
+-- of two names that are not after each other neither is another
+same_name : (o : Ordering) (a b : Bytes) → by_name a b ≡ o → is_past (Some a) b ≡ false → is_past (Some b) a ≡ false → a ≡ b
+same_name Less a b is isnt other = let yes : is_past (Some a) b ≡ true = ap is_lt is in cc
 same_name Equal a b is isnt other = tied-same a b (ap Rattle.std.specs.Ordering.is_eq is)
 same_name Greater a b is isnt other =
     let turned : by_name b a ≡ Less = nat_list_cmp_total.antisymm b a ∙ ap ordering_reverse is in
-    let yes : is_behind (Some b) a ≡ true = ap is_lt turned in cc
+    let yes : is_past (Some b) a ≡ true = ap is_lt turned in cc
 
-same-name : (a b : Bytes) → is_behind (Some a) b ≡ false → is_behind (Some b) a ≡ false → a ≡ b
+same-name : (a b : Bytes) → is_past (Some a) b ≡ false → is_past (Some b) a ≡ false → a ≡ b
 same-name a b isnt other = same_name (by_name a b) a b refl isnt other
 
 -- ---- names with directories
 
-pub after-cases : (l x : Named) → is_after (Some l) x ≡ true → (l.0 < x.0) ⊎ ((l.0 ≡ x.0) × (is_behind (Some l.1) x.1 ≡ true))
+pub after-cases : (l x : Named) → is_after (Some l) x ≡ true → (l.0 < x.0) ⊎ ((l.0 ≡ x.0) × (is_past (Some l.1) x.1 ≡ true))
 after-cases l x is =
-    ⊎_elim (λ less. inl (ltb-true l.0 x.0 less)) (λ same. let parts = and_parts (l.0 == x.0) (is_behind (Some l.1) x.1) same in inr (eqb-true l.0 x.0 parts.0, parts.1))
+    ⊎_elim (λ less. inl (ltb-true l.0 x.0 less)) (λ same. let parts = and_parts (l.0 == x.0) (is_past (Some l.1) x.1) same in inr (eqb-true l.0 x.0 parts.0, parts.1))
     (or_cases (nat_lt l.0 x.0) _ is)
 
 pub after-lower : (l x : Named) → l.0 < x.0 → is_after (Some l) x ≡ true
 after-lower l x less = or_left (nat_lt l.0 x.0) _ (lt-ltb l.0 x.0 less)
 
-pub after-same : (l x : Named) → l.0 ≡ x.0 → is_behind (Some l.1) x.1 ≡ true → is_after (Some l) x ≡ true
-after-same l x same behind = or_right (nat_lt l.0 x.0) _ (and_from (l.0 == x.0) _ (eq-eqb l.0 x.0 same) behind)
+pub after-same : (l x : Named) → l.0 ≡ x.0 → is_past (Some l.1) x.1 ≡ true → is_after (Some l) x ≡ true
+after-same l x same following = or_right (nat_lt l.0 x.0) _ (and_from (l.0 == x.0) _ (eq-eqb l.0 x.0 same) following)
 
 pub bool_cases : (b : Bool) → (b ≡ true) ⊎ (b ≡ false)
 bool_cases true = inl refl
@@ -63,13 +63,13 @@ after-more None x y is more = refl
 after-more (Some l) x y is more =
     ⊎_elim
     (λ low. ⊎_elim (λ high. after-lower l y (omega arith)) (λ same. after-lower l y (omega (arith, same.0))) (after-cases x y more))
-    (λ level. ⊎_elim (λ high. after-lower l y (omega (arith, level.0))) (λ same. after-same l y (level.0 ∙ same.0) (behind_more (Some l.1) x.1 y.1 level.1 same.1)) (after-cases x y more))
+    (λ level. ⊎_elim (λ high. after-lower l y (omega (arith, level.0))) (λ same. after-same l y (level.0 ∙ same.0) (after_more (Some l.1) x.1 y.1 level.1 same.1)) (after-cases x y more))
     (after-cases l x is)
 
 pub not-after_itself : (x : Named) → is_after (Some x) x ≡ false
 not-after_itself x =
     never (is_after (Some x) x)
-    (λ is. ⊎_elim (λ (low : x.0 < x.0). omega arith) (λ same. let isnt = not_behind_itself x.1 in let both : true ≡ false = sym same.1 ∙ isnt in cc both) (after-cases x x is))
+    (λ is. ⊎_elim (λ (low : x.0 < x.0). omega arith) (λ same. let isnt = not_after_itself x.1 in let both : true ≡ false = sym same.1 ∙ isnt in cc both) (after-cases x x is))
 
 pub not-after_both : (x y : Named) → is_after (Some x) y ≡ true → is_after (Some y) x ≡ false
 not-after_both x y is =
@@ -86,8 +86,8 @@ same-named x y isnt other = pair level (same-name x.1 y.1 (unless x y isnt level
     level : x.0 ≡ y.0
     level = omega (arith, not_lower x y isnt, not_lower y x other)
 
-    unless : (a b : Named) → is_after (Some a) b ≡ false → a.0 ≡ b.0 → is_behind (Some a.1) b.1 ≡ false
-    unless a b is same = never (is_behind (Some a.1) b.1) (λ behind. let both : true ≡ false = sym (after-same a b same behind) ∙ is in cc both)
+    unless : (a b : Named) → is_after (Some a) b ≡ false → a.0 ≡ b.0 → is_past (Some a.1) b.1 ≡ false
+    unless a b is same = never (is_past (Some a.1) b.1) (λ following. let both : true ≡ false = sym (after-same a b same following) ∙ is in cc both)
 
     pair : x.0 ≡ y.0 → x.1 ≡ y.1 → x ≡ y
     pair a b = λ i. (a i, b i)
@@ -101,11 +101,11 @@ abbrev pub rises : List Named → Bool
 rises [] = true
 rises (x ∷ ns) = all_after x ns && rises ns
 
--- the names behind the last one, in a list that rises
+-- the names after the last one, in a list that rises
 abbrev pub names_after : Option Named → List Named → List Named
 names_after last ns = filter (is_after last) ns
 
--- a name that comes next, and those behind it
+-- a name that comes next, and those after it
 abbrev pub names_on : Option Named → List Named → List Named
 names_on None ns = []
 names_on (Some x) ns = x ∷ names_after (Some x) ns
@@ -139,7 +139,7 @@ found-passes p q (y ∷ ns) x all is =
       | false ↦ λ there. found-passes p q ns x parts.1 there
     ] is
 
--- the names behind the last one are the one that comes next and those behind it
+-- the names after the last one are the one that comes next and those after it
 pub after-next : (last : Option Named) (ns : List Named) → rises ns ≡ true → names_after last ns ≡ names_on (first_after last ns) ns
 after-next last [] up = refl
 after-next last (y ∷ ns) up =

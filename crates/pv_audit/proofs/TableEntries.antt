@@ -6,8 +6,8 @@ use Rattle.pv_model.specs.declared.target.Target.TheVariants.{Directory}
 use Rattle.pv_model.specs.Tree.{Tree, root, parent, above_or_none, ancestors_within, ancestors, IsAtOrAbove, itself, above, IsWellFormed}
 use Rattle.pv_model.specs.Unveil.{Table, entry_for, directory_rights, Governs, own, from_above}
 use Rattle.pv_model.proofs.Rights.{Governs-directory_rights, directory_rights-Governs}
-use Rattle.pv_tree_laws.proofs.Above.{ancestors-above}
-use Rattle.pv_rights.proofs.Members.{any-in, in-any}
+use Rattle.pv_laws_trees.proofs.Above.{ancestors-above}
+use Rattle.pv_laws_access.proofs.Members.{any-in, in-any}
 use Rattle.pv_unveil.specs.Up.{up}
 use Rattle.pv_audit.specs.Findings.{lesser, least, passing, entries_passing, least_above}
 use Rattle.pv_audit.proofs.LeastOnes.{lesser-none, lesser-assoc, least-same, least-cons, in-passing, passing-in}
@@ -16,10 +16,10 @@ use Rattle.pv_audit.proofs.LeastOnes.{lesser-none, lesser-assoc, least-same, lea
 
 -- the least entry with c that one of these directories has of its own
 abbrev pub least_own : Table → List ℕ → Option ℕ
-least_own table ds = least (entries_passing (λ letters. letters.c) table (map (λ d. entry_for table (Directory d)) ds))
+least_own table ds = least (entries_passing (λ permissions. permissions.c) table (map (λ d. entry_for table (Directory d)) ds))
 
 abbrev pub own_with_c : Table → ℕ → Option ℕ
-own_with_c table d = passing (λ letters. letters.c) table (entry_for table (Directory d))
+own_with_c table d = passing (λ permissions. permissions.c) table (entry_for table (Directory d))
 
 module _ (t : Tree) (table : Table) (left d : ℕ) where
   upward : (b : Bool) (p : Option ℕ) (u : ℕ) → cond b None p ≡ Some u → flat_map (ancestors_within t left) (cond b [] (option_to_list p)) ≡ ancestors_within t left u
@@ -35,13 +35,13 @@ module _ (t : Tree) (table : Table) (left d : ℕ) where
   -- one directory more
   pub own-up : (u : ℕ) → up t d ≡ Some u → least_own table (ancestors_within t (suc left) d) ≡ lesser (own_with_c table d) (least_own table (ancestors_within t left u))
   own-up u is =
-      least-cons (λ letters. letters.c) table (entry_for table (Directory d)) (map (λ e. entry_for table (Directory e)) (flat_map (ancestors_within t left) (above_or_none t d)))
+      least-cons (λ permissions. permissions.c) table (entry_for table (Directory d)) (map (λ e. entry_for table (Directory e)) (flat_map (ancestors_within t left) (above_or_none t d)))
       ∙ ap (λ (ds : List ℕ). lesser (own_with_c table d) (least_own table ds)) (upward (d == root) (parent t d) u is)
 
   -- the last one
   pub own-top : up t d ≡ None → least_own table (ancestors_within t (suc left) d) ≡ own_with_c table d
   own-top is =
-      least-cons (λ letters. letters.c) table (entry_for table (Directory d)) (map (λ e. entry_for table (Directory e)) (flat_map (ancestors_within t left) (above_or_none t d)))
+      least-cons (λ permissions. permissions.c) table (entry_for table (Directory d)) (map (λ e. entry_for table (Directory e)) (flat_map (ancestors_within t left) (above_or_none t d)))
       ∙ ap (λ (ds : List ℕ). lesser (own_with_c table d) (least_own table ds)) (topmost (d == root) (parent t d) is) ∙ lesser-none (own_with_c table d)
 
   -- found so far, and what is left
@@ -74,15 +74,15 @@ module _ (t : Tree) (table : Table) where
 
   pub own-governs : (d : ℕ) → IsWellFormed t → least_own table (ancestors t d) ≡ least_above t table d
   own-governs d well =
-      least-same (entries_passing (λ letters. letters.c) table (map mine (ancestors t d))) (entries_passing (λ letters. letters.c) table (map rights (ancestors t d)))
+      least-same (entries_passing (λ permissions. permissions.c) table (map mine (ancestors t d))) (entries_passing (λ permissions. permissions.c) table (map rights (ancestors t d)))
       (λ k within.
-      let found = passing-in ℕ (λ letters. letters.c) table mine (ancestors t d) k within in
-      in-passing ℕ (λ letters. letters.c) table rights (ancestors t d) k found.0 found.1 (directory_rights-Governs t table found.0 k (own found.0 k found.2)) found.3)
+      let found = passing-in ℕ (λ permissions. permissions.c) table mine (ancestors t d) k within in
+      in-passing ℕ (λ permissions. permissions.c) table rights (ancestors t d) k found.0 found.1 (directory_rights-Governs t table found.0 k (own found.0 k found.2)) found.3)
       (λ k within.
-      let found = passing-in ℕ (λ letters. letters.c) table rights (ancestors t d) k within in
+      let found = passing-in ℕ (λ permissions. permissions.c) table rights (ancestors t d) k within in
       let o = owner found.0 k (Governs-directory_rights t table found.0 k found.2) in
       let low = (ancestors-above t well d found.0).0 (in-any found.0 (ancestors t d) found.1) in
-      in-passing ℕ (λ letters. letters.c) table mine (ancestors t d) k o.0 (any-in o.0 (ancestors t d) ((ancestors-above t well d o.0).1 (at_or_above t o.0 found.0 d o.1 low))) o.2 found.3)
+      in-passing ℕ (λ permissions. permissions.c) table mine (ancestors t d) k o.0 (any-in o.0 (ancestors t d) ((ancestors-above t well d o.0).1 (at_or_above t o.0 found.0 d o.1 low))) o.2 found.3)
 
 -- as many steps as there are numbers
 pub ancestors-within : (t : Tree) (count d : ℕ) → length t.nodes ≡ count → ancestors t d ≡ ancestors_within t count d

@@ -9,7 +9,7 @@ use Rattle.pv_model.specs.Calls.Restraints.{entries_of_table}
 use Rattle.pv_model.specs.Closed.{opens_or_moves}
 use Rattle.pv_model.specs.State.{Process, State, process_at}
 use Rattle.pv_model.specs.Tree.{Tree, ancestors}
-use Rattle.pv_model.specs.Unveil.{Table, entry_for, letters_at, directory_rights}
+use Rattle.pv_model.specs.Unveil.{Table, entry_for, permissions_at, directory_rights}
 use Rattle.pv_audit.specs.declared.found.Found.{Found}
 use Rattle.pv_audit.specs.declared.suspects.Suspect.{Suspect}
 
@@ -28,18 +28,18 @@ least (k ∷ ks) = lesser (Some k) (least ks)
 abbrev pub governing : Tree → Table → ℕ × Bytes → Option ℕ
 governing t table name = option_or (entry_for table (Name name.0 name.1)) (directory_rights t table name.0)
 
--- an entry, where its letters pass a test
+-- an entry, where its permissions pass a test
 abbrev pub passing : (Perms → Bool) → Table → Option ℕ → Option ℕ
 passing test table None = None
-passing test table (Some k) = if test (letters_at table k) then Some k else None
+passing test table (Some k) = if test (permissions_at table k) then Some k else None
 
--- the entries, of those that govern, whose letters pass a test
+-- the entries, of those that govern, whose permissions pass a test
 abbrev pub entries_passing : (Perms → Bool) → Table → List (Option ℕ) → List ℕ
-entries_passing test table ks = filter (λ k. test (letters_at table k)) (filter_map (λ k. k) ks)
+entries_passing test table ks = filter (λ k. test (permissions_at table k)) (filter_map (λ k. k) ks)
 
 -- the least entry with c that governs a directory, or one above it
 abbrev pub least_above : Tree → Table → ℕ → Option ℕ
-least_above t table d = least (entries_passing (λ letters. letters.c) table (map (directory_rights t table) (ancestors t d)))
+least_above t table d = least (entries_passing (λ permissions. permissions.c) table (map (directory_rights t table) (ancestors t d)))
 
 -- nothing found yet
 abbrev pub nothing : Found
@@ -50,7 +50,7 @@ abbrev pub noted : Tree → Table → Found → ℕ × Bytes → Found
 noted t table found name = record {
   gives = lesser found.gives (passing opens_or_moves table (governing t table name));
   above = lesser found.above (least_above t table name.0);
-  writes = found.writes || is_some (passing (λ letters. letters.w) table (governing t table name));
+  writes = found.writes || is_some (passing (λ permissions. permissions.w) table (governing t table name));
 }
 
 abbrev pub table_of : Option Process → Table

@@ -5,13 +5,13 @@ use Rattle.pv_model.specs.declared.promise.Promise.TheVariants.{Rpath, Wpath, Cp
 use Rattle.pv_model.specs.declared.verdict.Leak.{Leak}
 use Rattle.pv_model.specs.declared.verdict.Why.{Why}
 use Rattle.pv_model.specs.declared.verdict.Why.TheVariants.{Reads, NoTable, NotLocked, Gives, Above, Exec}
-use Rattle.pv_model.specs.Needs.{letters_of_mode}
+use Rattle.pv_model.specs.Needs.{permissions_of_mode}
 use Rattle.pv_model.specs.Numbered.{Numbered, at_number, numbered}
-use Rattle.pv_model.specs.Perms.{covers, letter_r, letter_w}
+use Rattle.pv_model.specs.Perms.{covers, permission_r, permission_w}
 use Rattle.pv_model.specs.Sealed.{has_none_of}
 use Rattle.pv_model.specs.State.{OpenFile, Descriptor, Process, State, process_at}
 use Rattle.pv_model.specs.Unveil.{Table}
-use Rattle.pv_procs.specs.declared.record.Record.{Record}
+use Rattle.pv_procs.specs.declared.record.ProcessRecord.{ProcessRecord}
 use Rattle.pv_procs.specs.Parts.{record_of}
 use Rattle.pv_promises.specs.Pledge.{Pledged}
 use Rattle.pv_audit.specs.declared.found.Found.{Found}
@@ -23,12 +23,12 @@ abbrev pub first_of : List Why → Option Why
 first_of [] = None
 first_of (why ∷ whys) = Some why
 
--- whether an open file is on a node, with a mode that has these letters
+-- whether an open file is on a node, with a mode that has these permissions
 abbrev pub is_on : ℕ → Perms → Option OpenFile → Bool
 is_on n needed None = false
-is_on n needed (Some file) = (file.node == n) && covers (letters_of_mode file.mode) needed
+is_on n needed (Some file) = (file.node == n) && covers (permissions_of_mode file.mode) needed
 
--- the descriptors on a node, with a mode that has these letters
+-- the descriptors on a node, with a mode that has these permissions
 abbrev pub descriptors_for : Numbered OpenFile → Numbered Descriptor → ℕ → Perms → List ℕ
 descriptors_for files ds n needed = map (λ d. d.0) (filter (λ d. is_on n needed (at_number files d.1.file)) (numbered ds))
 
@@ -46,26 +46,26 @@ unless true why later = later
 unless false why later = Some why
 
 -- why a table leaves the file open
-abbrev pub reason_of_table : Record → Found → Option Table → Option Why
+abbrev pub reason_of_table : ProcessRecord → Found → Option Table → Option Why
 reason_of_table r found None = Some NoTable
 reason_of_table r found (Some table) =
     unless r.unveiled.locked NotLocked
     (by_number Gives found.gives (by_number Above found.above (unless (is_held r.pledge) Exec None)))
 
 -- the first reason why a process is not closed to a file
-abbrev pub reason_of : Numbered OpenFile → Record → ℕ → Found → Option Why
+abbrev pub reason_of : Numbered OpenFile → ProcessRecord → ℕ → Found → Option Why
 reason_of files r f found =
-    by_number Reads (least (descriptors_for files r.descriptors f letter_r))
+    by_number Reads (least (descriptors_for files r.descriptors f permission_r))
     (if has_none_of (Rpath ∷ ExecPromise ∷ Cpath ∷ []) r.pledge.promises then None else reason_of_table r found r.unveiled.table)
 
-abbrev pub is_kept_by : Record → Found → Option Table → Bool
+abbrev pub is_kept_by : ProcessRecord → Found → Option Table → Bool
 is_kept_by r found None = false
 is_kept_by r found (Some table) = r.unveiled.locked && not found.writes && is_held r.pledge
 
 -- whether a process can't write the file
-abbrev pub is_kept : Numbered OpenFile → Record → ℕ → Found → Bool
+abbrev pub is_kept : Numbered OpenFile → ProcessRecord → ℕ → Found → Bool
 is_kept files r f found =
-    is_none (least (descriptors_for files r.descriptors f letter_w))
+    is_none (least (descriptors_for files r.descriptors f permission_w))
     && (has_none_of (Wpath ∷ ExecPromise ∷ []) r.pledge.promises || is_kept_by r found r.unveiled.table)
 
 module _ (s : State) (f : ℕ) where

@@ -1,4 +1,4 @@
-//! The entries of a table with the letter c that govern directories.
+//! The entries of a table with the permission c that govern directories.
 ghost use Rattle.std.specs.Prelude.{◌≡◌, ◌<◌, length, IsTrue, IfSome};
 ghost use Rattle.pv_audit.specs.Findings.{least_above, lesser, passing};
 ghost use Rattle.pv_model.specs.Calls.Restraints.{entries_of_table};
@@ -18,13 +18,13 @@ pub(crate) fn lesser(a: Option<u8>, b: Option<u8>) -> Option<u8>
     }
 }
 
-// An entry, where it has the letter c.
+// An entry, where it has the permission c.
 fn with_c(table: &Table, entry: Option<u8>) -> Option<u8>
     requires { IfSome entry (λ k. k < length (entries_of_table table.now.table)) }
-    ensures { result ≡ passing (λ letters. letters.c) (entries_of_table table.now.table) entry }
+    ensures { result ≡ passing (λ permissions. permissions.c) (entries_of_table table.now.table) entry }
 {
     match entry {
-        Some(k) if table.letters(k).c => Some(k),
+        Some(k) if table.permissions(k).c => Some(k),
         _ => None,
     }
 }

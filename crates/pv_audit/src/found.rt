@@ -38,11 +38,11 @@ impl Found {
         ensures { self.new ≡ noted tree.now.tree (entries_of_table table.now.table) self.old (directory, name.now) }
     {
         if let Some(k) = table.name_entry(tree, directory, name.as_slice()) {
-            let letters = table.letters(k);
-            if letters.r || letters.x || letters.c {
+            let permissions = table.permissions(k);
+            if permissions.r || permissions.x || permissions.c {
                 self.gives = lesser(self.gives, Some(k));
             }
-            self.writes = self.writes || letters.w;
+            self.writes = self.writes || permissions.w;
         }
         self.above = lesser(self.above, least_above(table, tree, directory));
     }

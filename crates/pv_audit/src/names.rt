@@ -13,7 +13,7 @@ pub fn next_name(tree: &Tree, node: u16, last: Option<(u16, &[u8])>) -> Option<(
     ensures value { result ≡ first_after (last_of last.entry) (names_of tree.now.tree node) }
     ensures least { IsNextName tree.now.tree node (last_of last.entry) result }
 {
-    let (first, behind) = match last {
+    let (first, following) = match last {
         Some((directory, name)) => (directory, Some(name)),
         None => (0, None),
     };
@@ -21,7 +21,7 @@ pub fn next_name(tree: &Tree, node: u16, last: Option<(u16, &[u8])>) -> Option<(
         if !tree.is_directory(directory) {
             continue;
         }
-        let from = if directory == first { behind } else { None };
+        let from = if directory == first { following } else { None };
         if let Some(name) = tree.next_name_of(directory, node, from) {
             return Some((directory, name));
         }

@@ -14,8 +14,8 @@ use bitflags::Flags;
 use pv_files::{Descriptors, OpenFiles};
 use pv_model::limits::DESCRIPTORS;
 use pv_model::{Perms, Promise, Promises, Why};
-use pv_parts::Parts;
-use pv_procs::Record;
+use pv_calls_state::Parts;
+use pv_procs::ProcessRecord;
 use pv_promises::Pledge;
 
 // Whether a promise is in a set.
@@ -49,11 +49,11 @@ fn is_held_over_exec(pledge: &Pledge) -> bool
     is_pledged_without(pledge, &[Promise::Exec]) || pledge.execpromises().is_some()
 }
 
-// Whether a number is that of an open file on a node, whose mode has these letters.
+// Whether a number is that of an open file on a node, whose mode has these permissions.
 fn is_open_on(files: &OpenFiles, file: usize, node: u16, needed: Perms) -> bool
     ensures { result ≡ is_open_on node needed (at_number files.now.files file) }
 {
-    files.is_open(file) && files.node(file) == node && files.mode(file).letters().covers(needed)
+    files.is_open(file) && files.node(file) == node && files.mode(file).permissions().covers(needed)
 }
 
 // The number of the open file of a descriptor, where there is one.
@@ -63,7 +63,7 @@ fn file_at(descriptors: &Descriptors, d: u8) -> Option<usize>
     descriptors.at(i32::from(d)).ok()
 }
 
-// The least descriptor on a node, with a mode that has these letters.
+// The least descriptor on a node, with a mode that has these permissions.
 fn least_descriptor(
     files: &OpenFiles,
     descriptors: &Descriptors,
@@ -84,7 +84,7 @@ fn least_descriptor(
 }
 
 // Why the table of a process leaves a file open.
-fn reason_of_table(record: &Record, found: &Found) -> Option<Why>
+fn reason_of_table(record: &ProcessRecord, found: &Found) -> Option<Why>
     ensures { result ≡ table_reason_of record.now found.now record.now.unveiled.table }
 {
     if record.unveiled.is_empty() {
@@ -107,7 +107,7 @@ fn reason_of_table(record: &Record, found: &Found) -> Option<Why>
 }
 
 // The first reason why a process is not closed to a file.
-fn first_reason(record: &Record, files: &OpenFiles, node: u16, found: &Found) -> Option<Why>
+fn first_reason(record: &ProcessRecord, files: &OpenFiles, node: u16, found: &Found) -> Option<Why>
     ensures { result ≡ first_reason_of files.now.files record.now node found.now }
 {
     if let Some(d) = least_descriptor(files, &record.descriptors, node, Perms::R) {
@@ -122,7 +122,7 @@ fn first_reason(record: &Record, files: &OpenFiles, node: u16, found: &Found) ->
 }
 
 // Whether a process can't write a file, beside what keeps it closed.
-fn can_not_write(record: &Record, files: &OpenFiles, node: u16, found: &Found) -> bool
+fn can_not_write(record: &ProcessRecord, files: &OpenFiles, node: u16, found: &Found) -> bool
     ensures { result ≡ is_kept files.now.files record.now node found.now }
 {
     if least_descriptor(files, &record.descriptors, node, Perms::W).is_some() {

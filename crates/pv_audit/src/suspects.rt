@@ -12,7 +12,7 @@ use crate::names::next_name;
 use arrayvec::ArrayVec;
 use pv_model::Name;
 use pv_model::limits::{LAST_PROCESS, PROCESSES};
-use pv_parts::Parts;
+use pv_calls_state::Parts;
 
 /// A live process, with what is found of its table and a file.
 #[derive(Clone, Copy, Debug, PartialEq, Eq, Default)]

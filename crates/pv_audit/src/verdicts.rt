@@ -10,9 +10,9 @@ ghost use Rattle.pv_model.specs.Tree.{node_at};
 use crate::reasons::{is_kept_from, reason_for};
 use crate::suspects::{Suspect, found_suspects};
 use pv_model::limits::ROOT;
-use pv_model::{AuditFault, Errno, Follow, Leak, Place, Sort, Verdict};
+use pv_model::{AuditFault, Errno, Follow, Leak, Place, Kind, Verdict};
 use pv_namei::{PlainLookup, resolve};
-use pv_parts::Parts;
+use pv_calls_state::Parts;
 use pv_tree::{PlaceRef, Tree};
 
 // The first process that is not closed to a file, with its first reason.
@@ -69,7 +69,7 @@ pub fn verdict_of(parts: &Parts, node: u16) -> Option<Verdict>
 fn is_file(tree: &Tree, node: u16) -> bool
     ensures { result ≡ is_file (node_at tree.now.tree node) }
 {
-    tree.is_used(node) && matches!(tree.kind(node), Sort::File | Sort::Executable)
+    tree.is_used(node) && matches!(tree.kind(node), Kind::File | Kind::Executable)
 }
 
 /// What is found of a file by its number: sealed, sealed and frozen, or exposed to the least process that is not closed to

@@ -1,6 +1,6 @@
 -- An inode that is in use stays so.
 use Rattle.std.proofs.Common.{◌≡◌, ℕ, zero, suc, [], ◌∷◌, ◌<◌, length, Option, Some, IsSome, IfSome, Result, Ok, Err, OnOk, OnErr, refl, sym, subst, arith}
-use Rattle.pv_model.specs.declared.sort.Sort.{Sort}
+use Rattle.pv_model.specs.declared.sort.Kind.{Kind}
 use Rattle.pv_model.specs.Numbered.{Numbered, at_number, with_number}
 use Rattle.pv_model.specs.Bytes.{Bytes}
 use Rattle.pv_model.specs.Effect.{overwrite, resize}
@@ -14,7 +14,7 @@ module _ {X : Type 0} where
   used-with_number (x ∷ xs) (suc n) v below = used-with_number xs n v (omega (arith, below))
 
 -- a new one is in use
-used-new : (f : Files) (n : ℕ) (sort : Sort) → n < length f.nodes → IsUsed (with_new f n sort) n
+used-new : (f : Files) (n : ℕ) (sort : Kind) → n < length f.nodes → IsUsed (with_new f n sort) n
 used-new f n sort below = used-with_number f.nodes n (record { sort = sort; bytes = [] }) below
 
 -- where bytes were written over its own
@@ -32,7 +32,7 @@ used-after (Ok _) old new changed n ok err used still = subst (λ (f : Files). I
 used-after (Err _) old new changed n ok err used still = subst (λ (f : Files). IsUsed f n) (sym err) used
 
 -- after a call that gave a new one
-pub used-fresh : (r : Option ℕ) (old new : Files) (n : ℕ) (sort : Sort) → r ≡ Some n → IfSome r (λ m. m < length old.nodes) → IfSome r (λ m. new ≡ with_new old m sort) → IsUsed new n
+pub used-fresh : (r : Option ℕ) (old new : Files) (n : ℕ) (sort : Kind) → r ≡ Some n → IfSome r (λ m. m < length old.nodes) → IfSome r (λ m. new ≡ with_new old m sort) → IsUsed new n
 used-fresh r old new n sort is within after =
     let below : n < length old.nodes = rw is at within in
     let made : new ≡ with_new old n sort = rw is at after in

@@ -3,7 +3,7 @@ use crate::image::{INODES, blocks_of};
 use anyhow::{Context, Result, ensure};
 use pv_dirs::Directories;
 use pv_model::limits::BLOCK;
-use pv_model::{Name, Sort, Version, is_name};
+use pv_model::{Name, Kind, Version, is_name};
 use std::alloc::{AllocError, Global};
 
 /// The greatest number of names.
@@ -47,9 +47,9 @@ impl LongDirectory {
     pub fn new(alloc: Global, version: Version) -> Result<LongDirectory> {
         let mut directories = empty_image(alloc, version)?;
         let number = directories
-            .fresh(Sort::Directory)
+            .fresh(Kind::Directory)
             .context("an inode is free")?;
-        let file = directories.fresh(Sort::File).context("an inode is free")?;
+        let file = directories.fresh(Kind::File).context("an inode is free")?;
         Ok(LongDirectory {
             directories,
             number,
@@ -87,7 +87,7 @@ impl LongDirectory {
             && self.directories.find(self.number, name).is_some()
     }
 
-    /// The next name behind the last one, in byte order.
+    /// The next name after the last one, in byte order.
     pub fn next_after(&self, last: Option<&[u8]>) -> Option<Name> {
         if !self.directories.is_directory(self.number) {
             return None;

@@ -8,7 +8,7 @@ use crate::image::{INODES, blocks_of};
 use anyhow::{Context, Result};
 use pv_inodes::{Inodes, Space};
 use pv_model::limits::BLOCK;
-use pv_model::{Sort, Version};
+use pv_model::{Kind, Version};
 use std::alloc::{AllocError, Global};
 
 // An image with room for one content of the greatest length.
@@ -37,7 +37,7 @@ impl LongFile {
     pub fn new(alloc: Global, version: Version) -> Result<LongFile> {
         let length = version.layout().greatest_length;
         let mut inodes = empty_image(alloc, version)?;
-        let number = inodes.fresh(Sort::File).context("an inode is free")?;
+        let number = inodes.fresh(Kind::File).context("an inode is free")?;
         inodes
             .cut(number, length)
             .ok()

@@ -28,8 +28,8 @@ use std::time::Instant;
 /// The lengths of the reads and writes.
 const SIZES: [usize; 3] = [64, 512, 4_096];
 
-// Writes and then reads pieces of one length, over the whole file.
-fn measure_pieces(
+// Writes and then reads chunks of one length, over the whole file.
+fn measure_chunks(
     rt: &HostRuntime,
     scale: Scale,
     file: &mut LongFile,
@@ -74,7 +74,7 @@ fn measure_file(rt: &HostRuntime, scale: Scale, version: Version) -> Result<()> 
     let mut file = LongFile::new(rt.alloc(), version)?;
     for size in SIZES {
         let mut buffer = vec![in rt.alloc(); 0; size]?;
-        measure_pieces(rt, scale, &mut file, &mut buffer)?;
+        measure_chunks(rt, scale, &mut file, &mut buffer)?;
     }
     let mut whole = vec![in rt.alloc(); 0; file.length() as usize]?;
     let bytes = file.read(0, &mut whole);

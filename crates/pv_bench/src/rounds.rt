@@ -1,4 +1,4 @@
-//! What is done to a file: pieces of one length, from its front to its end, and again from its front.
+//! What is done to a file: chunks of one length, from its front to its end, and again from its front.
 ghost use Rattle.std.specs.Prelude.{◌≡◌, ◌+◌, ◌*◌, ◌/◌, ◌%◌, ◌<◌, ◌≤◌, length};
 
 use crate::long_file::LongFile;
@@ -9,14 +9,14 @@ use pv_inodes::Space;
 pub struct Moved {
     /// How many bytes.
     pub bytes: u64,
-    /// What the first bytes of the pieces sum to.
+    /// What the first bytes of the chunks sum to.
     pub sum: u64,
 }
 
 impl Moved {
     const NOTHING: Moved = Moved { bytes: 0, sum: 0 };
 
-    // With one piece more.
+    // With one chunk more.
     fn with(self, bytes: usize, first: u8) -> Moved {
         Moved {
             bytes: self.bytes.wrapping_add(bytes as u64),
@@ -25,16 +25,16 @@ impl Moved {
     }
 }
 
-/// Where the piece of this number, counted from 0, begins in a file of this length. As many as fit the file
-/// stand in it one behind the other, and the next is at its front again.
+/// Where the chunk of this number, counted from 0, begins in a file of this length. As many as fit the file
+/// stand in it one after the other, and the next is at its front again.
 fn place(number: u32, size: u32, file_length: u32) -> u32
     requires some { 0 < size }
     requires fits { size ≤ file_length }
     ensures place { result ≡ number % (file_length / size) * size }
     ensures within { result + size ≤ file_length }
 {
-    let pieces = file_length / size;
-    number % pieces * size
+    let chunks = file_length / size;
+    number % chunks * size
 }
 
 /// Fills a buffer with numbers that count up, modulo 251.
@@ -46,7 +46,7 @@ pub fn fill(buffer: &mut [u8])
     }
 }
 
-/// Writes the buffer over so many pieces of the file. The first byte of each is the number of the piece,
+/// Writes the buffer over so many chunks of the file. The first byte of each is the number of the chunk,
 /// modulo 256.
 pub fn write_round(file: &mut LongFile, buffer: &mut [u8], count: u32) -> Result<Moved, Space>
     requires some { 0 < length buffer.old }
@@ -66,7 +66,7 @@ pub fn write_round(file: &mut LongFile, buffer: &mut [u8], count: u32) -> Result
     Ok(moved)
 }
 
-/// Reads so many pieces of the file into the buffer.
+/// Reads so many chunks of the file into the buffer.
 pub fn read_round(file: &LongFile, buffer: &mut [u8], count: u32) -> Moved
     requires some { 0 < length buffer.old }
     requires fits { length buffer.old ≤ file.now.length }

@@ -13,18 +13,18 @@ use Rattle.pv_model.specs.RunFault.{of_init}
 use Rattle.pv_model.specs.Start.{and_then, program_in, init_of, booted}
 use Rattle.pv_model.specs.State.{Program, Process, State, first_state, process_at}
 use Rattle.pv_model.specs.Tree.{Tree, Node, directory_node, file_node, link_node}
-use Rattle.pv_parts.specs.Changes.{IsRegistered, MovesInside, PassesInside}
-use Rattle.pv_parts.specs.Counts.{processes_of}
-use Rattle.pv_parts.proofs.Alone.{passes-same, some-at}
+use Rattle.pv_calls_state.specs.Changes.{IsRegistered, MovesInside, PassesInside}
+use Rattle.pv_calls_state.specs.Counts.{processes_of}
+use Rattle.pv_calls_state.proofs.Alone.{passes-same, some-at}
 use Rattle.pv_calls.specs.Kernel.{IsCallable}
-use Rattle.pv_procs.specs.declared.processes.Ahead.{Ahead}
-use Rattle.pv_procs.specs.declared.processes.Ahead.TheVariants.{Gone, Register, Call as AtCall}
+use Rattle.pv_procs.specs.declared.processes.Fetched.{Fetched}
+use Rattle.pv_procs.specs.declared.processes.Fetched.TheVariants.{Gone, Register, Call as AtCall}
 use Rattle.pv_procs.specs.ProcessTable.{ProcessTable, process_in}
-use Rattle.pv_laws.specs.States.{IsFirstTree, IsRunning, IsWhole, is_program, is_call}
-use Rattle.pv_laws.proofs.BySteps.{IsGoodNext, good-next, first-whole}
-use Rattle.pv_laws.proofs.Running.{SameHolds, whole-inside}
+use Rattle.pv_laws_states.specs.States.{IsFirstTree, IsRunning, IsWhole, is_program, is_call}
+use Rattle.pv_laws_states.proofs.BySteps.{IsGoodNext, good-next, first-whole}
+use Rattle.pv_laws_states.proofs.Running.{SameHolds, whole-inside}
 use Rattle.pv_script.specs.Passing.{Passes}
-use Rattle.pv_runs.proofs.Ranges.{program_of-spells}
+use Rattle.pv_laws_runs.proofs.Ranges.{program_of-spells}
 use Rattle.std.specs.Result.{result_ok}
 
 -- a call that comes next in a process of a whole state may be made
@@ -63,17 +63,17 @@ module _ (s t : State) (pid : ℕ) where
   moved-tree by made = ap (λ (x : State). x.tree) made.only
 
   -- what came next in a process and was made
-  pub registered-whole : (ahead : Ahead) → IsWhole s → IsRegistered ahead pid s t → IsWhole t
+  pub registered-whole : (step_or_fetch : Fetched) → IsWhole s → IsRegistered step_or_fetch pid s t → IsWhole t
   registered-whole Gone whole same = subst IsWhole (sym same.1) whole
   registered-whole Register whole made = moved-whole (λ me after. next me ≡ inside after) stays-running whole made
   registered-whole (AtCall call) whole same = subst IsWhole (sym same.1) whole
 
-  pub registered-callable : (ahead : Ahead) → IsWhole s → IsRegistered ahead pid s t → IsCallable ahead
+  pub registered-callable : (step_or_fetch : Fetched) → IsWhole s → IsRegistered step_or_fetch pid s t → IsCallable step_or_fetch
   registered-callable Gone whole same = tt
   registered-callable Register whole made = tt
   registered-callable (AtCall call) whole same = callable s pid same.0.0 (call_of call) whole same.0.1 same.0.2
 
-  pub registered-tree : (ahead : Ahead) → IsRegistered ahead pid s t → t.tree ≡ s.tree
+  pub registered-tree : (step_or_fetch : Fetched) → IsRegistered step_or_fetch pid s t → t.tree ≡ s.tree
   registered-tree Gone same = ap (λ (x : State). x.tree) same.1
   registered-tree Register made = moved-tree (λ me after. next me ≡ inside after) made
   registered-tree (AtCall call) same = ap (λ (x : State). x.tree) same.1

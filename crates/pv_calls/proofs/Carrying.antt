@@ -21,25 +21,25 @@ use Rattle.pv_model.specs.Promises.{Promises, is_lenient, missing_promise}
 use Rattle.pv_model.specs.State.{Process, State, process_at, with_process}
 use Rattle.pv_promises.specs.Decision.{unless_missing, decision}
 use Rattle.pv_promises.specs.declared.pledge.Decision.TheVariants.{Allowed, Kill, Refuse}
-use Rattle.pv_rows.specs.declared.answer.Answer.{Answer}
+use Rattle.pv_calls_plain.specs.declared.answer.Answer.{Answer}
 use Rattle.pv_calls.specs.Calls.{IsCarriedOut, IsBlocked, goes_on}
-use Rattle.pv_rows.specs.declared.answer.Refused.{Refused}
-use Rattle.pv_rows.specs.Rows.{answered, IsAnswered}
-use Rattle.pv_laws.specs.States.{IsWhole}
-use Rattle.pv_laws.proofs.Processes.{process_at-same, update-is, tree-update}
-use Rattle.pv_laws.proofs.Replies.{whole-at_call}
-use Rattle.pv_laws.proofs.Trim.{tree-trim, held_after}
+use Rattle.pv_calls_plain.specs.declared.answer.Refused.{Refused}
+use Rattle.pv_calls_plain.specs.Rows.{answered, IsAnswered}
+use Rattle.pv_laws_states.specs.States.{IsWhole}
+use Rattle.pv_laws_states.proofs.Processes.{process_at-same, update-is, tree-update}
+use Rattle.pv_laws_states.proofs.Replies.{whole-at_call}
+use Rattle.pv_laws_states.proofs.Trim.{tree-trim, held_after}
 use Rattle.pv_model.specs.Bytes.{Bytes}
 use Rattle.pv_model.specs.Errno.{errno_number}
 use Rattle.pv_model.specs.Tree.{find_entry, IsWellFormed}
-use Rattle.pv_procs.specs.declared.record.Record.{Record}
+use Rattle.pv_procs.specs.declared.record.ProcessRecord.{ProcessRecord}
 use Rattle.pv_procs.specs.Parts.{record_of}
 use Rattle.pv_promises.specs.declared.pledge.Decision.{Decision}
-use Rattle.pv_tree_laws.specs.Kept.{wanted}
-use Rattle.pv_tree_laws.proofs.Keeping.{find-only, wanted-covers}
-use Rattle.pv_tree_laws.proofs.Trees.{sound}
-use Rattle.pv_parts.proofs.Alone.{some-at}
-use Rattle.pv_laws.proofs.Ending.{tree-end}
+use Rattle.pv_laws_trees.specs.Kept.{wanted}
+use Rattle.pv_laws_trees.proofs.Keeping.{find-only, wanted-covers}
+use Rattle.pv_laws_trees.proofs.Trees.{sound}
+use Rattle.pv_calls_state.proofs.Alone.{some-at}
+use Rattle.pv_laws_states.proofs.Ending.{tree-end}
 use Rattle.pv_model.specs.declared.kernel_fault.StepFault.{StepFault}
 
 nothing_missing : (lenient : Bool) (missing : Option Promise) → unless_missing lenient missing ≡ Allowed → missing ≡ None
@@ -89,7 +89,7 @@ pub end-next_line : (s : State) (pid : ℕ) (me : Process) (status : ℕ) → en
 unfolding end_process
 end-next_line s pid me status = refl
 
--- ---- behind the next line
+-- ---- after the next line
 
 -- a process that goes on is live, and its state is whole
 pub next-live : (s s1 : State) (pid : ℕ) → s1 ≡ update s pid at_next_line → IsSome (process_at s pid) → IsSome (process_at s1 pid)
@@ -103,11 +103,11 @@ next-whole s s1 pid is live whole =
     let me = some-at (process_at s pid) live in
     subst IsWhole (sym (is ∙ update-is s pid at_next_line me.0 me.1)) (whole-at_call s pid me.0 whole me.1)
 
--- the row of a process that went on is what the call comes to
+-- the system call of a process that went on is what the call comes to
 pub carried-on : (s s1 : State) (pid : ℕ) (call : Call) (new : State) (a : Answer) → s1 ≡ update s pid at_next_line
     → IsAnswered (λ x m. effect program_of x pid m call) s1 pid new a → IsCarriedOut s pid call new a
-carried-on s s1 pid call new a is row = λ me at.
-    subst (λ x. IsAnswered (λ y m. effect program_of y pid m call) x pid new a) (is ∙ update-is s pid at_next_line me at) row s (at_next_line me)
+carried-on s s1 pid call new a is performed = λ me at.
+    subst (λ x. IsAnswered (λ y m. effect program_of y pid m call) x pid new a) (is ∙ update-is s pid at_next_line me at) performed s (at_next_line me)
     (process_at-same s pid (at_next_line me))
 
 pub told-tree : (before s : State) (pid : ℕ) (me : Process) (r : Refused) (new : State) (a : Answer)
@@ -117,14 +117,14 @@ told-tree before s pid me r new a is =
 
 -- ---- what is decided
 
-promises-of : (o : Option Process) (me : Process) (r : Record) → o ≡ Some me → option_map record_of o ≡ Some r → r.pledge.promises ≡ me.promises
+promises-of : (o : Option Process) (me : Process) (r : ProcessRecord) → o ≡ Some me → option_map record_of o ≡ Some r → r.pledge.promises ≡ me.promises
 promises-of o me r is has = let same : Some (record_of me) ≡ Some r = ap (λ x. option_map record_of x) (sym is) ∙ has in ap (λ x. promises_in x) (sym same)
   where
-    promises_in : Option Record → Option Promises
+    promises_in : Option ProcessRecord → Option Promises
     promises_in None = None
     promises_in (Some x) = x.pledge.promises
 
-pub decided : (s : State) (pid : ℕ) (r : Record) (call : Call) (d : Decision) → option_map record_of (process_at s pid) ≡ Some r → d ≡ decision r.pledge.promises (needs call)
+pub decided : (s : State) (pid : ℕ) (r : ProcessRecord) (call : Call) (d : Decision) → option_map record_of (process_at s pid) ≡ Some r → d ≡ decision r.pledge.promises (needs call)
     → (me : Process) → process_at s pid ≡ Some me → decision me.promises (needs call) ≡ d
 decided s pid r call d has is me at = ap (λ h. decision h (needs call)) (sym (promises-of (process_at s pid) me r at has)) ∙ sym is
 
@@ -156,7 +156,7 @@ blocked-carried s pid call sorted blocked = absurd blocked
 -- ---- what carry_out is shown by
 
 -- whose record is told, and that nobody is live where none is
-pub live-of : (s : State) (pid : ℕ) (r : Record) → option_map record_of (process_at s pid) ≡ Some r → (me : Process) × (process_at s pid ≡ Some me)
+pub live-of : (s : State) (pid : ℕ) (r : ProcessRecord) → option_map record_of (process_at s pid) ≡ Some r → (me : Process) × (process_at s pid ≡ Some me)
 live-of s pid r has = by (process_at s pid) refl has
   where
     by : (o : Option Process) → process_at s pid ≡ o → option_map record_of o ≡ Some r → (me : Process) × (process_at s pid ≡ Some me)

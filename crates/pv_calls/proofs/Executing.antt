@@ -11,7 +11,7 @@ use Rattle.pv_model.specs.Grammar.Programs.{program_of}
 use Rattle.pv_model.specs.State.{Program, Process, State, with_process}
 use Rattle.pv_model.specs.Tree.{Tree, node_at}
 use Rattle.pv_model.specs.Walks.{execve_walk}
-use Rattle.pv_laws.proofs.Processes.{with_process-twice}
+use Rattle.pv_laws_states.proofs.Processes.{with_process-twice}
 
 module _ (put other : Program → State) (same : (p : Program) → put p ≡ other p) (t : Tree) where
   by-program : (o : Option Program) → (demand ENOEXEC o >>= (λ p. answers (put p) 0)) ≡ (demand ENOEXEC o >>= (λ p. answers (other p) 0))

@@ -22,14 +22,14 @@ use Rattle.pv_model.specs.Calls.Processes.{execve, executable_bytes, with_progra
 use Rattle.pv_model.specs.Calls.Restraints.{unveil, add_target, refuse_if_locked}
 use Rattle.pv_model.specs.Effect.{Effect, answers, node_of, name_of, start_directory, with_file, with_room}
 use Rattle.pv_model.specs.Grammar.Programs.{program_of}
-use Rattle.pv_model.specs.Perms.{read_letters}
+use Rattle.pv_model.specs.Perms.{read_permissions}
 use Rattle.pv_model.specs.State.{Process, State, process_at, with_process, with_tree}
 use Rattle.pv_model.specs.Numbered.{least_free, with_number}
 use Rattle.pv_model.specs.Tree.{Node, file_node, Tree, new_number, node_at, with_new_node}
 use Rattle.pv_model.specs.Unveil.{target_of}
 use Rattle.pv_model.specs.Walks.{Walk, execve_walk, open_walk, chdir_walk, mkdir_walk, symlink_walk, linked_walk, new_link_walk, unlink_walk, rmdir_walk, rename_walk, unveil_walk}
-use Rattle.pv_laws.proofs.Attempts.{Leads, leads-bind, leads-then, leads-refuse_if, leads-demand, leads-walk, leads-place, leads-room, leads-any}
-use Rattle.pv_laws.proofs.Processes.{process_at-same}
+use Rattle.pv_laws_states.proofs.Attempts.{Leads, leads-bind, leads-then, leads-refuse_if, leads-demand, leads-walk, leads-place, leads-room, leads-any}
+use Rattle.pv_laws_states.proofs.Processes.{process_at-same}
 use Rattle.pv_calls.specs.Calls.{is_execve, is_path_row, is_on_paths}
 
 abbrev Lives : ℕ → Effect → Type 0
@@ -133,13 +133,13 @@ module _ (s : State) (pid : ℕ) (me : Process) (at : process_at s pid ≡ Some 
       leads-bind (Lives pid) (λ (x : State). IsSome (process_at x pid)) (open_node s pid me f (name_of place) (node_of place)) _ (opened f (name_of place) (node_of place)) (λ after lives.
       leads-room (Lives pid) after _ (λ long fit. lives))))))))))))
 
-  lives-unveil : (path letters : Option Bytes) → Leads (Lives pid) (unveil s pid me path letters)
+  lives-unveil : (path permissions : Option Bytes) → Leads (Lives pid) (unveil s pid me path permissions)
   lives-unveil None None = with-it s (record me { locked = true })
   lives-unveil (Some path) (Some text) =
-      leads-demand (Lives pid) EINVAL (read_letters text) _ (λ letters read.
+      leads-demand (Lives pid) EINVAL (read_permissions text) _ (λ permissions read.
       leads-then (Lives pid) (refuse_if_locked me.locked) _ (
-      leads-walk (Lives pid) s me.directory (unveil_walk path letters).follow path _ (λ place found.
-      leads-bind (Lives pid) (λ _. Unit {0}) (add_target s pid me (target_of s.tree place) letters) _ (leads-any (add_target s pid me (target_of s.tree place) letters)) (λ table known.
+      leads-walk (Lives pid) s me.directory (unveil_walk path permissions).follow path _ (λ place found.
+      leads-bind (Lives pid) (λ _. Unit {0}) (add_target s pid me (target_of s.tree place) permissions) _ (leads-any (add_target s pid me (target_of s.tree place) permissions)) (λ table known.
       with-it s (record me { table = Some table })))))
   lives-unveil None (Some text) = tt
   lives-unveil (Some path) None = tt
@@ -154,7 +154,7 @@ module _ (s : State) (pid : ℕ) (me : Process) (at : process_at s pid ≡ Some 
   -- the process of a call on paths lives on
   pub lives-path : (call : Call) → is_path_row call ≡ true → Leads (Lives pid) (effect program_of s pid me call)
   unfolding effect
-  lives-path (Unveil path letters) is = lives-unveil path letters
+  lives-path (Unveil path permissions) is = lives-unveil path permissions
   lives-path (Open path flags) is = lives-open WorkingDirectory path flags
   lives-path (OpenAt start path flags) is = lives-open start path flags
   lives-path (Chdir path) is = lives-chdir path
@@ -166,7 +166,7 @@ module _ (s : State) (pid : ℕ) (me : Process) (at : process_at s pid ≡ Some 
   lives-path (Rename path new) is = lives-rename path new
   lives-path call is = cc is
 
--- a call on paths that tells of no node has a row
+-- a call on paths that tells of no node has a system call
 pub path-rest : (call : CallRef) → is_on_paths (call_of call) ≡ true → ((path : Bor Text) → call ≡ StatRef path → ⊥) → ((path : Bor Text) → call ≡ LstatRef path → ⊥) → ((path : Bor Text) → call ≡ ReadlinkRef path → ⊥)
     → is_path_row (call_of call) ≡ true
 path-rest (StatRef path) is no-stat no-lstat no-readlink = absurd (no-stat path refl)

@@ -1,21 +1,21 @@
--- What rows leave: their process lives on, and names stay where no path is walked.
+-- What system calls leave: their process lives on, and names stay where no path is walked.
 use Rattle.std.proofs.Common.{rules, ◌≤◌, w32, to_z, of_z, ◌≡◌, ◌∙◌, ℕ, zero, suc, ℤ, pos, negsuc, ◌+ℤ◌, true, false, not, ◌||◌, if◌then◌else◌, nat_le, nat_lt, ◌+◌, length, take, drop, List, [], ◌∷◌, Option, None, Some, Result, Ok, Err, refl, ap, sym, subst}
 use Rattle.std.specs.Prelude.{IsSome, OnErr}
 use Rattle.std.proofs.lemmas.Bool.{leb-true}
 use Rattle.std.proofs.lemmas.Int.{to_z-of_z}
-use Rattle.pv_rows.specs.declared.answer.Answer.{Answer}
-use Rattle.pv_rows.specs.declared.answer.Done.{Done}
-use Rattle.pv_rows.specs.declared.answer.Refused.{Refused}
-use Rattle.pv_parts.specs.Attempts.{trimmed}
+use Rattle.pv_calls_plain.specs.declared.answer.Answer.{Answer}
+use Rattle.pv_calls_plain.specs.declared.answer.Done.{Done}
+use Rattle.pv_calls_plain.specs.declared.answer.Refused.{Refused}
+use Rattle.pv_calls_state.specs.Attempts.{trimmed}
 use Rattle.pv_calls.specs.Calls.{is_process_row, is_on_processes, is_descriptor_row, is_on_descriptors}
-use Rattle.pv_rows.specs.Rows.{attempt_of, answered}
+use Rattle.pv_calls_plain.specs.Rows.{attempt_of, answered}
 use Rattle.pv_calls.proofs.Carrying.{find-trim}
-use Rattle.pv_rows.proofs.Telling.{process_at-trim}
-use Rattle.pv_laws.specs.States.{IsWhole, is_word}
-use Rattle.pv_laws.proofs.Attempts.{Leads, leads-bind, leads-then, leads-demand, leads-room, leads-any}
-use Rattle.pv_laws.proofs.Ending.{tree-end}
-use Rattle.pv_laws.proofs.Processes.{process_at-same, tree-update}
-use Rattle.pv_laws.proofs.Whole.{still-live}
+use Rattle.pv_calls_plain.proofs.Telling.{process_at-trim}
+use Rattle.pv_laws_states.specs.States.{IsWhole, is_word}
+use Rattle.pv_laws_states.proofs.Attempts.{Leads, leads-bind, leads-then, leads-demand, leads-room, leads-any}
+use Rattle.pv_laws_states.proofs.Ending.{tree-end}
+use Rattle.pv_laws_states.proofs.Processes.{process_at-same, tree-update}
+use Rattle.pv_laws_states.proofs.Whole.{still-live}
 use Rattle.pv_model.specs.declared.call.Call.{Call}
 use Rattle.pv_model.specs.declared.call.Call.TheVariants.{Exit, GetPid, GetPpid, Fork, Wait, Pledge, Close, Dup, Dup2, Read, Write, Lseek, Fstat, Ftruncate, Getdents, Fchdir}
 use Rattle.pv_model.specs.declared.call.Whence.{Whence}
@@ -39,21 +39,21 @@ use Rattle.pv_model.specs.Numbered.{least_free, with_number}
 use Rattle.pv_model.specs.Promises.{Promises, is_lenient, narrow_promises}
 use Rattle.pv_model.specs.State.{Descriptor, OpenFile, Process, State, process_at, reads, with_process, with_tree, writes}
 use Rattle.pv_model.specs.Tree.{IsWellFormed, entries_at, find_entry, is_directory_at, node_at}
-use Rattle.pv_tree_laws.proofs.Edits.{stays-content}
-use Rattle.pv_tree_laws.proofs.Found.{alike-content}
-use Rattle.pv_tree_laws.specs.Found.{Alike}
+use Rattle.pv_laws_trees.proofs.Edits.{stays-content}
+use Rattle.pv_laws_trees.proofs.Found.{alike-content}
+use Rattle.pv_laws_trees.specs.Found.{Alike}
 
 -- ---- what is told
 
--- a row's process lives on, where the definitions' effect lets it live
-pub row-live : (s new : State) (pid : ℕ) (row : Result Done Refused) (a : Attempt Effect) → trimmed a ≡ attempt_of new row → OnErr row (new ≡ s) → IsSome (process_at s pid)
+-- a system call's process lives on, where the definitions' effect lets it live
+pub performed-live : (s new : State) (pid : ℕ) (performed : Result Done Refused) (a : Attempt Effect) → trimmed a ≡ attempt_of new performed → OnErr performed (new ≡ s) → IsSome (process_at s pid)
     → Leads (λ (e : Effect). IsSome (process_at e.0 pid)) a → IsSome (process_at new pid)
-row-live s new pid (Ok d) (done walks (after, reply)) is same live lives =
+performed-live s new pid (Ok d) (done walks (after, reply)) is same live lives =
     let pair : ◌≡◌ {A = Effect} (trim after, reply) (new, returns d.value) = cc in
     let left : trim after ≡ new = ap (λ (x : Effect). x.0) pair in
     subst (λ x. IsSome (process_at x pid)) left (subst IsSome (sym (process_at-trim after pid)) lives)
-row-live s new pid (Ok d) (refused walks errno cause) is same live lives = cc
-row-live s new pid (Err r) a is same live lives = subst (λ x. IsSome (process_at x pid)) (sym same) live
+performed-live s new pid (Ok d) (refused walks errno cause) is same live lives = cc
+performed-live s new pid (Err r) a is same live lives = subst (λ x. IsSome (process_at x pid)) (sym same) live
 
 -- the end of a process
 pub exited : (s new : State) (pid : ℕ) (code : ℤ) (n : ℕ) → n ≡ exit_status code → ((me : Process) → process_at s pid ≡ Some me → new ≡ trim (end_process s pid me n))
@@ -63,7 +63,7 @@ exited s new pid code n is left before me at =
     ap (λ x. let a : Answered = record { after = trim (end_process s pid me x); outcome = Exited; walks = 0 } in a) (sym is)
     ∙ ap (λ x. let a : Answered = record { after = x; outcome = Exited; walks = 0 } in a) (sym (left me at))
 
--- a call on processes that is neither an end nor a wait has a row
+-- a call on processes that is neither an end nor a wait has a system call
 pub process-rest : (call : CallRef) → is_on_processes (call_of call) ≡ true → ((code : ℤ) → call ≡ ExitRef code → ⊥) → (call ≡ WaitRef → ⊥) → is_process_row (call_of call) ≡ true
 process-rest (ExitRef code) is no_exit no_wait = absurd (no_exit code refl)
 process-rest WaitRef is no_exit no_wait = absurd (no_wait refl)

@@ -11,25 +11,25 @@ use Rattle.pv_model.specs.Attempt.{done, give, refuse_if, ◌>>◌}
 use Rattle.pv_model.specs.Bytes.{is_empty}
 use Rattle.pv_model.specs.Calls.Processes.{parent_of, children, statuses, reap, wait}
 use Rattle.pv_model.specs.Effect.{Effect, waits}
-use Rattle.pv_model.specs.State.{Process, Record, live, ended_record, State, process_at, with_process}
+use Rattle.pv_model.specs.State.{Process, ProcessRecord, live, ended_record, State, process_at, with_process}
 use Rattle.std.proofs.lemmas.Bool.{and_parts}
-use Rattle.pv_laws.proofs.Members.{live-found}
-use Rattle.pv_laws.proofs.Running.{not_before}
+use Rattle.pv_laws_states.proofs.Members.{live-found}
+use Rattle.pv_laws_states.proofs.Running.{not_before}
 
 -- among ended and live processes, those that a test takes: whether there are any, and the statuses of those that ended
-abbrev SameChildren : (ℕ × Record → Bool) → List (ℕ × Record) → List (ℕ × Record) → Type 0
+abbrev SameChildren : (ℕ × ProcessRecord → Bool) → List (ℕ × ProcessRecord) → List (ℕ × ProcessRecord) → Type 0
 SameChildren test xs ys = (is_empty (filter test xs) ≡ is_empty (filter test ys)) × (statuses (filter test xs) ≡ statuses (filter test ys))
 
 module _ (parent : ℕ) where
-  behind : (e : ℕ × Record) (xs ys : List (ℕ × Record)) → SameChildren (λ r. parent_of r.1 == parent) xs ys → SameChildren (λ r. parent_of r.1 == parent) (e ∷ xs) (e ∷ ys)
-  behind (k, live p) xs ys same = by (p.parent == parent) same
+  links : (e : ℕ × ProcessRecord) (xs ys : List (ℕ × ProcessRecord)) → SameChildren (λ r. parent_of r.1 == parent) xs ys → SameChildren (λ r. parent_of r.1 == parent) (e ∷ xs) (e ∷ ys)
+  links (k, live p) xs ys same = by (p.parent == parent) same
     where
       by : (b : Bool) → SameChildren (λ r. parent_of r.1 == parent) xs ys
           → (is_empty (cond b ((k, live p) ∷ filter (λ r. parent_of r.1 == parent) xs) (filter (λ r. parent_of r.1 == parent) xs)) ≡ is_empty (cond b ((k, live p) ∷ filter (λ r. parent_of r.1 == parent) ys) (filter (λ r. parent_of r.1 == parent) ys)))
           × (statuses (cond b ((k, live p) ∷ filter (λ r. parent_of r.1 == parent) xs) (filter (λ r. parent_of r.1 == parent) xs)) ≡ statuses (cond b ((k, live p) ∷ filter (λ r. parent_of r.1 == parent) ys) (filter (λ r. parent_of r.1 == parent) ys)))
       by true s = (refl, s.1)
       by false s = s
-  behind (k, ended_record up status) xs ys same = by (up == parent) same
+  links (k, ended_record up status) xs ys same = by (up == parent) same
     where
       by : (b : Bool) → SameChildren (λ r. parent_of r.1 == parent) xs ys
           → (is_empty (cond b ((k, ended_record up status) ∷ filter (λ r. parent_of r.1 == parent) xs) (filter (λ r. parent_of r.1 == parent) xs)) ≡ is_empty (cond b ((k, ended_record up status) ∷ filter (λ r. parent_of r.1 == parent) ys) (filter (λ r. parent_of r.1 == parent) ys)))
@@ -37,7 +37,7 @@ module _ (parent : ℕ) where
       by true s = (refl, ap (λ ss. (k, status) ∷ ss) s.1)
       by false s = s
 
-  put-children : (rs : List (ℕ × Record)) (pid : ℕ) (p q : Process) → is_sorted nat_cmp rs ≡ true → find nat_cmp pid rs ≡ Some (live p) → q.parent ≡ p.parent
+  put-children : (rs : List (ℕ × ProcessRecord)) (pid : ℕ) (p q : Process) → is_sorted nat_cmp rs ≡ true → find nat_cmp pid rs ≡ Some (live p) → q.parent ≡ p.parent
       → SameChildren (λ r. parent_of r.1 == parent) (put nat_cmp pid (live q) rs) rs
   put-children [] pid p q sorted found same = cc
   put-children (e ∷ rs) pid p q sorted found same = by (nat_cmp pid e.0) refl
@@ -48,7 +48,7 @@ module _ (parent : ℕ) where
       one true = (refl, refl)
       one false = (refl, refl)
 
-      head : (r : Record) → r ≡ live p → SameChildren (λ r. parent_of r.1 == parent) ((e.0, live q) ∷ rs) ((e.0, r) ∷ rs)
+      head : (r : ProcessRecord) → r ≡ live p → SameChildren (λ r. parent_of r.1 == parent) ((e.0, live q) ∷ rs) ((e.0, r) ∷ rs)
       head r is =
           subst (λ x. SameChildren (λ r. parent_of r.1 == parent) ((e.0, live q) ∷ rs) ((e.0, x) ∷ rs)) (sym is)
           (subst (λ n.
@@ -59,7 +59,7 @@ module _ (parent : ℕ) where
           → SameChildren (λ r. parent_of r.1 == parent) (by_order o ((pid, live q) ∷ e ∷ rs) ((e.0, live q) ∷ rs) (e ∷ put nat_cmp pid (live q) rs)) (e ∷ rs)
       by Less is rest = not_before pid (live p) e rs sorted is found
       by Equal is rest = head e.1 (cc (sym (ap (λ o. cond (is_eq o) (Some e.1) (find nat_cmp pid rs)) is) ∙ found))
-      by Greater is rest = behind e (put nat_cmp pid (live q) rs) rs (rest (sym (ap (λ o. cond (is_eq o) (Some e.1) (find nat_cmp pid rs)) is) ∙ found))
+      by Greater is rest = links e (put nat_cmp pid (live q) rs) rs (rest (sym (ap (λ o. cond (is_eq o) (Some e.1) (find nat_cmp pid rs)) is) ∙ found))
 
 value_of : {a b : ℕ} {x y : Effect} → done a x ≡ done b y → x ≡ y
 value_of {a} {b} {x} {y} is = cc is

@@ -1,7 +1,7 @@
 -- What a call of a live process that no promise forbids comes to.
 use Rattle.std.specs.Prelude.{◌≡◌, ◌≢◌, ⊤, ℕ, Bool, true, false, Some}
-use Rattle.pv_rows.specs.declared.answer.Answer.{Answer}
-use Rattle.pv_rows.specs.Rows.{answered}
+use Rattle.pv_calls_plain.specs.declared.answer.Answer.{Answer}
+use Rattle.pv_calls_plain.specs.Rows.{answered}
 use Rattle.pv_model.specs.declared.call.Call.{Call}
 use Rattle.pv_model.specs.declared.call.Call.TheVariants.{Exit, GetPid, GetPpid, Fork, Wait, Pledge, Unveil, Execve, Open, OpenAt, Close, Dup, Dup2, Read, Write, Lseek, Fstat, Ftruncate, Getdents, Fchdir, Chdir, Stat, Lstat, Readlink, Mkdir, Symlink, Link, Unlink, Rmdir, Rename}
 use Rattle.pv_model.specs.Answer.{answer_by_attempt, at_next_line, effect}
@@ -17,7 +17,7 @@ is_execve call = false
 
 -- ---- calls by their subject
 
--- a call on processes or restraints whose row answers a number
+-- a call on processes or restraints whose effect answers a number
 abbrev pub is_process_row : Call → Bool
 is_process_row GetPid = true
 is_process_row GetPpid = true
@@ -30,7 +30,7 @@ is_on_processes (Exit code) = true
 is_on_processes Wait = true
 is_on_processes call = is_process_row call
 
--- a call on descriptors whose row answers a number
+-- a call on descriptors whose effect answers a number
 abbrev pub is_descriptor_row : Call → Bool
 is_descriptor_row (Close d) = true
 is_descriptor_row (Dup d) = true
@@ -47,9 +47,9 @@ is_on_descriptors (Fstat d) = true
 is_on_descriptors (Getdents d) = true
 is_on_descriptors call = is_descriptor_row call
 
--- a call on paths whose row answers a number
+-- a call on paths whose effect answers a number
 abbrev pub is_path_row : Call → Bool
-is_path_row (Unveil path letters) = true
+is_path_row (Unveil path permissions) = true
 is_path_row (Open path flags) = true
 is_path_row (OpenAt start path flags) = true
 is_path_row (Chdir path) = true
@@ -79,7 +79,7 @@ abbrev pub IsBlocked : State → ℕ → Call → Type 0
 IsBlocked s pid Wait = (me : Process) → process_at s pid ≡ Some me → wait s pid me ≡ give (s, waits)
 IsBlocked s pid call = ⊥
 
--- the process goes to its next line, and the call's row then answers so
+-- the process goes to its next line, and the system call then answers so
 abbrev pub IsCarriedOut : State → ℕ → Call → State → Answer → Type 0
 IsCarriedOut s pid call new a =
     (me : Process) → process_at s pid ≡ Some me

@@ -1,10 +1,10 @@
 -- The kernel, as clauses see it.
 use Rattle.std.specs.Prelude.{⊤, ℕ, IsTrue}
-use Rattle.pv_laws.specs.States.{is_call}
+use Rattle.pv_laws_states.specs.States.{is_call}
 use Rattle.pv_model.specs.CallRef.{call_of}
 use Rattle.pv_model.specs.State.{State}
-use Rattle.pv_procs.specs.declared.processes.Ahead.{Ahead}
-use Rattle.pv_procs.specs.declared.processes.Ahead.TheVariants.{Gone, Register, Call}
+use Rattle.pv_procs.specs.declared.processes.Fetched.{Fetched}
+use Rattle.pv_procs.specs.declared.processes.Fetched.TheVariants.{Gone, Register, Call}
 
 -- the state of the machine, and how many walks the last call began
 pub record Running : Type 0 where
@@ -12,7 +12,7 @@ pub record Running : Type 0 where
   pub walks : ℕ
 
 -- a call that comes next may be made
-abbrev pub IsCallable : Ahead → Type 0
+abbrev pub IsCallable : Fetched → Type 0
 IsCallable Gone = ⊤
 IsCallable Register = ⊤
 IsCallable (Call call) = IsTrue (is_call (call_of call))

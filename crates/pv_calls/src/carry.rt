@@ -1,7 +1,7 @@
 //! What a call answers, from its promises on.
 ghost use Rattle.std.specs.Prelude.{◌≡◌, ◌≢◌, ◌≤◌, IfOk, OnErr, IsTrue, IsSome, Some, true, false};
 ghost use Rattle.pv_calls.specs.Calls.{goes_on, is_process_row, is_on_processes, is_descriptor_row, is_on_descriptors, is_path_row, is_on_paths, IsBlocked, is_execve, IsCarriedOut};
-ghost use Rattle.pv_laws.specs.States.{IsWhole, is_call};
+ghost use Rattle.pv_laws_states.specs.States.{IsWhole, is_call};
 ghost use Rattle.pv_model.specs.declared.call.Call.TheVariants.{Execve};
 ghost use Rattle.pv_model.specs.declared.limits.TheConstants.{NUMBER};
 ghost use Rattle.pv_model.specs.Answer.{answer, effect};
@@ -9,34 +9,34 @@ ghost use Rattle.pv_model.specs.CallRef.{call_of};
 ghost use Rattle.pv_model.specs.Grammar.Programs.{program_of};
 ghost use Rattle.pv_model.specs.State.{Process, process_at};
 ghost use Rattle.pv_model.specs.Tree.{find_entry};
-ghost use Rattle.pv_parts.specs.Attempts.{trimmed};
-ghost use Rattle.pv_rows.specs.Rows.{answered, attempt_of, IsAnswered};
+ghost use Rattle.pv_calls_state.specs.Attempts.{trimmed};
+ghost use Rattle.pv_calls_plain.specs.Rows.{answered, attempt_of, IsAnswered};
 
 use pv_model::{CallRef, Cause, Errno, Outcome, Start, StepFault, Text};
 use pv_namei::Lookup;
-use pv_parts::Parts;
-use pv_paths::behind::Behind;
-use pv_paths::execve::{ExecveFault, execve};
-use pv_paths::looking::{lstat, readlink, stat};
-use pv_paths::names::{link, mkdir, rmdir, symlink, unlink};
-use pv_paths::opening::open_at;
-use pv_paths::paths::chdir;
-use pv_paths::rename::rename;
-use pv_paths::unveil::unveil;
+use pv_calls_state::Parts;
+use pv_calls_path::links::LinkRoom;
+use pv_calls_path::execve::{ExecveFault, execve};
+use pv_calls_path::looking::{lstat, readlink, stat};
+use pv_calls_path::names::{link, mkdir, rmdir, symlink, unlink};
+use pv_calls_path::opening::open_at;
+use pv_calls_path::paths::chdir;
+use pv_calls_path::rename::rename;
+use pv_calls_path::unveil::unveil;
 use pv_promises::Decision;
-use pv_rows::answer::{Answer, Done, Refused, tell};
-use pv_rows::descriptors::{close, dup, dup2, fchdir};
-use pv_rows::files::{fstat, ftruncate, getdents, lseek, read, write};
-use pv_rows::processes::{exit_status, fork, getpid, getppid, wait, would_wait};
-use pv_rows::restraints::pledge;
+use pv_calls_plain::answer::{Answer, Done, Refused, tell};
+use pv_calls_plain::descriptors::{close, dup, dup2, fchdir};
+use pv_calls_plain::files::{fstat, ftruncate, getdents, lseek, read, write};
+use pv_calls_plain::processes::{exit_status, fork, getpid, getppid, wait, would_wait};
+use pv_calls_plain::restraints::pledge;
 use std::alloc::Global;
 
-// What a call on processes and restraints comes to, where its row answers a number.
+// What a call on processes and restraints comes to, where its system call answers a number.
 fn process_row(parts: &mut Parts, pid: u32, call: CallRef<'_>) -> Result<Done, Refused>
     requires whole { IsWhole parts.old }
     requires live { IsSome (process_at parts.old pid) }
     requires group { is_process_row (call_of call) ≡ true }
-    ensures row { (me : Process) → process_at parts.old pid ≡ Some me → trimmed (effect program_of parts.old pid me (call_of call.entry)) ≡ attempt_of parts.new result }
+    ensures performed { (me : Process) → process_at parts.old pid ≡ Some me → trimmed (effect program_of parts.old pid me (call_of call.entry)) ≡ attempt_of parts.new result }
     ensures unchanged { OnErr result (parts.new ≡ parts.old) }
     ensures small { IfOk result (λ d. d.value ≤ NUMBER) }
 {
@@ -56,7 +56,7 @@ fn on_processes(parts: &mut Parts, pid: u32, call: CallRef<'_>) -> Answer
     requires call { IsTrue (is_call (call_of call)) }
     requires group { is_on_processes (call_of call) ≡ true }
     requires goes_on { goes_on parts.old pid (call_of call) }
-    ensures row { IsAnswered (λ s me. effect program_of s pid me (call_of call.entry)) parts.old pid parts.new result }
+    ensures performed { IsAnswered (λ s me. effect program_of s pid me (call_of call.entry)) parts.old pid parts.new result }
 {
     match call {
         CallRef::Exit(code) => {
@@ -68,19 +68,19 @@ fn on_processes(parts: &mut Parts, pid: u32, call: CallRef<'_>) -> Answer
         }
         CallRef::Wait => wait(parts, pid),
         _ => {
-            let row = process_row(parts, pid, call);
-            tell(parts, pid, row)
+            let performed = process_row(parts, pid, call);
+            tell(parts, pid, performed)
         }
     }
 }
 
-// What a call on descriptors comes to, where its row answers a number.
+// What a call on descriptors comes to, where its system call answers a number.
 fn descriptor_row(parts: &mut Parts, pid: u32, call: CallRef<'_>) -> Result<Done, Refused>
     requires whole { IsWhole parts.old }
     requires live { IsSome (process_at parts.old pid) }
     requires call { IsTrue (is_call (call_of call)) }
     requires group { is_descriptor_row (call_of call) ≡ true }
-    ensures row { (me : Process) → process_at parts.old pid ≡ Some me → trimmed (effect program_of parts.old pid me (call_of call.entry)) ≡ attempt_of parts.new result }
+    ensures performed { (me : Process) → process_at parts.old pid ≡ Some me → trimmed (effect program_of parts.old pid me (call_of call.entry)) ≡ attempt_of parts.new result }
     ensures unchanged { OnErr result (parts.new ≡ parts.old) }
     ensures small { IfOk result (λ d. d.value ≤ NUMBER) }
 {
@@ -102,24 +102,24 @@ fn on_descriptors(parts: &mut Parts, pid: u32, call: CallRef<'_>) -> Answer
     requires live { IsSome (process_at parts.old pid) }
     requires call { IsTrue (is_call (call_of call)) }
     requires group { is_on_descriptors (call_of call) ≡ true }
-    ensures row { IsAnswered (λ s me. effect program_of s pid me (call_of call.entry)) parts.old pid parts.new result }
+    ensures performed { IsAnswered (λ s me. effect program_of s pid me (call_of call.entry)) parts.old pid parts.new result }
 {
     match call {
         CallRef::Read(d, n) => read(parts, pid, d, n),
         CallRef::Fstat(d) => fstat(parts, pid, d),
         CallRef::Getdents(d) => getdents(parts, pid, d),
         _ => {
-            let row = descriptor_row(parts, pid, call);
-            tell(parts, pid, row)
+            let performed = descriptor_row(parts, pid, call);
+            tell(parts, pid, performed)
         }
     }
 }
 
-// What a call on paths comes to, where its row answers a number.
+// What a call on paths comes to, where its system call answers a number.
 fn path_row<L: Lookup>(
     parts: &mut Parts,
     lookup: &mut L,
-    behind: &mut Behind,
+    links: &mut LinkRoom,
     pid: u32,
     call: CallRef<'_>,
 ) -> Result<Done, Refused>
@@ -128,18 +128,18 @@ fn path_row<L: Lookup>(
     requires call { IsTrue (is_call (call_of call)) }
     requires group { is_path_row (call_of call) ≡ true }
     requires agrees { L.agrees lookup.old (find_entry parts.old.tree) }
-    ensures row { (me : Process) → process_at parts.old pid ≡ Some me → trimmed (effect program_of parts.old pid me (call_of call.entry)) ≡ attempt_of parts.new result }
+    ensures performed { (me : Process) → process_at parts.old pid ≡ Some me → trimmed (effect program_of parts.old pid me (call_of call.entry)) ≡ attempt_of parts.new result }
     ensures unchanged { OnErr result (parts.new ≡ parts.old) }
     ensures small { IfOk result (λ d. d.value ≤ NUMBER) }
     ensures agrees { L.agrees lookup.new (find_entry parts.new.tree) }
 {
     match call {
-        CallRef::Unveil(path, letters) => unveil(parts, lookup, behind, pid, path, letters),
+        CallRef::Unveil(path, permissions) => unveil(parts, lookup, links, pid, path, permissions),
         CallRef::Open(path, flags) => {
             open_at(
                 parts,
                 lookup,
-                behind,
+                links,
                 pid,
                 Start::WorkingDirectory,
                 path.as_slice(),
@@ -147,23 +147,23 @@ fn path_row<L: Lookup>(
             )
         }
         CallRef::OpenAt(start, path, flags) => {
-            open_at(parts, lookup, behind, pid, start, path.as_slice(), flags)
+            open_at(parts, lookup, links, pid, start, path.as_slice(), flags)
         }
-        CallRef::Chdir(path) => chdir(parts, lookup, behind, pid, path.as_slice()),
-        CallRef::Mkdir(path) => mkdir(parts, lookup, behind, pid, path.as_slice()),
+        CallRef::Chdir(path) => chdir(parts, lookup, links, pid, path.as_slice()),
+        CallRef::Mkdir(path) => mkdir(parts, lookup, links, pid, path.as_slice()),
         CallRef::Symlink(text, path) => {
             let (text, path) = (text.as_slice(), path.as_slice());
-            symlink(parts, lookup, behind, pid, text, path)
+            symlink(parts, lookup, links, pid, text, path)
         }
         CallRef::Link(path, new) => {
             let (path, new) = (path.as_slice(), new.as_slice());
-            link(parts, lookup, behind, pid, path, new)
+            link(parts, lookup, links, pid, path, new)
         }
-        CallRef::Unlink(path) => unlink(parts, lookup, behind, pid, path.as_slice()),
-        CallRef::Rmdir(path) => rmdir(parts, lookup, behind, pid, path.as_slice()),
+        CallRef::Unlink(path) => unlink(parts, lookup, links, pid, path.as_slice()),
+        CallRef::Rmdir(path) => rmdir(parts, lookup, links, pid, path.as_slice()),
         CallRef::Rename(path, new) => {
             let (path, new) = (path.as_slice(), new.as_slice());
-            rename(parts, lookup, behind, pid, path, new)
+            rename(parts, lookup, links, pid, path, new)
         }
         _ => unreachable!(),
     }
@@ -173,7 +173,7 @@ fn path_row<L: Lookup>(
 fn on_paths<L: Lookup>(
     parts: &mut Parts,
     lookup: &mut L,
-    behind: &mut Behind,
+    links: &mut LinkRoom,
     pid: u32,
     call: CallRef<'_>,
 ) -> Answer
@@ -182,27 +182,27 @@ fn on_paths<L: Lookup>(
     requires call { IsTrue (is_call (call_of call)) }
     requires group { is_on_paths (call_of call) ≡ true }
     requires agrees { L.agrees lookup.old (find_entry parts.old.tree) }
-    ensures row { IsAnswered (λ s me. effect program_of s pid me (call_of call.entry)) parts.old pid parts.new result }
+    ensures performed { IsAnswered (λ s me. effect program_of s pid me (call_of call.entry)) parts.old pid parts.new result }
     ensures agrees { L.agrees lookup.new (find_entry parts.new.tree) }
 {
     match call {
-        CallRef::Stat(path) => stat(parts, lookup, behind, pid, path.as_slice()),
-        CallRef::Lstat(path) => lstat(parts, lookup, behind, pid, path.as_slice()),
-        CallRef::Readlink(path) => readlink(parts, lookup, behind, pid, path.as_slice()),
+        CallRef::Stat(path) => stat(parts, lookup, links, pid, path.as_slice()),
+        CallRef::Lstat(path) => lstat(parts, lookup, links, pid, path.as_slice()),
+        CallRef::Readlink(path) => readlink(parts, lookup, links, pid, path.as_slice()),
         _ => {
-            let row = path_row(parts, lookup, behind, pid, call);
-            tell(parts, pid, row)
+            let performed = path_row(parts, lookup, links, pid, call);
+            tell(parts, pid, performed)
         }
     }
 }
 
-// What a call that no promise forbids answers, behind its process's line. An execve(2) and a wait(2) that would wait
+// What a call that no promise forbids answers, after its process's line. An execve(2) and a wait(2) that would wait
 // do not come here.
 #[inline(always)]
 fn perform<L: Lookup>(
     parts: &mut Parts,
     lookup: &mut L,
-    behind: &mut Behind,
+    links: &mut LinkRoom,
     pid: u32,
     call: CallRef<'_>,
 ) -> Answer
@@ -212,7 +212,7 @@ fn perform<L: Lookup>(
     requires no_execve { is_execve (call_of call) ≡ false }
     requires goes_on { goes_on parts.old pid (call_of call) }
     requires agrees { L.agrees lookup.old (find_entry parts.old.tree) }
-    ensures row { IsAnswered (λ s me. effect program_of s pid me (call_of call.entry)) parts.old pid parts.new result }
+    ensures performed { IsAnswered (λ s me. effect program_of s pid me (call_of call.entry)) parts.old pid parts.new result }
     ensures agrees { L.agrees lookup.new (find_entry parts.new.tree) }
 {
     match call {
@@ -232,7 +232,7 @@ fn perform<L: Lookup>(
         | CallRef::Ftruncate(..)
         | CallRef::Getdents(_)
         | CallRef::Fchdir(_) => on_descriptors(parts, pid, call),
-        _ => on_paths(parts, lookup, behind, pid, call),
+        _ => on_paths(parts, lookup, links, pid, call),
     }
 }
 
@@ -241,7 +241,7 @@ fn execute<L: Lookup>(
     alloc: Global,
     parts: &mut Parts,
     lookup: &mut L,
-    behind: &mut Behind,
+    links: &mut LinkRoom,
     pid: u32,
     path: &Text,
 ) -> Result<Answer, StepFault>
@@ -253,7 +253,7 @@ fn execute<L: Lookup>(
     ensures agrees { L.agrees lookup.new (find_entry parts.new.tree) }
     ensures unchanged { OnErr result (parts.new ≡ parts.old) }
 {
-    match execve(alloc, parts, lookup, behind, pid, path.as_slice()) {
+    match execve(alloc, parts, lookup, links, pid, path.as_slice()) {
         Ok(told) => Ok(tell(parts, pid, Ok(told))),
         Err(ExecveFault::Refused(why)) => {
             parts.advance(pid);
@@ -281,7 +281,7 @@ fn carry_on<L: Lookup>(
     alloc: Global,
     parts: &mut Parts,
     lookup: &mut L,
-    behind: &mut Behind,
+    links: &mut LinkRoom,
     pid: u32,
     call: CallRef<'_>,
 ) -> Result<Answer, StepFault>
@@ -294,7 +294,7 @@ fn carry_on<L: Lookup>(
     ensures unchanged { OnErr result (parts.new ≡ parts.old) }
 {
     if let CallRef::Execve(path) = call {
-        return execute(alloc, parts, lookup, behind, pid, path);
+        return execute(alloc, parts, lookup, links, pid, path);
     }
     if is_blocked(parts, pid, call) {
         return Ok(Answer {
@@ -303,7 +303,7 @@ fn carry_on<L: Lookup>(
         });
     }
     parts.advance(pid);
-    Ok(perform(parts, lookup, behind, pid, call))
+    Ok(perform(parts, lookup, links, pid, call))
 }
 
 /// What a call of a process answers, by its promises first: pledge(2). A missing promise kills the process, and is
@@ -317,7 +317,7 @@ pub(crate) fn carry_out<L: Lookup>(
     alloc: Global,
     parts: &mut Parts,
     lookup: &mut L,
-    behind: &mut Behind,
+    links: &mut LinkRoom,
     pid: u32,
     call: CallRef<'_>,
 ) -> Result<Answer, StepFault>
@@ -335,7 +335,7 @@ pub(crate) fn carry_out<L: Lookup>(
         });
     };
     match record.pledge.decide(call) {
-        Decision::Allowed => carry_on(alloc, parts, lookup, behind, pid, call),
+        Decision::Allowed => carry_on(alloc, parts, lookup, links, pid, call),
         Decision::Kill(promise) => {
             parts.end(pid, 6);
             Ok(Answer {

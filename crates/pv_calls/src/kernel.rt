@@ -1,6 +1,6 @@
 //! The kernel: the parts of the system, and the calls on them.
 ghost use Rattle.std.specs.Prelude.{◌≡◌, ◌⊎◌, ◌<◌, ◌≤◌, ℕ, IfOk, IfErr, OnErr, IsOk, IsTrue, Ok, Err, Some, length, List, Option};
-ghost use Rattle.pv_laws.specs.States.{IsFirstTree, IsWhole, is_call};
+ghost use Rattle.pv_laws_states.specs.States.{IsFirstTree, IsWhole, is_call};
 ghost use Rattle.pv_model.specs.declared.limits.TheConstants.{BUFFER};
 ghost use Rattle.pv_model.specs.Answer.{answer};
 ghost use Rattle.pv_model.specs.CallRef.{call_of};
@@ -10,40 +10,40 @@ ghost use Rattle.pv_model.specs.State.{Process, process_at};
 ghost use Rattle.pv_model.specs.Trace.{buffer_of};
 ghost use Rattle.pv_model.specs.Tree.{find_entry};
 ghost use Rattle.pv_calls.specs.Kernel.{IsCallable};
-ghost use Rattle.pv_parts.specs.Changes.{IsRegistered, PassesInside};
+ghost use Rattle.pv_calls_state.specs.Changes.{IsRegistered, PassesInside};
 ghost use Rattle.pv_procs.specs.Turns.{AwaitsCall};
 
 use crate::carry::carry_out;
-use pv_cache::CachedLookup;
+use pv_namei::CachedLookup;
 use pv_model::{BootFault, CallRef, Outcome, StepFault};
 use pv_namei::Lookup;
-use pv_parts::Parts;
-use pv_paths::behind::Behind;
-use pv_paths::programs::init;
-use pv_procs::Ahead;
+use pv_calls_state::Parts;
+use pv_calls_path::links::LinkRoom;
+use pv_calls_path::programs::init;
+use pv_procs::Fetched;
 use pv_script::CallTexts;
 use pv_tree::{Store, Tree};
 use std::alloc::Global;
 use std::marker::Model;
 
-/// The kernel: the tree, the open files and the processes, and a lookup of names, with room for the places behind links.
+/// The kernel: the tree, the open files and the processes, and a lookup of names, with room for the places after links.
 ///
 /// Between any two calls the state is one that a run may reach (`IsWhole`), and the lookup agrees with the tree.
 #[derive(Drop)]
 pub struct Kernel<L: Lookup + Drop> {
     parts: Parts,
     lookup: L,
-    behind: Behind,
+    links: LinkRoom,
     walks: u8,
 }
 
 impl<L: Lookup + Drop> Model for Kernel<L> {
-    ghost use Rattle.pv_parts.specs.Changes.{StepsInside};
+    ghost use Rattle.pv_calls_state.specs.Changes.{StepsInside};
     ghost use Rattle.pv_calls.specs.Kernel.{Running};
 
     ghost Value = { Running };
 
-    ghost use Rattle.pv_laws.specs.States.{IsWhole};
+    ghost use Rattle.pv_laws_states.specs.States.{IsWhole};
     ghost use Rattle.pv_model.specs.Tree.{find_entry};
 
     ghost view = { λ k. record { state = k.parts; walks = k.walks } };
@@ -89,19 +89,19 @@ impl<L: Lookup + Drop> Kernel<L> {
         Ok(Kernel {
             parts,
             lookup,
-            behind: Behind::new(),
+            links: LinkRoom::new(),
             walks: 0,
         })
     }
 
     /// What comes next in a process: an instruction on registers or a jump, which is made, or a call, with its texts
     /// kept: past the last line, an exit.
-    pub fn ahead<'a>(&mut self, pid: u32, texts: &'a mut CallTexts) -> Ahead<'a>
+    pub fn step_or_fetch<'a>(&mut self, pid: u32, texts: &'a mut CallTexts) -> Fetched<'a>
         ensures state { IsRegistered result pid self.old.state self.new.state }
         ensures callable { IsCallable result }
         ensures walks { self.new.walks ≡ self.old.walks }
     {
-        self.parts.ahead(pid, texts)
+        self.parts.step_or_fetch(pid, texts)
     }
 
     /// Makes the instructions on registers and the jumps that come next in a process, at most so many, one after
@@ -130,7 +130,7 @@ impl<L: Lookup + Drop> Kernel<L> {
             alloc,
             &mut self.parts,
             &mut self.lookup,
-            &mut self.behind,
+            &mut self.links,
             pid,
             call,
         )?;
@@ -144,7 +144,7 @@ impl<L: Lookup + Drop> Kernel<L> {
         ensures size { length result.now ≤ BUFFER }
     {
         match self.parts.live_record(pid) {
-            Some(record) => record.machine.buffer(),
+            Some(record) => record.context.buffer(),
             None => &[],
         }
     }

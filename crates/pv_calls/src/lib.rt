@@ -1,6 +1,6 @@
 //! The kernel: the calls of the machine, from their promises to their answers.
 //!
-//! `kernel` has `Kernel`; `carry` goes from a call's promise over its row to what its process is told.
+//! `kernel` has `Kernel`; `carry` goes from a call's promise over its system call to what its process is told.
 #![tactic(auto)]
 
 mod carry;

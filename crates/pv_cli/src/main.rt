@@ -1,9 +1,9 @@
-//! `pvsim`: the program of `pv_program` over the files and the streams of its system.
+//! `pvsim`: the program of `pv_cli_line` over the files and the streams of its system.
 #![tactic(auto)]
 
-use pv_commands::System;
-use pv_host::{HostFiles, Input, Output};
-use pv_program::{Fault, LineFault, run, tell};
+use pv_cli_commands::HostSystem;
+use pv_cli_host::{HostFiles, Input, Output};
+use pv_cli_line::{Fault, LineFault, run, tell};
 use pv_trace::Buffered;
 use std::process::ExitCode;
 use std::{env, io};
@@ -24,7 +24,7 @@ fn words_of(rt: &HostRuntime) -> Result<Vec<String>, Fault> {
 }
 
 fn main(rt: HostRuntime) -> ExitCode {
-    let mut system = System {
+    let mut system = HostSystem {
         files: HostFiles::new(&rt),
         input: Input::new(rt.reader()),
         output: Buffered::new(rt.alloc(), Output::new(io::writer(&rt))),

@@ -1,7 +1,7 @@
 -- An entry added to a directory.
 use Rattle.std.proofs.Common.{◌≡◌, ℕ, suc, ◌*◌, ◌+◌, IsTrue, true, [], ◌∷◌, ◌++◌, length, get_or, None, refl, sym, ap, ◌∙◌, arith}
 use Rattle.std.specs.FinMap.Entries.{find, put}
-use Rattle.pv_model.specs.declared.sort.Sort.TheVariants.{Directory}
+use Rattle.pv_model.specs.declared.sort.Kind.TheVariants.{Directory}
 use Rattle.pv_model.specs.declared.version.Version.{Version}
 use Rattle.pv_model.specs.Bytes.{Bytes}
 use Rattle.pv_model.specs.Room.{entry_length}
@@ -20,7 +20,7 @@ pub node_from-directory : (v : Version) (bytes : Bytes) → node_from v Director
 unfolding node_from
 node_from-directory v bytes = refl
 
--- to write a slot behind the last is to append it
+-- to write a slot after the last is to append it
 pub written_end : (f : Files) (d : ℕ) (slot : Bytes) → length slot ≡ entry_length f.version → written f d (length (bytes_at f d)) slot ≡ with_bytes f d (bytes_at f d ++ slot)
 written_end f d slot long = written-some f d (length (bytes_at f d)) slot (omega (arith, slot_some f.version)) ∙ ap (with_bytes f d) (overwrite-end (bytes_at f d) slot)
 

@@ -5,10 +5,10 @@ use Rattle.std.specs.Ordering.{is_lt, ordering_reverse}
 use Rattle.std.specs.declared.cmp.Ordering.TheVariants.{Less, Equal, Greater}
 use Rattle.pv_model.specs.declared.version.Version.{Version}
 use Rattle.pv_model.specs.Bytes.{Bytes}
-use Rattle.pv_model.specs.Calls.Descriptors.{is_behind, next_name}
+use Rattle.pv_model.specs.Calls.Descriptors.{is_past, next_name}
 use Rattle.pv_model.specs.Tree.{Entries}
-use Rattle.pv_dirs.specs.Index.{Ascend, AscendTo, IsSlotBehind}
-use Rattle.pv_dirs.specs.Listing.{IsListed, IsLeastBehind, IsNextName}
+use Rattle.pv_dirs.specs.Index.{Ascend, AscendTo, IsSlotAfter}
+use Rattle.pv_dirs.specs.Listing.{IsListed, IsLeastPast, IsNextName}
 use Rattle.pv_dirs.specs.Slots.{slot_at, slot_count, slot_name, slot_entries, name_at, in_order, IsDistinct}
 use Rattle.std.specs.FinMap.Entries.{find}
 use Rattle.pv_dirs.proofs.Entries.{by_name, total, same_name, find-in_order, absent_from}
@@ -27,7 +27,7 @@ module _ (v : Version) (bytes : Bytes) where
     before = λ k below. absurd (omega arith);
   }
 
-  -- a name behind the last of them
+  -- a name after the last of them
   pub ascend_to : (count : ℕ) (name : Bytes) → 1 ≤ count → Ascend v bytes count → by_name (name_of (count - 1)) name ≡ Less → AscendTo v bytes count name
   ascend_to count name some up last = record {
     ascend = up;
@@ -79,9 +79,9 @@ neither_less a b not_back not_forth = elim (by_name a b) as (λ o. by_name a b �
 -- there is one next name
 next_once : (last : Option Bytes) (es : Entries) (a b : Option Bytes) → IsNextName last es a → IsNextName last es b → a ≡ b
 next_once last es None None is also = refl
-next_once last es None (Some b) is also = absurd (is b also.listed also.behind)
-next_once last es (Some a) None is also = absurd (also a is.listed is.behind)
-next_once last es (Some a) (Some b) is also = ap Some (neither_less a b (is.least b also.listed also.behind) (also.least a is.listed is.behind))
+next_once last es None (Some b) is also = absurd (is b also.listed also.following)
+next_once last es (Some a) None is also = absurd (also a is.listed is.following)
+next_once last es (Some a) (Some b) is also = ap Some (neither_less a b (is.least b also.listed also.following) (also.least a is.listed is.following))
 
 module _ (v : Version) (bytes : Bytes) (up : Ascend v bytes (slot_count v bytes)) where
   -- a name is not less than one in a slot before it
@@ -91,37 +91,37 @@ module _ (v : Version) (bytes : Bytes) (up : Ascend v bytes (slot_count v bytes)
     | inr other ↦ let greater = greater_from (slot_name (slot_at v bytes j)) (slot_name (slot_at v bytes k)) (up j k (omega arith) below) in cc
   ]
 
-  -- the slots from the one behind the last name on have the names behind it
-  behind_from : (last : Option Bytes) (k : ℕ) → IsSlotBehind last v bytes k → (j : ℕ) → k ≤ j → j < slot_count v bytes → is_behind last (slot_name (slot_at v bytes j)) ≡ true
-  behind_from None k is j from below = refl
-  behind_from (Some last) k is j from below =
+  -- the slots from the one after the last name on have the names after it
+  after_from : (last : Option Bytes) (k : ℕ) → IsSlotAfter last v bytes k → (j : ℕ) → k ≤ j → j < slot_count v bytes → is_past last (slot_name (slot_at v bytes j)) ≡ true
+  after_from None k is j from below = refl
+  after_from (Some last) k is j from below =
       let less = up (k - 1) j (let some = is.0 in omega arith) below in
       ap (λ (q : Bytes). is_lt (by_name q (slot_name (slot_at v bytes j)))) (sym is.1) ∙ ap is_lt less
 
-  not_behind : (last : Option Bytes) (k : ℕ) → k ≤ slot_count v bytes → IsSlotBehind last v bytes k → (j : ℕ) → j < k → is_behind last (slot_name (slot_at v bytes j)) ≢ true
-  not_behind None k within is j before behind = omega arith
-  not_behind (Some last) k within is j before behind =
-      not_less j (k - 1) (omega arith) (omega arith) (ap (λ (q : Bytes). by_name q (slot_name (slot_at v bytes j))) is.1 ∙ less_from (by_name last (slot_name (slot_at v bytes j))) behind)
+  not_after : (last : Option Bytes) (k : ℕ) → k ≤ slot_count v bytes → IsSlotAfter last v bytes k → (j : ℕ) → j < k → is_past last (slot_name (slot_at v bytes j)) ≢ true
+  not_after None k within is j before following = omega arith
+  not_after (Some last) k within is j before following =
+      not_less j (k - 1) (omega arith) (omega arith) (ap (λ (q : Bytes). by_name q (slot_name (slot_at v bytes j))) is.1 ∙ less_from (by_name last (slot_name (slot_at v bytes j))) following)
 
-  module _ (last : Option Bytes) (k : ℕ) (d : IsDistinct (slot_entries v bytes)) (within : k ≤ slot_count v bytes) (is : IsSlotBehind last v bytes k) where
-    least_there : k < slot_count v bytes → IsLeastBehind last (in_order (slot_entries v bytes)) (slot_name (slot_at v bytes k))
+  module _ (last : Option Bytes) (k : ℕ) (d : IsDistinct (slot_entries v bytes)) (within : k ≤ slot_count v bytes) (is : IsSlotAfter last v bytes k) where
+    least_there : k < slot_count v bytes → IsLeastPast last (in_order (slot_entries v bytes)) (slot_name (slot_at v bytes k))
     least_there below = record {
       listed = slot_listed v bytes k d below;
-      behind = behind_from last k is k (omega arith) below;
-      least = λ other listed behind less.
+      following = after_from last k is k (omega arith) below;
+      least = λ other listed following less.
           let at = listed_in v bytes other listed in
           elim (cases_lt at.0 k) [
-            | inl before ↦ not_behind last k within is at.0 before (ap (is_behind last) at.2 ∙ behind)
+            | inl before ↦ not_after last k within is at.0 before (ap (is_past last) at.2 ∙ following)
             | inr from ↦ not_less k at.0 (omega arith) at.1 (ap (λ (q : Bytes). by_name q (slot_name (slot_at v bytes k))) at.2 ∙ less)
           ];
     }
 
     none_there : slot_count v bytes ≤ k → IsNextName last (in_order (slot_entries v bytes)) None
-    none_there past = λ other listed behind.
+    none_there past = λ other listed following.
         let at = listed_in v bytes other listed in
-        not_behind last k within is at.0 (omega (arith, at.1)) (ap (is_behind last) at.2 ∙ behind)
+        not_after last k within is at.0 (omega (arith, at.1)) (ap (is_past last) at.2 ∙ following)
 
-    -- the next name stands in the slot behind that of the last one
+    -- the next name stands in the slot after that of the last one
     pub next_name-ascending : name_at v bytes k ≡ next_name last (in_order (slot_entries v bytes))
     next_name-ascending =
         let next = next_name_in_order last (slot_entries v bytes) in
@@ -130,17 +130,17 @@ module _ (v : Version) (bytes : Bytes) (up : Ascend v bytes (slot_count v bytes)
           | inr past ↦ name_past v bytes k (omega arith) ∙ next_once last (in_order (slot_entries v bytes)) None _ (none_there (omega arith)) next
         ]
 
--- ---- a search by halves
+-- ---- a search by binary search
 
 module _ (v : Version) (bytes : Bytes) (up : Ascend v bytes (slot_count v bytes)) (name : Bytes) where
-  -- a name behind that in a slot comes behind those before it
+  -- a name after that in a slot comes after those before it
   pub before_until : (m : ℕ) → m < slot_count v bytes → by_name (slot_name (slot_at v bytes m)) name ≡ Less → (k : ℕ) → k < m + 1 → by_name (slot_name (slot_at v bytes k)) name ≡ Less
   before_until m within less k below = elim (cases_eq k m) [
     | inl same ↦ ap (λ i. by_name (slot_name (slot_at v bytes i)) name) same ∙ less
     | inr other ↦ total.trans (slot_name (slot_at v bytes k)) (slot_name (slot_at v bytes m)) name (up k m (omega arith) within) less
   ]
 
-  -- a name that does not come behind that in a slot does not come behind those from there on
+  -- a name that does not come after that in a slot does not come after those from there on
   pub not_before_from : (m : ℕ) → m < slot_count v bytes → is_lt (by_name (slot_name (slot_at v bytes m)) name) ≡ false → (k : ℕ) → m ≤ k → k < slot_count v bytes → by_name (slot_name (slot_at v bytes k)) name ≢ Less
   not_before_from m within not k from below less =
       let back = before_until k below less m (omega arith) in
@@ -149,7 +149,7 @@ module _ (v : Version) (bytes : Bytes) (up : Ascend v bytes (slot_count v bytes)
   -- a name that is not in the first slot whose name does not come before it is in none
   pub absent_ascending : (k : ℕ) → ((j : ℕ) → j < k → by_name (slot_name (slot_at v bytes j)) name ≡ Less) → ((j : ℕ) → k ≤ j → j < slot_count v bytes → by_name (slot_name (slot_at v bytes j)) name ≢ Less)
       → (k < slot_count v bytes → slot_name (slot_at v bytes k) ≢ name) → find by_name name (slot_entries v bytes) ≡ None
-  absent_ascending k before behind not =
+  absent_ascending k before following not =
       absent_from name (slot_entries v bytes) (λ j e within same.
       let below : j < slot_count v bytes = omega (arith, length-slot_entries v bytes) in
       let named : slot_name (slot_at v bytes j) ≡ name = ap (λ (x : Bytes × ℕ). x.0) (sym (get_or-slot_entries v bytes j e below)) ∙ same in
@@ -158,6 +158,6 @@ module _ (v : Version) (bytes : Bytes) (up : Ascend v bytes (slot_count v bytes)
             let no = sym (before j less) ∙ ap (λ (q : Bytes). by_name q name) named ∙ same_Equal name in cc
         | inr from ↦ elim (cases_eq j k) [
           | inl here ↦ not (omega arith) (ap (λ i. slot_name (slot_at v bytes i)) (sym here) ∙ named)
-          | inr later ↦ behind k (omega arith) (omega arith) (ap (by_name (slot_name (slot_at v bytes k))) (sym named) ∙ up k j (omega arith) below)
+          | inr later ↦ following k (omega arith) (omega arith) (ap (by_name (slot_name (slot_at v bytes k))) (sym named) ∙ up k j (omega arith) below)
         ]
       ])

@@ -6,7 +6,7 @@ use Rattle.std.specs.Ordering.{nat_cmp, ordering_then, ordering_reverse}
 use Rattle.std.specs.declared.cmp.Ordering.TheVariants.{Less, Equal, Greater}
 use Rattle.std.proofs.lemmas.Cmp.{nat_cmp_total}
 use Rattle.pv_model.specs.Bytes.{Bytes}
-use Rattle.pv_model.specs.Calls.Descriptors.{is_behind}
+use Rattle.pv_model.specs.Calls.Descriptors.{is_past}
 use Rattle.pv_dirs.specs.Listing.{is_before, better_of, IsShared}
 use Rattle.pv_dirs.specs.Slots.{slot_name}
 use Rattle.pv_dirs.proofs.Entries.{by_name}
@@ -39,10 +39,10 @@ between (a ∷ l) (y ∷ x) (c ∷ b) p in_l in_b same above below =
         let rest = more q (omega arith) (omega arith) (ap (λ (q : Bytes). drop 1 q) same) in
         (omega (arith, rest.0), rest.1)
 
--- a slot whose bytes behind its head have not what those names share has no name among them
+-- a slot whose bytes after its head have not what those names share has no name among them
 pub unmarked : (last best : Option Bytes) (slot : Bytes) (at byte : ℕ) → IsShared last best at byte → ((at < length (drop 4 slot)) × (get_or (drop 4 slot) at 0 ≡ byte) → ⊥) → best ≡ better_of last (slot_name slot) best
 unfolding slot_name
-unmarked last best slot at byte shared other = go (is_before (slot_name slot) best) (is_behind last (slot_name slot)) refl refl
+unmarked last best slot at byte shared other = go (is_before (slot_name slot) best) (is_past last (slot_name slot)) refl refl
   where
     room : Bytes
     room = drop 4 slot
@@ -50,10 +50,10 @@ unmarked last best slot at byte shared other = go (is_before (slot_name slot) be
     count : ℕ
     count = get_or slot 2 0
 
-    go : (before behind : Bool) → is_before (slot_name slot) best ≡ before → is_behind last (slot_name slot) ≡ behind → best ≡ cond (before && behind) (Some (slot_name slot)) best
-    go false behind is_before is_behind = refl
-    go true false is_before is_behind = refl
-    go true true is_before is_behind =
-        let has = shared (slot_name slot) is_before is_behind in
+    go : (before following : Bool) → is_before (slot_name slot) best ≡ before → is_past last (slot_name slot) ≡ following → best ≡ cond (before && following) (Some (slot_name slot)) best
+    go false following is_before is_past = refl
+    go true false is_before is_past = refl
+    go true true is_before is_past =
+        let has = shared (slot_name slot) is_before is_past in
         let long = length-take count room in
         absurd (other (omega (arith, has.0, long), sym (get_or-take count room at 0 (omega (arith, has.0, long))) ∙ has.1))

@@ -1,8 +1,8 @@
 -- The bytes of files and links in the tree of files.
 use Rattle.std.proofs.Common.{◌≡◌, ◌≢◌, ℕ, ◌<◌, true, false, [], ◌∷◌, length, Option, None, Some, is_some, refl, sym, ap, ◌∙◌, arith}
 use Rattle.std.specs.Prelude.{option_map, IsSome}
-use Rattle.pv_model.specs.declared.sort.Sort.{Sort}
-use Rattle.pv_model.specs.declared.sort.Sort.TheVariants.{Directory, File, Executable, Symlink}
+use Rattle.pv_model.specs.declared.sort.Kind.{Kind}
+use Rattle.pv_model.specs.declared.sort.Kind.TheVariants.{Directory, File, Executable, Symlink}
 use Rattle.pv_model.specs.declared.version.Version.{Version}
 use Rattle.pv_model.specs.declared.version.Version.TheVariants.{V1, V2}
 use Rattle.pv_model.specs.Bytes.{Bytes}
@@ -23,7 +23,7 @@ held_by (Some x) used = (x, refl)
 
 -- ---- sorts and sizes
 
-sort_of-node_from : (v : Version) (sort : Sort) (bytes : Bytes) → sort_of (node_from v sort bytes) ≡ sort
+sort_of-node_from : (v : Version) (sort : Kind) (bytes : Bytes) → sort_of (node_from v sort bytes) ≡ sort
 unfolding node_from
 sort_of-node_from v Directory bytes = refl
 sort_of-node_from v File bytes = refl
@@ -41,16 +41,16 @@ size_of-directory : (v : Version) (bytes : Bytes) → IsSlotted v bytes → size
 unfolding node_from
 size_of-directory v bytes s = length-in_order (slot_entries v bytes) s.distinct ∙ length-slot_entries v bytes
 
-size_of-other : (v : Version) (sort : Sort) (bytes : Bytes) → sort ≢ Directory → size_of (node_from v sort bytes) ≡ length bytes
+size_of-other : (v : Version) (sort : Kind) (bytes : Bytes) → sort ≢ Directory → size_of (node_from v sort bytes) ≡ length bytes
 unfolding node_from
 size_of-other v Directory bytes other = absurd (other refl)
 size_of-other v File bytes other = refl
 size_of-other v Executable bytes other = refl
 size_of-other v Symlink bytes other = refl
 
-size_held : (v : Version) (o : Option Contained) (sort : Sort) → option_map (λ c. c.sort) o ≡ Some sort → (sort ≡ Directory → IsSlotted v (bytes_of o)) → option_map size_of (option_map (node_of v) o) ≡ Some (size_of (node_from v sort (bytes_of o)))
+size_held : (v : Version) (o : Option Contained) (sort : Kind) → option_map (λ c. c.sort) o ≡ Some sort → (sort ≡ Directory → IsSlotted v (bytes_of o)) → option_map size_of (option_map (node_of v) o) ≡ Some (size_of (node_from v sort (bytes_of o)))
 size_held v None sort is slotted = cc
-size_held v (Some c) sort is slotted = let same : c.sort ≡ sort = cc in ap (λ (s : Sort). Some (size_of (node_from v s c.bytes))) same
+size_held v (Some c) sort is slotted = let same : c.sort ≡ sort = cc in ap (λ (s : Kind). Some (size_of (node_from v s c.bytes))) same
 
 slotted_held : (f : Files) (b n : ℕ) → IsHolding f b → (o : Option Contained) → held f n ≡ o → option_map (λ c. c.sort) o ≡ Some Directory → IsSlotted f.version (bytes_of o)
 slotted_held f b n h None there is = cc
@@ -61,19 +61,19 @@ size_directory f b n h is =
     let slotted = slotted_held f b n h (held f n) refl is in
     ap (option_map size_of) (node_at-tree_of f n) ∙ size_held f.version (held f n) Directory is (λ _. slotted) ∙ ap Some (size_of-directory f.version (bytes_at f n) slotted)
 
-pub size_other : (f : Files) (n : ℕ) (sort : Sort) → sort_at f n ≡ Some sort → sort ≢ Directory → option_map size_of (node_at (tree_of f) n) ≡ Some (length (bytes_at f n))
+pub size_other : (f : Files) (n : ℕ) (sort : Kind) → sort_at f n ≡ Some sort → sort ≢ Directory → option_map size_of (node_at (tree_of f) n) ≡ Some (length (bytes_at f n))
 size_other f n sort is other =
     ap (option_map size_of) (node_at-tree_of f n) ∙ size_held f.version (held f n) sort is (λ e. absurd (other e)) ∙ ap Some (size_of-other f.version sort (bytes_at f n) other)
 
-is_directory-sort : (v : Version) (sort : Sort) (o : Option Contained) → option_map (λ c. c.sort) o ≡ Some sort → is_directory (option_map (node_of v) o) ≡ is_directory (Some (node_from v sort (bytes_of o)))
+is_directory-sort : (v : Version) (sort : Kind) (o : Option Contained) → option_map (λ c. c.sort) o ≡ Some sort → is_directory (option_map (node_of v) o) ≡ is_directory (Some (node_from v sort (bytes_of o)))
 is_directory-sort v sort None is = cc
-is_directory-sort v sort (Some c) is = let same : c.sort ≡ sort = cc in ap (λ (s : Sort). is_directory (Some (node_from v s c.bytes))) same
+is_directory-sort v sort (Some c) is = let same : c.sort ≡ sort = cc in ap (λ (s : Kind). is_directory (Some (node_from v s c.bytes))) same
 
 is_directory-directory : (v : Version) (bytes : Bytes) → is_directory (Some (node_from v Directory bytes)) ≡ true
 unfolding node_from
 is_directory-directory v bytes = refl
 
-is_directory-other : (v : Version) (sort : Sort) (bytes : Bytes) → sort ≢ Directory → is_directory (Some (node_from v sort bytes)) ≡ false
+is_directory-other : (v : Version) (sort : Kind) (bytes : Bytes) → sort ≢ Directory → is_directory (Some (node_from v sort bytes)) ≡ false
 unfolding node_from
 is_directory-other v Directory bytes other = absurd (other refl)
 is_directory-other v File bytes other = refl
@@ -83,7 +83,7 @@ is_directory-other v Symlink bytes other = refl
 pub is_directory_by_sort : (f : Files) (n : ℕ) → sort_at f n ≡ Some Directory → is_directory_at (tree_of f) n ≡ true
 is_directory_by_sort f n is = ap is_directory (node_at-tree_of f n) ∙ is_directory-sort f.version Directory (held f n) is ∙ is_directory-directory f.version (bytes_at f n)
 
-pub no_directory_by_sort : (f : Files) (n : ℕ) (sort : Sort) → sort_at f n ≡ Some sort → sort ≢ Directory → is_directory_at (tree_of f) n ≡ false
+pub no_directory_by_sort : (f : Files) (n : ℕ) (sort : Kind) → sort_at f n ≡ Some sort → sort ≢ Directory → is_directory_at (tree_of f) n ≡ false
 no_directory_by_sort f n sort is other = ap is_directory (node_at-tree_of f n) ∙ is_directory-sort f.version sort (held f n) is ∙ is_directory-other f.version sort (bytes_at f n) other
 
 no_directory_none : (v : Version) (o : Option Contained) → (is_some o ≡ true → ⊥) → is_directory (option_map (node_of v) o) ≡ false
@@ -95,17 +95,17 @@ no_directory_unused f n unused = ap is_directory (node_at-tree_of f n) ∙ no_di
 
 -- ---- bytes
 
-sort_other : (v : Version) (sort : Sort) (bytes : Bytes) → is_directory (Some (node_from v sort bytes)) ≡ false → sort ≢ Directory
-sort_other v sort bytes is same = let no = sym is ∙ ap (λ (s : Sort). is_directory (Some (node_from v s bytes))) same ∙ is_directory-directory v bytes in cc
+sort_other : (v : Version) (sort : Kind) (bytes : Bytes) → is_directory (Some (node_from v sort bytes)) ≡ false → sort ≢ Directory
+sort_other v sort bytes is same = let no = sym is ∙ ap (λ (s : Kind). is_directory (Some (node_from v s bytes))) same ∙ is_directory-directory v bytes in cc
 
-bytes_other : (v : Version) (sort : Sort) (bytes : Bytes) → sort ≢ Directory → bytes_of_node (Some (node_from v sort bytes)) ≡ bytes
+bytes_other : (v : Version) (sort : Kind) (bytes : Bytes) → sort ≢ Directory → bytes_of_node (Some (node_from v sort bytes)) ≡ bytes
 unfolding node_from
 bytes_other v Directory bytes other = absurd (other refl)
 bytes_other v File bytes other = refl
 bytes_other v Executable bytes other = refl
 bytes_other v Symlink bytes other = refl
 
-with_bytes_other : (v : Version) (sort : Sort) (xs ys : Bytes) → sort ≢ Directory → node_with_bytes (node_from v sort xs) ys ≡ node_from v sort ys
+with_bytes_other : (v : Version) (sort : Kind) (xs ys : Bytes) → sort ≢ Directory → node_with_bytes (node_from v sort xs) ys ≡ node_from v sort ys
 unfolding node_from
 with_bytes_other v Directory xs ys other = absurd (other refl)
 with_bytes_other v File xs ys other = refl
@@ -161,7 +161,7 @@ module _ (f : Files) (b : ℕ) (h : IsHolding f b) where
 
 -- ---- new nodes
 
-is_new : (v : Version) (sort : Sort) → node_from v sort [] ≡ new_node sort
+is_new : (v : Version) (sort : Kind) → node_from v sort [] ≡ new_node sort
 unfolding node_from slot_entries in_order
 is_new V1 Directory = refl
 is_new V2 Directory = refl
@@ -178,8 +178,8 @@ no_slots v = record {
   distinct = rw (no_entries v) tt;
 }
 
-pub tree_of-with_new : (f : Files) (n : ℕ) (sort : Sort) → n < length f.nodes → tree_of (with_new f n sort) ≡ with_node (tree_of f) n (new_node sort)
+pub tree_of-with_new : (f : Files) (n : ℕ) (sort : Kind) → n < length f.nodes → tree_of (with_new f n sort) ≡ with_node (tree_of f) n (new_node sort)
 tree_of-with_new f n sort within = tree_of-with_number f n (record { sort = sort; bytes = [] }) within ∙ ap (with_node (tree_of f) n) (is_new f.version sort)
 
-pub holding-with_new : (f : Files) (b n : ℕ) (sort : Sort) → n < length f.nodes → IsHolding f b → IsHolding (with_new f n sort) b
+pub holding-with_new : (f : Files) (b n : ℕ) (sort : Kind) → n < length f.nodes → IsHolding f b → IsHolding (with_new f n sort) b
 holding-with_new f b n sort within h = holding-with_number f b n (record { sort = sort; bytes = [] }) within h (λ e. no_slots f.version)

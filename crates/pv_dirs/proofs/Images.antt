@@ -8,7 +8,7 @@ use Rattle.std.proofs.lemmas.Bool.{eq-eqb, ne_eqb, and_parts}
 use Rattle.std.proofs.lemmas.List.{same_lists, get_or_default, get_or-map, length-map}
 use Rattle.std.proofs.lemmas.List.FromFn.{length-map-range_with_len, get_or-map-range_with_len}
 use Rattle.std.proofs.lemmas.List.Sorted.{Contains-permutation}
-use Rattle.pv_model.specs.declared.sort.Sort.TheVariants.{Directory, File, Executable, Symlink}
+use Rattle.pv_model.specs.declared.sort.Kind.TheVariants.{Directory, File, Executable, Symlink}
 use Rattle.pv_model.specs.declared.version.Version.{Version}
 use Rattle.pv_model.specs.declared.version.Version.TheVariants.{V1, V2}
 use Rattle.pv_model.specs.Bytes.{Bytes}
@@ -128,8 +128,8 @@ module _ {X : Type 0} (f g : ℕ → List ℕ) where
   abbrev Agree : ℕ → Numbered X → Type 0
   Agree a xs = (k : ℕ) → k < length xs → ((at_number xs k ≡ None) → g (a + k) ≡ []) × ((x : X) → at_number xs k ≡ Some x → g (a + k) ≡ f (a + k))
 
-  agree_behind : (a : ℕ) (o : Option X) (xs : Numbered X) → Agree a (o ∷ xs) → Agree (suc a) xs
-  agree_behind a o xs agree k within =
+  agree_after : (a : ℕ) (o : Option X) (xs : Numbered X) → Agree a (o ∷ xs) → Agree (suc a) xs
+  agree_after a o xs agree k within =
       let place : suc a + k ≡ a + suc k = omega arith in
       let here = agree (suc k) (omega arith) in
       (λ free. ap g place ∙ here.0 free, λ x there. ap g place ∙ here.1 x there ∙ ap f (sym place))
@@ -139,13 +139,13 @@ module _ {X : Type 0} (f g : ℕ → List ℕ) where
   numbered_flat a (None ∷ xs) agree =
       let next : suc a ≡ a + 1 = omega arith in
       let place : a ≡ a + 0 = omega arith in
-      numbered_flat (suc a) xs (agree_behind a None xs agree)
+      numbered_flat (suc a) xs (agree_after a None xs agree)
       ∙ ap (λ b. flat_map g (range_with_len b (length xs))) next
       ∙ sym (ap (λ (ys : List ℕ). ys ++ flat_map g (range_with_len (a + 1) (length xs))) (ap g place ∙ (agree 0 (omega arith)).0 refl))
   numbered_flat a (Some x ∷ xs) agree =
       let next : suc a ≡ a + 1 = omega arith in
       let place : a ≡ a + 0 = omega arith in
-      ap (λ (ys : List ℕ). f a ++ ys) (numbered_flat (suc a) xs (agree_behind a (Some x) xs agree) ∙ ap (λ b. flat_map g (range_with_len b (length xs))) next)
+      ap (λ (ys : List ℕ). f a ++ ys) (numbered_flat (suc a) xs (agree_after a (Some x) xs agree) ∙ ap (λ b. flat_map g (range_with_len b (length xs))) next)
       ∙ ap (λ (ys : List ℕ). ys ++ flat_map g (range_with_len (a + 1) (length xs))) (sym (ap g place ∙ (agree 0 (omega arith)).1 x refl ∙ ap f (sym place)))
 
 -- ---- the tree

@@ -2,8 +2,8 @@
 use Rattle.std.proofs.Common.{◌≡◌, ◌≢◌, ℕ, suc, ◌*◌, ◌<◌, ◌≤◌, Bool, true, [], ◌∷◌, ◌++◌, length, replicate, None, Some, refl, sym, ap, subst, ◌∙◌, inl, inr, arith}
 use Rattle.std.specs.FinMap.Entries.{find}
 use Rattle.std.proofs.lemmas.Bool.{cases_eq, cases_lt}
-use Rattle.pv_model.specs.declared.sort.Sort.{Sort}
-use Rattle.pv_model.specs.declared.sort.Sort.TheVariants.{Directory}
+use Rattle.pv_model.specs.declared.sort.Kind.{Kind}
+use Rattle.pv_model.specs.declared.sort.Kind.TheVariants.{Directory}
 use Rattle.pv_model.specs.declared.version.Version.{Version}
 use Rattle.pv_model.specs.Bytes.{Bytes}
 use Rattle.pv_model.specs.Effect.{overwrite}
@@ -79,7 +79,7 @@ led-none v d ix = record {
   ordered = λ _ j k less below. absurd (omega (arith, none_counted v));
 }
 
-pub indexed-with_new : (f : Files) (n : ℕ) (sort : Sort) (ix : Index) → n < length f.nodes → IsIndexed f ix → IsIndexed (with_new f n sort) ix
+pub indexed-with_new : (f : Files) (n : ℕ) (sort : Kind) (ix : Index) → n < length f.nodes → IsIndexed f ix → IsIndexed (with_new f n sort) ix
 indexed-with_new f n sort ix within indexed = indexed-with_number f n (record { sort = sort; bytes = [] }) ix ix within indexed (like_itself n ix) (λ e. led-none f.version n ix)
 
 pub indexed-empty : (f : Files) (k : ℕ) (ix : Index) → f.nodes ≡ None ∷ replicate k None → IsIndexed f ix

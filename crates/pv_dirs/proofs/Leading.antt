@@ -4,8 +4,8 @@ use Rattle.std.proofs.lemmas.Bool.{cases_eq}
 use Rattle.std.proofs.lemmas.List.{get_or_default, get_or_past, get_or-replicate, get_or-set_same, get_or-set_other}
 use Rattle.pv_model.specs.Bytes.{Bytes}
 use Rattle.pv_dirs.specs.declared.index.Index.{Index}
-use Rattle.pv_dirs.specs.declared.index.Place.{Place}
-use Rattle.pv_dirs.specs.declared.index.Place.TheVariants.{Empty, Slot}
+use Rattle.pv_dirs.specs.declared.index.Bucket.{Bucket}
+use Rattle.pv_dirs.specs.declared.index.Bucket.TheVariants.{Empty, Slot}
 use Rattle.pv_dirs.specs.Index.{place_of, said, known, Leads}
 
 pub place_of-within : (d : ℕ) (name : Bytes) → place_of d name < 8192
@@ -16,7 +16,7 @@ pub said-is : (ix : Index) (d : ℕ) (name : Bytes) → said ix d name ≡ get_o
 unfolding said
 said-is ix d name = refl
 
-pub said-at : (ix : Index) (d : ℕ) (name : Bytes) (at : ℕ) (p : Place) → place_of d name ≡ at → get_or ix.places at Empty ≡ p → said ix d name ≡ p
+pub said-at : (ix : Index) (d : ℕ) (name : Bytes) (at : ℕ) (p : Bucket) → place_of d name ≡ at → get_or ix.places at Empty ≡ p → said ix d name ≡ p
 said-at ix d name at p here is = said-is ix d name ∙ ap (λ i. get_or ix.places i Empty) here ∙ is
 
 -- where a place says that it is empty, the index leads to no entry that falls on it
@@ -40,7 +40,7 @@ leads-slot ix d name k e j is leads = elim leads [
 -- an index that differs in nothing but what it knows leads to the same entries
 pub leads-same : (old new : Index) (d : ℕ) (name : Bytes) (k : ℕ) → new.places ≡ old.places → Leads old d name k → Leads new d name k
 leads-same old new d name k is leads =
-    let same : said new d name ≡ said old d name = said-is new d name ∙ ap (λ (ps : List Place). get_or ps (place_of d name) Empty) is ∙ sym (said-is old d name) in
+    let same : said new d name ≡ said old d name = said-is new d name ∙ ap (λ (ps : List Bucket). get_or ps (place_of d name) Empty) is ∙ sym (said-is old d name) in
     elim leads [
       | inl slot ↦ inl (same ∙ slot)
       | inr shared ↦ inr (same ∙ shared)
@@ -71,22 +71,22 @@ unfolding known
 known-same old new d is = ap (λ (bs : List Bool). get_or bs d false) is
 
 -- an index of places that all say the same
-pub said-replicate : (ix : Index) (p : Place) (d : ℕ) (name : Bytes) → ix.places ≡ replicate 8192 p → said ix d name ≡ p
-said-replicate ix p d name is = said-is ix d name ∙ ap (λ (ps : List Place). get_or ps (place_of d name) Empty) is ∙ get_or-replicate 8192 (place_of d name) p Empty (place_of-within d name)
+pub said-replicate : (ix : Index) (p : Bucket) (d : ℕ) (name : Bytes) → ix.places ≡ replicate 8192 p → said ix d name ≡ p
+said-replicate ix p d name is = said-is ix d name ∙ ap (λ (ps : List Bucket). get_or ps (place_of d name) Empty) is ∙ get_or-replicate 8192 (place_of d name) p Empty (place_of-within d name)
 
 -- one place says something else
-module _ (old new : Index) (at : ℕ) (p : Place) (within : at < length old.places) (is : new.places ≡ set old.places at p) where
+module _ (old new : Index) (at : ℕ) (p : Bucket) (within : at < length old.places) (is : new.places ≡ set old.places at p) where
   pub said-here : (d : ℕ) (name : Bytes) → place_of d name ≡ at → said new d name ≡ p
   said-here d name here =
       said-is new d name
-      ∙ ap (λ (ps : List Place). get_or ps (place_of d name) Empty) is
+      ∙ ap (λ (ps : List Bucket). get_or ps (place_of d name) Empty) is
       ∙ ap (λ i. get_or (set old.places at p) i Empty) here
       ∙ get_or-set_same old.places at p Empty within
 
   said-there : (d : ℕ) (name : Bytes) → place_of d name ≢ at → said new d name ≡ said old d name
   said-there d name there =
       said-is new d name
-      ∙ ap (λ (ps : List Place). get_or ps (place_of d name) Empty) is
+      ∙ ap (λ (ps : List Bucket). get_or ps (place_of d name) Empty) is
       ∙ get_or-set_other old.places at (place_of d name) p Empty there
       ∙ sym (said-is old d name)
 

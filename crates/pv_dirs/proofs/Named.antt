@@ -4,7 +4,7 @@ use Rattle.std.proofs.lemmas.Bool.{cases_eq}
 use Rattle.std.specs.Ordering.{is_lt}
 use Rattle.pv_model.specs.declared.version.Version.{Version}
 use Rattle.pv_model.specs.Bytes.{Bytes}
-use Rattle.pv_model.specs.Calls.Descriptors.{is_behind}
+use Rattle.pv_model.specs.Calls.Descriptors.{is_past}
 use Rattle.pv_model.specs.Tree.{Tree, is_directory_at, find_entry}
 use Rattle.pv_inodes.specs.Files.{Files, bytes_at}
 use Rattle.pv_dirs.specs.Listing.{better_of, IsNextOf, IsNextNameOf}
@@ -26,31 +26,31 @@ module _ (P Q : Bytes → Type 0) (last : Option Bytes) where
   next-same None forth back none = λ other is. none other (back other is)
   next-same (Some name) forth back next = record {
     named = forth name next.named;
-    behind = next.behind;
+    following = next.following;
     least = λ other is after. next.least other (back other is) after;
   }
 
   -- with one name more
   module _ (name : Bytes) (old : (other : Bytes) → P other → Q other) (new : Q name) (split : (other : Bytes) → Q other → P other ⊎ (other ≡ name)) where
-    itself : (other : Bytes) → other ≡ name → is_behind (Some other) name ≡ false
+    itself : (other : Bytes) → other ≡ name → is_past (Some other) name ≡ false
     itself other same = ap (λ (x : Bytes). is_lt (by_name x name)) same ∙ ap is_lt (same_Equal name)
 
-    next-better : (b : Bool) (best : Option Bytes) → is_behind last name ≡ b → IsNextOf P last best → IsNextOf Q last (better b name best)
+    next-better : (b : Bool) (best : Option Bytes) → is_past last name ≡ b → IsNextOf P last best → IsNextOf Q last (better b name best)
     next-better false None is none = λ other q. elim (split other q) [
       | inl p ↦ none other p
-      | inr same ↦ ap (is_behind last) same ∙ is
+      | inr same ↦ ap (is_past last) same ∙ is
     ]
     next-better false (Some best) is next = record {
       named = old best next.named;
-      behind = next.behind;
+      following = next.following;
       least = λ other q after. elim (split other q) [
         | inl p ↦ next.least other p after
-        | inr same ↦ let no : true ≡ false = sym after ∙ ap (is_behind last) same ∙ is in cc
+        | inr same ↦ let no : true ≡ false = sym after ∙ ap (is_past last) same ∙ is in cc
       ];
     }
     next-better true None is none = record {
       named = new;
-      behind = is;
+      following = is;
       least = λ other q after. elim (split other q) [
         | inl p ↦ let no : true ≡ false = sym after ∙ none other p in cc
         | inr same ↦ itself other same
@@ -59,7 +59,7 @@ module _ (P Q : Bytes → Type 0) (last : Option Bytes) where
     next-better true (Some best) is next = elim (is_lt (by_name name best)) as (λ b. is_lt (by_name name best) ≡ b → IsNextOf Q last (cond b (Some name) (Some best))) [
       | true ↦ λ less. record {
         named = new;
-        behind = is;
+        following = is;
         least = λ other q after. elim (split other q) [
           | inl p ↦ stays other name best less (next.least other p after)
           | inr same ↦ itself other same
@@ -67,7 +67,7 @@ module _ (P Q : Bytes → Type 0) (last : Option Bytes) where
       }
       | false ↦ λ not_less. record {
         named = old best next.named;
-        behind = next.behind;
+        following = next.following;
         least = λ other q after. elim (split other q) [
           | inl p ↦ next.least other p after
           | inr same ↦ ap (λ (x : Bytes). is_lt (by_name x best)) same ∙ not_less
@@ -76,7 +76,7 @@ module _ (P Q : Bytes → Type 0) (last : Option Bytes) where
     ] refl
 
     pub next-more : (best : Option Bytes) → IsNextOf P last best → IsNextOf Q last (better_of last name best)
-    next-more best next = subst (IsNextOf Q last) (better-is (is_behind last name) name best) (next-better (is_behind last name) best refl next)
+    next-more best next = subst (IsNextOf Q last) (better-is (is_past last name) name best) (next-better (is_past last name) best refl next)
 
 -- ---- in slots
 

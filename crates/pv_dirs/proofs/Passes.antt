@@ -5,7 +5,7 @@ use Rattle.std.specs.declared.cmp.Ordering.{Ordering}
 use Rattle.std.specs.declared.cmp.Ordering.TheVariants.{Less, Equal, Greater}
 use Rattle.pv_model.specs.declared.version.Version.{Version}
 use Rattle.pv_model.specs.Bytes.{Bytes}
-use Rattle.pv_model.specs.Calls.Descriptors.{is_behind, next_name}
+use Rattle.pv_model.specs.Calls.Descriptors.{is_past, next_name}
 use Rattle.pv_model.specs.Tree.{Entries}
 use Rattle.pv_dirs.specs.Slots.{slot_at, slot_count, slot_name, slot_entry, slot_entries, in_order, IsDistinct}
 use Rattle.pv_dirs.specs.Listing.{better_of, IsListed, IsNextName}
@@ -68,13 +68,13 @@ module _ (v : Version) (last : Option Bytes) (bytes : Bytes) (k : ℕ) (start be
   next_name-slot =
       let name = slot_name (slot_at v bytes k) in
       let more = next_name-more last (slot_entries v bytes) k (slot_entry v bytes k) d (omega (arith, length-slot_entries v bytes)) (get_or-slot_entries v bytes k (slot_entry v bytes k) within) in
-      sym (better-is (is_behind last name) name best)
-      ∙ ap (better (is_behind last name) name) best_is
-      ∙ sym (lesser-better start (is_behind last name) name (next_name last (in_order (take k (slot_entries v bytes)))))
+      sym (better-is (is_past last name) name best)
+      ∙ ap (better (is_past last name) name) best_is
+      ∙ sym (lesser-better start (is_past last name) name (next_name last (in_order (take k (slot_entries v bytes)))))
       ∙ ap (lesser start) (sym more)
 
 -- a name of the list is no better than the best of all
-no_better : (b : Bool) (last : Option Bytes) (es : Entries) (name : Bytes) (next : Option Bytes) → is_behind last name ≡ b → IsListed es name → IsNextName last es next → lesser (better b name None) next ≡ next
+no_better : (b : Bool) (last : Option Bytes) (es : Entries) (name : Bytes) (next : Option Bytes) → is_past last name ≡ b → IsListed es name → IsNextName last es next → lesser (better b name None) next ≡ next
 no_better false last es name next is listed best = refl
 no_better true last es name None is listed best = absurd (best name listed is)
 no_better true last es name (Some e) is listed best = sym (better_least true name e (not_less (by_name name e) (best.least name listed is)))
@@ -91,5 +91,5 @@ module _ (v : Version) (last : Option Bytes) (bytes : Bytes) (k : ℕ) (start : 
   pub next_name-start : lesser start (next_name last (in_order (slot_entries v bytes))) ≡ next_name last (in_order (slot_entries v bytes))
   next_name-start =
       let name = slot_name (slot_at v bytes k) in
-      ap (λ (s : Option Bytes). lesser s (next_name last (in_order (slot_entries v bytes)))) (start_is ∙ sym (better-is (is_behind last name) name None))
-      ∙ no_better (is_behind last name) last (in_order (slot_entries v bytes)) name (next_name last (in_order (slot_entries v bytes))) refl (slot_listed v bytes k d within) (next_name_in_order last (slot_entries v bytes))
+      ap (λ (s : Option Bytes). lesser s (next_name last (in_order (slot_entries v bytes)))) (start_is ∙ sym (better-is (is_past last name) name None))
+      ∙ no_better (is_past last name) last (in_order (slot_entries v bytes)) name (next_name last (in_order (slot_entries v bytes))) refl (slot_listed v bytes k d within) (next_name_in_order last (slot_entries v bytes))

@@ -22,9 +22,9 @@ pub run_slot : (v : Version) (bytes run : Bytes) (k : ℕ) → IsRun v bytes k r
 unfolding slot_at
 run_slot v bytes run k is whole = ap (take (entry_length v)) is ∙ take-take (entry_length v) (length run) (drop (entry_length v * k) bytes) whole
 
--- what is left behind it begins with the next slot
-pub run_behind : (v : Version) (bytes run : Bytes) (k l : ℕ) → l ≡ entry_length v → IsRun v bytes k run → IsRun v bytes (k + 1) (drop l run)
-run_behind v bytes run k l long is =
+-- what is left after it begins with the next slot
+pub run_after : (v : Version) (bytes run : Bytes) (k l : ℕ) → l ≡ entry_length v → IsRun v bytes k run → IsRun v bytes (k + 1) (drop l run)
+run_after v bytes run k l long is =
     let rest : Bytes = drop (entry_length v * k) bytes in
     let start : entry_length v * k + entry_length v ≡ entry_length v * (k + 1) = omega arith in
     let next : drop (entry_length v) rest ≡ drop (entry_length v * (k + 1)) bytes = drop-drop (entry_length v) (entry_length v * k) bytes ∙ ap (λ n. drop n bytes) start in

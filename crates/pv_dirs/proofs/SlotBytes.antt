@@ -1,4 +1,4 @@
--- The slots of bytes: one added behind them, and a hole closed by the last.
+-- The slots of bytes: one added after them, and a hole closed by the last.
 use Rattle.std.proofs.Common.{min, ◌≡◌, ◌≢◌, ℕ, zero, suc, ◌+◌, ◌-◌, ◌*◌, ◌/◌, ◌%◌, ◌<◌, ◌≤◌, IsTrue, [], ◌∷◌, ◌++◌, length, take, drop, get_or, set, None, Some, not, bytes_eq, refl, ap, ap₂, sym, subst, ◌∙◌, arith, inl, inr, zero-add, mul-le-mul_left}
 use Rattle.std.specs.FinMap.Entries.{find, where_key}
 use Rattle.std.proofs.lemmas.Bool.{cases_lt, cases_eq}
@@ -12,11 +12,11 @@ use Rattle.pv_model.specs.Tree.{Entries, is_name}
 use Rattle.pv_inodes.proofs.Bytes.{same_bytes, overwrite-over, length-resize_shorter, get_or-resize_shorter, length-overwrite}
 use Rattle.pv_inodes.proofs.Splices.{over, get_or-over_below, get_or-over_within, get_or-over_above}
 use Rattle.pv_dirs.specs.Slots.{slot_at, slot_count, slot_number, slot_name, slot_entry, slot_entries, in_order, IsDistinct, IsSlotted}
-use Rattle.pv_dirs.proofs.Strides.{slot_some, piece_before, piece_within, pieces_more, whole_more, whole_is, pieces_of, whole_of}
+use Rattle.pv_dirs.proofs.Strides.{slot_some, component_before, component_within, components_more, whole_more, whole_is, components_of, whole_of}
 use Rattle.pv_dirs.proofs.Entries.{by_name, distinct-append, find_at}
 use Rattle.pv_dirs.proofs.Closing.{closed, distinct-closed, in_order-closed}
 
--- to write behind the end is to append
+-- to write after the end is to append
 pub overwrite-end : (old : Bytes) (new : Bytes) → overwrite old (length old) new ≡ old ++ new
 overwrite-end old new =
     overwrite-over old (length old) new (omega arith)
@@ -64,7 +64,7 @@ module _ (v : Version) where
   pub slot_read : (bytes old : Bytes) (k n : ℕ) → length old ≡ L → k < slot_count v bytes → n ≡ min (length old) (length bytes - L * k) → take n (drop (L * k) bytes) ++ drop n old ≡ slot_at v bytes k
   unfolding slot_at
   slot_read bytes old k n long within count =
-      let fits = piece_within L some k (length bytes) within in
+      let fits = component_within L some k (length bytes) within in
       let all : n ≡ L = omega arith in
       rw all (ap (λ (xs : Bytes). take L (drop (L * k) bytes) ++ xs) (drop_all L old (omega arith)) ∙ append-nil (take L (drop (L * k) bytes)))
 
@@ -106,11 +106,11 @@ module _ (v : Version) where
     length_more = length-append bytes slot ∙ ap (λ n. length bytes + n) long
 
     pub slot_count-append : slot_count v (bytes ++ slot) ≡ slot_count v bytes + 1
-    slot_count-append = ap (λ n. n / L) length_more ∙ pieces_more L some (length bytes)
+    slot_count-append = ap (λ n. n / L) length_more ∙ components_more L some (length bytes)
 
     pub slot_at-append_before : (k : ℕ) → k < slot_count v bytes → slot_at v (bytes ++ slot) k ≡ slot_at v bytes k
     slot_at-append_before k within =
-        let fits = piece_within L some k (length bytes) within in
+        let fits = component_within L some k (length bytes) within in
         slot_at-same (bytes ++ slot) bytes k k (omega (arith, length_more)) fits (λ x below. get_or_append_left bytes slot 0 (L * k + x) (omega arith))
 
     pub slot_at-append_last : (k : ℕ) → k ≡ slot_count v bytes → slot_at v (bytes ++ slot) k ≡ slot
@@ -184,26 +184,26 @@ module _ (v : Version) where
 
     pub slot_at-closed_hole : k < last → slot_at v (closed_bytes bytes k last) k ≡ slot_at v bytes last
     slot_at-closed_hole less =
-        let piece = piece_before L some k last less in
+        let component = component_before L some k last less in
         slot_at-is (closed_bytes bytes k last) k (slot_at v bytes last) (omega (arith, length-closed_bytes)) moved
         (λ x below. get_or-closed (L * k + x) (omega arith) ∙ get_or-over_within bytes (L * k) (slot_at v bytes last) fits x (omega (arith, moved)))
 
     pub slot_at-closed_other : (i : ℕ) → i < last → i ≢ k → slot_at v (closed_bytes bytes k last) i ≡ slot_at v bytes i
     slot_at-closed_other i less other =
-        let piece = piece_before L some i last less in
+        let component = component_before L some i last less in
         slot_at-same (closed_bytes bytes k last) bytes i i (omega (arith, length-closed_bytes)) (omega arith)
         (λ x below.
         get_or-closed (L * i + x) (omega arith)
         ∙ elim (cases_lt i k) [
-          | inl before ↦ get_or-over_below bytes (L * k) (slot_at v bytes last) fits (L * i + x) (omega (arith, piece_before L some i k before))
-          | inr not_before ↦ let behind : k < i = omega arith in get_or-over_above bytes (L * k) (slot_at v bytes last) fits (L * i + x) (omega (arith, moved, piece_before L some k i behind))
+          | inl before ↦ get_or-over_below bytes (L * k) (slot_at v bytes last) fits (L * i + x) (omega (arith, component_before L some i k before))
+          | inr not_before ↦ let following : k < i = omega arith in get_or-over_above bytes (L * k) (slot_at v bytes last) fits (L * i + x) (omega (arith, moved, component_before L some k i following))
         ])
 
     pub slot_count-closed : slot_count v (closed_bytes bytes k last) ≡ last
-    slot_count-closed = ap (λ n. n / L) length-closed_bytes ∙ pieces_of L some last
+    slot_count-closed = ap (λ n. n / L) length-closed_bytes ∙ components_of L some last
 
     pub slot_count-old : slot_count v bytes ≡ suc last
-    slot_count-old = ap (λ n. n / L) long ∙ pieces_of L some (suc last)
+    slot_count-old = ap (λ n. n / L) long ∙ components_of L some (suc last)
 
     slot_entries-closed : slot_entries v (closed_bytes bytes k last) ≡ take last (set (slot_entries v bytes) k (slot_entry v bytes last))
     slot_entries-closed =

@@ -9,7 +9,7 @@ use Rattle.pv_model.specs.Room.{entry_length}
 use Rattle.pv_model.specs.Tree.{Entries}
 use Rattle.pv_dirs.specs.Slots.{slot_at, slot_count, slot_name, slot_number, slot_entries, IsSlotted}
 use Rattle.pv_dirs.proofs.SlotBytes.{length-slot_entries, get_or-slot_entries, slot_at-is, slot_at-same}
-use Rattle.pv_dirs.proofs.Strides.{slot_some, slot_least, no_entries, none_counted, none_left, piece_within, pieces_of, pieces_more, whole_more, whole_is}
+use Rattle.pv_dirs.proofs.Strides.{slot_some, slot_least, no_entries, none_counted, none_left, component_within, components_of, components_more, whole_more, whole_is}
 
 -- ---- one slot in front
 
@@ -21,21 +21,21 @@ module _ (v : Version) (slot rest : Bytes) (long : length slot ≡ entry_length 
   length_front = omega (arith, length-append slot rest)
 
   count_front : slot_count v (slot ++ rest) ≡ slot_count v rest + 1
-  count_front = ap (λ n. n / L) length_front ∙ pieces_more L (slot_some v) (length rest)
+  count_front = ap (λ n. n / L) length_front ∙ components_more L (slot_some v) (length rest)
 
   first : slot_at v (slot ++ rest) 0 ≡ slot
   first = slot_at-is v (slot ++ rest) 0 slot (omega (arith, length_front)) long (λ x below. let here : L * 0 + x ≡ x = omega arith in ap (λ k. get_or (slot ++ rest) k 0) here ∙ get_or_append_left slot rest 0 x (omega arith))
 
   pub later : (k : ℕ) → k < slot_count v rest → slot_at v (slot ++ rest) (suc k) ≡ slot_at v rest k
   later k within =
-      let fits = piece_within L (slot_some v) k (length rest) within in
+      let fits = component_within L (slot_some v) k (length rest) within in
       slot_at-same v (slot ++ rest) rest (suc k) k (omega (arith, length_front)) fits
       (λ x below. get_or-append_right slot rest (length slot) (L * suc k + x) 0 refl (omega arith) ∙ ap (λ p. get_or rest p 0) (omega arith))
 
   pub entries_front : slot_entries v (slot ++ rest) ≡ (slot_name slot, slot_number slot) ∷ slot_entries v rest
   entries_front =
       let all = length-slot_entries v (slot ++ rest) in
-      let behind = length-slot_entries v rest in
+      let following = length-slot_entries v rest in
       same_lists (slot_entries v (slot ++ rest)) ((slot_name slot, slot_number slot) ∷ slot_entries v rest)
       (omega (arith, count_front)) each
     where
@@ -64,9 +64,9 @@ slot_spelled v slot name n s =
 
 pub spelled_are : (v : Version) (bytes : Bytes) (es : Entries) → AreSlots v bytes es → (slot_entries v bytes ≡ es) × (length bytes % entry_length v ≡ 0)
 spelled_are v _ _ no_slot = (no_entries v, none_left v)
-spelled_are v _ _ (one_more slot rest name n others is behind) =
+spelled_are v _ _ (one_more slot rest name n others is following) =
     let both = slot_spelled v slot name n is in
-    let before = spelled_are v rest others behind in (
+    let before = spelled_are v rest others following in (
       entries_front v slot rest is.is_whole ∙ (λ i. (both.0 i, both.1 i) ∷ before.0 i),
       ap (λ k. k % entry_length v) (length_front v slot rest is.is_whole) ∙ whole_more (entry_length v) (slot_some v) (length rest) before.1,
     )
@@ -98,12 +98,12 @@ slots_spell v (suc m) bytes long measured =
     let rest = drop l bytes in
     let split : slot ++ rest ≡ bytes = take-append-drop l bytes in
     let whole : length slot ≡ l = length-take-le l bytes (omega arith) in
-    let behind : length rest ≡ l * m = omega (arith, length-drop l bytes) in
-    let counted : slot_count v rest ≡ m = ap (λ n. n / l) behind ∙ pieces_of l (slot_some v) m in
+    let following : length rest ≡ l * m = omega (arith, length-drop l bytes) in
+    let counted : slot_count v rest ≡ m = ap (λ n. n / l) following ∙ components_of l (slot_some v) m in
     let here : slice_index slot 2 ≡ length (slot_name slot) =
     ap (λ (s : Bytes). slice_index s 2) (sym (first v slot rest whole) ∙ ap (λ (xs : Bytes). slot_at v xs 0) split) ∙ measured 0 (omega arith)
     ∙ ap (λ (s : Bytes). length (slot_name s)) (sym (ap (λ (xs : Bytes). slot_at v xs 0) split) ∙ first v slot rest whole) in
-    let others = slots_spell v m rest behind (λ k less.
+    let others = slots_spell v m rest following (λ k less.
     let same : slot_at v bytes (suc k) ≡ slot_at v rest k = sym (ap (λ (xs : Bytes). slot_at v xs (suc k)) split) ∙ later v slot rest whole k (omega arith) in
     ap (λ (s : Bytes). slice_index s 2) (sym same) ∙ measured (suc k) (omega arith) ∙ ap (λ (s : Bytes). length (slot_name s)) same) in
     subst (λ (xs : Bytes). AreSlots v xs (slot_entries v xs)) split
@@ -124,8 +124,8 @@ measured_slot v slot name n s = told s.number s.two_bytes s.is_spelled ∙ ap le
 
 pub measured_are : (v : Version) (bytes : Bytes) (es : Entries) → AreSlots v bytes es → (k : ℕ) → k < slot_count v bytes → slice_index (slot_at v bytes k) 2 ≡ length (slot_name (slot_at v bytes k))
 measured_are v _ _ no_slot k within = absurd (omega (arith, none_counted v))
-measured_are v _ _ (one_more slot rest name n others is behind) zero within =
+measured_are v _ _ (one_more slot rest name n others is following) zero within =
     ap (λ (s : Bytes). slice_index s 2) (first v slot rest is.is_whole) ∙ measured_slot v slot name n is ∙ ap (λ (s : Bytes). length (slot_name s)) (sym (first v slot rest is.is_whole))
-measured_are v _ _ (one_more slot rest name n others is behind) (suc k) within =
+measured_are v _ _ (one_more slot rest name n others is following) (suc k) within =
     let less : k < slot_count v rest = omega (arith, count_front v slot rest is.is_whole) in
-    ap (λ (s : Bytes). slice_index s 2) (later v slot rest is.is_whole k less) ∙ measured_are v rest others behind k less ∙ ap (λ (s : Bytes). length (slot_name s)) (sym (later v slot rest is.is_whole k less))
+    ap (λ (s : Bytes). slice_index s 2) (later v slot rest is.is_whole k less) ∙ measured_are v rest others following k less ∙ ap (λ (s : Bytes). length (slot_name s)) (sym (later v slot rest is.is_whole k less))

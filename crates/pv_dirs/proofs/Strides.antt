@@ -1,4 +1,4 @@
--- Where pieces of one length begin and end.
+-- Where components of one length begin and end.
 use Rattle.std.proofs.Common.{◌≡◌, ℕ, suc, ◌+◌, ◌*◌, ◌/◌, ◌%◌, ◌<◌, ◌≤◌, true, not, ◌&&◌, [], nat_le, length, bytes_eq, mul-le-mul_left, refl, ◌∙◌, arith}
 use Rattle.std.specs.List.{list_all}
 use Rattle.std.specs.Prelude.{codes}
@@ -81,18 +81,18 @@ pub none_left : (v : Version) → 0 % entry_length v ≡ 0
 none_left V1 = refl
 none_left V2 = refl
 
--- ---- pieces
+-- ---- components
 
 module _ (l : ℕ) (some : 0 < l) where
-  -- piece k ends where the next begins, and no piece before n pieces ends behind them
-  pub piece_before : (k n : ℕ) → k < n → l * k + l ≤ l * n
-  piece_before k n less = let whole : l * suc k ≤ l * n = mul-le-mul_left l less in omega arith
+  -- component k ends where the next begins, and no component before n components ends after them
+  pub component_before : (k n : ℕ) → k < n → l * k + l ≤ l * n
+  component_before k n less = let whole : l * suc k ≤ l * n = mul-le-mul_left l less in omega arith
 
-  pub piece_within : (k n : ℕ) → k < n / l → l * k + l ≤ n
-  piece_within k n less = omega (arith, piece_before k (n / l) less, mul-div-le n l)
+  pub component_within : (k n : ℕ) → k < n / l → l * k + l ≤ n
+  component_within k n less = omega (arith, component_before k (n / l) less, mul-div-le n l)
 
-  pub pieces_more : (n : ℕ) → (n + l) / l ≡ n / l + 1
-  pieces_more n = add-div_right n some
+  pub components_more : (n : ℕ) → (n + l) / l ≡ n / l + 1
+  components_more n = add-div_right n some
 
   pub whole_more : (n : ℕ) → n % l ≡ 0 → (n + l) % l ≡ 0
   whole_more n whole = add-mod_right n l ∙ whole
@@ -100,8 +100,8 @@ module _ (l : ℕ) (some : 0 < l) where
   pub whole_is : (n : ℕ) → n % l ≡ 0 → n ≡ l * (n / l)
   whole_is n whole = omega (arith, div-add-mod n l)
 
-  pub pieces_of : (k : ℕ) → (l * k) / l ≡ k
-  pieces_of k = mul-div_cancel_left k some
+  pub components_of : (k : ℕ) → (l * k) / l ≡ k
+  components_of k = mul-div_cancel_left k some
 
   pub whole_of : (k : ℕ) → (l * k) % l ≡ 0
   whole_of k = mul-mod_right l k

@@ -3,8 +3,8 @@ use Rattle.std.proofs.Common.{◌≡◌, ℕ, suc, ◌+◌, ◌-◌, ◌*◌, �
 use Rattle.std.specs.Prelude.{option_map, IsSome}
 use Rattle.std.specs.FinMap.Entries.{find}
 use Rattle.std.proofs.lemmas.List.{length-map, drop-map}
-use Rattle.pv_model.specs.declared.sort.Sort.{Sort}
-use Rattle.pv_model.specs.declared.sort.Sort.TheVariants.{Directory, File, Executable, Symlink}
+use Rattle.pv_model.specs.declared.sort.Kind.{Kind}
+use Rattle.pv_model.specs.declared.sort.Kind.TheVariants.{Directory, File, Executable, Symlink}
 use Rattle.pv_model.specs.declared.version.Version.{Version}
 use Rattle.pv_model.specs.Bytes.{Bytes}
 use Rattle.pv_model.specs.Image.{inode_blocks, greatest_blocks}
@@ -110,7 +110,7 @@ holding-with_bytes f b n c xs h there new = rw (with_bytes-is f n c xs there) (h
 
 -- ---- room
 
-pub node_length-node_from : (v : Version) (sort : Sort) (bytes : Bytes) → (sort ≡ Directory → IsSlotted v bytes) → node_length v (node_from v sort bytes) ≡ length bytes
+pub node_length-node_from : (v : Version) (sort : Kind) (bytes : Bytes) → (sort ≡ Directory → IsSlotted v bytes) → node_length v (node_from v sort bytes) ≡ length bytes
 unfolding node_from
 node_length-node_from v Directory bytes slotted =
     let s : IsSlotted v bytes = slotted refl in
@@ -125,7 +125,7 @@ total_need-tree_of f b h = sum_by-present-map (node_of f.version) (λ node. need
 
 -- ---- directories
 
-is_directory-node_from : (v : Version) (sort : Sort) (bytes : Bytes) → is_directory (Some (node_from v sort bytes)) ≡ true → sort ≡ Directory
+is_directory-node_from : (v : Version) (sort : Kind) (bytes : Bytes) → is_directory (Some (node_from v sort bytes)) ≡ true → sort ≡ Directory
 unfolding node_from
 is_directory-node_from v Directory bytes is = refl
 is_directory-node_from v File bytes is = cc

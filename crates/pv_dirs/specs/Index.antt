@@ -3,28 +3,28 @@ use Rattle.std.specs.Prelude.{◌≡◌, ◌⊎◌, ℕ, ◌+◌, ◌-◌, ◌*�
 use Rattle.std.specs.Cmp.Lexicographic.{slice_cmp}
 use Rattle.std.specs.Ordering.{nat_cmp}
 use Rattle.std.specs.declared.cmp.Ordering.TheVariants.{Less}
-use Rattle.pv_model.specs.declared.sort.Sort.TheVariants.{Directory}
+use Rattle.pv_model.specs.declared.sort.Kind.TheVariants.{Directory}
 use Rattle.pv_model.specs.declared.version.Version.{Version}
 use Rattle.pv_model.specs.Bytes.{Bytes}
 use Rattle.pv_inodes.specs.Files.{Contained, Files, held}
 use Rattle.pv_dirs.specs.declared.index.Index.{Index}
 use Rattle.pv_dirs.specs.declared.index.TheConstants.{PLACES, FACTOR}
-use Rattle.pv_dirs.specs.declared.index.Place.{Place}
-use Rattle.pv_dirs.specs.declared.index.Place.TheVariants.{Empty, Slot, Shared}
+use Rattle.pv_dirs.specs.declared.index.Bucket.{Bucket}
+use Rattle.pv_dirs.specs.declared.index.Bucket.TheVariants.{Empty, Slot, Shared}
 use Rattle.pv_dirs.specs.Slots.{slot_at, slot_count, slot_name}
 use Rattle.pv_dirs.specs.Trees.{IsHolding}
 
--- a number and the bytes behind it, each of which counts so many times as much as the one behind it
-unfoldable pub sum_behind : ℕ → Bytes → ℕ
-sum_behind sum [] = sum
-sum_behind sum (byte ∷ bytes) = sum_behind ((sum * FACTOR + byte) % 65536) bytes
+-- a number and the bytes after it, each of which counts so many times as much as the one after it
+unfoldable pub sum_after : ℕ → Bytes → ℕ
+sum_after sum [] = sum
+sum_after sum (byte ∷ bytes) = sum_after ((sum * FACTOR + byte) % 65536) bytes
 
 -- the place on which a name of a directory falls
 unfoldable pub place_of : ℕ → Bytes → ℕ
-place_of d name = sum_behind d name % PLACES
+place_of d name = sum_after d name % PLACES
 
 -- what an index says of the entries whose names fall where this one does
-unfoldable pub said : Index → ℕ → Bytes → Place
+unfoldable pub said : Index → ℕ → Bytes → Bucket
 said ix d name = slice_index_or ix.places (place_of d name) Empty
 
 -- an index leads to the entry in slot k of directory d, if it has this name: it says so, or that there may be several
@@ -39,7 +39,7 @@ known ix d = slice_index_or ix.ascending d false
 abbrev pub Ascend : Version → Bytes → ℕ → Type 0
 Ascend v bytes count = (j k : ℕ) → j < k → k < count → slice_cmp nat_cmp (slot_name (slot_at v bytes j)) (slot_name (slot_at v bytes k)) ≡ Less
 
--- they do, and this name comes behind them
+-- they do, and this name comes after them
 pub record AscendTo (v : Version) (bytes : Bytes) (count : ℕ) (name : Bytes) : Type 0 where
   pub ascend : Ascend v bytes count
   pub before : (k : ℕ) → k < count → slice_cmp nat_cmp (slot_name (slot_at v bytes k)) name ≡ Less
@@ -53,10 +53,10 @@ pub record AreLedUpTo (ix : Index) (v : Version) (d : ℕ) (bytes : Bytes) (coun
 abbrev pub AreLed : Index → Version → ℕ → Bytes → Type 0
 AreLed ix v d bytes = AreLedUpTo ix v d bytes (slot_count v bytes)
 
--- slot k is the one behind that of the last name, or the first one without a last name
-abbrev pub IsSlotBehind : Option Bytes → Version → Bytes → ℕ → Type 0
-IsSlotBehind None v bytes k = k ≡ 0
-IsSlotBehind (Some last) v bytes k = (1 ≤ k) × (slot_name (slot_at v bytes (k - 1)) ≡ last)
+-- slot k is the one after that of the last name, or the first one without a last name
+abbrev pub IsSlotAfter : Option Bytes → Version → Bytes → ℕ → Type 0
+IsSlotAfter None v bytes k = k ≡ 0
+IsSlotAfter (Some last) v bytes k = (1 ≤ k) × (slot_name (slot_at v bytes (k - 1)) ≡ last)
 
 -- an index leads to each entry of each directory
 abbrev pub IsIndexed : Files → Index → Type 0

@@ -5,7 +5,7 @@ use Rattle.std.specs.FinMap.Entries.{find}
 use Rattle.std.specs.Ordering.{nat_cmp, is_lt}
 use Rattle.std.specs.declared.cmp.Ordering.TheVariants.{Less}
 use Rattle.pv_model.specs.Bytes.{Bytes}
-use Rattle.pv_model.specs.Calls.Descriptors.{is_behind}
+use Rattle.pv_model.specs.Calls.Descriptors.{is_past}
 use Rattle.pv_model.specs.Tree.{Entries, Tree, find_entry}
 
 -- the first name, or else the second
@@ -18,40 +18,40 @@ abbrev pub is_before : Bytes → Option Bytes → Bool
 is_before name None = true
 is_before name (Some other) = is_lt (slice_cmp nat_cmp name other)
 
--- the better of a name and the best one so far: the name, where it comes before the best and behind the last
+-- the better of a name and the best one so far: the name, where it comes before the best and after the last
 abbrev pub better_of : Option Bytes → Bytes → Option Bytes → Option Bytes
-better_of last name best = if is_before name best && is_behind last name then Some name else best
+better_of last name best = if is_before name best && is_past last name then Some name else best
 
--- each name that comes before the best and behind the last has this byte at this place
+-- each name that comes before the best and after the last has this byte at this place
 abbrev pub IsShared : Option Bytes → Option Bytes → ℕ → ℕ → Type 0
-IsShared last best at byte = (name : Bytes) → IsTrue (is_before name best) → IsTrue (is_behind last name) → (at < length name) × (slice_index name at ≡ byte)
+IsShared last best at byte = (name : Bytes) → IsTrue (is_before name best) → IsTrue (is_past last name) → (at < length name) × (slice_index name at ≡ byte)
 
 -- a name of an entry of the list
 abbrev pub IsListed : Entries → Bytes → Type 0
 IsListed es name = IsSome (find (slice_cmp nat_cmp) name es)
 
--- a name is the least of those in the list that come behind the last one
-pub record IsLeastBehind (last : Option Bytes) (es : Entries) (name : Bytes) : Type 0 where
+-- a name is the least of those in the list that come after the last one
+pub record IsLeastPast (last : Option Bytes) (es : Entries) (name : Bytes) : Type 0 where
   pub listed : IsListed es name
-  pub behind : IsTrue (is_behind last name)
-  pub least : (other : Bytes) → IsListed es other → IsTrue (is_behind last other) → slice_cmp nat_cmp other name ≢ Less
+  pub following : IsTrue (is_past last name)
+  pub least : (other : Bytes) → IsListed es other → IsTrue (is_past last other) → slice_cmp nat_cmp other name ≢ Less
 
--- the next name behind the last one, or none where none comes behind it
+-- the next name after the last one, or none where none comes after it
 abbrev pub IsNextName : Option Bytes → Entries → Option Bytes → Type 0
-IsNextName last es next = MatchOption next ((other : Bytes) → IsListed es other → is_behind last other ≢ true) (IsLeastBehind last es)
+IsNextName last es next = MatchOption next ((other : Bytes) → IsListed es other → is_past last other ≢ true) (IsLeastPast last es)
 
 -- ---- of some names
 
--- a name is the least of those among some names that come behind the last one
+-- a name is the least of those among some names that come after the last one
 pub record IsLeastOf (IsOne : Bytes → Type 0) (last : Option Bytes) (name : Bytes) : Type 0 where
   pub named : IsOne name
-  pub behind : IsTrue (is_behind last name)
-  pub least : (other : Bytes) → IsOne other → IsTrue (is_behind last other) → IsFalse (is_behind (Some other) name)
+  pub following : IsTrue (is_past last name)
+  pub least : (other : Bytes) → IsOne other → IsTrue (is_past last other) → IsFalse (is_past (Some other) name)
 
--- the next of some names, or none where none of them comes behind the last one
+-- the next of some names, or none where none of them comes after the last one
 abbrev pub IsNextOf : (Bytes → Type 0) → Option Bytes → Option Bytes → Type 0
-IsNextOf IsOne last next = MatchOption next ((other : Bytes) → IsOne other → IsFalse (is_behind last other)) (IsLeastOf IsOne last)
+IsNextOf IsOne last next = MatchOption next ((other : Bytes) → IsOne other → IsFalse (is_past last other)) (IsLeastOf IsOne last)
 
--- the next name of a node in a directory, or none where none comes behind the last one
+-- the next name of a node in a directory, or none where none comes after the last one
 abbrev pub IsNextNameOf : Tree → ℕ → ℕ → Option Bytes → Option Bytes → Type 0
 IsNextNameOf t d n last next = IsNextOf (λ name. find_entry t d name ≡ Some n) last next

@@ -1,7 +1,7 @@
 -- The tree that files hold, and how it changes.
 use Rattle.std.specs.Prelude.{◌≡◌, ℕ, ◌+◌, ◌*◌, ◌-◌, ◌<◌, ◌≤◌, suc, true, false, map, length, sum_by, [], ◌∷◌, Option, None, Some, option_map}
-use Rattle.pv_model.specs.declared.sort.Sort.{Sort}
-use Rattle.pv_model.specs.declared.sort.Sort.TheVariants.{Directory, File, Executable, Symlink}
+use Rattle.pv_model.specs.declared.sort.Kind.{Kind}
+use Rattle.pv_model.specs.declared.sort.Kind.TheVariants.{Directory, File, Executable, Symlink}
 use Rattle.pv_model.specs.declared.version.Version.{Version}
 use Rattle.pv_model.specs.Bytes.{Bytes}
 use Rattle.pv_model.specs.Effect.{overwrite, resize}
@@ -13,7 +13,7 @@ use Rattle.pv_inodes.specs.Files.{Contained, Files, held}
 use Rattle.pv_dirs.specs.Slots.{slot_entries, in_order, IsSlotted}
 
 -- the node that an inode of this sort holds with these bytes
-unfoldable pub node_from : Version → Sort → Bytes → Node
+unfoldable pub node_from : Version → Kind → Bytes → Node
 node_from v Directory bytes = directory_node (in_order (slot_entries v bytes))
 node_from v File bytes = file_node false bytes
 node_from v Executable bytes = file_node true bytes
@@ -34,14 +34,14 @@ pub record IsHolding (f : Files) (blocks : ℕ) : Type 0 where
   pub slotted : (n : ℕ) (c : Contained) → held f n ≡ Some c → c.sort ≡ Directory → IsSlotted f.version c.bytes
 
 -- what a node is
-abbrev pub sort_of : Node → Sort
+abbrev pub sort_of : Node → Kind
 sort_of (directory_node entries) = Directory
 sort_of (file_node false bytes) = File
 sort_of (file_node true bytes) = Executable
 sort_of (link_node text) = Symlink
 
 -- a node of this sort with nothing in it
-abbrev pub new_node : Sort → Node
+abbrev pub new_node : Kind → Node
 new_node Directory = directory_node []
 new_node File = file_node false []
 new_node Executable = file_node true []

@@ -17,11 +17,11 @@ mod ordering;
 use crate::index::Index;
 use crate::indexing::ascends;
 use crate::scan::{
-    count, find, is_directory, least_behind, next_entry, next_with, number, slot, start,
+    count, find, is_directory, least_past, next_entry, next_with, number, slot, start,
 };
 use crate::slot::Slot;
 use pv_inodes::{Inodes, Space};
-use pv_model::{Name, Sort, Version};
+use pv_model::{Name, Kind, Version};
 use std::alloc::{AllocError, Global};
 use std::marker::Model;
 
@@ -127,7 +127,7 @@ impl Directories {
     }
 
     /// What a node is.
-    pub fn kind(&self, inode: u16) -> Sort
+    pub fn kind(&self, inode: u16) -> Kind
         requires { IsSome (node_at self.now inode) }
         ensures { option_map sort_of (node_at self.now inode) ≡ Some result }
     {
@@ -142,7 +142,7 @@ impl Directories {
         ensures allowed { result ≤ greatest_length self.now.version }
     {
         match self.inodes.kind(inode) {
-            Sort::Directory => count(&self.inodes, inode),
+            Kind::Directory => count(&self.inodes, inode),
             _ => self.inodes.size(inode),
         }
     }
@@ -156,18 +156,18 @@ impl Directories {
         Some(number(&self.inodes, directory, k))
     }
 
-    /// The least name of a directory, in byte order, that comes behind the last one; without a last one
-    /// the least of all. None where no name comes behind it.
+    /// The least name of a directory, in byte order, that comes after the last one; without a last one
+    /// the least of all. None where no name comes after it.
     pub fn next_after(&self, directory: u16, last: Option<&[u8]>) -> Option<Name>
         requires { IsTrue (is_directory_at self.now directory) }
         ensures value { result ≡ next_name (option_copied last.entry) (entries_at self.now directory) }
         ensures least { IsNextName (option_copied last.entry) (entries_at self.now directory) result }
     {
-        least_behind(&self.inodes, &self.index, directory, last)
+        least_past(&self.inodes, &self.index, directory, last)
     }
 
-    /// The least name of a directory, in byte order, that comes behind the last one, and the number of its node; without
-    /// a last one the least of all. None where no name comes behind it. `before` is a guess of how many names come before
+    /// The least name of a directory, in byte order, that comes after the last one, and the number of its node; without
+    /// a last one the least of all. None where no name comes after it. `before` is a guess of how many names come before
     /// the answer: it is the same with any, and found at once where the guess is right and the names ascend from slot to slot.
     pub fn next_entry(
         &self,
@@ -183,8 +183,8 @@ impl Directories {
         next_entry(&self.inodes, &self.index, directory, last, before)
     }
 
-    /// The least name of a directory, in byte order, that names a node and comes behind the last one; without a last one
-    /// the least of all that do. None where no such name comes behind it.
+    /// The least name of a directory, in byte order, that names a node and comes after the last one; without a last one
+    /// the least of all that do. None where no such name comes after it.
     pub fn next_name_of(&self, directory: u16, node: u16, last: Option<&[u8]>) -> Option<Name>
         requires { IsTrue (is_directory_at self.now directory) }
         ensures { IsNextNameOf self.now directory node (option_copied last.entry) result }
@@ -296,7 +296,7 @@ impl Directories {
 
     /// Puts a node of this sort, with nothing in it, under the least number that is not in use; None only
     /// where the image has no room for another node.
-    pub fn fresh(&mut self, sort: Sort) -> Option<u16>
+    pub fn fresh(&mut self, sort: Kind) -> Option<u16>
         ensures full { IsNone result ↔ (new_number self.old ≡ length self.old.nodes) }
         ensures none { IfNone result (self.new ≡ self.old) }
         ensures least { IfSome result (λ n. n ≡ new_number self.old) }

@@ -9,12 +9,12 @@ use pv_model::limits::INODES;
 /// How many places an index has.
 const PLACES: usize = 8_192;
 
-// A byte of a name counts so many times as much as the one behind it.
+// A byte of a name counts so many times as much as the one after it.
 const FACTOR: u16 = 11;
 
 /// What an index says of the entries whose names fall on one of its places.
 #[derive(Clone, Copy)]
-pub(crate) enum Place {
+pub(crate) enum Bucket {
     /// There are none.
     Empty,
     /// There is one at most, in this slot of this directory.
@@ -23,13 +23,13 @@ pub(crate) enum Place {
     Shared,
 }
 
-impl Place {
+impl Bucket {
     // Whether this says that an entry stands in this slot of this directory.
     fn is_slot(self, directory: u16, slot: u16) -> bool
-        ensures { IsTrue result ↔ (self ≡ Place.Slot directory slot) }
+        ensures { IsTrue result ↔ (self ≡ Bucket.Slot directory slot) }
     {
         match self {
-            Place::Slot(above, at) => above == directory && at == slot,
+            Bucket::Slot(above, at) => above == directory && at == slot,
             _ => false,
         }
     }
@@ -50,7 +50,7 @@ fn place_of(directory: u16, name: &[u8]) -> usize
 /// An index of the entries of all directories by their names. It has one size, and takes no memory beside its own.
 #[derive(Drop)]
 pub(crate) struct Index {
-    places: [Place; PLACES],
+    places: [Bucket; PLACES],
     // Of which directories the names are known to ascend in byte order from slot to slot.
     ascending: [bool; INODES + 1],
 }
@@ -59,14 +59,14 @@ impl Index {
     /// The index of no entries.
     pub(crate) fn empty() -> Index {
         Index {
-            places: [Place::Empty; PLACES],
+            places: [Bucket::Empty; PLACES],
             ascending: [false; INODES + 1],
         }
     }
 
     /// Takes all entries out of the index.
     pub(crate) fn clear(&mut self) {
-        self.places.fill(Place::Empty);
+        self.places.fill(Bucket::Empty);
         self.ascending.fill(false);
     }
 
@@ -91,7 +91,7 @@ impl Index {
     }
 
     /// What the index says of the entries whose names fall where this one does.
-    pub(crate) fn find(&self, directory: u16, name: &[u8]) -> Place
+    pub(crate) fn find(&self, directory: u16, name: &[u8]) -> Bucket
         ensures { result ≡ said self.now directory name.now }
     {
         self.places[place_of(directory, name)]
@@ -108,8 +108,8 @@ impl Index {
         self.know(directory, ascends);
         let at = place_of(directory, name);
         self.places[at] = match self.places[at] {
-            Place::Empty => Place::Slot(directory, slot),
-            _ => Place::Shared,
+            Bucket::Empty => Bucket::Slot(directory, slot),
+            _ => Bucket::Shared,
         };
     }
 
@@ -120,7 +120,7 @@ impl Index {
     {
         let at = place_of(directory, name);
         if self.places[at].is_slot(directory, slot) {
-            self.places[at] = Place::Empty;
+            self.places[at] = Bucket::Empty;
         }
     }
 
@@ -136,7 +136,7 @@ impl Index {
         self.know(directory, ascends);
         let at = place_of(directory, name);
         if self.places[at].is_slot(directory, from) {
-            self.places[at] = Place::Slot(directory, to);
+            self.places[at] = Bucket::Slot(directory, to);
         }
     }
 }

@@ -60,7 +60,7 @@ pub(crate) fn name_in(slot: &[u8]) -> &[u8]
     &slot[NAME..end]
 }
 
-// The bytes of an entry, and zeros behind them.
+// The bytes of an entry, and zeros after them.
 #[tactic(auto, unfolding(crate::specs::Slots::slot_name, crate::specs::Slots::slot_number))]
 fn spelled(name: &[u8], inode: u16) -> [u8; LONGEST]
     requires { length name.now ≤ NAME_V2 }

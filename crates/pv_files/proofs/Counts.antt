@@ -8,11 +8,11 @@ use Rattle.pv_model.specs.State.{OpenFile}
 use Rattle.pv_model.specs.Numbered.{Numbered, at_number, with_number, without_number, least_free}
 use Rattle.pv_files.specs.declared.opened.Opened.{Opened}
 use Rattle.pv_files.specs.Counted.{Counted, no_files, with_opened, with_file, with_users}
-use Rattle.pv_files.specs.Places.{file_of, users_of, where_used, counted_of}
+use Rattle.pv_files.specs.Slots.{file_of, users_of, where_used, counted_of}
 use Rattle.pv_files.proofs.Seen.{least_free-seen, with_number-set, without_number-set, set-itself, within_length}
 
-abbrev pub Places : Type 0
-Places = List (Option Opened)
+abbrev pub Slots : Type 0
+Slots = List (Option Opened)
 
 -- ---- one record
 
@@ -30,48 +30,48 @@ pub used_where : (slot : Option Opened) → IsSome (option_map file_of (option_a
 used_where None = (λ none. cc, λ less. absurd (omega arith))
 used_where (Some o) = grind (arith, nat_tests)
 
-pub no_places : (places : Places) → places ≡ replicate 128 None → counted_of places ≡ no_files
-no_places places none = ap counted_of none
+pub no_slots : (slots : Slots) → slots ≡ replicate 128 None → counted_of slots ≡ no_files
+no_slots slots none = ap counted_of none
 
 -- ---- the least free number
 
-pub least_free_place : (places : Places) → least_free (counted_of places).files ≡ least_free places
-least_free_place places = least_free-seen file_of places
+pub least_free_slot : (slots : Slots) → least_free (counted_of slots).files ≡ least_free slots
+least_free_slot slots = least_free-seen file_of slots
 
 -- ---- one place
 
 -- what stands at a place, seen
-pub record IsPlace (places : Places) (k : ℕ) (place : Option Opened) : Type 0 where
-  pub within : k < length places
-  pub file : at_number (counted_of places).files k ≡ option_map file_of place
-  pub users : slice_index (counted_of places).users k ≡ users_of place
+pub record IsSlot (slots : Slots) (k : ℕ) (slot : Option Opened) : Type 0 where
+  pub within : k < length slots
+  pub file : at_number (counted_of slots).files k ≡ option_map file_of slot
+  pub users : slice_index (counted_of slots).users k ≡ users_of slot
 
-pub opened_within : (places : Places) (k : ℕ) → IsSome (at_number (counted_of places).files k) → k < length places
-opened_within places k there = omega (arith, within_length (counted_of places).files k there, length-map places (option_map file_of))
+pub opened_within : (slots : Slots) (k : ℕ) → IsSome (at_number (counted_of slots).files k) → k < length slots
+opened_within slots k there = omega (arith, within_length (counted_of slots).files k there, length-map slots (option_map file_of))
 
-file_read : (places : Places) (k : ℕ) (place : Option Opened) → k < length places → place ≡ get_or places k place → at_number (counted_of places).files k ≡ option_map file_of place
-file_read [] k place within is = absurd (omega arith)
-file_read (p ∷ places) zero place within is = ap (option_map file_of) (sym is)
-file_read (p ∷ places) (suc k) place within is = file_read places k place (omega arith) is
+file_read : (slots : Slots) (k : ℕ) (slot : Option Opened) → k < length slots → slot ≡ get_or slots k slot → at_number (counted_of slots).files k ≡ option_map file_of slot
+file_read [] k slot within is = absurd (omega arith)
+file_read (p ∷ slots) zero slot within is = ap (option_map file_of) (sym is)
+file_read (p ∷ slots) (suc k) slot within is = file_read slots k slot (omega arith) is
 
-users_read : (places : Places) (k : ℕ) (place : Option Opened) → k < length places → place ≡ get_or places k place → slice_index (counted_of places).users k ≡ users_of place
-users_read [] k place within is = absurd (omega arith)
-users_read (p ∷ places) zero place within is = ap users_of (sym is)
-users_read (p ∷ places) (suc k) place within is = users_read places k place (omega arith) is
+users_read : (slots : Slots) (k : ℕ) (slot : Option Opened) → k < length slots → slot ≡ get_or slots k slot → slice_index (counted_of slots).users k ≡ users_of slot
+users_read [] k slot within is = absurd (omega arith)
+users_read (p ∷ slots) zero slot within is = ap users_of (sym is)
+users_read (p ∷ slots) (suc k) slot within is = users_read slots k slot (omega arith) is
 
-pub is_place : (places : Places) (k : ℕ) (place : Option Opened) → k < length places → place ≡ get_or places k place → IsPlace places k place
-is_place places k place within is = record { within = within; file = file_read places k place within is; users = users_read places k place within is }
+pub is_slot : (slots : Slots) (k : ℕ) (slot : Option Opened) → k < length slots → slot ≡ get_or slots k slot → IsSlot slots k slot
+is_slot slots k slot within is = record { within = within; file = file_read slots k slot within is; users = users_read slots k slot within is }
 
 -- the same from what clauses see
-module _ (places : Places) (c : Counted) (seen : counted_of places ≡ c) (k : ℕ) (there : IsSome (at_number c.files k)) where
-  pub opened_there : IsSome (at_number (counted_of places).files k)
+module _ (slots : Slots) (c : Counted) (seen : counted_of slots ≡ c) (k : ℕ) (there : IsSome (at_number c.files k)) where
+  pub opened_there : IsSome (at_number (counted_of slots).files k)
   opened_there = ap (λ (v : Counted). is_some (at_number v.files k)) seen ∙ there
 
-  pub opened_below : k < length places
-  opened_below = opened_within places k opened_there
+  pub opened_below : k < length slots
+  opened_below = opened_within slots k opened_there
 
-  pub place_there : (place : Option Opened) → place ≡ get_or places k place → IsPlace places k place
-  place_there place is = is_place places k place opened_below is
+  pub slot_there : (slot : Option Opened) → slot ≡ get_or slots k slot → IsSlot slots k slot
+  slot_there slot is = is_slot slots k slot opened_below is
 
 -- ---- after a change of a place
 
@@ -83,60 +83,60 @@ put_again (n ∷ ns) (suc k) = ap (λ ms. n ∷ ms) (put_again ns k)
 abbrev counted_by : Numbered OpenFile → List ℕ → Counted
 counted_by files users = record { files = files; users = users }
 
-module _ (places : Places) (k : ℕ) (old : Opened) where
+module _ (slots : Slots) (k : ℕ) (old : Opened) where
   -- where a file is open, its record has a user
-  pub old_used : IsPlace places k (where_used old) → IsSome (at_number (counted_of places).files k) → 0 < old.users
+  pub old_used : IsSlot slots k (where_used old) → IsSome (at_number (counted_of slots).files k) → 0 < old.users
   old_used is there = omega (arith, (used_where (Some old)).0 (ap is_some (sym is.file) ∙ there), users_where old)
 
-  pub old_file : IsPlace places k (where_used old) → IsSome (at_number (counted_of places).files k) → at_number (counted_of places).files k ≡ Some (file_of old)
+  pub old_file : IsSlot slots k (where_used old) → IsSome (at_number (counted_of slots).files k) → at_number (counted_of slots).files k ≡ Some (file_of old)
   old_file is there = is.file ∙ ap (option_map file_of) (used_some old (old_used is there))
 
-module _ (places : Places) (k : ℕ) (old new : Opened) where
+module _ (slots : Slots) (k : ℕ) (old new : Opened) where
   abbrev pub before : Counted
-  before = counted_of places
+  before = counted_of slots
 
   abbrev pub after : Counted
-  after = counted_of (set places k (where_used new))
+  after = counted_of (set slots k (where_used new))
 
   pub users_after : after.users ≡ slice_set before.users k new.users
-  users_after = map-set users_of places k (where_used new) ∙ ap (slice_set before.users k) (users_where new)
+  users_after = map-set users_of slots k (where_used new) ∙ ap (slice_set before.users k) (users_where new)
 
   files_set : after.files ≡ set before.files k (option_map file_of (where_used new))
-  files_set = map-set (option_map file_of) places k (where_used new)
+  files_set = map-set (option_map file_of) slots k (where_used new)
 
-  pub files_with : IsPlace places k (where_used old) → (f : OpenFile) → 0 < new.users → file_of new ≡ f → after.files ≡ with_number before.files k f
+  pub files_with : IsSlot slots k (where_used old) → (f : OpenFile) → 0 < new.users → file_of new ≡ f → after.files ≡ with_number before.files k f
   files_with is f used same =
-      let within : k < length before.files = omega (arith, is.within, length-map places (option_map file_of)) in
-      files_set ∙ ap (λ place. set before.files k (option_map file_of place)) (used_some new used) ∙ ap (λ g. set before.files k (Some g)) same ∙ sym (with_number-set before.files k f within)
+      let within : k < length before.files = omega (arith, is.within, length-map slots (option_map file_of)) in
+      files_set ∙ ap (λ slot. set before.files k (option_map file_of slot)) (used_some new used) ∙ ap (λ g. set before.files k (Some g)) same ∙ sym (with_number-set before.files k f within)
 
-  pub files_stay : IsPlace places k (where_used old) → IsSome (at_number before.files k) → 0 < new.users → file_of new ≡ file_of old → after.files ≡ before.files
+  pub files_stay : IsSlot slots k (where_used old) → IsSome (at_number before.files k) → 0 < new.users → file_of new ≡ file_of old → after.files ≡ before.files
   files_stay is there used same =
-      files_set ∙ ap (λ place. set before.files k (option_map file_of place)) (used_some new used) ∙ ap (λ g. set before.files k (Some g)) same
-      ∙ ap (set before.files k) (sym (old_file places k old is there)) ∙ set-itself before.files k
+      files_set ∙ ap (λ slot. set before.files k (option_map file_of slot)) (used_some new used) ∙ ap (λ g. set before.files k (Some g)) same
+      ∙ ap (set before.files k) (sym (old_file slots k old is there)) ∙ set-itself before.files k
 
   pub files_without : new.users ≡ 0 → after.files ≡ without_number before.files k
-  files_without none = files_set ∙ ap (λ place. set before.files k (option_map file_of place)) (used_none new none) ∙ sym (without_number-set before.files k)
+  files_without none = files_set ∙ ap (λ slot. set before.files k (option_map file_of slot)) (used_none new none) ∙ sym (without_number-set before.files k)
 
   -- how many users there were
-  old_users : IsPlace places k (where_used old) → slice_index before.users k ≡ old.users
+  old_users : IsSlot slots k (where_used old) → slice_index before.users k ≡ old.users
   old_users is = is.users ∙ users_where old
 
   -- one user less
-  pub fewer_after : IsPlace places k (where_used old) → new.users ≡ old.users - 1 → after.users ≡ slice_set before.users k (slice_index before.users k - 1)
+  pub fewer_after : IsSlot slots k (where_used old) → new.users ≡ old.users - 1 → after.users ≡ slice_set before.users k (slice_index before.users k - 1)
   fewer_after is less = users_after ∙ ap (slice_set before.users k) (less ∙ ap (λ n. n - 1) (sym (old_users is)))
 
-  pub opened_after : IsPlace places k (where_used old) → new.users ≡ 1 → after ≡ with_opened before k (file_of new)
+  pub opened_after : IsSlot slots k (where_used old) → new.users ≡ 1 → after ≡ with_opened before k (file_of new)
   opened_after is one = ap₂ counted_by (files_with is (file_of new) (omega (arith, one)) refl) (users_after ∙ ap (slice_set before.users k) one)
 
   -- one user more
-  pub shared_after : IsPlace places k (where_used old) → IsSome (at_number before.files k) → file_of new ≡ file_of old → new.users ≡ old.users + 1 → after ≡ with_users before k (slice_index before.users k + 1)
+  pub shared_after : IsSlot slots k (where_used old) → IsSome (at_number before.files k) → file_of new ≡ file_of old → new.users ≡ old.users + 1 → after ≡ with_users before k (slice_index before.users k + 1)
   shared_after is there same more =
       ap₂ counted_by (files_stay is there (omega (arith, more)) same) (users_after ∙ ap (slice_set before.users k) (more ∙ ap (λ n. n + 1) (sym (old_users is))))
 
   -- another file at the same number
-  pub changed_after : IsPlace places k (where_used old) → (g : OpenFile → OpenFile) → IsSome (at_number before.files k) → file_of new ≡ g (file_of old) → new.users ≡ old.users
+  pub changed_after : IsSlot slots k (where_used old) → (g : OpenFile → OpenFile) → IsSome (at_number before.files k) → file_of new ≡ g (file_of old) → new.users ≡ old.users
       → option_map (λ f. with_file before k (g f)) (at_number before.files k) ≡ Some after
   changed_after is g there same users =
-      let used : 0 < new.users = omega (arith, users, old_used places k old is there) in
+      let used : 0 < new.users = omega (arith, users, old_used slots k old is there) in
       let users_same : after.users ≡ before.users = users_after ∙ ap (slice_set before.users k) (users ∙ sym (old_users is)) ∙ put_again before.users k in
-      ap (option_map (λ f. with_file before k (g f))) (old_file places k old is there) ∙ ap Some (sym (ap₂ counted_by (files_with is (g (file_of old)) used same) users_same))
+      ap (option_map (λ f. with_file before k (g f))) (old_file slots k old is there) ∙ ap Some (sym (ap₂ counted_by (files_with is (g (file_of old)) used same) users_same))

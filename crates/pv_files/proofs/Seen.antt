@@ -30,12 +30,12 @@ module _ {X : Type 0} where
   least_free_found xs (Some k) is =
       (sym (first_free xs) ∙ found_is (position_or_len (λ o. is_none o) xs) (length xs) k (sym is), (position-Some (λ o. is_none o) xs k None (sym is)).0)
 
-  -- where so many numbers from 0 on are used, the least free one is found behind them
-  pub least_free_behind : (xs : Numbered X) (n : ℕ) → n ≤ least_free xs → least_free xs ≡ n + least_free (drop n xs)
-  least_free_behind xs zero used = omega arith
-  least_free_behind [] (suc n) used = absurd (omega arith)
-  least_free_behind (None ∷ xs) (suc n) used = absurd (omega arith)
-  least_free_behind (Some x ∷ xs) (suc n) used = omega (arith, least_free_behind xs n (omega arith))
+  -- where so many numbers from 0 on are used, the least free one is found after them
+  pub least_free_after : (xs : Numbered X) (n : ℕ) → n ≤ least_free xs → least_free xs ≡ n + least_free (drop n xs)
+  least_free_after xs zero used = omega arith
+  least_free_after [] (suc n) used = absurd (omega arith)
+  least_free_after (None ∷ xs) (suc n) used = absurd (omega arith)
+  least_free_after (Some x ∷ xs) (suc n) used = omega (arith, least_free_after xs n (omega arith))
 
   pub least_free-le : (xs : Numbered X) → least_free xs ≤ length xs
   least_free-le [] = omega arith

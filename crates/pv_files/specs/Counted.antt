@@ -11,7 +11,7 @@ pub record Counted : Type 0 where
 
 -- what holds of them at any time: 128 places, and a file is open under a number just where that has users
 pub record IsCounted (c : Counted) : Type 0 where
-  pub places : length c.files ≡ OPEN_FILES
+  pub slots : length c.files ≡ OPEN_FILES
   pub counts : length c.users ≡ OPEN_FILES
   pub used : (k : ℕ) → IsSome (at_number c.files k) ↔ (0 < slice_index c.users k)
 

@@ -1,4 +1,4 @@
 pub mod Counted
-pub mod DescriptorPlaces
+pub mod DescriptorSlots
 pub mod Descriptors
-pub mod Places
+pub mod Slots

@@ -4,10 +4,10 @@ ghost use Rattle.std.specs.Option.{option_and_then};
 ghost use Rattle.pv_model.specs.Calls.Descriptors.{without_descriptor};
 ghost use Rattle.pv_model.specs.Calls.Processes.{descriptor_after_exec};
 ghost use Rattle.pv_model.specs.Numbered.{at_number, with_number, without_number, least_free};
-ghost use Rattle.pv_files.specs.DescriptorPlaces.{descriptor_of, descriptors_of};
+ghost use Rattle.pv_files.specs.DescriptorSlots.{descriptor_of, descriptors_of};
 ghost use Rattle.pv_files.specs.Descriptors.{no_descriptors, descriptor_under, is_marked};
 
-use crate::places::first_free;
+use crate::slots::first_free;
 use pv_model::Errno;
 use pv_model::limits::DESCRIPTORS;
 use std::marker::Model;
@@ -22,7 +22,7 @@ struct Descriptor {
 /// The descriptors of a process, by their numbers from 0 to 15.
 #[derive(Clone, Copy)]
 pub struct Descriptors {
-    places: [Option<Descriptor>; DESCRIPTORS],
+    slots: [Option<Descriptor>; DESCRIPTORS],
 }
 
 impl Model for Descriptors {
@@ -33,68 +33,68 @@ impl Model for Descriptors {
     ghost Value = { Numbered Descriptor };
 
     ghost use Rattle.std.specs.Prelude.{◌≡◌, length};
-    ghost use Rattle.pv_files.specs.DescriptorPlaces.{descriptors_of, places_of, places_of-descriptors_of};
+    ghost use Rattle.pv_files.specs.DescriptorSlots.{descriptors_of, slots_of, slots_of-descriptors_of};
 
-    ghost view = { λ t. descriptors_of t.places };
+    ghost view = { λ t. descriptors_of t.slots };
 
-    ghost invariant = { λ t. length t.places ≡ DESCRIPTORS };
+    ghost invariant = { λ t. length t.slots ≡ DESCRIPTORS };
 
-    ghost inverse = { λ v. record { places = places_of v } };
+    ghost inverse = { λ v. record { slots = slots_of v } };
 
-    ghost inverse_ok = { λ t _ i. record { places = places_of-descriptors_of t.places i } };
+    ghost inverse_ok = { λ t _ i. record { slots = slots_of-descriptors_of t.slots i } };
 }
 
 // The descriptor under a number.
-fn at_index(places: &[Option<Descriptor>], k: usize) -> Option<Descriptor>
-    ensures { option_map descriptor_of result ≡ at_number (descriptors_of places.now) k }
+fn at_index(slots: &[Option<Descriptor>], k: usize) -> Option<Descriptor>
+    ensures { option_map descriptor_of result ≡ at_number (descriptors_of slots.now) k }
 {
-    if k < places.len() { places[k] } else { None }
+    if k < slots.len() { slots[k] } else { None }
 }
 
 // The descriptor under the number that a call gives.
-fn lookup(places: &[Option<Descriptor>], d: i32) -> Option<Descriptor>
-    ensures { option_map descriptor_of result ≡ descriptor_under (descriptors_of places.now) d }
+fn lookup(slots: &[Option<Descriptor>], d: i32) -> Option<Descriptor>
+    ensures { option_map descriptor_of result ≡ descriptor_under (descriptors_of slots.now) d }
 {
     match usize::try_from(d) {
-        Ok(k) => at_index(places, k),
+        Ok(k) => at_index(slots, k),
         Err(_) => None,
     }
 }
 
 // Nothing any more under a number.
-fn clear_index(places: &mut [Option<Descriptor>], k: usize)
-    ensures { descriptors_of places.new ≡ without_number (descriptors_of places.old) k }
+fn clear_index(slots: &mut [Option<Descriptor>], k: usize)
+    ensures { descriptors_of slots.new ≡ without_number (descriptors_of slots.old) k }
 {
-    if k < places.len() {
-        places[k] = None;
+    if k < slots.len() {
+        slots[k] = None;
     }
 }
 
 // Nothing any more under the number that a call gives.
-fn clear(places: &mut [Option<Descriptor>], d: i32)
-    ensures { descriptors_of places.new ≡ without_descriptor (descriptors_of places.old) d }
+fn clear(slots: &mut [Option<Descriptor>], d: i32)
+    ensures { descriptors_of slots.new ≡ without_descriptor (descriptors_of slots.old) d }
 {
     if let Ok(k) = usize::try_from(d) {
-        clear_index(places, k);
+        clear_index(slots, k);
     }
 }
 
 // What execve(2) leaves of a place.
-fn unless_marked(place: Option<Descriptor>) -> Option<Descriptor>
-    ensures { option_map descriptor_of result ≡ descriptor_after_exec (option_map descriptor_of place) }
+fn unless_marked(slot: Option<Descriptor>) -> Option<Descriptor>
+    ensures { option_map descriptor_of result ≡ descriptor_after_exec (option_map descriptor_of slot) }
 {
-    match place {
+    match slot {
         Some(descriptor) if descriptor.close_on_exec => None,
         other => other,
     }
 }
 
 // What execve(2) leaves of all.
-fn close_marked(places: &mut [Option<Descriptor>])
-    ensures { descriptors_of places.new ≡ map descriptor_after_exec (descriptors_of places.old) }
+fn close_marked(slots: &mut [Option<Descriptor>])
+    ensures { descriptors_of slots.new ≡ map descriptor_after_exec (descriptors_of slots.old) }
 {
-    for k in 0..places.len() {
-        places[k] = unless_marked(places[k]);
+    for k in 0..slots.len() {
+        slots[k] = unless_marked(slots[k]);
     }
 }
 
@@ -104,7 +104,7 @@ impl Descriptors {
         ensures { result ≡ no_descriptors }
     {
         Descriptors {
-            places: [None; DESCRIPTORS],
+            slots: [None; DESCRIPTORS],
         }
     }
 
@@ -112,14 +112,14 @@ impl Descriptors {
     pub fn facts(&self)
         ensures { length self.now ≡ DESCRIPTORS }
     {
-        let _ = &self.places;
+        let _ = &self.slots;
     }
 
     /// Whether a number is free.
     pub fn has_room(&self) -> bool
         ensures { IsTrue result ↔ (least_free self.now < DESCRIPTORS) }
     {
-        first_free(&self.places).is_some()
+        first_free(&self.slots).is_some()
     }
 
     /// Makes a descriptor of an open file, under the least free number, which is the answer.
@@ -136,10 +136,10 @@ impl Descriptors {
         ensures full { OnErr result (least_free self.old ≡ DESCRIPTORS) }
         ensures unchanged { OnErr result (self.new ≡ self.old) }
     {
-        let Some(d) = first_free(&self.places) else {
+        let Some(d) = first_free(&self.slots) else {
             return Err(Errno::EMFILE);
         };
-        self.places[d] = Some(Descriptor {
+        self.slots[d] = Some(Descriptor {
             file,
             close_on_exec,
         });
@@ -152,7 +152,7 @@ impl Descriptors {
         ensures { self.new
             ≡ with_number self.old d (record { file = file; close_on_exec = false }) }
     {
-        self.places[d as usize] = Some(Descriptor {
+        self.slots[d as usize] = Some(Descriptor {
             file,
             close_on_exec: false,
         });
@@ -166,7 +166,7 @@ impl Descriptors {
     pub fn at(&self, d: i32) -> Result<usize, Errno>
         ensures { result ≡ ok_or (option_map (λ e. e.file) (descriptor_under self.now d)) Errno.EBADF }
     {
-        match lookup(&self.places, d) {
+        match lookup(&self.slots, d) {
             Some(descriptor) => Ok(descriptor.file),
             None => Err(Errno::EBADF),
         }
@@ -183,7 +183,7 @@ impl Descriptors {
         ensures unchanged { OnErr result (self.new ≡ self.old) }
     {
         let file = self.at(d)?;
-        clear(&mut self.places, d);
+        clear(&mut self.slots, d);
         Ok(file)
     }
 
@@ -191,14 +191,14 @@ impl Descriptors {
     pub fn after_exec(&mut self)
         ensures { self.new ≡ map descriptor_after_exec self.old }
     {
-        close_marked(&mut self.places);
+        close_marked(&mut self.slots);
     }
 
     /// Whether execve(2) closes a number: it is a descriptor that was made so.
     pub fn marked(&self, d: u8) -> bool
         ensures { result ≡ is_marked (at_number self.now d) }
     {
-        match at_index(&self.places, d as usize) {
+        match at_index(&self.slots, d as usize) {
             Some(descriptor) => descriptor.close_on_exec,
             None => false,
         }

@@ -13,7 +13,7 @@ pub mod descriptors;
 mod last_name;
 pub mod open_files;
 mod opened;
-mod places;
+mod slots;
 
 pub use descriptors::Descriptors;
 pub use open_files::OpenFiles;

@@ -3,7 +3,7 @@ ghost use Rattle.std.specs.Prelude.{◌≡◌, ◌+◌, ◌-◌, ◌<◌, ◌≤
 ghost use Rattle.std.specs.Option.{option_copied};
 ghost use Rattle.pv_model.specs.Numbered.{at_number, without_number, least_free};
 ghost use Rattle.pv_files.specs.Counted.{IsCounted, no_files, with_file, with_users, with_opened};
-ghost use Rattle.pv_files.specs.Places.{file_of, users_of, record_at, places_under};
+ghost use Rattle.pv_files.specs.Slots.{file_of, users_of, record_at, slots_under};
 
 use crate::opened::Opened;
 use pv_model::limits::OPEN_FILES;
@@ -31,9 +31,9 @@ impl Model for OpenFiles {
 
     ghost Value = { Counted };
 
-    ghost use Rattle.pv_files.specs.Places.{counted_of, places_under, AreRecords};
+    ghost use Rattle.pv_files.specs.Slots.{counted_of, slots_under, AreRecords};
 
-    ghost view = { λ t. counted_of (places_under t.records t.keys) };
+    ghost view = { λ t. counted_of (slots_under t.records t.keys) };
 
     ghost invariant = { λ t. AreRecords t.records t.keys t.first };
 }
@@ -56,8 +56,8 @@ fn first_free_index(records: &Slab<Opened>, keys: &[usize]) -> Option<usize>
 
 // The least number whose record is free, where there is one.
 fn first_free_number(records: &Slab<Opened>, keys: &[usize]) -> Option<usize>
-    ensures { MatchOption result (least_free (places_under records.now keys.now) ≡ length keys.now)
-        (λ k. (least_free (places_under records.now keys.now) ≡ k) × (k < length keys.now)) }
+    ensures { MatchOption result (least_free (slots_under records.now keys.now) ≡ length keys.now)
+        (λ k. (least_free (slots_under records.now keys.now) ≡ k) × (k < length keys.now)) }
 {
     first_free_index(records, keys)
 }
@@ -65,12 +65,12 @@ fn first_free_number(records: &Slab<Opened>, keys: &[usize]) -> Option<usize>
 // The same, searched for from `first` on: no number below it is free.
 fn first_free_from(records: &Slab<Opened>, keys: &[usize], first: usize) -> Option<usize>
     requires within { first ≤ length keys.now }
-    requires used { first ≤ least_free (places_under records.now keys.now) }
-    ensures { MatchOption result (least_free (places_under records.now keys.now) ≡ length keys.now)
-        (λ k. (least_free (places_under records.now keys.now) ≡ k) × (k < length keys.now)) }
+    requires used { first ≤ least_free (slots_under records.now keys.now) }
+    ensures { MatchOption result (least_free (slots_under records.now keys.now) ≡ length keys.now)
+        (λ k. (least_free (slots_under records.now keys.now) ≡ k) × (k < length keys.now)) }
 {
-    let behind = first_free_number(records, &keys[first..])?;
-    Some(first + behind)
+    let following = first_free_number(records, &keys[first..])?;
+    Some(first + following)
 }
 
 impl OpenFiles {

@@ -1,8 +1,3 @@
-pub mod BodyLines
-pub mod Containers
-pub mod Ends
-pub mod EntryByEntry
-pub mod FirstWords
-pub mod ListedEntries
-pub mod NewFiles
-pub mod WholeManifests
+pub mod Named
+pub mod Enlarged
+pub mod Migrations

@@ -1,4 +1,2 @@
-pub mod Building
-pub mod Contents
-pub mod Entries
-pub mod Reading
+pub mod Migrated
+pub mod Written

@@ -1,23 +1,31 @@
-//! Manifests and bundles as their texts spell them.
+//! Images of version 1 made into images of version 2: `migrate`.
 //!
-//! A manifest tells the sizes of an image and the entries of its tree; a bundle is a manifest, the line `schedule`,
-//! and a schedule. `entry` and `manifest` say what these are, and `reading` and `bundle` read whole texts; below them
-//! `taking` reads one line with the lines that belong to it (`taken`), `lines` the first line and lines that are
-//! passed over, and `paths` the paths of entries. Each reader answers exactly what `pv_model`'s grammar of manifests
-//! gives, and a fault names the least line that has no form.
+//! The definition, `migrated` in `specs/Migrated`, computes the new tree from the old bytes, or the fault; the laws below say
+//! in other words when it is which. The new tree has the same nodes under the same numbers, in an image of just the sizes
+//! that were asked for. `first` mounts bytes as an image of version 1 alone, `room` tells whether the tree has room, and
+//! `migrating` has the whole: it writes the new image to a sink.
 #![tactic(auto)]
 
-mod building;
-mod bundle;
-mod entry;
-mod lines;
-mod manifest;
-mod paths;
-mod reading;
-mod taken;
-mod taking;
+ghost use Rattle.pv_image.specs.Migrated.{ImagesAreJudgedFirst, MigratesImages, SmallIsWantOfRoom};
 
-pub use building::build;
-pub use bundle::Bundle;
-pub use entry::{Content, Entry};
-pub use manifest::Manifest;
+mod first;
+mod migrating;
+mod room;
+
+pub use migrating::{MigratingStop, migrate};
+
+/// A tree comes of bytes exactly where they are an image of version 1 and there is room for its nodes; it has just these
+/// nodes, under the same numbers, in an image of version 2 of the sizes that were asked for.
+pub fn images_are_migrated()
+    ensures { MigratesImages }
+{}
+
+/// What is refused as too small is an image of version 1 for which there is no room.
+pub fn small_is_want_of_room()
+    ensures { SmallIsWantOfRoom }
+{}
+
+/// What is refused as no image is so whatever the sizes.
+pub fn images_are_judged_first()
+    ensures { ImagesAreJudgedFirst }
+{}

@@ -35,15 +35,15 @@ module _ (path before : Option Bytes) where
       → IfSome i (λ b. IfSome s (λ t. StandsInAudit (image_started b t) path before before (Machine f)))
   no_machine f i s = of_both (λ b t refused. stands_refused (image_started b t) f refused) i s
 
-pub nothing_told : (before : Option Bytes) (f : RunFault) → TellsNothingUnlessStopped before before (Machine f)
-nothing_told before Memory = tt
-nothing_told before Read = refl
-nothing_told before (Image f) = refl
-nothing_told before (Manifest f) = refl
-nothing_told before (Schedule n) = refl
-nothing_told before (Init n) = refl
-nothing_told before WriteTrace = refl
-nothing_told before WriteImage = refl
+pub nothing_written : (before : Option Bytes) (f : RunFault) → TellsNothingUnlessStopped before before (Machine f)
+nothing_written before Memory = tt
+nothing_written before Read = refl
+nothing_written before (Image f) = refl
+nothing_written before (Manifest f) = refl
+nothing_written before (Schedule n) = refl
+nothing_written before (Init n) = refl
+nothing_written before WriteTrace = refl
+nothing_written before WriteImage = refl
 
 -- ---- a machine is left
 
@@ -61,10 +61,10 @@ module _ (st : State) (path before after : Option Bytes) where
   stands_left asked left Write begun = (st, left, begun)
 
   module _ (i s : Option Bytes) (left : IfSome i (λ b. IfSome s (λ t. IsLeftBy (image_started b t) st))) where
-    pub told_all : (result : Result (Unit {0}) AuditStop) → OnOk result (TellsAudit st path before after)
+    pub written_all : (result : Result (Unit {0}) AuditStop) → OnOk result (TellsAudit st path before after)
         → OnOk result (IfSome i (λ b. IfSome s (λ t. OnLeft (image_started b t) (λ u. TellsAudit u path before after))))
-    told_all (Ok done) told = of_both (λ b t is. (st, is, told)) i s left
-    told_all (Err stop) told = tt
+    written_all (Ok done) written = of_both (λ b t is. (st, is, written)) i s left
+    written_all (Err stop) written = tt
 
     pub stopped_all : (result : Result (Unit {0}) AuditStop) → IfErr result (StandsInState st path before after)
         → IfErr result (λ stop. IfSome i (λ b. IfSome s (λ t. StandsInAudit (image_started b t) path before after stop)))
@@ -103,7 +103,7 @@ module _ (st : State) (path before after : Option Bytes) where
   tells (Ok done) it = tt
   tells (Err stop) it = stop_tells stop it
 
-  -- no read fails behind the last step
+  -- no read fails after the last step
   pub reads_no_more : (result : Result (Unit {0}) AuditStop) → IfErr result (StandsInState st path before after) → result ≡ Err (Machine Read) → ⊥
   reads_no_more (Ok done) it is = cc is
   reads_no_more (Err Write) it is = cc is

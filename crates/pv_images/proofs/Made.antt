@@ -10,21 +10,21 @@ use Rattle.pv_model.specs.Held.{named_tree}
 use Rattle.pv_model.specs.Image.{IsWrittenImageOf}
 use Rattle.pv_model.specs.RunFault.{of_manifest}
 use Rattle.pv_model.specs.Tree.{Tree}
-use Rattle.pv_image.specs.Reading.{RefusesManifest}
-use Rattle.pv_tree_laws.specs.Kept.{EachIsNamed}
-use Rattle.pv_migrate.proofs.Named.{named_tree-all}
-use Rattle.pv_run.specs.Images.{BeginsImage, IsWriteFault, ToldImage}
+use Rattle.pv_image_manifest.specs.Reading.{RefusesManifest}
+use Rattle.pv_laws_trees.specs.Kept.{EachIsNamed}
+use Rattle.pv_image.proofs.Named.{named_tree-all}
+use Rattle.pv_run.specs.Images.{BeginsImage, IsWriteFault, WrittenImage}
 use Rattle.pv_images.specs.Making.{HasBegunMaking, HasMade, StandsInManifest, tree_made}
 
 -- ---- the checks of a manifest: its form and sizes, and then its entries
 
-module _ (bytes : Bytes) (told : Option Bytes) where
+module _ (bytes : Bytes) (written : Option Bytes) where
   made-no_manifest : (f : ManifestFault) → read_manifest bytes ≡ Err f → tree_made bytes ≡ Err f
   unfolding tree_made
   made-no_manifest f wrong = rw wrong refl
 
   -- a manifest that is refused
-  pub refuses_manifest : (f : ManifestFault) (e : RunFault) → e ≡ of_manifest f → RefusesManifest f (read_manifest bytes) → StandsInManifest (tree_made bytes) told told e
+  pub refuses_manifest : (f : ManifestFault) (e : RunFault) → e ≡ of_manifest f → RefusesManifest f (read_manifest bytes) → StandsInManifest (tree_made bytes) written written e
   refuses_manifest (Form n) e is refused = rw is (made-no_manifest (Form n) refused, refl)
   refuses_manifest Size e is refused = rw is (made-no_manifest Size refused, refl)
   refuses_manifest (Parent n) e is refused = rw is (made-no_manifest (Parent n) refused, refl)
@@ -43,7 +43,7 @@ module _ (bytes : Bytes) (told : Option Bytes) where
     made-no_tree f wrong = rw (asked, wrong) refl
 
     -- an entry that is refused
-    pub refuses_tree : (f : ManifestFault) (e : RunFault) → e ≡ of_manifest f → RefusesManifest f (tree_of m) → StandsInManifest (tree_made bytes) told told e
+    pub refuses_tree : (f : ManifestFault) (e : RunFault) → e ≡ of_manifest f → RefusesManifest f (tree_of m) → StandsInManifest (tree_made bytes) written written e
     refuses_tree (Form n) e is refused = rw is (made-no_tree (Form n) refused, refl)
     refuses_tree Size e is refused = rw is (made-no_tree Size refused, refl)
     refuses_tree (Parent n) e is refused = rw is (made-no_tree (Parent n) refused, refl)
@@ -58,13 +58,13 @@ module _ (made : Result Tree ManifestFault) (t u : Tree) (is : made ≡ Ok t) (n
   is_whole : named_tree u ≡ t
   is_whole = ap (λ (x : Tree). named_tree x) same ∙ named_tree-all t named
 
-  pub has_made : ToldImage u before after → HasMade made before after
-  has_made written = record {
+  pub has_made : WrittenImage u before after → HasMade made before after
+  has_made as_written = record {
     tree = t;
     is_made = is;
-    image = written.image;
-    holds = subst (λ (x : Tree). IsWrittenImageOf written.image x) is_whole written.holds;
-    told = written.told;
+    image = as_written.image;
+    holds = subst (λ (x : Tree). IsWrittenImageOf as_written.image x) is_whole as_written.holds;
+    written = as_written.written;
   }
 
   pub has_begun_making : BeginsImage u before after → HasBegunMaking made before after
@@ -73,7 +73,7 @@ module _ (made : Result Tree ManifestFault) (t u : Tree) (is : made ≡ Ok t) (n
     is_made = is;
     image = begun.image;
     holds = subst (λ (x : Tree). IsWrittenImageOf begun.image x) is_whole begun.holds;
-    told = begun.told;
+    written = begun.written;
   }
 
   -- an image that was not written whole
@@ -91,6 +91,6 @@ module _ (made : Result Tree ManifestFault) (t u : Tree) (is : made ≡ Ok t) (n
 
 -- what was made, whatever the answer
 pub made_whole : (made : Result Tree ManifestFault) (t u : Tree) → made ≡ Ok t → EachIsNamed t → u ≡ t → (before after : Option Bytes) → (result : Result (Unit {0}) RunFault)
-    → OnOk result (ToldImage u before after) → OnOk result (HasMade made before after)
-made_whole made t u is named same before after (Ok done) told = has_made made t u is named same before after told
-made_whole made t u is named same before after (Err f) told = tt
+    → OnOk result (WrittenImage u before after) → OnOk result (HasMade made before after)
+made_whole made t u is named same before after (Ok done) written = has_made made t u is named same before after written
+made_whole made t u is named same before after (Err f) written = tt

@@ -24,11 +24,11 @@ abbrev pub audit_text : State → Option Bytes → Result Bytes AuditFault
 audit_text s (Some path) = line_of (audit s path)
 audit_text s None = Ok (report s)
 
--- just that was told
+-- just that was written
 abbrev pub TellsAudit : State → Option Bytes → Option Bytes → Option Bytes → Type 0
 TellsAudit s path before after = (text : Bytes) × (audit_text s path ≡ Ok text) × (after ≡ and_all before text)
 
--- that was told up to somewhere
+-- that was written up to somewhere
 abbrev pub BeginsAudit : State → Option Bytes → Option Bytes → Option Bytes → Type 0
 BeginsAudit s path before after = (text : Bytes) × (audit_text s path ≡ Ok text) × TellsBeginning text before after
 
@@ -61,7 +61,7 @@ TellsNothingUnlessStopped before after (Machine Memory) = ⊤
 TellsNothingUnlessStopped before after Write = ⊤
 TellsNothingUnlessStopped before after stop = after ≡ before
 
--- all that was told was handed on, but where a write failed
-abbrev pub WaitsOnlyIfUnwritten : AuditStop → ℕ → Type 0
-WaitsOnlyIfUnwritten Write waiting = ⊤
-WaitsOnlyIfUnwritten stop waiting = waiting ≡ 0
+-- all that was written was flushed, but where a write failed
+abbrev pub BufferedOnlyIfUnwritten : AuditStop → ℕ → Type 0
+BufferedOnlyIfUnwritten Write waiting = ⊤
+BufferedOnlyIfUnwritten stop waiting = waiting ≡ 0

@@ -9,17 +9,17 @@ use Rattle.pv_model.specs.Listing.{listing}
 use Rattle.pv_model.specs.Tree.{Tree}
 use Rattle.pv_trace.specs.Streams.{and_all, TellsBeginning}
 
--- what was told grew by just the listing of the tree that is held
+-- what was written grew by just the listing of the tree that is held
 pub record HasListed (held : Result Tree ImageFault) (before after : Option Bytes) : Type 0 where
   pub tree : Tree
   pub is_held : held ≡ Ok tree
-  pub told : after ≡ and_all before (listing tree)
+  pub written : after ≡ and_all before (listing tree)
 
 -- the listing of the tree that is held was told up to somewhere
 pub record HasBegunListing (held : Result Tree ImageFault) (before after : Option Bytes) : Type 0 where
   pub tree : Tree
   pub is_held : held ≡ Ok tree
-  pub told : TellsBeginning (listing tree) before after
+  pub written : TellsBeginning (listing tree) before after
 
 -- a refusal stands in what is held, and then nothing was written; where memory or a write failed, a beginning of the listing was
 abbrev pub StandsInImage : Result Tree ImageFault → Option Bytes → Option Bytes → ListFault → Type 0
@@ -53,7 +53,7 @@ TellsNothingUnlessBegun before after Memory = ⊤
 TellsNothingUnlessBegun before after Write = ⊤
 TellsNothingUnlessBegun before after fault = after ≡ before
 
--- all that was told was handed on, but where a write failed
-abbrev pub WaitsOnlyIfUnlisted : ListFault → ℕ → Type 0
-WaitsOnlyIfUnlisted Write waiting = ⊤
-WaitsOnlyIfUnlisted fault waiting = waiting ≡ 0
+-- all that was written was flushed, but where a write failed
+abbrev pub BufferedOnlyIfUnlisted : ListFault → ℕ → Type 0
+BufferedOnlyIfUnlisted Write waiting = ⊤
+BufferedOnlyIfUnlisted fault waiting = waiting ≡ 0

@@ -15,13 +15,13 @@ use Rattle.pv_trace.specs.Streams.{and_all, TellsBeginning}
 unfoldable pub tree_made : Bytes → Result Tree ManifestFault
 tree_made bytes = and_then (λ fault. fault) (read_manifest bytes) (λ manifest. tree_of manifest)
 
--- what was told grew by bytes that hold just the tree that is made
+-- what was written grew by bytes that hold just the tree that is made
 pub record HasMade (made : Result Tree ManifestFault) (before after : Option Bytes) : Type 0 where
   pub tree : Tree
   pub is_made : made ≡ Ok tree
   pub image : Bytes
   pub holds : IsWrittenImageOf image tree
-  pub told : after ≡ and_all before image
+  pub written : after ≡ and_all before image
 
 -- bytes that hold the tree that is made were told up to somewhere
 pub record HasBegunMaking (made : Result Tree ManifestFault) (before after : Option Bytes) : Type 0 where
@@ -29,7 +29,7 @@ pub record HasBegunMaking (made : Result Tree ManifestFault) (before after : Opt
   pub is_made : made ≡ Ok tree
   pub image : Bytes
   pub holds : IsWrittenImageOf image tree
-  pub told : TellsBeginning image before after
+  pub written : TellsBeginning image before after
 
 -- a refusal stands in what is made, and then nothing was written; where a write failed, a beginning of the image was
 abbrev pub StandsInManifest : Result Tree ManifestFault → Option Bytes → Option Bytes → RunFault → Type 0

@@ -10,13 +10,13 @@ use Rattle.pv_trace.specs.Streams.{and_all, TellsBeginning}
 use Rattle.pv_images.specs.declared.migrating.MigrateStop.{MigrateStop}
 use Rattle.pv_images.specs.declared.migrating.MigrateStop.TheVariants.{Read, Refused, Write}
 
--- what was told grew by bytes that hold just the tree that comes of the old image
+-- what was written grew by bytes that hold just the tree that comes of the old image
 pub record HasMigrated (new : Result Tree MigrateFault) (before after : Option Bytes) : Type 0 where
   pub tree : Tree
   pub is_new : new ≡ Ok tree
   pub image : Bytes
   pub holds : IsWrittenImageOf image tree
-  pub told : after ≡ and_all before image
+  pub written : after ≡ and_all before image
 
 -- bytes that hold that tree were told up to somewhere
 pub record HasBegunMigrating (new : Result Tree MigrateFault) (before after : Option Bytes) : Type 0 where
@@ -24,7 +24,7 @@ pub record HasBegunMigrating (new : Result Tree MigrateFault) (before after : Op
   pub is_new : new ≡ Ok tree
   pub image : Bytes
   pub holds : IsWrittenImageOf image tree
-  pub told : TellsBeginning image before after
+  pub written : TellsBeginning image before after
 
 -- a refusal stands in the old image and the sizes, and then nothing was written; where a write failed, a beginning of the new image was
 abbrev pub StandsInOldImage : Result Tree MigrateFault → Option Bytes → Option Bytes → MigrateStop → Type 0

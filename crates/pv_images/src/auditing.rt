@@ -6,7 +6,7 @@ ghost use Rattle.pv_model.specs.Start.{image_started};
 ghost use Rattle.pv_model.specs.Stream.{Rose};
 ghost use Rattle.pv_run.specs.Streams.{GivesMoreThan};
 ghost use Rattle.pv_trace.specs.Streams.{and_all, TellsBeginning};
-ghost use Rattle.pv_images.specs.Auditing.{IsAuditStop, OnLeft, StandsInAudit, StandsInState, TellsAudit, TellsNothingUnlessStopped, WaitsOnlyIfUnwritten};
+ghost use Rattle.pv_images.specs.Auditing.{IsAuditStop, OnLeft, StandsInAudit, StandsInState, TellsAudit, TellsNothingUnlessStopped, BufferedOnlyIfUnwritten};
 ghost use Rattle.pv_images.specs.declared.auditing.AuditStop.TheVariants.{Machine as MachineStop, Path as PathStop, Write as WriteStop};
 
 use pv_listing::ListStop;
@@ -56,9 +56,9 @@ impl From<Failed> for AuditStop {
 // Writes the line of a verdict, and hands it on.
 #[tactic(auto, using(pv_trace::proofs::Streaming::begins_whole))]
 fn tell<W: Sink>(verdict: &Verdict, out: &mut W) -> Result<(), Failed>
-    ensures whole { OnOk result (W.told out.new ≡ and_all (W.told out.old) (verdict_line verdict.now)) }
-    ensures empty { OnOk result (W.waits out.new ≡ 0) }
-    ensures beginning { OnErr result (TellsBeginning (verdict_line verdict.now) (W.told out.old) (W.told out.new)) }
+    ensures whole { OnOk result (W.written out.new ≡ and_all (W.written out.old) (verdict_line verdict.now)) }
+    ensures empty { OnOk result (W.buffered out.new ≡ 0) }
+    ensures beginning { OnErr result (TellsBeginning (verdict_line verdict.now) (W.written out.old) (W.written out.new)) }
     ensures failed { OnErr result (Rose (W.failures out.old) (W.failures out.new)) }
 {
     write_verdict(out, verdict)?;
@@ -68,10 +68,10 @@ fn tell<W: Sink>(verdict: &Verdict, out: &mut W) -> Result<(), Failed>
 // Writes the report of a machine, and hands it on.
 #[tactic(auto, using(pv_trace::proofs::Streaming::begins_whole))]
 fn tell_all<W: Sink>(alloc: Global, session: &Session, out: &mut W) -> Result<(), ListStop>
-    ensures whole { OnOk result (W.told out.new ≡ and_all (W.told out.old) (report session.now)) }
-    ensures empty { OnOk result (W.waits out.new ≡ 0) }
-    ensures beginning { OnErr result (TellsBeginning (report session.now) (W.told out.old) (W.told out.new)) }
-    ensures stopped { result ≡ Err ListStop.Memory → W.waits out.new ≡ 0 }
+    ensures whole { OnOk result (W.written out.new ≡ and_all (W.written out.old) (report session.now)) }
+    ensures empty { OnOk result (W.buffered out.new ≡ 0) }
+    ensures beginning { OnErr result (TellsBeginning (report session.now) (W.written out.old) (W.written out.new)) }
+    ensures stopped { result ≡ Err ListStop.Memory → W.buffered out.new ≡ 0 }
     ensures failed { result ≡ Err ListStop.Write → Rose (W.failures out.old) (W.failures out.new) }
 {
     match write_report(alloc, session, out) {
@@ -94,10 +94,10 @@ fn audit_machine<W: Sink>(
     path: Option<&[u8]>,
     out: &mut W,
 ) -> Result<(), AuditStop>
-    ensures told { OnOk result (TellsAudit session.now (option_map (λ p. p.now) path.entry) (W.told out.old) (W.told out.new)) }
-    ensures empty { OnOk result (W.waits out.new ≡ 0) }
-    ensures refused { IfErr result (StandsInState session.now (option_map (λ p. p.now) path.entry) (W.told out.old) (W.told out.new)) }
-    ensures stopped { IfErr result (λ stop. W.waits out.old ≡ 0 → WaitsOnlyIfUnwritten stop (W.waits out.new)) }
+    ensures written { OnOk result (TellsAudit session.now (option_map (λ p. p.now) path.entry) (W.written out.old) (W.written out.new)) }
+    ensures empty { OnOk result (W.buffered out.new ≡ 0) }
+    ensures refused { IfErr result (StandsInState session.now (option_map (λ p. p.now) path.entry) (W.written out.old) (W.written out.new)) }
+    ensures stopped { IfErr result (λ stop. W.buffered out.old ≡ 0 → BufferedOnlyIfUnwritten stop (W.buffered out.new)) }
     ensures failed { result ≡ Err AuditStop.Write → Rose (W.failures out.old) (W.failures out.new) }
 {
     let Some(path) = path else {
@@ -117,7 +117,7 @@ fn audit_machine<W: Sink>(
 /// tells that of all files, a line for each name of one, in the order of a listing: the name's path, and what is found.
 ///
 /// The image and the schedule are read whole, and they are judged before a step is made. Where the answer is `Ok`, `out`
-/// has grown by just that text, and all of it was handed on. A path is walked from the root, following links, and judged
+/// has grown by just that text, and all of it was flushed. A path is walked from the root, following links, and judged
 /// by no table.
 ///
 /// # Errors
@@ -134,15 +134,15 @@ pub fn audit_image<I: Source, S: Source, W: Sink>(
     out: &mut W,
 ) -> Result<(), AuditStop>
     ensures audited { OnOk result (IfSome (I.remaining image.old) (λ bytes. IfSome (S.remaining schedule.old) (λ turns.
-        OnLeft (image_started bytes turns) (λ s. TellsAudit s (option_map (λ p. p.now) path.entry) (W.told out.old) (W.told out.new))))) }
+        OnLeft (image_started bytes turns) (λ s. TellsAudit s (option_map (λ p. p.now) path.entry) (W.written out.old) (W.written out.new))))) }
     ensures refused { IfErr result (λ stop. IfSome (I.remaining image.old) (λ bytes. IfSome (S.remaining schedule.old) (λ turns.
-        StandsInAudit (image_started bytes turns) (option_map (λ p. p.now) path.entry) (W.told out.old) (W.told out.new) stop))) }
+        StandsInAudit (image_started bytes turns) (option_map (λ p. p.now) path.entry) (W.written out.old) (W.written out.new) stop))) }
     ensures kind { IfErr result IsAuditStop }
 
-    // Nothing is written but the text, it is handed on, and a fault of reading or writing was counted.
-    ensures unwritten { IfErr result (TellsNothingUnlessStopped (W.told out.old) (W.told out.new)) }
-    ensures empty { OnOk result (W.waits out.new ≡ 0) }
-    ensures stopped { IfErr result (λ stop. W.waits out.old ≡ 0 → WaitsOnlyIfUnwritten stop (W.waits out.new)) }
+    // Nothing is written but the text, it is flushed, and a fault of reading or writing was counted.
+    ensures unwritten { IfErr result (TellsNothingUnlessStopped (W.written out.old) (W.written out.new)) }
+    ensures empty { OnOk result (W.buffered out.new ≡ 0) }
+    ensures stopped { IfErr result (λ stop. W.buffered out.old ≡ 0 → BufferedOnlyIfUnwritten stop (W.buffered out.new)) }
     ensures read { result ≡ Err (AuditStop.Machine RunFault.Read) → (Rose (I.failures image.old) (I.failures image.new) ⊎ GivesMoreThan SOURCE_BYTES (I.remaining image.old))
         ⊎ (Rose (S.failures schedule.old) (S.failures schedule.new) ⊎ GivesMoreThan SOURCE_BYTES (S.remaining schedule.old)) }
     ensures write { result ≡ Err AuditStop.Write → Rose (W.failures out.old) (W.failures out.new) }

@@ -3,7 +3,7 @@
 //! is found of the files that a run leaves.
 //!
 //! A clause sees the tree that bytes hold (`pv_model`'s `mounted`), the tree that a manifest makes (`tree_made`), what
-//! becomes of an old image's tree (`pv_migrate`'s `migrated`), and what sources give and sinks are told.
+//! becomes of an old image's tree (`pv_image`'s `migrated`), and what sources give and sinks are given.
 #![tactic(auto)]
 
 pub mod auditing;

@@ -5,11 +5,11 @@ ghost use Rattle.pv_model.specs.Mount.{mounted};
 ghost use Rattle.pv_model.specs.Stream.{Rose};
 ghost use Rattle.pv_run.specs.Streams.{GivesMoreThan};
 ghost use Rattle.pv_trace.specs.Streams.{and_all, TellsBeginning};
-ghost use Rattle.pv_images.specs.Listings.{HasListed, IsListFault, IsListingFault, IsReadOrWant, StandsInImage, TellsNothingUnlessBegun, WaitsOnlyIfUnlisted};
+ghost use Rattle.pv_images.specs.Listings.{HasListed, IsListFault, IsListingFault, IsReadOrWant, StandsInImage, TellsNothingUnlessBegun, BufferedOnlyIfUnlisted};
 
 use pv_listing::{ListStop, write_listing};
 use pv_model::{ListFault, RunFault, Sink, Source};
-use pv_mount::mount;
+use pv_image_mount::mount;
 use pv_run::stream::{SOURCE_BYTES, read_whole};
 use pv_tree::Tree;
 use std::alloc::Global;
@@ -30,10 +30,10 @@ fn read_image<S: Source>(alloc: Global, image: &mut S) -> Result<Vec<u8>, ListFa
 // Writes the listing of a tree, and hands it on.
 #[tactic(auto, using(pv_trace::proofs::Streaming::begins_whole))]
 fn write_all<W: Sink>(alloc: Global, tree: &Tree, out: &mut W) -> Result<(), ListStop>
-    ensures whole { OnOk result (W.told out.new ≡ and_all (W.told out.old) (listing tree.now.tree)) }
-    ensures empty { OnOk result (W.waits out.new ≡ 0) }
-    ensures beginning { OnErr result (TellsBeginning (listing tree.now.tree) (W.told out.old) (W.told out.new)) }
-    ensures stopped { result ≡ Err ListStop.Memory → W.waits out.new ≡ 0 }
+    ensures whole { OnOk result (W.written out.new ≡ and_all (W.written out.old) (listing tree.now.tree)) }
+    ensures empty { OnOk result (W.buffered out.new ≡ 0) }
+    ensures beginning { OnErr result (TellsBeginning (listing tree.now.tree) (W.written out.old) (W.written out.new)) }
+    ensures stopped { result ≡ Err ListStop.Memory → W.buffered out.new ≡ 0 }
     ensures failed { result ≡ Err ListStop.Write → Rose (W.failures out.old) (W.failures out.new) }
 {
     match write_listing(alloc, tree, out) {
@@ -51,13 +51,13 @@ fn write_all<W: Sink>(alloc: Global, tree: &Tree, out: &mut W) -> Result<(), Lis
 
 // Writes the listing of the tree that bytes hold.
 fn list_bytes<W: Sink>(alloc: Global, bytes: Vec<u8>, out: &mut W) -> Result<(), ListFault>
-    ensures listed { OnOk result (HasListed (mounted bytes.items) (W.told out.old) (W.told out.new)) }
-    ensures refused { IfErr result (StandsInImage (mounted bytes.items) (W.told out.old) (W.told out.new)) }
+    ensures listed { OnOk result (HasListed (mounted bytes.items) (W.written out.old) (W.written out.new)) }
+    ensures refused { IfErr result (StandsInImage (mounted bytes.items) (W.written out.old) (W.written out.new)) }
     ensures kind { IfErr result IsListingFault }
-    ensures unwritten { IfErr result (TellsNothingUnlessBegun (W.told out.old) (W.told out.new)) }
+    ensures unwritten { IfErr result (TellsNothingUnlessBegun (W.written out.old) (W.written out.new)) }
     ensures write { result ≡ Err ListFault.Write → Rose (W.failures out.old) (W.failures out.new) }
-    ensures empty { OnOk result (W.waits out.new ≡ 0) }
-    ensures stopped { IfErr result (λ fault. W.waits out.old ≡ 0 → WaitsOnlyIfUnlisted fault (W.waits out.new)) }
+    ensures empty { OnOk result (W.buffered out.new ≡ 0) }
+    ensures stopped { IfErr result (λ fault. W.buffered out.old ≡ 0 → BufferedOnlyIfUnlisted fault (W.buffered out.new)) }
 {
     let mut store = mount(alloc, bytes)?;
     store.sort_slots();
@@ -81,18 +81,18 @@ fn list_bytes<W: Sink>(alloc: Global, bytes: Vec<u8>, out: &mut W) -> Result<(),
 /// - `Memory`: memory was refused; `out` has grown by a beginning of the listing, or by nothing.
 /// - `Write`: a write failed; `out` has grown by a beginning of the listing.
 ///
-/// After each other fault nothing was written. What was written was handed on, but where a write failed.
+/// After each other fault nothing was written. What was written was flushed, but where a write failed.
 pub fn list<S: Source, W: Sink>(alloc: Global, image: &mut S, out: &mut W) -> Result<(), ListFault>
-    ensures listed { OnOk result (IfSome (S.remaining image.old) (λ bytes. HasListed (mounted bytes) (W.told out.old) (W.told out.new))) }
-    ensures refused { IfErr result (λ fault. IfSome (S.remaining image.old) (λ bytes. StandsInImage (mounted bytes) (W.told out.old) (W.told out.new) fault)) }
+    ensures listed { OnOk result (IfSome (S.remaining image.old) (λ bytes. HasListed (mounted bytes) (W.written out.old) (W.written out.new))) }
+    ensures refused { IfErr result (λ fault. IfSome (S.remaining image.old) (λ bytes. StandsInImage (mounted bytes) (W.written out.old) (W.written out.new) fault)) }
     ensures kind { IfErr result IsListFault }
 
     // Nothing is written but the listing, and a fault of reading or writing was counted.
-    ensures unwritten { IfErr result (TellsNothingUnlessBegun (W.told out.old) (W.told out.new)) }
+    ensures unwritten { IfErr result (TellsNothingUnlessBegun (W.written out.old) (W.written out.new)) }
     ensures read { result ≡ Err ListFault.Read → Rose (S.failures image.old) (S.failures image.new) ⊎ GivesMoreThan SOURCE_BYTES (S.remaining image.old) }
     ensures write { result ≡ Err ListFault.Write → Rose (W.failures out.old) (W.failures out.new) }
-    ensures empty { OnOk result (W.waits out.new ≡ 0) }
-    ensures stopped { IfErr result (λ fault. W.waits out.old ≡ 0 → WaitsOnlyIfUnlisted fault (W.waits out.new)) }
+    ensures empty { OnOk result (W.buffered out.new ≡ 0) }
+    ensures stopped { IfErr result (λ fault. W.buffered out.old ≡ 0 → BufferedOnlyIfUnlisted fault (W.buffered out.new)) }
 {
     let bytes = read_image(alloc, image)?;
     list_bytes(alloc, bytes, out)

@@ -4,7 +4,7 @@ ghost use Rattle.pv_model.specs.Stream.{Rose};
 ghost use Rattle.pv_run.specs.Streams.{GivesMoreThan};
 ghost use Rattle.pv_images.specs.Making.{HasMade, IsMakeFault, IsMakingFault, StandsInManifest, TellsNothingUnlessWritten, tree_made};
 
-use pv_image::{Manifest, build};
+use pv_image_manifest::{Manifest, build};
 use pv_model::{RunFault, Sink, Source};
 use pv_run::stream::{SOURCE_BYTES, read_whole};
 use pv_run::write_image;
@@ -13,12 +13,12 @@ use std::alloc::Global;
 // Writes the image of the manifest in bytes.
 fn make_from<W: Sink>(alloc: Global, bytes: &[u8], image: &mut W) -> Result<(), RunFault>
     requires { length bytes.now ≤ SOURCE_BYTES }
-    ensures made { OnOk result (HasMade (tree_made bytes.now) (W.told image.old) (W.told image.new)) }
-    ensures refused { IfErr result (StandsInManifest (tree_made bytes.now) (W.told image.old) (W.told image.new)) }
+    ensures made { OnOk result (HasMade (tree_made bytes.now) (W.written image.old) (W.written image.new)) }
+    ensures refused { IfErr result (StandsInManifest (tree_made bytes.now) (W.written image.old) (W.written image.new)) }
     ensures kind { IfErr result IsMakingFault }
-    ensures unwritten { IfErr result (TellsNothingUnlessWritten (W.told image.old) (W.told image.new)) }
+    ensures unwritten { IfErr result (TellsNothingUnlessWritten (W.written image.old) (W.written image.new)) }
     ensures write { result ≡ Err RunFault.WriteImage → Rose (W.failures image.old) (W.failures image.new) }
-    ensures handed { OnOk result (W.waits image.new ≡ 0) }
+    ensures flushed { OnOk result (W.buffered image.new ≡ 0) }
 {
     let manifest = Manifest::parse(alloc, bytes)?;
     let store = build(alloc, &manifest)?;
@@ -30,7 +30,7 @@ fn make_from<W: Sink>(alloc: Global, bytes: &[u8], image: &mut W) -> Result<(), 
 /// which all that no node uses is zero.
 ///
 /// The manifest is read whole, and it is judged before anything is written. Where the answer is `Ok`, `image` has grown
-/// by bytes that hold the manifest's tree, all of which were handed on.
+/// by bytes that hold the manifest's tree, all of which were flushed.
 ///
 /// # Errors
 ///
@@ -45,15 +45,15 @@ pub fn make_image<S: Source, W: Sink>(
     manifest: &mut S,
     image: &mut W,
 ) -> Result<(), RunFault>
-    ensures made { OnOk result (IfSome (S.remaining manifest.old) (λ bytes. HasMade (tree_made bytes) (W.told image.old) (W.told image.new))) }
-    ensures refused { IfErr result (λ fault. IfSome (S.remaining manifest.old) (λ bytes. StandsInManifest (tree_made bytes) (W.told image.old) (W.told image.new) fault)) }
+    ensures made { OnOk result (IfSome (S.remaining manifest.old) (λ bytes. HasMade (tree_made bytes) (W.written image.old) (W.written image.new))) }
+    ensures refused { IfErr result (λ fault. IfSome (S.remaining manifest.old) (λ bytes. StandsInManifest (tree_made bytes) (W.written image.old) (W.written image.new) fault)) }
     ensures kind { IfErr result IsMakeFault }
 
     // Nothing is written but the image, and a fault of reading or writing was counted.
-    ensures unwritten { IfErr result (TellsNothingUnlessWritten (W.told image.old) (W.told image.new)) }
+    ensures unwritten { IfErr result (TellsNothingUnlessWritten (W.written image.old) (W.written image.new)) }
     ensures read { result ≡ Err RunFault.Read → Rose (S.failures manifest.old) (S.failures manifest.new) ⊎ GivesMoreThan SOURCE_BYTES (S.remaining manifest.old) }
     ensures write { result ≡ Err RunFault.WriteImage → Rose (W.failures image.old) (W.failures image.new) }
-    ensures handed { OnOk result (W.waits image.new ≡ 0) }
+    ensures flushed { OnOk result (W.buffered image.new ≡ 0) }
 {
     let bytes = read_whole(alloc, manifest)?;
     make_from(alloc, &bytes, image)

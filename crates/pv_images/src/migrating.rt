@@ -1,11 +1,11 @@
 //! Images of version 2 from those of version 1.
 ghost use Rattle.std.specs.Prelude.{◌≡◌, ◌⊎◌, IfOk, IfErr, IfSome, OnOk, Err};
 ghost use Rattle.pv_model.specs.Stream.{Rose};
-ghost use Rattle.pv_migrate.specs.Migrated.{migrated};
+ghost use Rattle.pv_image.specs.Migrated.{migrated};
 ghost use Rattle.pv_run.specs.Streams.{GivesMoreThan};
 ghost use Rattle.pv_images.specs.Migrating.{HasMigrated, IsMigrateStop, IsMigratingStop, IsReadOrNoMemory, StandsInOldImage, TellsNothingUnlessBroken};
 
-use pv_migrate::{MigratingStop, migrate};
+use pv_image::{MigratingStop, migrate};
 use pv_model::{MigrateFault, RunFault, Sink, Source};
 use pv_run::stream::{SOURCE_BYTES, read_whole};
 use std::alloc::Global;
@@ -42,12 +42,12 @@ fn migrate_bytes<W: Sink>(
     inodes: u32,
     out: &mut W,
 ) -> Result<(), MigrateStop>
-    ensures migrated { OnOk result (HasMigrated (migrated bytes.items blocks inodes) (W.told out.old) (W.told out.new)) }
-    ensures refused { IfErr result (StandsInOldImage (migrated bytes.items blocks inodes) (W.told out.old) (W.told out.new)) }
+    ensures migrated { OnOk result (HasMigrated (migrated bytes.items blocks inodes) (W.written out.old) (W.written out.new)) }
+    ensures refused { IfErr result (StandsInOldImage (migrated bytes.items blocks inodes) (W.written out.old) (W.written out.new)) }
     ensures kind { IfErr result IsMigratingStop }
-    ensures unwritten { IfErr result (TellsNothingUnlessBroken (W.told out.old) (W.told out.new)) }
+    ensures unwritten { IfErr result (TellsNothingUnlessBroken (W.written out.old) (W.written out.new)) }
     ensures write { result ≡ Err MigrateStop.Write → Rose (W.failures out.old) (W.failures out.new) }
-    ensures handed { OnOk result (W.waits out.new ≡ 0) }
+    ensures flushed { OnOk result (W.buffered out.new ≡ 0) }
 {
     match migrate(alloc, bytes, blocks, inodes, out) {
         Ok(()) => Ok(()),
@@ -60,7 +60,7 @@ fn migrate_bytes<W: Sink>(
 /// holds. Each node keeps its number, and what none uses is zero.
 ///
 /// The image is read whole, and it and the sizes are judged before anything is written. Where the answer is `Ok`, `out`
-/// has grown by bytes that hold just that tree, all of which were handed on.
+/// has grown by bytes that hold just that tree, all of which were flushed.
 ///
 /// # Errors
 ///
@@ -77,15 +77,15 @@ pub fn migrate_image<S: Source, W: Sink>(
     inodes: u32,
     out: &mut W,
 ) -> Result<(), MigrateStop>
-    ensures migrated { OnOk result (IfSome (S.remaining image.old) (λ bytes. HasMigrated (migrated bytes blocks inodes) (W.told out.old) (W.told out.new))) }
-    ensures refused { IfErr result (λ stop. IfSome (S.remaining image.old) (λ bytes. StandsInOldImage (migrated bytes blocks inodes) (W.told out.old) (W.told out.new) stop)) }
+    ensures migrated { OnOk result (IfSome (S.remaining image.old) (λ bytes. HasMigrated (migrated bytes blocks inodes) (W.written out.old) (W.written out.new))) }
+    ensures refused { IfErr result (λ stop. IfSome (S.remaining image.old) (λ bytes. StandsInOldImage (migrated bytes blocks inodes) (W.written out.old) (W.written out.new) stop)) }
     ensures kind { IfErr result IsMigrateStop }
 
     // Nothing is written but the image, and a fault of reading or writing was counted.
-    ensures unwritten { IfErr result (TellsNothingUnlessBroken (W.told out.old) (W.told out.new)) }
+    ensures unwritten { IfErr result (TellsNothingUnlessBroken (W.written out.old) (W.written out.new)) }
     ensures read { result ≡ Err MigrateStop.Read → Rose (S.failures image.old) (S.failures image.new) ⊎ GivesMoreThan SOURCE_BYTES (S.remaining image.old) }
     ensures write { result ≡ Err MigrateStop.Write → Rose (W.failures out.old) (W.failures out.new) }
-    ensures handed { OnOk result (W.waits out.new ≡ 0) }
+    ensures flushed { OnOk result (W.buffered out.new ≡ 0) }
 {
     let bytes = read_image(alloc, image)?;
     migrate_bytes(alloc, bytes, blocks, inodes, out)

@@ -152,7 +152,7 @@ module _ (version : Version) (st mid : BlockStore) (inodes s size : ℕ) (xs : B
   owned_stays : (t i : ℕ) → t < inodes → i < changed (owned_count version st.blocks) s (wanted size) t → owned_at version (with_size version mid.blocks s size) t i ≡ owned_at version mid.blocks t i
   owned_stays t i below_t in_range = owned_at-same version mid.blocks (with_size version mid.blocks s size) t i
       (pointer_stays t (pointer_of i) (pointer_of-few version i (omega (arith, ready.owning.few t below_t))))
-      (λ behind. data_stays (pointer_at version mid.blocks t (pointer_of i)) (rw (index-is version mid.blocks t i) (ready.owning.from t (index_of i) below_t (omega arith))))
+      (λ following. data_stays (pointer_at version mid.blocks t (pointer_of i)) (rw (index-is version mid.blocks t i) (ready.owning.from t (index_of i) below_t (omega arith))))
 
   kinds_after : (t : ℕ) → t < inodes → kind_at version (with_size version mid.blocks s size) t ≡ kind_at version st.blocks t
   kinds_after t below_t = elim (cases_eq t s) [

@@ -29,8 +29,8 @@ module _ (old : Bytes) (size : ℕ) (longer : length old ≤ size) where
   pub get_or-resize_front : (x : ℕ) → x < length old → get_or (resize old size) x 0 ≡ get_or old x 0
   get_or-resize_front x within = ap (λ (xs : Bytes). get_or xs x 0) resize-longer ∙ get_or_append_left old (replicate (size - length old) 0) 0 x within
 
-  pub get_or-resize_behind : (x : ℕ) → length old ≤ x → x < size → get_or (resize old size) x 0 ≡ 0
-  get_or-resize_behind x from within =
+  pub get_or-resize_after : (x : ℕ) → length old ≤ x → x < size → get_or (resize old size) x 0 ≡ 0
+  get_or-resize_after x from within =
       ap (λ (xs : Bytes). get_or xs x 0) resize-longer
       ∙ get_or-append_right old (replicate (size - length old) 0) (length old) x 0 refl from
       ∙ get_or-replicate {A = ℕ} (size - length old) (x - length old) 0 0 (omega arith)
@@ -69,17 +69,17 @@ resize-resize old m n longer more =
           get_or-resize_front (resize old m) n fits k (rw length_m below_m)
           ∙ elim (cases_lt k (length old)) [
             | inl inside ↦ get_or-resize_front old m longer k inside ∙ sym (get_or-resize_front old n (omega arith) k inside)
-            | inr behind ↦ get_or-resize_behind old m longer k behind below_m ∙ sym (get_or-resize_behind old n (omega arith) k behind (omega arith))
+            | inr following ↦ get_or-resize_after old m longer k following below_m ∙ sym (get_or-resize_after old n (omega arith) k following (omega arith))
           ]
       | inr above_m ↦
-          get_or-resize_behind (resize old m) n fits k (rw length_m above_m) (omega arith)
-          ∙ sym (get_or-resize_behind old n (omega arith) k (omega arith) (omega arith))
+          get_or-resize_after (resize old m) n fits k (rw length_m above_m) (omega arith)
+          ∙ sym (get_or-resize_after old n (omega arith) k (omega arith) (omega arith))
     ])
 
 pub length-overwrite : (old : Bytes) (at : ℕ) (new : Bytes) → at + length new ≤ length old → length (overwrite old at new) ≡ length old
 length-overwrite old at new fits = ap length (overwrite-over old at new (omega arith)) ∙ length-over old at new fits
 
--- to write bytes, and others behind them, is to write both
+-- to write bytes, and others after them, is to write both
 over-over : (old : Bytes) (at m n : ℕ) (xs ys : Bytes) → m ≡ length xs → n ≡ length ys → at ≤ length old → over (over old at xs) (at + m) ys ≡ over old at (xs ++ ys)
 over-over old at m n xs ys long_xs long_ys within =
     let long_both : m + n ≡ length (xs ++ ys) = omega (arith, length-append xs ys) in
@@ -114,10 +114,10 @@ module _ (old : Bytes) (at : ℕ) (new : Bytes) where
       let less : k < at = rw length_left at below in
       get_or-take at (old ++ replicate m 0) k 0 less ∙ elim (cases_lt k (length old)) [
         | inl inside ↦ get_or_append_left old (replicate m 0) 0 k inside ∙ sym (get_or_append_left old (replicate (at - length old) 0) 0 k inside)
-        | inr behind ↦
-            get_or-append_right old (replicate m 0) (length old) k 0 refl behind
+        | inr following ↦
+            get_or-append_right old (replicate m 0) (length old) k 0 refl following
             ∙ get_or-replicate {A = ℕ} m (k - length old) 0 0 (omega arith)
-            ∙ sym (get_or-append_right old (replicate (at - length old) 0) (length old) k 0 refl behind ∙ get_or-replicate {A = ℕ} (at - length old) (k - length old) 0 0 (omega arith))
+            ∙ sym (get_or-append_right old (replicate (at - length old) 0) (length old) k 0 refl following ∙ get_or-replicate {A = ℕ} (at - length old) (k - length old) 0 0 (omega arith))
       ] ∙ sym (get_or-take at (old ++ replicate (at - length old) 0) k 0 less))
 
   pub overwrite-resized : overwrite (resize old (max (length old) (at + length new))) at new ≡ overwrite old at new
@@ -127,9 +127,9 @@ module _ (old : Bytes) (at : ℕ) (new : Bytes) where
         let length_resized = length-resize old (at + length new) in
         let fits : at ≤ length (resize old (at + length new)) = omega arith in
         let nothing_left : drop (at + length new) old ≡ [] = drop_all (at + length new) old (omega arith) in
-        let nothing_behind : drop (at + length new) (resize old (at + length new)) ≡ [] = drop_all (at + length new) (resize old (at + length new)) (omega arith) in
+        let nothing_after : drop (at + length new) (resize old (at + length new)) ≡ [] = drop_all (at + length new) (resize old (at + length new)) (omega arith) in
         rw size (overwrite-over (resize old (at + length new)) at new fits)
-        ∙ ap (λ (xs : Bytes). take at (resize old (at + length new)) ++ (new ++ xs)) nothing_behind
+        ∙ ap (λ (xs : Bytes). take at (resize old (at + length new)) ++ (new ++ xs)) nothing_after
         ∙ ap (λ (xs : Bytes). take at xs ++ (new ++ [])) (resize-longer old (at + length new) (omega arith))
         ∙ ap (λ (xs : Bytes). xs ++ (new ++ [])) (front_zeros (at + length new - length old) (omega arith))
         ∙ sym (append_assoc (take at (old ++ replicate (at - length old) 0)) new (drop (at + length new) old) ∙ ap (λ (xs : Bytes). take at (old ++ replicate (at - length old) 0) ++ (new ++ xs)) nothing_left)

@@ -26,15 +26,15 @@ module _ (count : ℕ → ℕ) (s i : ℕ) where
   so_far-here : so_far count s i s ≡ i
   so_far-here = rw (le-ltb s s (omega arith), eq-eqb s s refl) refl
 
-  so_far-behind : (t : ℕ) → s < t → so_far count s i t ≡ 0
-  so_far-behind t behind = rw (le-ltb t s (omega arith), ne_eqb t s (λ e. omega arith)) refl
+  so_far-following : (t : ℕ) → s < t → so_far count s i t ≡ 0
+  so_far-following t following = rw (le-ltb t s (omega arith), ne_eqb t s (λ e. omega arith)) refl
 
 -- one block more
 so_far-more : (count : ℕ → ℕ) (s i t : ℕ) → so_far count s (suc i) t ≡ changed (so_far count s i) s (suc (so_far count s i s)) t
 so_far-more count s i t = elim (cases_order t s) [
   | inl here ↦ rw here (so_far-here count s (suc i) ∙ sym (changed-same (so_far count s i) s (suc (so_far count s i s)) ∙ ap suc (so_far-here count s i)))
   | inr (inl before) ↦ so_far-before count s (suc i) t before ∙ sym (changed-other (so_far count s i) s (suc (so_far count s i s)) t (λ e. omega arith) ∙ so_far-before count s i t before)
-  | inr (inr behind) ↦ so_far-behind count s (suc i) t behind ∙ sym (changed-other (so_far count s i) s (suc (so_far count s i s)) t (λ e. omega arith) ∙ so_far-behind count s i t behind)
+  | inr (inr following) ↦ so_far-following count s (suc i) t following ∙ sym (changed-other (so_far count s i) s (suc (so_far count s i s)) t (λ e. omega arith) ∙ so_far-following count s i t following)
 ]
 
 -- an inode has all
@@ -42,9 +42,9 @@ so_far-next : (count : ℕ → ℕ) (s t : ℕ) → so_far count (suc s) 0 t ≡
 so_far-next count s t = elim (cases_order t s) [
   | inl here ↦ rw here (so_far-before count (suc s) 0 s (omega arith) ∙ sym (so_far-here count s (count s)))
   | inr (inl before) ↦ so_far-before count (suc s) 0 t (omega arith) ∙ sym (so_far-before count s (count s) t before)
-  | inr (inr behind) ↦ elim (cases_eq t (suc s)) [
-    | inl next ↦ rw next (so_far-here count (suc s) 0 ∙ sym (so_far-behind count s (count s) (suc s) (omega arith)))
-    | inr far ↦ so_far-behind count (suc s) 0 t (omega arith) ∙ sym (so_far-behind count s (count s) t behind)
+  | inr (inr following) ↦ elim (cases_eq t (suc s)) [
+    | inl next ↦ rw next (so_far-here count (suc s) 0 ∙ sym (so_far-following count s (count s) (suc s) (omega arith)))
+    | inr far ↦ so_far-following count (suc s) 0 t (omega arith) ∙ sym (so_far-following count s (count s) t following)
   ]
 ]
 
@@ -72,7 +72,7 @@ module _ (v : Version) (bs : List Bytes) (inodes first : ℕ) (may : MayOwn v bs
   to_own t j few below in_row = elim (cases_order t s) [
     | inl here ↦ let counts : count t ≡ count s = ap count here in let so : so_far count s i t ≡ i = ap (so_far count s i) here ∙ so_far-here count s i in omega arith
     | inr (inl before) ↦ omega (arith, so_far-before count s i t before)
-    | inr (inr behind) ↦ absurd (omega (arith, so_far-behind count s i t behind))
+    | inr (inr following) ↦ absurd (omega (arith, so_far-following count s i t following))
   ]
 
   module _ (below : s < inodes) (more : i < count s) where
@@ -119,7 +119,7 @@ module _ (v : Version) (bs : List Bytes) (inodes first : ℕ) (may : MayOwn v bs
         still t j in_row = elim (cases_order t s) [
           | inl same ↦ omega (arith, in_row, ap (so_far count s i) same, so_far-here count s i, ap (so_far count s (suc i)) same, so_far-here count s (suc i))
           | inr (inl before) ↦ omega (arith, so_far-before count s i t before, so_far-before count s (suc i) t before)
-          | inr (inr behind) ↦ absurd (omega (arith, so_far-behind count s i t behind))
+          | inr (inr following) ↦ absurd (omega (arith, so_far-following count s i t following))
         ]
 
   pub claimed_next : i ≡ count s → IsClaimed v bs inodes first free (suc s) 0
@@ -148,7 +148,7 @@ claimed_none v bs inodes first used fits none =
     let nothing : (t : ℕ) → so_far (owned_count v bs) 0 0 t ≡ 0 = λ t. elim (cases_order t 0) [
       | inl here ↦ rw here (so_far-here (owned_count v bs) 0 0)
       | inr (inl before) ↦ absurd (omega arith)
-      | inr (inr behind) ↦ so_far-behind (owned_count v bs) 0 0 t behind
+      | inr (inr following) ↦ so_far-following (owned_count v bs) 0 0 t following
     ] in
     record {
       flags = long;

@@ -13,7 +13,7 @@ use Rattle.pv_inodes.specs.Layout.{block_at, splice, kind_at, size_at, pointer_a
 use Rattle.pv_inodes.specs.Owning.{changed, IsOwning}
 use Rattle.pv_inodes.specs.Sound.{IsShaped, IsSound, patched, pushed}
 use Rattle.pv_inodes.proofs.Becoming.{Becomes, Ready}
-use Rattle.pv_inodes.proofs.Bytes.{overwrite-over, length-resize_longer, get_or-resize_front, get_or-resize_behind, length-resize_shorter, get_or-resize_shorter}
+use Rattle.pv_inodes.proofs.Bytes.{overwrite-over, length-resize_longer, get_or-resize_front, get_or-resize_after, length-resize_shorter, get_or-resize_shorter}
 use Rattle.pv_inodes.proofs.Contents.{wanted-same, place_of-content, place_of-needed, owned_count-used, owned_count-same, content_byte-same, length-content_at, get_or-content_at}
 use Rattle.pv_inodes.proofs.Ownership.{changed-same, changed-other, owning-same, owning-give}
 use Rattle.pv_inodes.proofs.Patches.{owned_patched, kinds_patched, sizes_patched, blocks_patched, shape_patched, byte_inside, byte_outside}
@@ -47,7 +47,7 @@ module _ (version : Version) (st : BlockStore) (inodes s : ℕ) (sound : IsSound
   long_is : length (content_at version st.blocks s) ≡ size_at version st.blocks s
   long_is = length-content_at version st.blocks s
 
--- zeros are written behind the content, in its last block
+-- zeros are written after the content, in its last block
 module _ (version : Version) (st : BlockStore) (inodes s : ℕ) (sound : IsSound version st inodes) (below : s < inodes) (used : 0 < kind_at version st.blocks s) (k v at : ℕ) (new : Bytes) (longer : size_at version st.blocks s ≤ v) (within : v ≤ 512 * (size_at version st.blocks s / 512 + 1)) (partly : 0 < size_at version st.blocks s % 512) (at_is : at ≡ size_at version st.blocks s % 512) (is_owned : k ≡ owned_at version st.blocks s (place_of (size_at version st.blocks s / 512))) (long : length new ≡ v - size_at version st.blocks s) (none : (x : ℕ) → get_or new x 0 ≡ 0) where
   range_within : place_of (size_at version st.blocks s / 512) < owned_count version st.blocks s
   range_within =
@@ -70,10 +70,10 @@ module _ (version : Version) (st : BlockStore) (inodes s : ℕ) (sound : IsSound
             let place : place_of (x / 512) < owned_count version st.blocks s = rw (count_is version st inodes s sound below used) (place_of-needed (size_at version st.blocks s) x before) in
             byte_outside version st inodes s (size_at version st.blocks s / 512) k at new sound below range_within is_owned fits_within x place (inl (rw start before))
             ∙ sym (get_or-resize_front (content_at version st.blocks s) v longer_content x (rw size_is before) ∙ get_or-content_at version st.blocks s x before)
-        | inr behind ↦
-            byte_inside version st inodes s (size_at version st.blocks s / 512) k at new sound below range_within is_owned fits_within x (rw start behind) (rw (start, long) (omega arith))
+        | inr following ↦
+            byte_inside version st inodes s (size_at version st.blocks s / 512) k at new sound below range_within is_owned fits_within x (rw start following) (rw (start, long) (omega arith))
             ∙ none (x - (512 * (size_at version st.blocks s / 512) + at))
-            ∙ sym (get_or-resize_behind (content_at version st.blocks s) v longer_content x (rw size_is behind) in_range)
+            ∙ sym (get_or-resize_after (content_at version st.blocks s) v longer_content x (rw size_is following) in_range)
       ]
 
   pub ready_within : Ready version st (patched st k at new) inodes s v (resize (content_at version st.blocks s) v)
@@ -121,9 +121,9 @@ module _ (version : Version) (st : BlockStore) (inodes s : ℕ) (sound : IsSound
               byte_inside version st inodes s (start / 512) k at new sound below range_written is_owned fits x (rw start_is from) (rw start_is inside)
               ∙ ap (λ p. get_or new (x - p) 0) start_is
               ∙ sym (rw back at (get_or-over_within (content_at version st.blocks s) start new room (x - start) (omega arith)))
-          | inr behind ↦
-              byte_outside version st inodes s (start / 512) k at new sound below range_written is_owned fits x place_x (inr (rw start_is behind))
-              ∙ sym (get_or-over_above (content_at version st.blocks s) start new room x behind ∙ get_or-content_at version st.blocks s x in_range)
+          | inr following ↦
+              byte_outside version st inodes s (start / 512) k at new sound below range_written is_owned fits x place_x (inr (rw start_is following))
+              ∙ sym (get_or-over_above (content_at version st.blocks s) start new room x following ∙ get_or-content_at version st.blocks s x in_range)
         ]
       ]
 
@@ -222,10 +222,10 @@ module _ (version : Version) (st mid : BlockStore) (inodes s v last : ℕ) (soun
             let place : place_of (x / 512) < owned_count version st.blocks s = rw (count_is version st inodes s sound below used) (place_of-needed (size_at version st.blocks s) x before) in
             content_byte-same version st.blocks mid.blocks s x (extended.owned s (place_of (x / 512)) below place) (extended.blocks s (place_of (x / 512)) below place (place_of-content (x / 512)))
             ∙ sym (get_or-resize_front (content_at version st.blocks s) v longer_content x (rw size_is before) ∙ get_or-content_at version st.blocks s x before)
-        | inr behind ↦
+        | inr following ↦
             let block : x / 512 ≡ size_at version st.blocks s / 512 = omega arith in
             rw (block, ← last_is, extended.cleared) (get_or-replicate {A = ℕ} 512 (x % 512) 0 0 (omega arith))
-            ∙ sym (get_or-resize_behind (content_at version st.blocks s) v longer_content x (rw size_is behind) in_range)
+            ∙ sym (get_or-resize_after (content_at version st.blocks s) v longer_content x (rw size_is following) in_range)
       ]
 
   pub ready_extended : Ready version st mid inodes s v (resize (content_at version st.blocks s) v)

@@ -6,7 +6,7 @@ use Rattle.byteorder.specs.Numbers.{length-bytes_low_first}
 use Rattle.pv_model.specs.declared.version.Version.{Version}
 use Rattle.pv_model.specs.Bytes.{Bytes}
 use Rattle.pv_model.specs.Image.{inode_length}
-use Rattle.pv_inodes.specs.Layout.{block_at, number, splice, home, offset, kind_at, size_at, pointer_at, owned_at, with_kind, with_size, with_owned, pointer_count, most_owned, behind_index, pointer_of}
+use Rattle.pv_inodes.specs.Layout.{block_at, number, splice, home, offset, kind_at, size_at, pointer_at, owned_at, with_kind, with_size, with_owned, pointer_count, most_owned, after_index, pointer_of}
 use Rattle.pv_inodes.proofs.Layouts.{pointers-fit, inode-fits, offset-apart, pointer_of-few, index_of, index_of-direct, pointer_of-index}
 use Rattle.pv_inodes.proofs.Splices.{number-same, block_at-splice_other, number-splice_other, number-splice_below, number-splice_above, number-splice_same, number-splice_byte, length-splice, length-block_splice}
 
@@ -26,11 +26,11 @@ same_head version bs cs t same = record {
 }
 
 -- and its i-th block is, where the pointer to it is the same, and its index block
-pub owned_at-same : (version : Version) (bs cs : List Bytes) (t i : ℕ) → pointer_at version cs t (pointer_of i) ≡ pointer_at version bs t (pointer_of i) → (behind_index i ≢ 0 → block_at cs (pointer_at version bs t (pointer_of i)) ≡ block_at bs (pointer_at version bs t (pointer_of i))) → owned_at version cs t i ≡ owned_at version bs t i
+pub owned_at-same : (version : Version) (bs cs : List Bytes) (t i : ℕ) → pointer_at version cs t (pointer_of i) ≡ pointer_at version bs t (pointer_of i) → (after_index i ≢ 0 → block_at cs (pointer_at version bs t (pointer_of i)) ≡ block_at bs (pointer_at version bs t (pointer_of i))) → owned_at version cs t i ≡ owned_at version bs t i
 unfolding owned_at
-owned_at-same version bs cs t i pointer index = elim (cases_eq (behind_index i) 0) [
-  | inl direct ↦ rw (eq-eqb (behind_index i) 0 direct) pointer
-  | inr behind ↦ rw (ne_eqb (behind_index i) 0 behind, pointer) (number-same cs bs (pointer_at version bs t (pointer_of i)) (2 * (behind_index i - 1)) 2 (index behind))
+owned_at-same version bs cs t i pointer index = elim (cases_eq (after_index i) 0) [
+  | inl direct ↦ rw (eq-eqb (after_index i) 0 direct) pointer
+  | inr following ↦ rw (ne_eqb (after_index i) 0 following, pointer) (number-same cs bs (pointer_at version bs t (pointer_of i)) (2 * (after_index i - 1)) 2 (index following))
 ]
 
 -- a write into inode s, from byte a of it on
@@ -42,7 +42,7 @@ module _ (version : Version) (bs : List Bytes) (s a : ℕ) (new : Bytes) (within
   field-other t b n differs in_range = elim (cases_eq (home version t) (home version s)) [
     | inl same ↦ rw same (elim (offset-apart version t s differs same) [
       | inl before ↦ number-splice_below bs (home version s) (offset version s + a) new within fits (offset version t + b) n (omega arith)
-      | inr behind ↦ number-splice_above bs (home version s) (offset version s + a) new within fits (offset version t + b) n (omega arith)
+      | inr following ↦ number-splice_above bs (home version s) (offset version s + a) new within fits (offset version t + b) n (omega arith)
     ])
     | inr other ↦ number-splice_other bs (home version s) (offset version s + a) new (home version t) (offset version t + b) n other
   ]
@@ -50,8 +50,8 @@ module _ (version : Version) (bs : List Bytes) (s a : ℕ) (new : Bytes) (within
   field-before : (b n : ℕ) → b + n ≤ a → number (splice bs (home version s) (offset version s + a) new) (home version s) (offset version s + b) n ≡ number bs (home version s) (offset version s + b) n
   field-before b n before = number-splice_below bs (home version s) (offset version s + a) new within fits (offset version s + b) n (omega arith)
 
-  field-behind : (b n : ℕ) → a + length new ≤ b → number (splice bs (home version s) (offset version s + a) new) (home version s) (offset version s + b) n ≡ number bs (home version s) (offset version s + b) n
-  field-behind b n behind = number-splice_above bs (home version s) (offset version s + a) new within fits (offset version s + b) n (omega arith)
+  field-following : (b n : ℕ) → a + length new ≤ b → number (splice bs (home version s) (offset version s + a) new) (home version s) (offset version s + b) n ≡ number bs (home version s) (offset version s + b) n
+  field-following b n following = number-splice_above bs (home version s) (offset version s + a) new within fits (offset version s + b) n (omega arith)
 
   pub head-other : (t : ℕ) → t ≢ s → SameHead version bs (splice bs (home version s) (offset version s + a) new) t
   unfolding kind_at size_at pointer_at
@@ -68,31 +68,31 @@ module _ (version : Version) (bs : List Bytes) (s a : ℕ) (new : Bytes) (within
 
   pub kind-same : 1 ≤ a → kind_at version (splice bs (home version s) (offset version s + a) new) s ≡ kind_at version bs s
   unfolding kind_at
-  kind-same behind =
+  kind-same following =
       let at_start : offset version s + 0 ≡ offset version s = omega arith in
-      rw at_start at (field-before 0 1 behind)
+      rw at_start at (field-before 0 1 following)
 
   pub size-same : (8 ≤ a) ⊎ (a + length new ≤ 4) → size_at version (splice bs (home version s) (offset version s + a) new) s ≡ size_at version bs s
   unfolding size_at
-  size-same aside = elim aside [ inl behind ↦ field-before 4 4 behind | inr before ↦ field-behind 4 4 before ]
+  size-same aside = elim aside [ inl following ↦ field-before 4 4 following | inr before ↦ field-following 4 4 before ]
 
   pub direct-same : (i : ℕ) → (8 + 2 * i + 2 ≤ a) ⊎ (a + length new ≤ 8 + 2 * i) → pointer_at version (splice bs (home version s) (offset version s + a) new) s i ≡ pointer_at version bs s i
   unfolding pointer_at
   direct-same i aside =
       let place : offset version s + (8 + 2 * i) ≡ offset version s + 8 + 2 * i = omega arith in
       elim aside [
-        | inl behind ↦ rw place at (field-before (8 + 2 * i) 2 (omega arith))
-        | inr before ↦ rw place at (field-behind (8 + 2 * i) 2 before)
+        | inl following ↦ rw place at (field-before (8 + 2 * i) 2 (omega arith))
+        | inr before ↦ rw place at (field-following (8 + 2 * i) 2 before)
       ]
 
 -- the pointers in the inode, and those in the index block
-pub owned_at-direct : (version : Version) (bs : List Bytes) (t i : ℕ) → behind_index i ≡ 0 → owned_at version bs t i ≡ pointer_at version bs t (pointer_of i)
+pub owned_at-direct : (version : Version) (bs : List Bytes) (t i : ℕ) → after_index i ≡ 0 → owned_at version bs t i ≡ pointer_at version bs t (pointer_of i)
 unfolding owned_at
-owned_at-direct version bs t i direct = rw (eq-eqb (behind_index i) 0 direct) refl
+owned_at-direct version bs t i direct = rw (eq-eqb (after_index i) 0 direct) refl
 
-pub owned_at-entry : (version : Version) (bs : List Bytes) (t i : ℕ) → behind_index i ≢ 0 → owned_at version bs t i ≡ number bs (pointer_at version bs t (pointer_of i)) (2 * (behind_index i - 1)) 2
+pub owned_at-entry : (version : Version) (bs : List Bytes) (t i : ℕ) → after_index i ≢ 0 → owned_at version bs t i ≡ number bs (pointer_at version bs t (pointer_of i)) (2 * (after_index i - 1)) 2
 unfolding owned_at
-owned_at-entry version bs t i behind = rw (ne_eqb (behind_index i) 0 behind) refl
+owned_at-entry version bs t i following = rw (ne_eqb (after_index i) 0 following) refl
 
 -- the index block that points to the i-th block
 pub index-is : (version : Version) (bs : List Bytes) (t i : ℕ) → pointer_at version bs t (pointer_of i) ≡ owned_at version bs t (index_of i)
@@ -166,7 +166,7 @@ module _ (version : Version) (bs : List Bytes) (s kind : ℕ) (within : home ver
   length-block_with_kind = length-block_splice bs (home version s) (offset version s) (kind ∷ []) within (omega (arith, inode-fits version s, pointers-fit version)) ∙ whole
 
 -- a pointer in the inode
-module _ (version : Version) (bs : List Bytes) (s i k : ℕ) (within : home version s < length bs) (whole : length (block_at bs (home version s)) ≡ 512) (direct : behind_index i ≡ 0) (last : i < most_owned version) (small : k < 2 ^ 16) where
+module _ (version : Version) (bs : List Bytes) (s i k : ℕ) (within : home version s < length bs) (whole : length (block_at bs (home version s)) ≡ 512) (direct : after_index i ≡ 0) (last : i < most_owned version) (small : k < 2 ^ 16) where
   pointer : List Bytes
   pointer = splice bs (home version s) (offset version s + (8 + 2 * pointer_of i)) (little_bytes 2 k)
 
@@ -180,7 +180,7 @@ module _ (version : Version) (bs : List Bytes) (s i k : ℕ) (within : home vers
   unfolding with_owned pointer
   with_owned-direct =
       let place : offset version s + 8 + 2 * pointer_of i ≡ offset version s + (8 + 2 * pointer_of i) = omega arith in
-      rw (eq-eqb (behind_index i) 0 direct, place) refl
+      rw (eq-eqb (after_index i) 0 direct, place) refl
 
   pub pointer_at-with_direct_same : pointer_at version (with_owned version bs s i k) s (pointer_of i) ≡ k
   unfolding pointer_at pointer
@@ -217,38 +217,38 @@ module _ (version : Version) (bs : List Bytes) (s i k : ℕ) (within : home vers
 
 pub length-with_owned : (version : Version) (bs : List Bytes) (s i k : ℕ) → length (with_owned version bs s i k) ≡ length bs
 unfolding with_owned
-length-with_owned version bs s i k = elim (cases_eq (behind_index i) 0) [
-  | inl direct ↦ rw (eq-eqb (behind_index i) 0 direct) (length-splice bs (home version s) (offset version s + 8 + 2 * pointer_of i) (little_bytes 2 k))
-  | inr behind ↦ rw (ne_eqb (behind_index i) 0 behind) (length-splice bs (pointer_at version bs s (pointer_of i)) (2 * (behind_index i - 1)) (little_bytes 2 k))
+length-with_owned version bs s i k = elim (cases_eq (after_index i) 0) [
+  | inl direct ↦ rw (eq-eqb (after_index i) 0 direct) (length-splice bs (home version s) (offset version s + 8 + 2 * pointer_of i) (little_bytes 2 k))
+  | inr following ↦ rw (ne_eqb (after_index i) 0 following) (length-splice bs (pointer_at version bs s (pointer_of i)) (2 * (after_index i - 1)) (little_bytes 2 k))
 ]
 
 -- a pointer in an index block
-module _ (version : Version) (bs : List Bytes) (s i k : ℕ) (within : pointer_at version bs s (pointer_of i) < length bs) (whole : length (block_at bs (pointer_at version bs s (pointer_of i))) ≡ 512) (behind : behind_index i ≢ 0) (small : k < 2 ^ 16) where
+module _ (version : Version) (bs : List Bytes) (s i k : ℕ) (within : pointer_at version bs s (pointer_of i) < length bs) (whole : length (block_at bs (pointer_at version bs s (pointer_of i))) ≡ 512) (following : after_index i ≢ 0) (small : k < 2 ^ 16) where
   entry : List Bytes
-  entry = splice bs (pointer_at version bs s (pointer_of i)) (2 * (behind_index i - 1)) (little_bytes 2 k)
+  entry = splice bs (pointer_at version bs s (pointer_of i)) (2 * (after_index i - 1)) (little_bytes 2 k)
 
   pair : length (little_bytes 2 k) ≡ 2
   pair = length-bytes_low_first 0 2 k
 
   with_owned-entry : with_owned version bs s i k ≡ entry
   unfolding with_owned entry
-  with_owned-entry = rw (ne_eqb (behind_index i) 0 behind) refl
+  with_owned-entry = rw (ne_eqb (after_index i) 0 following) refl
 
   pub block_at-with_entry : (y : ℕ) → y ≢ pointer_at version bs s (pointer_of i) → block_at (with_owned version bs s i k) y ≡ block_at bs y
   unfolding entry
-  block_at-with_entry y other = rw with_owned-entry (block_at-splice_other bs (pointer_at version bs s (pointer_of i)) (2 * (behind_index i - 1)) (little_bytes 2 k) y other)
+  block_at-with_entry y other = rw with_owned-entry (block_at-splice_other bs (pointer_at version bs s (pointer_of i)) (2 * (after_index i - 1)) (little_bytes 2 k) y other)
 
   pub length-block_with_entry : length (block_at (with_owned version bs s i k) (pointer_at version bs s (pointer_of i))) ≡ 512
   unfolding entry
-  length-block_with_entry = rw with_owned-entry (length-block_splice bs (pointer_at version bs s (pointer_of i)) (2 * (behind_index i - 1)) (little_bytes 2 k) within (omega (arith, pair)) ∙ whole)
+  length-block_with_entry = rw with_owned-entry (length-block_splice bs (pointer_at version bs s (pointer_of i)) (2 * (after_index i - 1)) (little_bytes 2 k) within (omega (arith, pair)) ∙ whole)
 
-  pub entry-same : number (with_owned version bs s i k) (pointer_at version bs s (pointer_of i)) (2 * (behind_index i - 1)) 2 ≡ k
+  pub entry-same : number (with_owned version bs s i k) (pointer_at version bs s (pointer_of i)) (2 * (after_index i - 1)) 2 ≡ k
   unfolding entry
-  entry-same = rw with_owned-entry (number-splice_same bs (pointer_at version bs s (pointer_of i)) (2 * (behind_index i - 1)) 2 k within (omega arith) (omega arith))
+  entry-same = rw with_owned-entry (number-splice_same bs (pointer_at version bs s (pointer_of i)) (2 * (after_index i - 1)) 2 k within (omega arith) (omega arith))
 
-  pub entry-other : (j : ℕ) → behind_index j ≢ 0 → behind_index j ≢ behind_index i → number (with_owned version bs s i k) (pointer_at version bs s (pointer_of i)) (2 * (behind_index j - 1)) 2 ≡ number bs (pointer_at version bs s (pointer_of i)) (2 * (behind_index j - 1)) 2
+  pub entry-other : (j : ℕ) → after_index j ≢ 0 → after_index j ≢ after_index i → number (with_owned version bs s i k) (pointer_at version bs s (pointer_of i)) (2 * (after_index j - 1)) 2 ≡ number bs (pointer_at version bs s (pointer_of i)) (2 * (after_index j - 1)) 2
   unfolding entry
-  entry-other j past differs = rw with_owned-entry (elim (cases_lt (behind_index j) (behind_index i)) [
-    | inl below ↦ number-splice_below bs (pointer_at version bs s (pointer_of i)) (2 * (behind_index i - 1)) (little_bytes 2 k) within (omega (arith, pair)) (2 * (behind_index j - 1)) 2 (omega arith)
-    | inr above ↦ number-splice_above bs (pointer_at version bs s (pointer_of i)) (2 * (behind_index i - 1)) (little_bytes 2 k) within (omega (arith, pair)) (2 * (behind_index j - 1)) 2 (omega (arith, pair))
+  entry-other j past differs = rw with_owned-entry (elim (cases_lt (after_index j) (after_index i)) [
+    | inl below ↦ number-splice_below bs (pointer_at version bs s (pointer_of i)) (2 * (after_index i - 1)) (little_bytes 2 k) within (omega (arith, pair)) (2 * (after_index j - 1)) 2 (omega arith)
+    | inr above ↦ number-splice_above bs (pointer_at version bs s (pointer_of i)) (2 * (after_index i - 1)) (little_bytes 2 k) within (omega (arith, pair)) (2 * (after_index j - 1)) 2 (omega (arith, pair))
   ])

@@ -13,10 +13,10 @@ use Rattle.pv_model.specs.Mount.{kind}
 use Rattle.pv_model.specs.Room.{greatest_length}
 use Rattle.pv_blocks.specs.BlockStore.{blocks_of}
 use Rattle.pv_blocks.proofs.Stores.{length-block, length-blocks_of, get_or-blocks_of}
-use Rattle.pv_inodes.specs.Layout.{block_at, number, home, offset, kind_at, size_at, pointer_at, pointer_count, owned_at, content_at, pointer_of, behind_index, place_of}
+use Rattle.pv_inodes.specs.Layout.{block_at, number, home, offset, kind_at, size_at, pointer_at, pointer_count, owned_at, content_at, pointer_of, after_index, place_of}
 use Rattle.pv_inodes.proofs.Contents.{content_at-is, content_byte-is}
 use Rattle.pv_inodes.proofs.Heads.{owned_at-direct, owned_at-entry}
-use Rattle.pv_inodes.proofs.Layouts.{greatest_length-is, inode-fits, pointers-fit, pointer_of-first, behind_index-first, pointer_of-past, behind_index-past}
+use Rattle.pv_inodes.proofs.Layouts.{greatest_length-is, inode-fits, pointers-fit, pointer_of-first, after_index-first, pointer_of-past, after_index-past}
 use Rattle.pv_inodes.proofs.Splices.{little_from-drop}
 
 -- ---- numbers
@@ -44,8 +44,8 @@ field-part bytes from long at n fits =
     ∙ little_from-drop from at n bytes
     ∙ sym (field-little bytes (from + at) n)
 
-pub field-behind : (bytes : Bytes) (from at n : ℕ) → field (drop from bytes) at n ≡ field bytes (from + at) n
-field-behind bytes from at n = field-little (drop from bytes) at n ∙ little_from-drop from at n bytes ∙ sym (field-little bytes (from + at) n)
+pub field-following : (bytes : Bytes) (from at n : ℕ) → field (drop from bytes) at n ≡ field bytes (from + at) n
+field-following bytes from at n = field-little (drop from bytes) at n ∙ little_from-drop from at n bytes ∙ sym (field-little bytes (from + at) n)
 
 -- ---- pointers
 
@@ -58,39 +58,39 @@ get_or-pointers zero bytes j within = absurd (omega arith)
 get_or-pointers (suc n) bytes zero within = refl
 get_or-pointers (suc n) bytes (suc j) within =
     let place : 2 + 2 * j ≡ 2 * suc j = omega arith in
-    get_or-pointers n (drop 2 bytes) j (omega arith) ∙ field-behind bytes 2 (2 * j) 2 ∙ ap (λ at. field bytes at 2) place
+    get_or-pointers n (drop 2 bytes) j (omega arith) ∙ field-following bytes 2 (2 * j) 2 ∙ ap (λ at. field bytes at 2) place
 
--- ---- pieces of one length
+-- ---- components of one length
 
 module _ {X A : Type 0} (f : X → List A) (w : ℕ) (e : X) where
-  -- each piece has this length
+  -- each component has this length
   abbrev pub AreLong : List X → Type 0
   AreLong xs = (i : ℕ) → i < length xs → length (f (get_or xs i e)) ≡ w
 
-  behind_long : (x : X) (xs : List X) → AreLong (x ∷ xs) → AreLong xs
-  behind_long x xs long i within = long (suc i) (omega arith)
+  after_long : (x : X) (xs : List X) → AreLong (x ∷ xs) → AreLong xs
+  after_long x xs long i within = long (suc i) (omega arith)
 
-  pub length-pieces : (xs : List X) → AreLong xs → length (flat_map f xs) ≡ w * length xs
-  length-pieces [] long = omega arith
-  length-pieces (x ∷ xs) long =
+  pub length-components : (xs : List X) → AreLong xs → length (flat_map f xs) ≡ w * length xs
+  length-components [] long = omega arith
+  length-components (x ∷ xs) long =
       let here : length (f x) ≡ w = long 0 (omega arith) in
-      let behind = length-pieces xs (behind_long x xs long) in
+      let following = length-components xs (after_long x xs long) in
       let more : w + w * length xs ≡ w * suc (length xs) = omega arith in
-      length-append (f x) (flat_map f xs) ∙ ap (λ n. n + length (flat_map f xs)) here ∙ ap (λ n. w + n) behind ∙ more
+      length-append (f x) (flat_map f xs) ∙ ap (λ n. n + length (flat_map f xs)) here ∙ ap (λ n. w + n) following ∙ more
 
-  pub get_or-pieces : (xs : List X) → AreLong xs → (q r : ℕ) (d : A) → q < length xs → r < w → get_or (flat_map f xs) (w * q + r) d ≡ get_or (f (get_or xs q e)) r d
-  get_or-pieces [] long q r d within below = absurd (omega arith)
-  get_or-pieces (x ∷ xs) long zero r d within below =
+  pub get_or-components : (xs : List X) → AreLong xs → (q r : ℕ) (d : A) → q < length xs → r < w → get_or (flat_map f xs) (w * q + r) d ≡ get_or (f (get_or xs q e)) r d
+  get_or-components [] long q r d within below = absurd (omega arith)
+  get_or-components (x ∷ xs) long zero r d within below =
       let here : length (f x) ≡ w = long 0 (omega arith) in
       let place : w * 0 + r ≡ r = omega arith in
       ap (λ k. get_or (f x ++ flat_map f xs) k d) place ∙ get_or_append_left (f x) (flat_map f xs) d r (omega arith)
-  get_or-pieces (x ∷ xs) long (suc q) r d within below =
+  get_or-components (x ∷ xs) long (suc q) r d within below =
       let here : length (f x) ≡ w = long 0 (omega arith) in
       let next : w * suc q ≡ w + w * q = omega arith in
       let place : w * suc q + r - w ≡ w * q + r = omega arith in
       get_or-append_right (f x) (flat_map f xs) w (w * suc q + r) d here (omega arith)
       ∙ ap (λ k. get_or (flat_map f xs) k d) place
-      ∙ get_or-pieces xs (behind_long x xs long) q r d (omega arith) below
+      ∙ get_or-components xs (after_long x xs long) q r d (omega arith) below
 
 -- ---- blocks
 
@@ -175,12 +175,12 @@ module _ (v : Version) (bytes : Bytes) (count : ℕ) (whole : length bytes ≡ 5
         let place : 28 + 2 * k ≡ 8 + 2 * (10 + k) = omega arith in
         get_or-take ((b - 10 + 255) / 256) (pointers (index_pointers v) (drop 28 (inode v bytes (suc s)))) k 0 (omega (arith, q_is))
         ∙ get_or-pointers (index_pointers v) (drop 28 (inode v bytes (suc s))) k (omega (arith, q_few))
-        ∙ field-behind (inode v bytes (suc s)) 28 (2 * k) 2
+        ∙ field-following (inode v bytes (suc s)) 28 (2 * k) 2
         ∙ ap (λ at. field (inode v bytes (suc s)) at 2) place
         ∙ pointer-inode s (10 + k) (omega (arith, q_few))
 
-    abbrev behind_index_blocks : List ℕ
-    behind_index_blocks = flat_map (λ k. pointers 256 (block bytes k)) (used_index v bytes (suc s))
+    abbrev after_index_blocks : List ℕ
+    after_index_blocks = flat_map (λ k. pointers 256 (block bytes k)) (used_index v bytes (suc s))
 
     each_long : AreLong (λ k. pointers 256 (block bytes k)) 256 0 (used_index v bytes (suc s))
     each_long i within = length-pointers 256 (block bytes (get_or (used_index v bytes (suc s)) i 0))
@@ -190,35 +190,35 @@ module _ (v : Version) (bytes : Bytes) (count : ℕ) (whole : length bytes ≡ 5
 
     pub length-used_content : length (used_content v bytes (suc s)) ≡ b
     length-used_content =
-        let behind = length-pieces (λ k. pointers 256 (block bytes k)) 256 0 (used_index v bytes (suc s)) each_long in
-        length-take-le b (pointers 10 (drop 8 (inode v bytes (suc s))) ++ behind_index_blocks)
-        (omega (arith, length-append (pointers 10 (drop 8 (inode v bytes (suc s)))) behind_index_blocks, first_ten, behind, length-used_index))
+        let following = length-components (λ k. pointers 256 (block bytes k)) 256 0 (used_index v bytes (suc s)) each_long in
+        length-take-le b (pointers 10 (drop 8 (inode v bytes (suc s))) ++ after_index_blocks)
+        (omega (arith, length-append (pointers 10 (drop 8 (inode v bytes (suc s)))) after_index_blocks, first_ten, following, length-used_index))
 
-    -- those of its content stand in the row behind their index blocks
+    -- those of its content stand in the row after their index blocks
     pub get_or-used_content : (j : ℕ) → j < b → get_or (used_content v bytes (suc s)) j 0 ≡ owned_at v bs s (place_of j)
     get_or-used_content j within =
-        get_or-take b (pointers 10 (drop 8 (inode v bytes (suc s))) ++ behind_index_blocks) j 0 within
-        ∙ elim (cases_lt j 10) [ inl first ↦ direct first | inr past ↦ behind past ]
+        get_or-take b (pointers 10 (drop 8 (inode v bytes (suc s))) ++ after_index_blocks) j 0 within
+        ∙ elim (cases_lt j 10) [ inl first ↦ direct first | inr past ↦ following past ]
       where
-        direct : j < 10 → get_or (pointers 10 (drop 8 (inode v bytes (suc s))) ++ behind_index_blocks) j 0 ≡ owned_at v bs s (place_of j)
+        direct : j < 10 → get_or (pointers 10 (drop 8 (inode v bytes (suc s))) ++ after_index_blocks) j 0 ≡ owned_at v bs s (place_of j)
         direct first =
-            get_or_append_left (pointers 10 (drop 8 (inode v bytes (suc s)))) behind_index_blocks 0 j (omega (arith, first_ten))
+            get_or_append_left (pointers 10 (drop 8 (inode v bytes (suc s)))) after_index_blocks 0 j (omega (arith, first_ten))
             ∙ get_or-pointers 10 (drop 8 (inode v bytes (suc s))) j first
-            ∙ field-behind (inode v bytes (suc s)) 8 (2 * j) 2
+            ∙ field-following (inode v bytes (suc s)) 8 (2 * j) 2
             ∙ pointer-inode s j (omega arith)
-            ∙ sym (owned_at-direct v bs s (place_of j) (behind_index-first j first) ∙ ap (pointer_at v bs s) (pointer_of-first j first))
+            ∙ sym (owned_at-direct v bs s (place_of j) (after_index-first j first) ∙ ap (pointer_at v bs s) (pointer_of-first j first))
 
-        behind : 10 ≤ j → get_or (pointers 10 (drop 8 (inode v bytes (suc s))) ++ behind_index_blocks) j 0 ≡ owned_at v bs s (place_of j)
-        behind past =
+        following : 10 ≤ j → get_or (pointers 10 (drop 8 (inode v bytes (suc s))) ++ after_index_blocks) j 0 ≡ owned_at v bs s (place_of j)
+        following past =
             let at : 256 * ((j - 10) / 256) + (j - 10) % 256 ≡ j - 10 = omega arith in
             let less : (j - 10) / 256 < q = omega arith in
-            let entry : 2 * ((j - 10) % 256) ≡ 2 * (behind_index (place_of j) - 1) = omega (arith, behind_index-past j past) in
-            let some : behind_index (place_of j) ≢ 0 = λ none. omega (arith, behind_index-past j past) in
+            let entry : 2 * ((j - 10) % 256) ≡ 2 * (after_index (place_of j) - 1) = omega (arith, after_index-past j past) in
+            let some : after_index (place_of j) ≢ 0 = λ none. omega (arith, after_index-past j past) in
             let index : get_or (used_index v bytes (suc s)) ((j - 10) / 256) 0 ≡ pointer_at v bs s (pointer_of (place_of j)) =
             get_or-used_index ((j - 10) / 256) less ∙ ap (pointer_at v bs s) (sym (pointer_of-past j past)) in
-            get_or-append_right (pointers 10 (drop 8 (inode v bytes (suc s)))) behind_index_blocks 10 j 0 first_ten past
-            ∙ ap (λ k. get_or behind_index_blocks k 0) (sym at)
-            ∙ get_or-pieces (λ k. pointers 256 (block bytes k)) 256 0 (used_index v bytes (suc s)) each_long ((j - 10) / 256) ((j - 10) % 256) 0 (omega (arith, length-used_index)) (omega arith)
+            get_or-append_right (pointers 10 (drop 8 (inode v bytes (suc s)))) after_index_blocks 10 j 0 first_ten past
+            ∙ ap (λ k. get_or after_index_blocks k 0) (sym at)
+            ∙ get_or-components (λ k. pointers 256 (block bytes k)) 256 0 (used_index v bytes (suc s)) each_long ((j - 10) / 256) ((j - 10) % 256) 0 (omega (arith, length-used_index)) (omega arith)
             ∙ get_or-pointers 256 (block bytes (get_or (used_index v bytes (suc s)) ((j - 10) / 256) 0)) ((j - 10) % 256) (omega arith)
             ∙ ap (λ k. field (block bytes k) (2 * ((j - 10) % 256)) 2) index
             ∙ field-part bytes (512 * pointer_at v bs s (pointer_of (place_of j))) 512 (2 * ((j - 10) % 256)) 2 (omega arith)
@@ -236,15 +236,15 @@ module _ (v : Version) (bytes : Bytes) (count : ℕ) (whole : length bytes ≡ 5
         let in_count = within i less in
         let is = get_or-used_content i less in omega arith) in
         let size_is = size-inode s in
-        let pieces = length-pieces (block bytes) 512 0 (used_content v bytes (suc s)) long in
+        let components = length-components (block bytes) 512 0 (used_content v bytes (suc s)) long in
         content_at-is v bs s (content v bytes (suc s))
-        (length-take-le (size v bytes (suc s)) (flat_map (block bytes) (used_content v bytes (suc s))) (omega (arith, pieces, length-used_content)) ∙ size_is)
+        (length-take-le (size v bytes (suc s)) (flat_map (block bytes) (used_content v bytes (suc s))) (omega (arith, components, length-used_content)) ∙ size_is)
         (λ x below.
         let split : 512 * (x / 512) + x % 512 ≡ x = omega arith in
         let less : x / 512 < b = omega arith in
         get_or-take (size v bytes (suc s)) (flat_map (block bytes) (used_content v bytes (suc s))) x 0 (omega arith)
         ∙ ap (λ k. get_or (flat_map (block bytes) (used_content v bytes (suc s))) k 0) (sym split)
-        ∙ get_or-pieces (block bytes) 512 0 (used_content v bytes (suc s)) long (x / 512) (x % 512) 0 (omega (arith, length-used_content)) (omega arith)
+        ∙ get_or-components (block bytes) 512 0 (used_content v bytes (suc s)) long (x / 512) (x % 512) 0 (omega (arith, length-used_content)) (omega arith)
         ∙ ap (λ k. get_or (block bytes k) (x % 512) 0) (get_or-used_content (x / 512) less)
         ∙ ap (λ (xs : Bytes). get_or xs (x % 512) 0) (sym (block_at-image (owned_at v bs s (place_of (x / 512)))))
         ∙ sym (content_byte-is v bs s x))

@@ -4,7 +4,7 @@ use Rattle.pv_model.specs.Room.{greatest_length}
 use Rattle.pv_model.specs.declared.version.Version.{Version}
 use Rattle.pv_blocks.specs.BlockStore.{BlockStore, free_count}
 use Rattle.pv_inodes.specs.Files.{Contained, Files, sort_of, IsUsed, bytes_at, sort_at, total_room}
-use Rattle.pv_inodes.specs.Layout.{home, kind_at, size_at, pointer_at, owned_at, owned_count, content_at, most_owned, behind_index, pointer_of, wanted, place_of}
+use Rattle.pv_inodes.specs.Layout.{home, kind_at, size_at, pointer_at, owned_at, owned_count, content_at, most_owned, after_index, pointer_of, wanted, place_of}
 use Rattle.pv_inodes.specs.Owning.{sum_over, count_set}
 use Rattle.pv_inodes.specs.Sound.{IsSound, files_of}
 use Rattle.pv_inodes.proofs.Becoming.{used_slot, held-used, bytes_at-files_of, total_room-files_of, blocks-files_of, version-files_of}
@@ -26,7 +26,7 @@ pub record InUse (version : Version) (st : BlockStore) (inodes : ℕ) (f : Files
   pub few : owned_count version st.blocks s ≤ most_owned version
   pub owned_within : (i : ℕ) → i < owned_count version st.blocks s → owned_at version st.blocks s i < length st.blocks
   pub index_within : (i : ℕ) → i < owned_count version st.blocks s → pointer_at version st.blocks s (pointer_of i) < length st.blocks
-  pub next_within : (i : ℕ) → i ≡ owned_count version st.blocks s → behind_index i ≢ 0 → pointer_at version st.blocks s (pointer_of i) < length st.blocks
+  pub next_within : (i : ℕ) → i ≡ owned_count version st.blocks s → after_index i ≢ 0 → pointer_at version st.blocks s (pointer_of i) < length st.blocks
   pub files : f ≡ files_of version st inodes
   pub same_version : f.version ≡ version
 
@@ -54,7 +54,7 @@ in_use version st inodes f n s sound view is_used slot =
       few = sound.owning.few s below;
       owned_within = λ i in_range. sound.owning.within s i below in_range;
       index_within = λ i in_range. rw (index-is version st.blocks s i) (sound.owning.within s (index_of i) below (omega arith));
-      next_within = λ i is behind. rw (index-is version st.blocks s i) (sound.owning.within s (index_of i) below (omega arith));
+      next_within = λ i is following. rw (index-is version st.blocks s i) (sound.owning.within s (index_of i) below (omega arith));
       files = sym view;
       same_version = ap (λ (g : Files). g.version) (sym view) ∙ version-files_of version st inodes;
     }

@@ -5,7 +5,7 @@ use Rattle.pv_model.specs.Image.{inode_length, inode_blocks, index_pointers}
 use Rattle.pv_model.specs.Room.{need, greatest_length}
 use Rattle.pv_model.specs.declared.version.Version.{Version}
 use Rattle.pv_model.specs.declared.version.Version.TheVariants.{V1, V2}
-use Rattle.pv_inodes.specs.Layout.{home, offset, pointer_count, most_owned, behind_index, pointer_of, wanted, place_of}
+use Rattle.pv_inodes.specs.Layout.{home, offset, pointer_count, most_owned, after_index, pointer_of, wanted, place_of}
 use Rattle.pv_inodes.specs.Sound.{first_data}
 
 -- a content of the greatest length uses all pointers
@@ -55,7 +55,7 @@ offset-apart V2 s t differs same = elim (cases_order (s % 8) (t % 8)) [
 
 -- the place of the index block that points to the i-th block
 abbrev pub index_of : ℕ → ℕ
-index_of i = i - behind_index i
+index_of i = i - after_index i
 
 -- the row of an inode's blocks
 pub pointer_of-few : (version : Version) (i : ℕ) → i < most_owned version → pointer_of i < pointer_count version
@@ -66,30 +66,30 @@ pub pointer_of-index : (i : ℕ) → pointer_of (index_of i) ≡ pointer_of i
 unfolding pointer_of
 pointer_of-index i = omega arith
 
-pub index_of-direct : (i : ℕ) → behind_index (index_of i) ≡ 0
+pub index_of-direct : (i : ℕ) → after_index (index_of i) ≡ 0
 index_of-direct i = omega arith
 
 -- no lesser block has the pointer of one to which the inode itself points
-pub pointer_of-apart : (i n : ℕ) → i < n → behind_index n ≡ 0 → pointer_of i ≢ pointer_of n
+pub pointer_of-apart : (i n : ℕ) → i < n → after_index n ≡ 0 → pointer_of i ≢ pointer_of n
 unfolding pointer_of
 pointer_of-apart i n less direct same = omega arith
 
--- two blocks behind one index block have other places there
-pub behind_index-apart : (i n : ℕ) → i ≢ n → behind_index i ≢ 0 → behind_index n ≢ 0 → pointer_of i ≡ pointer_of n → behind_index i ≢ behind_index n
+-- two blocks after one index block have other places there
+pub after_index-apart : (i n : ℕ) → i ≢ n → after_index i ≢ 0 → after_index n ≢ 0 → pointer_of i ≡ pointer_of n → after_index i ≢ after_index n
 unfolding pointer_of
-behind_index-apart i n differs behind_i behind_n same equal = omega arith
+after_index-apart i n differs after_i after_n same equal = omega arith
 
--- blocks behind different index blocks
-pub index_of-apart : (i n : ℕ) → behind_index i ≢ 0 → behind_index n ≢ 0 → index_of i ≡ index_of n → pointer_of i ≡ pointer_of n
+-- blocks after different index blocks
+pub index_of-apart : (i n : ℕ) → after_index i ≢ 0 → after_index n ≢ 0 → index_of i ≡ index_of n → pointer_of i ≡ pointer_of n
 unfolding pointer_of
-index_of-apart i n behind_i behind_n same = omega arith
+index_of-apart i n after_i after_n same = omega arith
 
 -- the i-th block is one of content, and no index block
 abbrev pub IsContent : ℕ → Type 0
 IsContent i = (i + 247) % 257 ≢ 0
 
-pub index_of-is_index : (i : ℕ) → behind_index i ≢ 0 → (index_of i + 247) % 257 ≡ 0
-index_of-is_index i behind = omega arith
+pub index_of-is_index : (i : ℕ) → after_index i ≢ 0 → (index_of i + 247) % 257 ≡ 0
+index_of-is_index i following = omega arith
 
 -- the blocks that a content needs
 pub wanted-is : (n : ℕ) → wanted n ≡ (n + 511) / 512 + ((n + 511) / 512 + 245) / 256
@@ -125,17 +125,17 @@ pub pointer_of-first : (j : ℕ) → j < 10 → pointer_of (place_of j) ≡ j
 unfolding pointer_of place_of
 pointer_of-first j first = omega arith
 
-pub behind_index-first : (j : ℕ) → j < 10 → behind_index (place_of j) ≡ 0
+pub after_index-first : (j : ℕ) → j < 10 → after_index (place_of j) ≡ 0
 unfolding place_of
-behind_index-first j first = omega arith
+after_index-first j first = omega arith
 
 pub pointer_of-past : (j : ℕ) → 10 ≤ j → pointer_of (place_of j) ≡ 10 + (j - 10) / 256
 unfolding pointer_of place_of
 pointer_of-past j past = omega arith
 
-pub behind_index-past : (j : ℕ) → 10 ≤ j → behind_index (place_of j) ≡ (j - 10) % 256 + 1
+pub after_index-past : (j : ℕ) → 10 ≤ j → after_index (place_of j) ≡ (j - 10) % 256 + 1
 unfolding place_of
-behind_index-past j past = omega arith
+after_index-past j past = omega arith
 
 pub wanted-mono : (m n : ℕ) → m ≤ n → wanted m ≤ wanted n
 wanted-mono m n le =
@@ -151,13 +151,13 @@ pub first_data-is : (version : Version) (inodes : ℕ) → first_data version in
 unfolding first_data
 first_data-is version inodes = refl
 
--- the next block of content stands right behind those that are owned, or behind an index block
+-- the next block of content stands right after those that are owned, or after an index block
 pub place_of-next : (n : ℕ) → n % 512 ≡ 0 → place_of (n / 512) ≢ wanted n → suc (wanted n) ≡ place_of (n / 512)
 place_of-next n full differs =
     let blocks : (n + 511) / 512 ≡ n / 512 = omega arith in
     omega (arith, wanted-is n, place_of-is (n / 512), blocks, differs)
 
--- an index block has the pointer behind those of the ones before it
+-- an index block has the pointer after those of the ones before it
 pub pointer_of-index_block : (i : ℕ) → (i + 247) % 257 ≡ 0 → pointer_of i ≡ 10 + (i - 10) / 257
 unfolding pointer_of
 pointer_of-index_block i index = omega arith

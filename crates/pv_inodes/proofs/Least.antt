@@ -4,7 +4,7 @@ use Rattle.std.proofs.lemmas.Bool.{false≢true}
 use Rattle.pv_blocks.specs.BlockStore.{BlockStore}
 use Rattle.pv_model.specs.Bytes.{Bytes}
 use Rattle.pv_model.specs.Numbered.{Numbered, at_number, with_number, without_number}
-use Rattle.pv_model.specs.declared.sort.Sort.{Sort}
+use Rattle.pv_model.specs.declared.sort.Kind.{Kind}
 use Rattle.pv_model.specs.declared.version.Version.{Version}
 use Rattle.pv_inodes.specs.Files.{Contained, Files, held, IsUsed, replaced, with_bytes, with_new, without}
 use Rattle.pv_inodes.specs.Layout.{kind_at}
@@ -35,7 +35,7 @@ all_used-with_bytes f old new n xs least used same is s below =
     subst (λ (g : Files). IsUsed g (suc s)) (sym is) (used-replaced old n (held old n) xs (suc s) (subst (λ (g : Files). IsUsed g (suc s)) same (used s below)))
 
 -- so does an inode that is taken
-pub all_used-with_new : (f old new : Files) (n : ℕ) (sort : Sort) (least : ℕ) → AllUsed f least → f ≡ old → new ≡ with_new old n sort → AllUsed new least
+pub all_used-with_new : (f old new : Files) (n : ℕ) (sort : Kind) (least : ℕ) → AllUsed f least → f ≡ old → new ≡ with_new old n sort → AllUsed new least
 all_used-with_new f old new n sort least used same is s below =
     subst (λ (g : Files). IsUsed g (suc s)) (sym is) (some-with old.nodes n (suc s) (record { sort = sort; bytes = [] }) (subst (λ (g : Files). IsUsed g (suc s)) same (used s below)))
 
@@ -61,7 +61,7 @@ kinds-all_used version st inodes least within used s below =
     positive : (k : ℕ) → k ≢ 0 → 0 < k
     positive k some = omega (arith, some)
 
--- where all below are in use, it is one of those that there are, or the first behind them
+-- where all below are in use, it is one of those that there are, or the first after them
 pub all_used-within : (version : Version) (st : BlockStore) (inodes least : ℕ) → AllUsed (files_of version st inodes) least → least ≤ inodes
 all_used-within version st inodes zero used = omega arith
 all_used-within version st inodes (suc n) used =

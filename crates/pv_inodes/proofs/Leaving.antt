@@ -12,7 +12,7 @@ use Rattle.pv_model.specs.Effect.{overwrite, resize}
 use Rattle.pv_model.specs.Room.{greatest_length}
 use Rattle.pv_blocks.specs.BlockStore.{BlockStore, IsFree, free_count}
 use Rattle.pv_inodes.specs.Files.{Files, IsUsed, bytes_at, HasRoom, with_bytes}
-use Rattle.pv_inodes.specs.Layout.{splice, home, pointer_at, size_at, owned_at, owned_count, most_owned, behind_index, pointer_of, wanted, place_of, content_at, with_size, zeros}
+use Rattle.pv_inodes.specs.Layout.{splice, home, pointer_at, size_at, owned_at, owned_count, most_owned, after_index, pointer_of, wanted, place_of, content_at, with_size, zeros}
 use Rattle.pv_inodes.specs.Sound.{IsSound, files_of, resized, patched, pushed}
 use Rattle.pv_inodes.proofs.Becoming.{Becomes, files_of-becomes, Ready, becomes-resized}
 use Rattle.pv_inodes.proofs.Growth.{ready_within, becomes_written, Extended, extended_once, extended_again, ready_extended, Reduced, ready_reduced}
@@ -65,7 +65,7 @@ length-resize xs v = elim (cases_lt v (length xs)) [
   | inr longer ↦ length-resize_longer xs v longer
 ]
 
--- the block that a content needs behind those that it fills
+-- the block that a content needs after those that it fills
 pub wanted_next : (n v : ℕ) → n % 512 ≡ 0 → n < v → v ≤ n + 512 → wanted v ≡ suc (place_of (n / 512))
 wanted_next n v full longer within =
     let blocks : (v + 511) / 512 ≡ n / 512 + 1 = omega arith in
@@ -120,7 +120,7 @@ pub record TakesIndex (version : Version) (st first : BlockStore) (s i : ℕ) : 
   pub home_first : home version s < first.first
   pub first_within : first.first ≤ length first.blocks
   pub flags : length first.free ≡ length first.blocks
-  pub index_within : behind_index (suc i) ≢ 0 → pointer_at version first.blocks s (pointer_of (suc i)) < length first.blocks
+  pub index_within : after_index (suc i) ≢ 0 → pointer_at version first.blocks s (pointer_of (suc i)) < length first.blocks
   pub total : length first.blocks ≡ length st.blocks
 
 pub takes_index : (version : Version) (st first : BlockStore) (inodes : ℕ) (f : Files) (n s i k : ℕ) → IsSound version st inodes → InUse version st inodes f n s → i ≡ wanted (length (bytes_at f n)) → i < most_owned version → k < 2 ^ 16 → IsFree st k → first ≡ pushed version st s i k → TakesIndex version st first s i
@@ -132,7 +132,7 @@ takes_index version st first inodes f n s i k sound known i_is room small is_fre
       home_first = rw once.first known.home_first;
       first_within = once.shape.first_within;
       flags = once.shape.flags;
-      index_within = λ behind. rw (index-is version first.blocks s (suc i)) (once.owning.within s (index_of (suc i)) known.below (omega (arith, counted)));
+      index_within = λ following. rw (index-is version first.blocks s (suc i)) (once.owning.within s (index_of (suc i)) known.below (omega (arith, counted)));
       total = once.total;
     }
 

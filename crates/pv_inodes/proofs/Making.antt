@@ -22,7 +22,7 @@ same_node version st cs inodes t sound below head same = record {
   size = head.size;
   owned = λ i in_range. owned_at-same version st.blocks cs t i
       (head.direct (pointer_of i) (pointer_of-few version i (omega (arith, sound.owning.few t below))))
-      (λ behind. same (pointer_at version st.blocks t (pointer_of i)) (rw (index-is version st.blocks t i) (sound.owning.from t (index_of i) below (omega arith))));
+      (λ following. same (pointer_at version st.blocks t (pointer_of i)) (rw (index-is version st.blocks t i) (sound.owning.from t (index_of i) below (omega arith))));
   blocks = λ i in_range content. same (owned_at version st.blocks t i) (sound.owning.from t i below in_range);
 }
 

@@ -15,7 +15,7 @@ use Rattle.pv_blocks.specs.BlockStore.{BlockStore, blocks_of, free_from, IsFree,
 use Rattle.pv_blocks.proofs.Stores.{length-block, length-blocks_of}
 use Rattle.pv_inodes.specs.Files.{Contained, sort_of}
 use Rattle.pv_inodes.specs.Images.{AreInodes, contained, files_in}
-use Rattle.pv_inodes.specs.Layout.{home, kind_at, size_at, pointer_at, owned_at, owned_count, content_at, node_at, nodes_in, most_owned, pointer_of, behind_index, place_of}
+use Rattle.pv_inodes.specs.Layout.{home, kind_at, size_at, pointer_at, owned_at, owned_count, content_at, node_at, nodes_in, most_owned, pointer_of, after_index, place_of}
 use Rattle.pv_inodes.specs.Sound.{first_data, IsSound, files_of}
 use Rattle.pv_inodes.proofs.Claims.{IsClaimed, next_free, claimed_none, claimed_more, claimed_next, owning_all}
 use Rattle.pv_inodes.proofs.Contents.{owned_count-used, node_at-used, node_at-free}
@@ -91,8 +91,8 @@ module _ (v : Version) (bytes : Bytes) (count inodes : ℕ) (st : BlockStore) (s
       pub most_over : i < most_owned v
       most_over = omega (arith, may.few s below, more_bs)
 
-      pub index_over : behind_index i ≢ 0 → pointer_at v st.blocks s (pointer_of i) < length st.blocks
-      index_over behind =
+      pub index_over : after_index i ≢ 0 → pointer_at v st.blocks s (pointer_of i) < length st.blocks
+      index_over following =
           let in_row : index_of i < owned_count v bs s = omega (arith, more_bs) in
           omega (arith, index-is v st.blocks s i, owned_at-bs (index_of i), may.within s (index_of i) below in_row, total, length-blocks_of count bytes)
 

@@ -31,7 +31,7 @@ sum_by-range_changed f g a (suc n) s from below same =
     let split_g = sum_by-cons g a (range_with_len (a + 1) n) in
     elim (cases_eq a s) [
       | inl here ↦
-          let rest = sum_by-range_same f g (a + 1) n (λ t behind within. same t (λ e. omega arith)) in
+          let rest = sum_by-range_same f g (a + 1) n (λ t following within. same t (λ e. omega arith)) in
           let first_f : f a ≡ f s = ap f here in
           let first_g : g a ≡ g s = ap g here in
           omega (arith, split_f, split_g, rest, first_f, first_g)
@@ -80,7 +80,7 @@ module _ (inodes most first total : ℕ) (free : List Bool) (count : ℕ → ℕ
           let more : i < suc (count s) = rw (equal, changed-same count s (suc (count s))) at in_range in
           elim (cases_lt i (count t)) [
             | inl before ↦ inr before
-            | inr behind ↦ let counts : count t ≡ count s = ap count equal in inl (equal, omega arith)
+            | inr following ↦ let counts : count t ≡ count s = ap count equal in inl (equal, omega arith)
           ]
       | inr differs ↦ inr (rw (changed-other count s (suc (count s)) t differs) at in_range)
     ]

@@ -44,9 +44,9 @@ module _ (version : Version) (st : BlockStore) (inodes s j k at : ℕ) (new : By
   pub owned_patched : (t i : ℕ) → t < inodes → i < owned_count version st.blocks t → owned_at version (splice st.blocks k at new) t i ≡ owned_at version st.blocks t i
   owned_patched t i below_t range = owned_at-same version st.blocks (splice st.blocks k at new) t i
       ((head t below_t).direct (pointer_of i) (pointer_of-few version i (omega (arith, sound.owning.few t below_t))))
-      (λ behind. block_other (pointer_at version st.blocks t (pointer_of i)) (λ same.
+      (λ following. block_other (pointer_at version st.blocks t (pointer_of i)) (λ same.
       let index = (apart t (index_of i) below_t (omega arith) (sym (index-is version st.blocks t i) ∙ same)).1 in
-      place_of-content j (rw index at (index_of-is_index i behind))))
+      place_of-content j (rw index at (index_of-is_index i following))))
 
   pub kinds_patched : (t : ℕ) → t < inodes → kind_at version (splice st.blocks k at new) t ≡ kind_at version st.blocks t
   kinds_patched t below_t = (head t below_t).kind
@@ -73,7 +73,7 @@ module _ (version : Version) (st : BlockStore) (inodes s j k at : ℕ) (new : By
   -- the bytes of the content in the part that was written, and outside of it
   pub byte_inside : (x : ℕ) → 512 * j + at ≤ x → x < 512 * j + at + length new → content_byte version (splice st.blocks k at new) s x ≡ get_or new (x - (512 * j + at)) 0
   unfolding content_byte
-  byte_inside x behind before =
+  byte_inside x following before =
       let block : x / 512 ≡ j = omega arith in
       let place : x % 512 ≡ at + (x - (512 * j + at)) = omega arith in
       rw (block, owned_patched s (place_of j) below in_range, ← is_owned, block_here, place) (get_or-over_within (block_at st.blocks k) at new whole (x - (512 * j + at)) (omega arith))
@@ -83,7 +83,7 @@ module _ (version : Version) (st : BlockStore) (inodes s j k at : ℕ) (new : By
   byte_outside x range outside = elim (cases_eq (x / 512) j) [
     | inl same ↦ rw (same, owned_patched s (place_of j) below in_range, ← is_owned, block_here) (elim outside [
       | inl before ↦ get_or-over_below (block_at st.blocks k) at new whole (x % 512) (omega arith)
-      | inr behind ↦ get_or-over_above (block_at st.blocks k) at new whole (x % 512) (omega arith)
+      | inr following ↦ get_or-over_above (block_at st.blocks k) at new whole (x % 512) (omega arith)
     ])
     | inr differs ↦ content_byte-same version st.blocks (splice st.blocks k at new) s x (owned_patched s (place_of (x / 512)) below range)
         (block_other (owned_at version st.blocks s (place_of (x / 512))) (λ same. differs (place_of-apart (x / 512) j (apart s (place_of (x / 512)) below range same).1)))

@@ -6,11 +6,11 @@ use Rattle.std.proofs.lemmas.Option.{get_or_from_slice_get, slice_get_within}
 use Rattle.pv_model.specs.declared.version.Version.{Version}
 use Rattle.pv_model.specs.Bytes.{Bytes}
 use Rattle.pv_blocks.specs.BlockStore.{BlockStore, IsFree, take, with_block}
-use Rattle.pv_inodes.specs.Layout.{block_at, home, kind_at, size_at, pointer_at, owned_at, with_owned, zeros, number, pointer_count, most_owned, behind_index, pointer_of}
+use Rattle.pv_inodes.specs.Layout.{block_at, home, kind_at, size_at, pointer_at, owned_at, with_owned, zeros, number, pointer_count, most_owned, after_index, pointer_of}
 use Rattle.pv_inodes.specs.Owning.{changed, IsOwning}
 use Rattle.pv_inodes.specs.Sound.{first_data, IsShaped, pushed}
 use Rattle.pv_inodes.proofs.Heads.{SameHead, same_head, owned_at-same, owned_at-direct, owned_at-entry, index-is, pointer_at-with_direct_same, pointer_at-with_direct_other, kind_at-with_direct, size_at-with_direct, head-with_direct, block_at-with_direct, length-block_with_direct, length-with_owned, block_at-with_entry, length-block_with_entry, entry-same, entry-other}
-use Rattle.pv_inodes.proofs.Layouts.{home-below, index_of, IsContent, index_of-is_index, index_of-apart, behind_index-apart, pointer_of-few, pointer_of-apart}
+use Rattle.pv_inodes.proofs.Layouts.{home-below, index_of, IsContent, index_of-is_index, index_of-apart, after_index-apart, pointer_of-few, pointer_of-apart}
 use Rattle.pv_inodes.proofs.Ownership.{owning-same, free_unowned, owning-take}
 
 pub length-zeros : length zeros ≡ 512
@@ -23,7 +23,7 @@ pub record Names (version : Version) (bs cs : List Bytes) (inodes first : ℕ) (
   pub sizes : (t : ℕ) → t < inodes → size_at version cs t ≡ size_at version bs t
   pub owned : (t i : ℕ) → t < inodes → i < count t → owned_at version cs t i ≡ owned_at version bs t i
   pub here : owned_at version cs s (count s) ≡ k
-  pub blocks : (y : ℕ) → first ≤ y → (behind_index (count s) ≢ 0 → y ≢ owned_at version bs s (index_of (count s))) → block_at cs y ≡ block_at bs y
+  pub blocks : (y : ℕ) → first ≤ y → (after_index (count s) ≢ 0 → y ≢ owned_at version bs s (index_of (count s))) → block_at cs y ≡ block_at bs y
   pub whole : (y : ℕ) → y < length cs → length (block_at cs y) ≡ 512
 
 module _ (version : Version) (bs : List Bytes) (inodes first : ℕ) (free : List Bool) (count : ℕ → ℕ) (s k : ℕ) (below : s < inodes) (at_first : first ≡ first_data version inodes) (first_within : first ≤ length bs) (whole : (y : ℕ) → y < length bs → length (block_at bs y) ≡ 512) (owning : IsOwning inodes (most_owned version) first (length bs) free count (owned_at version bs)) (few : count s < most_owned version) (small : k < 2 ^ 16) where
@@ -44,7 +44,7 @@ module _ (version : Version) (bs : List Bytes) (inodes first : ℕ) (free : List
   index_owned : (t i : ℕ) → t < inodes → i < count t → first ≤ pointer_at version bs t (pointer_of i)
   index_owned t i below_t in_range = rw (index-is version bs t i) (owning.from t (index_of i) below_t (omega arith))
 
-  module _ (direct : behind_index (count s) ≡ 0) where
+  module _ (direct : after_index (count s) ≡ 0) where
     others_direct : (t : ℕ) → t ≢ s → SameHead version bs (with_owned version bs s (count s) k) t
     others_direct t differs = head-with_direct version bs s (count s) k home_within home_whole direct few small t differs
 
@@ -63,7 +63,7 @@ module _ (version : Version) (bs : List Bytes) (inodes first : ℕ) (free : List
     ]
 
     owned_direct : (t i : ℕ) → t < inodes → i < count t → owned_at version (with_owned version bs s (count s) k) t i ≡ owned_at version bs t i
-    owned_direct t i below_t in_range = owned_at-same version bs (with_owned version bs s (count s) k) t i (pointer_direct t i below_t in_range) (λ behind. block_direct (pointer_at version bs t (pointer_of i)) (index_owned t i below_t in_range))
+    owned_direct t i below_t in_range = owned_at-same version bs (with_owned version bs s (count s) k) t i (pointer_direct t i below_t in_range) (λ following. block_direct (pointer_at version bs t (pointer_of i)) (index_owned t i below_t in_range))
 
     names_direct : Names version bs (with_owned version bs s (count s) k) inodes first count s k
     names_direct = record {
@@ -84,7 +84,7 @@ module _ (version : Version) (bs : List Bytes) (inodes first : ℕ) (free : List
       ];
     }
 
-  module _ (behind : behind_index (count s) ≢ 0) where
+  module _ (following : after_index (count s) ≢ 0) where
     -- the index block that gets the pointer
     abbrev index : ℕ
     index = pointer_at version bs s (pointer_of (count s))
@@ -102,7 +102,7 @@ module _ (version : Version) (bs : List Bytes) (inodes first : ℕ) (free : List
     index_whole = whole (pointer_at version bs s (pointer_of (count s))) index_within
 
     block_entry : (y : ℕ) → y ≢ pointer_at version bs s (pointer_of (count s)) → block_at (with_owned version bs s (count s) k) y ≡ block_at bs y
-    block_entry y apart = block_at-with_entry version bs s (count s) k index_within index_whole behind small y apart
+    block_entry y apart = block_at-with_entry version bs s (count s) k index_within index_whole following small y apart
 
     head_entry : (t : ℕ) → t < inodes → SameHead version bs (with_owned version bs s (count s) k) t
     head_entry t below_t =
@@ -114,27 +114,27 @@ module _ (version : Version) (bs : List Bytes) (inodes first : ℕ) (free : List
     pointer_entry : (t i : ℕ) → t < inodes → i < count t → pointer_at version (with_owned version bs s (count s) k) t (pointer_of i) ≡ pointer_at version bs t (pointer_of i)
     pointer_entry t i below_t in_range = (head_entry t below_t).direct (pointer_of i) (has_pointer t i below_t in_range)
 
-    -- one index block is that of one inode, behind one place
+    -- one index block is that of one inode, after one place
     one_index : (t i : ℕ) → t < inodes → i < count t → pointer_at version bs t (pointer_of i) ≡ pointer_at version bs s (pointer_of (count s)) → (t ≡ s) × (index_of i ≡ index_of (count s))
     one_index t i below_t in_range same = owning.apart t (index_of i) s (index_of (count s)) below_t (omega arith) below before (sym (index-is version bs t i) ∙ same ∙ index-is version bs s (count s))
 
-    -- so are the blocks behind another index block
+    -- so are the blocks after another index block
     owned_apart : (t i : ℕ) → t < inodes → i < count t → pointer_at version bs t (pointer_of i) ≢ pointer_at version bs s (pointer_of (count s)) → owned_at version (with_owned version bs s (count s) k) t i ≡ owned_at version bs t i
     owned_apart t i below_t in_range apart = owned_at-same version bs (with_owned version bs s (count s) k) t i (pointer_entry t i below_t in_range) (λ past. block_entry (pointer_at version bs t (pointer_of i)) apart)
 
     -- the other pointers of the index block stay
-    owned_beside : (i : ℕ) → i < count s → behind_index i ≢ 0 → pointer_at version bs s (pointer_of i) ≡ pointer_at version bs s (pointer_of (count s)) → owned_at version (with_owned version bs s (count s) k) s i ≡ owned_at version bs s i
+    owned_beside : (i : ℕ) → i < count s → after_index i ≢ 0 → pointer_at version bs s (pointer_of i) ≡ pointer_at version bs s (pointer_of (count s)) → owned_at version (with_owned version bs s (count s) k) s i ≡ owned_at version bs s i
     owned_beside i in_range past same =
-        let group : pointer_of i ≡ pointer_of (count s) = index_of-apart i (count s) past behind (one_index s i below in_range same).1 in
-        let differs : behind_index i ≢ behind_index (count s) = behind_index-apart i (count s) (λ e. omega arith) past behind group in
+        let group : pointer_of i ≡ pointer_of (count s) = index_of-apart i (count s) past following (one_index s i below in_range same).1 in
+        let differs : after_index i ≢ after_index (count s) = after_index-apart i (count s) (λ e. omega arith) past following group in
         owned_at-entry version (with_owned version bs s (count s) k) s i past
-        ∙ ap (λ p. number (with_owned version bs s (count s) k) p (2 * (behind_index i - 1)) 2) (pointer_entry s i below in_range ∙ same)
-        ∙ entry-other version bs s (count s) k index_within index_whole behind small i past differs
-        ∙ ap (λ p. number bs p (2 * (behind_index i - 1)) 2) (sym same)
+        ∙ ap (λ p. number (with_owned version bs s (count s) k) p (2 * (after_index i - 1)) 2) (pointer_entry s i below in_range ∙ same)
+        ∙ entry-other version bs s (count s) k index_within index_whole following small i past differs
+        ∙ ap (λ p. number bs p (2 * (after_index i - 1)) 2) (sym same)
         ∙ sym (owned_at-entry version bs s i past)
 
     owned_entry : (t i : ℕ) → t < inodes → i < count t → owned_at version (with_owned version bs s (count s) k) t i ≡ owned_at version bs t i
-    owned_entry t i below_t in_range = elim (cases_eq (behind_index i) 0) [
+    owned_entry t i below_t in_range = elim (cases_eq (after_index i) 0) [
       | inl direct ↦
           owned_at-direct version (with_owned version bs s (count s) k) t i direct
           ∙ pointer_entry t i below_t in_range
@@ -154,18 +154,18 @@ module _ (version : Version) (bs : List Bytes) (inodes first : ℕ) (free : List
       sizes = λ t below_t. (head_entry t below_t).size;
       owned = owned_entry;
       here =
-          owned_at-entry version (with_owned version bs s (count s) k) s (count s) behind
-          ∙ ap (λ p. number (with_owned version bs s (count s) k) p (2 * (behind_index (count s) - 1)) 2) ((head_entry s below).direct (pointer_of (count s)) (pointer_of-few version (count s) few))
-          ∙ entry-same version bs s (count s) k index_within index_whole behind small;
-      blocks = λ y from apart. block_entry y (λ e. apart behind (e ∙ index-is version bs s (count s)));
+          owned_at-entry version (with_owned version bs s (count s) k) s (count s) following
+          ∙ ap (λ p. number (with_owned version bs s (count s) k) p (2 * (after_index (count s) - 1)) 2) ((head_entry s below).direct (pointer_of (count s)) (pointer_of-few version (count s) few))
+          ∙ entry-same version bs s (count s) k index_within index_whole following small;
+      blocks = λ y from apart. block_entry y (λ e. apart following (e ∙ index-is version bs s (count s)));
       whole = λ y within. elim (cases_eq y (pointer_at version bs s (pointer_of (count s)))) [
-        | inl same ↦ rw same (length-block_with_entry version bs s (count s) k index_within index_whole behind small)
+        | inl same ↦ rw same (length-block_with_entry version bs s (count s) k index_within index_whole following small)
         | inr differs ↦ ap length (block_entry y differs) ∙ whole y (omega (arith, length-with_owned version bs s (count s) k))
       ];
     }
 
   pub names : Names version bs (with_owned version bs s (count s) k) inodes first count s k
-  names = elim (cases_eq (behind_index (count s)) 0) [ inl direct ↦ names_direct direct | inr behind ↦ names_entry behind ]
+  names = elim (cases_eq (after_index (count s)) 0) [ inl direct ↦ names_direct direct | inr following ↦ names_entry following ]
 
 -- the store after inode s took block k as the next that it owns
 pub record Pushed (version : Version) (st after : BlockStore) (inodes : ℕ) (count : ℕ → ℕ) (s k : ℕ) : Type 0 where
@@ -217,7 +217,7 @@ module _ (version : Version) (st : BlockStore) (inodes : ℕ) (count : ℕ → �
   owned_clear : (t i : ℕ) → t < inodes → i < count t → owned_at version (set st.blocks k zeros) t i ≡ owned_at version st.blocks t i
   owned_clear t i below_t in_range = owned_at-same version st.blocks (set st.blocks k zeros) t i
       ((head_clear t below_t).direct (pointer_of i) (pointer_of-few version i (omega (arith, owning.few t below_t))))
-      (λ behind. block_clear (pointer_at version st.blocks t (pointer_of i)) (rw (index-is version st.blocks t i) (unowned t (index_of i) below_t (omega arith))))
+      (λ following. block_clear (pointer_at version st.blocks t (pointer_of i)) (rw (index-is version st.blocks t i) (unowned t (index_of i) below_t (omega arith))))
 
   whole_clear : (y : ℕ) → y < length (set st.blocks k zeros) → length (block_at (set st.blocks k zeros) y) ≡ 512
   whole_clear y in_range = elim (cases_eq y k) [
@@ -232,8 +232,8 @@ module _ (version : Version) (st : BlockStore) (inodes : ℕ) (count : ℕ → �
   names_clear = names version (set st.blocks k zeros) inodes st.first st.free count s k below shape.first (omega (arith, long_clear, shape.first_within)) whole_clear owning_clear few small
 
   -- the index block is not the one that is taken
-  index_apart : behind_index (count s) ≢ 0 → k ≢ owned_at version (set st.blocks k zeros) s (index_of (count s))
-  index_apart behind same =
+  index_apart : after_index (count s) ≢ 0 → k ≢ owned_at version (set st.blocks k zeros) s (index_of (count s))
+  index_apart following same =
       let before : index_of (count s) < count s = omega arith in
       unowned s (index_of (count s)) below before (sym (owned_clear s (index_of (count s)) below before) ∙ sym same)
 
@@ -262,10 +262,10 @@ module _ (version : Version) (st : BlockStore) (inodes : ℕ) (count : ℕ → �
         owned = λ t i below_t in_range. done.owned t i below_t in_range ∙ owned_clear t i below_t in_range;
         here = done.here;
         blocks = λ t i below_t in_range content.
-            done.blocks (owned_at version st.blocks t i) (owning.from t i below_t in_range) (λ behind same.
+            done.blocks (owned_at version st.blocks t i) (owning.from t i below_t in_range) (λ following same.
             let before : index_of (count s) < count s = omega arith in
             let index = (owning.apart t i s (index_of (count s)) below_t in_range below before (same ∙ owned_clear s (index_of (count s)) below before)).1 in
-            content (rw index (index_of-is_index (count s) behind)))
+            content (rw index (index_of-is_index (count s) following)))
             ∙ block_clear (owned_at version st.blocks t i) (unowned t i below_t in_range);
         cleared = done.blocks k from index_apart ∙ block_cleared;
       }

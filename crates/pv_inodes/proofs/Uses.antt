@@ -17,7 +17,7 @@ use Rattle.pv_model.specs.Room.{greatest_length}
 use Rattle.pv_blocks.specs.BlockStore.{blocks_of}
 use Rattle.pv_blocks.proofs.Stores.{length-blocks_of}
 use Rattle.pv_inodes.specs.Images.{AreInodes}
-use Rattle.pv_inodes.specs.Layout.{kind_at, size_at, owned_at, owned_count, pointer_at, most_owned, pointer_of, behind_index, place_of}
+use Rattle.pv_inodes.specs.Layout.{kind_at, size_at, owned_at, owned_count, pointer_at, most_owned, pointer_of, after_index, place_of}
 use Rattle.pv_inodes.specs.Sound.{first_data}
 use Rattle.pv_inodes.proofs.Contents.{owned_count-used, owned_count-free}
 use Rattle.pv_inodes.proofs.Heads.{owned_at-direct}
@@ -41,7 +41,7 @@ one_place xs i j once within_i within_j same =
       | inr (inr more) ↦ absurd (pairs j i 0 more within_i (sym same))
     ]
 
--- the places of the pieces of a range
+-- the places of the components of a range
 module _ (f : ℕ → List ℕ) (a n : ℕ) where
   abbrev ns : List ℕ
   ns = range_with_len a n
@@ -52,31 +52,31 @@ module _ (f : ℕ → List ℕ) (a n : ℕ) where
   number_is : (s : ℕ) → s < n → get_or ns s 0 ≡ a + s
   number_is s below = get_or-range_with_len a n s 0 below
 
-  -- a number of a piece is one of the whole
+  -- a number of a component is one of the whole
   pub place_in : (s i : ℕ) → s < n → i < length (f (a + s)) → get_or (flat_map f ns) (start_of s + i) 0 ≡ get_or (f (a + s)) i 0
   place_in s i below within =
       let long = length-range_with_len a n in
-      let piece = ap (λ k. length (f k)) (number_is s below) in
+      let component = ap (λ k. length (f k)) (number_is s below) in
       get_or-flat_map f ns s i 0 0 (omega arith) (omega arith) ∙ ap (λ k. get_or (f k) i 0) (number_is s below)
 
   pub place_within : (s i : ℕ) → s < n → i < length (f (a + s)) → start_of s + i < length (flat_map f ns)
   place_within s i below within =
       let long = length-range_with_len a n in
-      let piece = ap (λ k. length (f k)) (number_is s below) in
+      let component = ap (λ k. length (f k)) (number_is s below) in
       omega (arith, length-flat_map-take f ns s 0 (omega arith))
 
-  -- a piece ends before the next
+  -- a component ends before the next
   ends_before : (s t : ℕ) → s < t → t < n → start_of s + length (f (a + s)) ≤ start_of t
   ends_before s t less below =
       let long = length-range_with_len a n in
       let front : take s (take t ns) ≡ take s ns = take-take s t ns (omega arith) in
-      let piece : get_or (take t ns) s 0 ≡ a + s = get_or-take t ns s 0 less ∙ number_is s (omega arith) in
+      let component : get_or (take t ns) s 0 ≡ a + s = get_or-take t ns s 0 less ∙ number_is s (omega arith) in
       let taken = length-take-le t ns (omega arith) in
       let ends = length-flat_map-take f (take t ns) s 0 (omega arith) in
-      omega (arith, ends, ap (λ (xs : List ℕ). length (flat_map f xs)) front, ap (λ k. length (f k)) piece)
+      omega (arith, ends, ap (λ (xs : List ℕ). length (flat_map f xs)) front, ap (λ k. length (f k)) component)
 
-  pub one_piece : IsDistinct ◌==◌ (flat_map f ns) → (s i t j : ℕ) → s < n → i < length (f (a + s)) → t < n → j < length (f (a + t)) → get_or (f (a + s)) i 0 ≡ get_or (f (a + t)) j 0 → (s ≡ t) × (i ≡ j)
-  one_piece once s i t j below_s within_s below_t within_t same =
+  pub one_component : IsDistinct ◌==◌ (flat_map f ns) → (s i t j : ℕ) → s < n → i < length (f (a + s)) → t < n → j < length (f (a + t)) → get_or (f (a + s)) i 0 ≡ get_or (f (a + t)) j 0 → (s ≡ t) × (i ≡ j)
+  one_component once s i t j below_s within_s below_t within_t same =
       let place : start_of s + i ≡ start_of t + j = one_place (flat_map f ns) (start_of s + i) (start_of t + j) once (place_within s i below_s within_s) (place_within t j below_t within_t)
       (place_in s i below_s within_s ∙ same ∙ sym (place_in t j below_t within_t)) in
       elim (cases_order s t) [
@@ -85,13 +85,13 @@ module _ (f : ℕ → List ℕ) (a n : ℕ) where
         | inr (inr more) ↦ absurd (omega (arith, ends_before t s more below_s))
       ]
 
-  pub all_pieces : (P : ℕ → Type 0) → AllByRecursion P (flat_map f ns) → (s i : ℕ) → s < n → i < length (f (a + s)) → P (get_or (f (a + s)) i 0)
-  all_pieces P all s i below within =
+  pub all_components : (P : ℕ → Type 0) → AllByRecursion P (flat_map f ns) → (s i : ℕ) → s < n → i < length (f (a + s)) → P (get_or (f (a + s)) i 0)
+  all_components P all s i below within =
       subst P (place_in s i below within) (all-at P (flat_map f ns) (start_of s + i) 0 all (place_within s i below within))
 
 -- ---- rows
 
--- where the i-th block of a row stands in the list of those of content, so many, and the index blocks behind them
+-- where the i-th block of a row stands in the list of those of content, so many, and the index blocks after them
 abbrev pub listed_at : ℕ → ℕ → ℕ
 listed_at b i = if (i + 247) % 257 == 0 then b + (i - 10) / 257 else i - (i + 246) / 257
 
@@ -157,12 +157,12 @@ module _ (v : Version) (bytes : Bytes) (count : ℕ) (whole : length bytes ≡ 5
         of_index : (i + 247) % 257 ≡ 0 → get_or (used_content v bytes (suc s) ++ used_index v bytes (suc s)) (listed_at b i) 0 ≡ owned_at v bs s i
         of_index index =
             let place = listed-index b i index in
-            let behind : b + (i - 10) / 257 - b ≡ (i - 10) / 257 = omega arith in
-            let itself : behind_index i ≡ 0 = omega arith in
+            let following : b + (i - 10) / 257 - b ≡ (i - 10) / 257 = omega arith in
+            let itself : after_index i ≡ 0 = omega arith in
             let pointer : pointer_of i ≡ 10 + (i - 10) / 257 = pointer_of-index_block i index in
             ap (λ k. get_or (used_content v bytes (suc s) ++ used_index v bytes (suc s)) k 0) place
             ∙ get_or-append_right (used_content v bytes (suc s)) (used_index v bytes (suc s)) b (b + (i - 10) / 257) 0 length_content (omega arith)
-            ∙ ap (λ k. get_or (used_index v bytes (suc s)) k 0) behind
+            ∙ ap (λ k. get_or (used_index v bytes (suc s)) k 0) following
             ∙ get_or-used_index v bytes count whole s allowed_size ((i - 10) / 257) (omega (arith, row_is))
             ∙ sym (owned_at-direct v bs s i itself ∙ ap (pointer_at v bs s) pointer)
 
@@ -231,13 +231,13 @@ module _ (v : Version) (bytes : Bytes) (count inodes : ℕ) (whole : length byte
   in_data s i below owned =
       let at = listed s i below owned in
       subst (λ k. (inode_blocks v inodes < k) × (k < length bytes / 512)) at.is
-      (all_pieces (used_by v bytes) 1 inodes (λ k. (inode_blocks v inodes < k) × (k < length bytes / 512)) are.in_data s at.place below at.within)
+      (all_components (used_by v bytes) 1 inodes (λ k. (inode_blocks v inodes < k) × (k < length bytes / 512)) are.in_data s at.place below at.within)
 
   apart : (s i t j : ℕ) → s < inodes → i < owned_count v cs s → t < inodes → j < owned_count v cs t → owned_at v cs s i ≡ owned_at v cs t j → (s ≡ t) × (i ≡ j)
   apart s i t j below_s owned_s below_t owned_t same =
       let at_s = listed s i below_s owned_s in
       let at_t = listed t j below_t owned_t in
-      let once = one_piece (used_by v bytes) 1 inodes are.used_once s at_s.place t at_t.place below_s at_s.within below_t at_t.within (at_s.is ∙ same ∙ sym at_t.is) in
+      let once = one_component (used_by v bytes) 1 inodes are.used_once s at_s.place t at_t.place below_s at_s.within below_t at_t.within (at_s.is ∙ same ∙ sym at_t.is) in
       let sizes_same : (size v bytes (suc s) + 511) / 512 ≡ (size v bytes (suc t) + 511) / 512 = ap (λ n. (size v bytes (suc n) + 511) / 512) once.0 in
       let counts_same : owned_count v cs s ≡ owned_count v cs t = ap (owned_count v cs) once.0 in
       let places : listed_at ((size v bytes (suc s) + 511) / 512) i ≡ listed_at ((size v bytes (suc s) + 511) / 512) j =

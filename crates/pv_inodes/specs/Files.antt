@@ -1,7 +1,7 @@
 -- What inodes hold, by their numbers.
 use Rattle.std.specs.Prelude.{ℕ, zero, suc, ◌<◌, ◌≤◌, [], ◌∷◌, length, drop, sum_by, Option, None, Some, IsSome, option_map}
-use Rattle.pv_model.specs.declared.sort.Sort.{Sort}
-use Rattle.pv_model.specs.declared.sort.Sort.TheVariants.{Directory, File, Executable, Symlink}
+use Rattle.pv_model.specs.declared.sort.Kind.{Kind}
+use Rattle.pv_model.specs.declared.sort.Kind.TheVariants.{Directory, File, Executable, Symlink}
 use Rattle.pv_model.specs.declared.version.Version.{Version}
 use Rattle.pv_model.specs.Bytes.{Bytes}
 use Rattle.pv_model.specs.Effect.{overwrite, resize}
@@ -10,7 +10,7 @@ use Rattle.pv_model.specs.Room.{need}
 
 -- what an inode holds
 pub record Contained : Type 0 where
-  pub sort : Sort
+  pub sort : Kind
   pub bytes : Bytes
 
 -- the version of an image, what its inodes hold, by their numbers from 1 on, and how many data blocks there are
@@ -20,13 +20,13 @@ pub record Files : Type 0 where
   pub blocks : ℕ
 
 -- the number that an inode has for what it is
-abbrev pub sort_number : Sort → ℕ
+abbrev pub sort_number : Kind → ℕ
 sort_number Directory = 1
 sort_number File = 2
 sort_number Executable = 3
 sort_number Symlink = 4
 
-abbrev pub sort_of : ℕ → Sort
+abbrev pub sort_of : ℕ → Kind
 sort_of (suc zero) = Directory
 sort_of (suc (suc zero)) = File
 sort_of (suc (suc (suc zero))) = Executable
@@ -49,7 +49,7 @@ abbrev pub bytes_at : Files → ℕ → Bytes
 bytes_at f n = bytes_of (held f n)
 
 -- the sort of an inode that is in use
-abbrev pub sort_at : Files → ℕ → Option Sort
+abbrev pub sort_at : Files → ℕ → Option Kind
 sort_at f n = option_map (λ c. c.sort) (held f n)
 
 -- the data blocks that a content needs
@@ -86,7 +86,7 @@ abbrev pub cut : Files → ℕ → ℕ → Files
 cut f n size = with_bytes f n (resize (bytes_at f n) size)
 
 -- the files with an inode in use that has no bytes
-abbrev pub with_new : Files → ℕ → Sort → Files
+abbrev pub with_new : Files → ℕ → Kind → Files
 with_new f n sort = record f { nodes = with_number f.nodes n (record { sort = sort; bytes = [] }) }
 
 -- the files with an inode free

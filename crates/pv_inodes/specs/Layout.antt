@@ -51,9 +51,9 @@ pointer_at version bs s p = number bs (home version s) (offset version s + 8 + 2
 abbrev pub most_owned : Version → ℕ
 most_owned version = 10 + 257 * index_pointers version
 
--- how far the i-th of them is behind the index block that points to it; 0 where the inode itself points to it
-abbrev pub behind_index : ℕ → ℕ
-behind_index i = (i - 10) % 257
+-- how far the i-th of them is after the index block that points to it; 0 where the inode itself points to it
+abbrev pub after_index : ℕ → ℕ
+after_index i = (i - 10) % 257
 
 -- which pointer of the inode is that to the i-th of them, or else to the index block that points to it
 unfoldable pub pointer_of : ℕ → ℕ
@@ -62,8 +62,8 @@ pointer_of i = min i 10 + (i - 10) / 257
 -- the i-th block that inode s owns
 unfoldable pub owned_at : Version → List Bytes → ℕ → ℕ → ℕ
 owned_at version bs s i =
-    if behind_index i == 0 then pointer_at version bs s (pointer_of i)
-    else number bs (pointer_at version bs s (pointer_of i)) (2 * (behind_index i - 1)) 2
+    if after_index i == 0 then pointer_at version bs s (pointer_of i)
+    else number bs (pointer_at version bs s (pointer_of i)) (2 * (after_index i - 1)) 2
 
 -- how many blocks a content of this length owns, those of its bytes and the index blocks
 unfoldable pub wanted : ℕ → ℕ
@@ -102,8 +102,8 @@ with_size version bs s size = splice bs (home version s) (offset version s + 4) 
 
 unfoldable pub with_owned : Version → List Bytes → ℕ → ℕ → ℕ → List Bytes
 with_owned version bs s i k =
-    if behind_index i == 0 then splice bs (home version s) (offset version s + 8 + 2 * pointer_of i) (little_bytes 2 k)
-    else splice bs (pointer_at version bs s (pointer_of i)) (2 * (behind_index i - 1)) (little_bytes 2 k)
+    if after_index i == 0 then splice bs (home version s) (offset version s + 8 + 2 * pointer_of i) (little_bytes 2 k)
+    else splice bs (pointer_at version bs s (pointer_of i)) (2 * (after_index i - 1)) (little_bytes 2 k)
 
 -- a block of zeros
 unfoldable pub zeros : Bytes

@@ -15,7 +15,7 @@ use crate::layout::{BLOCK_LENGTH, place, room};
 use crate::table::{content_block, kind_of, owned_by, push_block, set_kind, set_size, size_of};
 use pv_blocks::{BlockSet, Blocks};
 use pv_model::limits::{BLOCK, INODES};
-use pv_model::{Sort, Version};
+use pv_model::{Kind, Version};
 use std::marker::Model;
 
 /// The inodes of an image of either version, over its blocks. Nothing here takes memory.
@@ -79,7 +79,7 @@ impl Inodes {
     }
 
     /// What an inode that is in use is.
-    pub fn kind(&self, inode: u16) -> Sort
+    pub fn kind(&self, inode: u16) -> Kind
         requires { IsUsed self.now inode }
         ensures { sort_at self.now inode ≡ Some result }
     {
@@ -235,7 +235,7 @@ impl Inodes {
     }
 
     /// Puts the least free inode into use, as one of this sort, without bytes; None only where none is free.
-    pub fn fresh(&mut self, sort: Sort) -> Option<u16>
+    pub fn fresh(&mut self, sort: Kind) -> Option<u16>
         ensures full { IsNone result ↔ (new_number self.old ≡ length self.old.nodes) }
         ensures none { IfNone result (self.new ≡ self.old) }
         ensures least { IfSome result (λ n. n ≡ new_number self.old) }
@@ -348,7 +348,7 @@ impl Inodes {
         set_size(&mut self.blocks, self.version, slot, size);
     }
 
-    // Lengthens a content that fills its blocks by zeros in the first block behind an index block. The first
+    // Lengthens a content that fills its blocks by zeros in the first block after an index block. The first
     // block that is taken is the index block.
     fn grow_by_index(&mut self, inode: u16, size: u32)
         requires used { IsUsed self.old inode }
@@ -417,28 +417,28 @@ impl Inodes {
 }
 
 /// What a number of an inode says that it is.
-fn sort_from(kind: u8) -> Sort
+fn sort_from(kind: u8) -> Kind
     ensures { result ≡ sort_of kind }
 {
     match kind {
-        1 => Sort::Directory,
-        2 => Sort::File,
-        3 => Sort::Executable,
-        _ => Sort::Symlink,
+        1 => Kind::Directory,
+        2 => Kind::File,
+        3 => Kind::Executable,
+        _ => Kind::Symlink,
     }
 }
 
 /// The number that an inode has for what it is.
-fn number_of(sort: Sort) -> u8
+fn number_of(sort: Kind) -> u8
     ensures value { result ≡ sort_number sort }
     ensures some { 0 < result }
     ensures few { result ≤ 4 }
     ensures back { sort_of result ≡ sort }
 {
     match sort {
-        Sort::Directory => 1,
-        Sort::File => 2,
-        Sort::Executable => 3,
-        Sort::Symlink => 4,
+        Kind::Directory => 1,
+        Kind::File => 2,
+        Kind::Executable => 3,
+        Kind::Symlink => 4,
     }
 }

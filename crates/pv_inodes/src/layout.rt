@@ -3,7 +3,7 @@ ghost use Rattle.std.specs.Prelude.{◌≡◌, ◌+◌, ◌*◌, ◌/◌, ◌≤
 ghost use Rattle.pv_model.specs.declared.limits.TheConstants.{BLOCK};
 ghost use Rattle.pv_model.specs.declared.version.Version.TheVariants.{V2};
 ghost use Rattle.pv_model.specs.Room.{greatest_length};
-ghost use Rattle.pv_inodes.specs.Layout.{home, offset, pointer_count, behind_index, pointer_of, place_of, wanted};
+ghost use Rattle.pv_inodes.specs.Layout.{home, offset, pointer_count, after_index, pointer_of, place_of, wanted};
 
 use pv_model::limits::BLOCK;
 use pv_model::{Layout, Version};
@@ -78,10 +78,10 @@ pub(crate) fn pointer_of(i: u16) -> u16
     i.min(DIRECT) + i.saturating_sub(DIRECT) / (POINTED + 1)
 }
 
-/// How far the i-th block that an inode owns is behind the index block that points to it; 0 where the inode
+/// How far the i-th block that an inode owns is after the index block that points to it; 0 where the inode
 /// itself points to it.
-pub(crate) fn behind_index(i: u16) -> u16
-    ensures { result ≡ behind_index i }
+pub(crate) fn after_index(i: u16) -> u16
+    ensures { result ≡ after_index i }
 {
     i.saturating_sub(DIRECT) % (POINTED + 1)
 }

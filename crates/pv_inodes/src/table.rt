@@ -3,12 +3,12 @@ ghost use Rattle.std.specs.Prelude.{◌≡◌, ◌<◌, ◌≤◌, ◌≢◌, le
 ghost use Rattle.pv_blocks.specs.BlockStore.{free_count, IsFree, with_block};
 ghost use Rattle.pv_model.specs.declared.version.Version.TheVariants.{V2};
 ghost use Rattle.pv_model.specs.Room.{greatest_length};
-ghost use Rattle.pv_inodes.specs.Layout.{home, kind_at, size_at, pointer_at, pointer_count, pointer_of, behind_index, most_owned, owned_at, owned_count, place_of, with_kind, with_size, with_owned, zeros};
+ghost use Rattle.pv_inodes.specs.Layout.{home, kind_at, size_at, pointer_at, pointer_count, pointer_of, after_index, most_owned, owned_at, owned_count, place_of, with_kind, with_size, with_owned, zeros};
 ghost use Rattle.pv_inodes.specs.Sound.{pushed};
 
 use crate::fields::{byte_at, put, put_u16, put_u32, u16_at, u32_at};
 use crate::layout::{
-    DIRECT, POINTED, POINTERS, SIZE, behind_index, home, offset, pointer_of, room,
+    DIRECT, POINTED, POINTERS, SIZE, after_index, home, offset, pointer_of, room,
 };
 use pv_blocks::Blocks;
 use pv_model::Version;
@@ -64,15 +64,15 @@ fn pointer(blocks: &Blocks, version: Version, slot: u16, p: u16) -> u16
 pub(crate) fn owned_by(blocks: &Blocks, version: Version, slot: u16, i: u16) -> u16
     requires block { home version slot < length blocks.now.blocks }
     requires owned { i < most_owned version }
-    requires index { behind_index i ≢ 0 → pointer_at version blocks.now.blocks slot (pointer_of i) < length blocks.now.blocks }
+    requires index { after_index i ≢ 0 → pointer_at version blocks.now.blocks slot (pointer_of i) < length blocks.now.blocks }
     ensures { result ≡ owned_at version blocks.now.blocks slot i }
 {
     let pointer = pointer(blocks, version, slot, pointer_of(i));
-    let behind = behind_index(i);
-    if behind == 0 {
+    let following = after_index(i);
+    if following == 0 {
         pointer
     } else {
-        u16_at(blocks, pointer, 2 * (behind - 1) as usize)
+        u16_at(blocks, pointer, 2 * (following - 1) as usize)
     }
 }
 
@@ -80,7 +80,7 @@ pub(crate) fn owned_by(blocks: &Blocks, version: Version, slot: u16, i: u16) -> 
 pub(crate) fn content_block(blocks: &Blocks, version: Version, slot: u16, block: u16) -> u16
     requires block { home version slot < length blocks.now.blocks }
     requires owned { place_of block < most_owned version }
-    requires index { behind_index (place_of block) ≢ 0 → pointer_at version blocks.now.blocks slot (pointer_of (place_of block)) < length blocks.now.blocks }
+    requires index { after_index (place_of block) ≢ 0 → pointer_at version blocks.now.blocks slot (pointer_of (place_of block)) < length blocks.now.blocks }
     ensures { result ≡ owned_at version blocks.now.blocks slot (place_of block) }
 {
     if block < DIRECT {
@@ -120,11 +120,11 @@ pub(crate) fn set_size(blocks: &mut Blocks, version: Version, slot: u16, size: u
 pub(crate) fn set_owned(blocks: &mut Blocks, version: Version, slot: u16, i: u16, k: u16)
     requires block { home version slot < length blocks.old.blocks }
     requires owned { i < most_owned version }
-    requires index { behind_index i ≢ 0 → pointer_at version blocks.old.blocks slot (pointer_of i) < length blocks.old.blocks }
+    requires index { after_index i ≢ 0 → pointer_at version blocks.old.blocks slot (pointer_of i) < length blocks.old.blocks }
     ensures { blocks.new ≡ record blocks.old { blocks = with_owned version blocks.old.blocks slot i k } }
 {
-    let behind = behind_index(i);
-    if behind == 0 {
+    let following = after_index(i);
+    if following == 0 {
         put_u16(
             blocks,
             home(version, slot),
@@ -133,7 +133,7 @@ pub(crate) fn set_owned(blocks: &mut Blocks, version: Version, slot: u16, i: u16
         );
     } else {
         let index = pointer(blocks, version, slot, pointer_of(i));
-        put_u16(blocks, index, 2 * (behind - 1) as usize, k);
+        put_u16(blocks, index, 2 * (following - 1) as usize, k);
     }
 }
 
@@ -154,7 +154,7 @@ pub(crate) fn push_block(blocks: &mut Blocks, version: Version, slot: u16, i: u1
     requires first { blocks.old.first ≤ length blocks.old.blocks }
     requires whole { length blocks.old.free ≡ length blocks.old.blocks }
     requires owned { i < most_owned version }
-    requires index { behind_index i ≢ 0 → pointer_at version blocks.old.blocks slot (pointer_of i) < length blocks.old.blocks }
+    requires index { after_index i ≢ 0 → pointer_at version blocks.old.blocks slot (pointer_of i) < length blocks.old.blocks }
     ensures free { IsFree blocks.old result }
     ensures after { blocks.new ≡ pushed version blocks.old slot i result }
 {

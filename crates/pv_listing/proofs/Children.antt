@@ -11,46 +11,46 @@ use Rattle.std.specs.Option.{option_copied}
 use Rattle.std.specs.Slice.{IsGetRangeResult}
 use Rattle.std.proofs.lemmas.Cmp.{nat_list_cmp_total}
 use Rattle.pv_model.specs.Bytes.{Bytes}
-use Rattle.pv_model.specs.Calls.Descriptors.{is_behind, next_name}
+use Rattle.pv_model.specs.Calls.Descriptors.{is_past, next_name}
 use Rattle.pv_model.specs.Tree.{Entries}
-use Rattle.pv_tree_laws.proofs.Entries.{by_name, tied_itself, tied-same, find_behind}
-use Rattle.pv_listing.specs.Lines.{entries_behind, last_name, IsNextChild}
+use Rattle.pv_laws_trees.proofs.Entries.{by_name, tied_itself, tied-same, find_after}
+use Rattle.pv_listing.specs.Lines.{entries_after, last_name, IsNextChild}
 
 pub less_from : (o : Ordering) → is_lt o ≡ true → o ≡ Less
 less_from Less is = refl
 less_from Equal is = cc
 less_from Greater is = cc
 
--- a name is not behind one that it comes before
-pub not_behind : (a b : Bytes) → by_name a b ≡ Less → is_behind (Some b) a ≡ false
-not_behind a b less = ap is_lt (nat_list_cmp_total.antisymm b a ∙ ap ordering_reverse less)
+-- a name is not after one that it comes before
+pub not_after : (a b : Bytes) → by_name a b ≡ Less → is_past (Some b) a ≡ false
+not_after a b less = ap is_lt (nat_list_cmp_total.antisymm b a ∙ ap ordering_reverse less)
 
-pub not_behind_itself : (a : Bytes) → is_behind (Some a) a ≡ false
-not_behind_itself a =
-    elim (is_behind (Some a) a) as (λ b. is_behind (Some a) a ≡ b → b ≡ false) [
-      | true ↦ λ is. sym is ∙ not_behind a a (less_from (by_name a a) is)
+pub not_after_itself : (a : Bytes) → is_past (Some a) a ≡ false
+not_after_itself a =
+    elim (is_past (Some a) a) as (λ b. is_past (Some a) a ≡ b → b ≡ false) [
+      | true ↦ λ is. sym is ∙ not_after a a (less_from (by_name a a) is)
       | false ↦ λ is. refl
     ] refl
 
--- what is behind a name behind the last one is behind the last one
-pub behind_more : (last : Option Bytes) (a b : Bytes) → is_behind last a ≡ true → is_lt (by_name a b) ≡ true → is_behind last b ≡ true
-behind_more None a b is less = refl
-behind_more (Some l) a b is less = ap is_lt (nat_list_cmp_total.trans l a b (less_from (by_name l a) is) (less_from (by_name a b) less))
+-- what is after a name after the last one is after the last one
+pub after_more : (last : Option Bytes) (a b : Bytes) → is_past last a ≡ true → is_lt (by_name a b) ≡ true → is_past last b ≡ true
+after_more None a b is less = refl
+after_more (Some l) a b is less = ap is_lt (nat_list_cmp_total.trans l a b (less_from (by_name l a) is) (less_from (by_name a b) less))
 
--- all entries above a name are behind it
-all_behind : (name : Bytes) (es : Entries) → below_all by_name name es ≡ true → entries_behind (Some name) es ≡ es
-all_behind name [] below = refl
-all_behind name (e ∷ es) below =
+-- all entries above a name are after it
+all_past : (name : Bytes) (es : Entries) → below_all by_name name es ≡ true → entries_after (Some name) es ≡ es
+all_past name [] below = refl
+all_past name (e ∷ es) below =
     let parts = and_parts (is_lt (by_name name e.0)) (below_all by_name name es) below in
-    ap (λ b. cond b (e ∷ entries_behind (Some name) es) (entries_behind (Some name) es)) parts.0 ∙ ap (λ (xs : Entries). e ∷ xs) (all_behind name es parts.1)
+    ap (λ b. cond b (e ∷ entries_after (Some name) es) (entries_after (Some name) es)) parts.0 ∙ ap (λ (xs : Entries). e ∷ xs) (all_past name es parts.1)
 
--- and behind any last name that the name is behind
-all_behind_last : (last : Option Bytes) (name : Bytes) (es : Entries) → is_behind last name ≡ true → below_all by_name name es ≡ true → entries_behind last es ≡ es
-all_behind_last last name [] is below = refl
-all_behind_last last name (e ∷ es) is below =
+-- and after any last name that the name is after
+all_past_last : (last : Option Bytes) (name : Bytes) (es : Entries) → is_past last name ≡ true → below_all by_name name es ≡ true → entries_after last es ≡ es
+all_past_last last name [] is below = refl
+all_past_last last name (e ∷ es) is below =
     let parts = and_parts (is_lt (by_name name e.0)) (below_all by_name name es) below in
-    ap (λ b. cond b (e ∷ entries_behind last es) (entries_behind last es)) (behind_more last name e.0 is parts.0)
-    ∙ ap (λ (xs : Entries). e ∷ xs) (all_behind_last last name es is parts.1)
+    ap (λ b. cond b (e ∷ entries_after last es) (entries_after last es)) (after_more last name e.0 is parts.0)
+    ∙ ap (λ (xs : Entries). e ∷ xs) (all_past_last last name es is parts.1)
 
 -- what is found among entries above a name is above it
 found_above : (name other : Bytes) (n : ℕ) (es : Entries) → below_all by_name name es ≡ true → find by_name other es ≡ Some n → by_name name other ≡ Less
@@ -62,47 +62,47 @@ found_above name other n (e ∷ es) below found =
       | false ↦ λ tied there. found_above name other n es parts.1 there
     ] refl found
 
--- the entry of the next name, and then those behind it
+-- the entry of the next name, and then those after it
 pub record IsFirst (last : Option Bytes) (es : Entries) (name : Bytes) (n : ℕ) : Type 0 where
-  pub first : entries_behind last es ≡ (name, n) ∷ entries_behind (Some name) es
+  pub first : entries_after last es ≡ (name, n) ∷ entries_after (Some name) es
   pub found : find by_name name es ≡ Some n
 
-first_here : (last : Option Bytes) (e : Bytes × ℕ) (es : Entries) → is_behind last e.0 ≡ true → below_all by_name e.0 es ≡ true → IsFirst last (e ∷ es) e.0 e.1
+first_here : (last : Option Bytes) (e : Bytes × ℕ) (es : Entries) → is_past last e.0 ≡ true → below_all by_name e.0 es ≡ true → IsFirst last (e ∷ es) e.0 e.1
 first_here last e es is below = record {
   first =
-      ap (λ b. cond b (e ∷ entries_behind last es) (entries_behind last es)) is
-      ∙ ap (λ (xs : Entries). e ∷ xs) (all_behind_last last e.0 es is below ∙ sym (all_behind e.0 es below)
-      ∙ sym (ap (λ b. cond b (e ∷ entries_behind (Some e.0) es) (entries_behind (Some e.0) es)) (not_behind_itself e.0)));
+      ap (λ b. cond b (e ∷ entries_after last es) (entries_after last es)) is
+      ∙ ap (λ (xs : Entries). e ∷ xs) (all_past_last last e.0 es is below ∙ sym (all_past e.0 es below)
+      ∙ sym (ap (λ b. cond b (e ∷ entries_after (Some e.0) es) (entries_after (Some e.0) es)) (not_after_itself e.0)));
   found = ap (λ b. cond b (Some e.1) (find by_name e.0 es)) (tied_itself e.0);
 }
 
-first_later : (last : Option Bytes) (e : Bytes × ℕ) (es : Entries) (name : Bytes) (n : ℕ) → is_behind last e.0 ≡ false → is_sorted by_name (e ∷ es) ≡ true
+first_later : (last : Option Bytes) (e : Bytes × ℕ) (es : Entries) (name : Bytes) (n : ℕ) → is_past last e.0 ≡ false → is_sorted by_name (e ∷ es) ≡ true
     → IsFirst last es name n → IsFirst last (e ∷ es) name n
 first_later last e es name n here sorted later =
     let parts = and_parts (below_all by_name e.0 es) (is_sorted by_name es) sorted in
     record {
       first =
-          ap (λ b. cond b (e ∷ entries_behind last es) (entries_behind last es)) here ∙ later.first
+          ap (λ b. cond b (e ∷ entries_after last es) (entries_after last es)) here ∙ later.first
           ∙ ap (λ (xs : Entries). (name, n) ∷ xs)
-          (sym (ap (λ b. cond b (e ∷ entries_behind (Some name) es) (entries_behind (Some name) es)) (not_behind e.0 name (found_above e.0 name n es parts.0 later.found))));
-      found = (find_behind name n e es sorted later.found).1;
+          (sym (ap (λ b. cond b (e ∷ entries_after (Some name) es) (entries_after (Some name) es)) (not_after e.0 name (found_above e.0 name n es parts.0 later.found))));
+      found = (find_after name n e es sorted later.found).1;
     }
 
 pub next-first : (last : Option Bytes) (es : Entries) (name : Bytes) → is_sorted by_name es ≡ true → next_name last es ≡ Some name → (n : ℕ) × IsFirst last es name n
 next-first last [] name sorted is = cc
 next-first last (e ∷ es) name sorted is =
     let parts = and_parts (below_all by_name e.0 es) (is_sorted by_name es) sorted in
-    elim (is_behind last e.0) as (λ b. is_behind last e.0 ≡ b → cond b (Some e.0) (next_name last es) ≡ Some name → (n : ℕ) × IsFirst last (e ∷ es) name n) [
-      | true ↦ λ behind here. let same : e.0 ≡ name = cc here in (e.1, subst (λ (k : Bytes). IsFirst last (e ∷ es) k e.1) same (first_here last e es behind parts.0))
+    elim (is_past last e.0) as (λ b. is_past last e.0 ≡ b → cond b (Some e.0) (next_name last es) ≡ Some name → (n : ℕ) × IsFirst last (e ∷ es) name n) [
+      | true ↦ λ following here. let same : e.0 ≡ name = cc here in (e.1, subst (λ (k : Bytes). IsFirst last (e ∷ es) k e.1) same (first_here last e es following parts.0))
       | false ↦ λ before there. let later = next-first last es name parts.1 there in (later.0, first_later last e es name later.0 before sorted later.1)
     ] refl is
 
--- none is behind where no name comes next
-pub next-none : (last : Option Bytes) (es : Entries) → next_name last es ≡ None → entries_behind last es ≡ []
+-- none is after where no name comes next
+pub next-none : (last : Option Bytes) (es : Entries) → next_name last es ≡ None → entries_after last es ≡ []
 next-none last [] is = refl
 next-none last (e ∷ es) is =
-    elim (is_behind last e.0) as (λ b. is_behind last e.0 ≡ b → cond b (Some e.0) (next_name last es) ≡ None → cond b (e ∷ entries_behind last es) (entries_behind last es) ≡ []) [
-      | true ↦ λ behind here. cc here
+    elim (is_past last e.0) as (λ b. is_past last e.0 ≡ b → cond b (Some e.0) (next_name last es) ≡ None → cond b (e ∷ entries_after last es) (entries_after last es) ≡ []) [
+      | true ↦ λ following here. cc here
       | false ↦ λ before there. next-none last es there
     ] refl is
 
@@ -127,7 +127,7 @@ pub front-is : (directory name path : Bytes) (base : ℕ) → length directory �
 front-is directory name path base long is =
     ap (take base) (is ∙ append_assoc directory (47 ∷ []) name) ∙ ap (λ k. take k (directory ++ 47 ∷ name)) (sym long) ∙ take-append_seam directory (47 ∷ name)
 
--- what stands behind a directory's path and a slash, as a slice of the path has it
+-- what stands after a directory's path and a slash, as a slice of the path has it
 pub last-got : (path : Bytes) (base : ℕ) (got : Option (Bor Bytes)) → base ≤ length path → IsGetRangeResult path (base + 1) (length path) got
     → option_copied got ≡ last_name (drop base path)
 last-got path base None within (past, some) =
@@ -138,10 +138,10 @@ last-got path base (Some x) within (part, is) =
     ap Some (part.2 ∙ take_all (length path - (base + 1)) (drop (base + 1) path) (omega (arith, length-drop (base + 1) path)) ∙ ap (λ k. drop k path) (add-one base))
     ∙ sym (ap last_name (drop-cons path base 0 inside))
 
--- behind no name are all
-pub behind-none : (es : Entries) → entries_behind None es ≡ es
-behind-none [] = refl
-behind-none (e ∷ es) = ap (λ (xs : Entries). e ∷ xs) (behind-none es)
+-- after no name are all
+pub past-none : (es : Entries) → entries_after None es ≡ es
+past-none [] = refl
+past-none (e ∷ es) = ap (λ (xs : Entries). e ∷ xs) (past-none es)
 
 pub length-path : (directory name path : Bytes) → path ≡ directory ++ codes "/" ++ name → length directory ≤ length path
 length-path directory name path is = omega (arith, ap length is, length-append (directory ++ codes "/") name, length-append directory (codes "/"))

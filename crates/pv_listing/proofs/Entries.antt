@@ -4,8 +4,8 @@ use Rattle.pv_model.specs.Bytes.{Bytes}
 use Rattle.pv_model.specs.Listing.{lines_within}
 use Rattle.pv_model.specs.Tree.{Entries, Node, directory_node, file_node, link_node, Tree, node_at, entries_of, entries_at, is_directory, is_directory_at}
 use Rattle.pv_trace.specs.Streams.{and_all}
-use Rattle.pv_listing.specs.Lines.{entries_behind}
-use Rattle.pv_listing.proofs.Rests.{LeavesRest, rest_all, rest_behind}
+use Rattle.pv_listing.specs.Lines.{entries_after}
+use Rattle.pv_listing.proofs.Rests.{LeavesRest, rest_all, rest_after}
 
 -- what is no directory has no entries
 pub no-entries : (t : Tree) (n : ℕ) → is_directory_at t n ≡ false → entries_at t n ≡ []
@@ -28,15 +28,15 @@ module _ (t : Tree) (line : Bytes → ℕ → Bytes) where
   lines-are (suc depth) path n some =
       let less : depth ≡ suc depth - 1 = omega arith in ap (λ k. line path n ++ entry_lines k path (entries_at t n)) less
 
-  -- behind the line of a node the lines of its entries are left
+  -- after the line of a node the lines of its entries are left
   pub node_left : (depth : ℕ) (path : Bytes) (n : ℕ) (es : Entries) (before after : Option Bytes) → 0 < depth → entries_at t n ≡ es → after ≡ and_all before (line path n)
       → LeavesRest (entry_lines (depth - 1) path es) (lines_within t line depth path n) before after
-  node_left depth path n es before after some are told =
-      rest_behind (lines_within t line depth path n) (line path n) _ _ before before after (rest_all _ before) (lines-are depth path n some ∙ ap (λ (xs : Entries). line path n ++ entry_lines (depth - 1) path xs) are) told
+  node_left depth path n es before after some are written =
+      rest_after (lines_within t line depth path n) (line path n) _ _ before before after (rest_all _ before) (lines-are depth path n some ∙ ap (λ (xs : Entries). line path n ++ entry_lines (depth - 1) path xs) are) written
 
-  -- the lines of the next entry, and those of the entries behind it
+  -- the lines of the next entry, and those of the entries after it
   pub entry_first : (depth : ℕ) (directory path name : Bytes) (es : Entries) (last : Option Bytes) (child : ℕ)
-      → entries_behind last es ≡ (name, child) ∷ entries_behind (Some name) es → path ≡ directory ++ codes "/" ++ name
-      → entry_lines depth directory (entries_behind last es) ≡ lines_within t line depth path child ++ entry_lines depth directory (entries_behind (Some name) es)
+      → entries_after last es ≡ (name, child) ∷ entries_after (Some name) es → path ≡ directory ++ codes "/" ++ name
+      → entry_lines depth directory (entries_after last es) ≡ lines_within t line depth path child ++ entry_lines depth directory (entries_after (Some name) es)
   entry_first depth directory path name es last child first at =
-      ap (entry_lines depth directory) first ∙ ap (λ (bs : Bytes). lines_within t line depth bs child ++ entry_lines depth directory (entries_behind (Some name) es)) (sym at)
+      ap (entry_lines depth directory) first ∙ ap (λ (bs : Bytes). lines_within t line depth bs child ++ entry_lines depth directory (entries_after (Some name) es)) (sym at)

@@ -2,23 +2,23 @@
 use Rattle.std.proofs.Common.{◌≡◌, ℕ, true, false, [], ◌∷◌, ◌++◌, ◌∙◌, ap, ap₂, append_assoc, sym, Option, None, Some, option_map, codes, flat_map, refl}
 use Rattle.std.specs.Fmt.{decimal}
 use Rattle.std.specs.Prelude.{IsSome}
-use Rattle.pv_model.specs.declared.sort.Sort.{Sort}
+use Rattle.pv_model.specs.declared.sort.Kind.{Kind}
 use Rattle.pv_model.specs.Bytes.{Bytes}
 use Rattle.pv_model.specs.Effect.{size_of}
-use Rattle.pv_model.specs.Listing.{sort_letter, listed_path, node_line}
+use Rattle.pv_model.specs.Listing.{kind_letter, listed_path, node_line}
 use Rattle.pv_model.specs.Trace.{quote_byte}
 use Rattle.pv_model.specs.Tree.{Node, directory_node, file_node, link_node}
 use Rattle.pv_dirs.specs.Trees.{sort_of}
 use Rattle.pv_listing.specs.Lines.{letter_of, node_front}
 
-letter-is : (node : Node) → sort_letter node ≡ letter_of (sort_of node)
+letter-is : (node : Node) → kind_letter node ≡ letter_of (sort_of node)
 letter-is (directory_node es) = refl
 letter-is (file_node false bytes) = refl
 letter-is (file_node true bytes) = refl
 letter-is (link_node text) = refl
 
 -- what stands before the path, as a tree tells it
-pub front_is : (n : ℕ) (node : Option Node) (sort : Sort) (size : ℕ) → option_map sort_of node ≡ Some sort → option_map size_of node ≡ Some size
+pub front_is : (n : ℕ) (node : Option Node) (sort : Kind) (size : ℕ) → option_map sort_of node ≡ Some sort → option_map size_of node ≡ Some size
     → node_front n node ≡ letter_of sort ++ codes " " ++ decimal n ++ codes " " ++ decimal size ++ codes " "
 front_is n None sort size is measures = cc is
 front_is n (Some node) sort size is measures =
@@ -34,7 +34,7 @@ marked front text =
     ∙ ap (λ (bs : Bytes). front ++ 34 ∷ bs) (sym (append_assoc text (34 ∷ []) (10 ∷ [])))
     ∙ sym (append_assoc front (34 ∷ (text ++ 34 ∷ [])) (10 ∷ []))
 
--- a line in three pieces: what stands before the path, the path between its marks, and the end
+-- a line in three components: what stands before the path, the path between its marks, and the end
 pub line-is : (front path : Bytes) (n : ℕ) (node : Option Node) → IsSome node → front ≡ node_front n node ++ codes "\""
     → (front ++ flat_map quote_byte (listed_path path)) ++ codes "\"\n" ≡ node_line path n node
 line-is front path n None some is = cc some

@@ -1,16 +1,16 @@
 -- Parts of a line, and the names of a directory one after the other.
 use Rattle.std.specs.Prelude.{◌≡◌, ℕ, [], ◌∷◌, ◌++◌, codes, filter, Option, None, Some}
 use Rattle.std.specs.Fmt.{decimal}
-use Rattle.pv_model.specs.declared.sort.Sort.{Sort}
-use Rattle.pv_model.specs.declared.sort.Sort.TheVariants.{Directory, File, Executable, Symlink}
+use Rattle.pv_model.specs.declared.sort.Kind.{Kind}
+use Rattle.pv_model.specs.declared.sort.Kind.TheVariants.{Directory, File, Executable, Symlink}
 use Rattle.pv_model.specs.Bytes.{Bytes}
-use Rattle.pv_model.specs.Calls.Descriptors.{is_behind}
+use Rattle.pv_model.specs.Calls.Descriptors.{is_past}
 use Rattle.pv_model.specs.Effect.{size_of}
-use Rattle.pv_model.specs.Listing.{sort_letter}
+use Rattle.pv_model.specs.Listing.{kind_letter}
 use Rattle.pv_model.specs.Tree.{Entries, Node}
 
 -- the letter of what a node is
-abbrev pub letter_of : Sort → Bytes
+abbrev pub letter_of : Kind → Bytes
 letter_of Directory = codes "d"
 letter_of File = codes "f"
 letter_of Executable = codes "x"
@@ -19,19 +19,19 @@ letter_of Symlink = codes "l"
 -- what stands before the path of a line
 abbrev pub node_front : ℕ → Option Node → Bytes
 node_front n None = []
-node_front n (Some node) = sort_letter node ++ codes " " ++ decimal n ++ codes " " ++ decimal (size_of node) ++ codes " "
+node_front n (Some node) = kind_letter node ++ codes " " ++ decimal n ++ codes " " ++ decimal (size_of node) ++ codes " "
 
--- the name behind a slash, if there is one
+-- the name after a slash, if there is one
 abbrev pub last_name : Bytes → Option Bytes
 last_name [] = None
 last_name (slash ∷ name) = Some name
 
--- the entries whose names come behind the last one
-abbrev pub entries_behind : Option Bytes → Entries → Entries
-entries_behind last es = filter (λ e. is_behind last e.0) es
+-- the entries whose names come after the last one
+abbrev pub entries_after : Option Bytes → Entries → Entries
+entries_after last es = filter (λ e. is_past last e.0) es
 
--- the first of these entries, and a path that ends in its name behind a directory's; where there is none, the directory's path
+-- the first of these entries, and a path that ends in its name after a directory's; where there is none, the directory's path
 abbrev pub IsNextChild : Entries → Option Bytes → Bytes → Option ℕ → Bytes → Type 0
-IsNextChild es last directory None path = (entries_behind last es ≡ []) × (path ≡ directory)
+IsNextChild es last directory None path = (entries_after last es ≡ []) × (path ≡ directory)
 IsNextChild es last directory (Some child) path =
-    (name : Bytes) × (entries_behind last es ≡ (name, child) ∷ entries_behind (Some name) es) × (path ≡ directory ++ codes "/" ++ name)
+    (name : Bytes) × (entries_after last es ≡ (name, child) ∷ entries_after (Some name) es) × (path ≡ directory ++ codes "/" ++ name)

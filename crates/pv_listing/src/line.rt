@@ -8,7 +8,7 @@ use crate::path::write_between;
 use crate::remarks::Remarks;
 use arrayvec::ArrayVec;
 use itoa::Buffer;
-use pv_model::{Failed, Sink, Sort};
+use pv_model::{Failed, Sink, Kind};
 use pv_tree::Tree;
 
 // Bytes before the path of a line, and more.
@@ -18,19 +18,19 @@ const FRONT: usize = 96;
 type Front = ArrayVec<u8, FRONT>;
 
 // The letter of what a node is.
-fn letter(sort: Sort) -> &'static [u8]
+fn letter(sort: Kind) -> &'static [u8]
     ensures text { result.now ≡ letter_of sort }
     ensures one { length result.now ≤ 1 }
 {
     match sort {
-        Sort::Directory => b"d",
-        Sort::File => b"f",
-        Sort::Executable => b"x",
-        Sort::Symlink => b"l",
+        Kind::Directory => b"d",
+        Kind::File => b"f",
+        Kind::Executable => b"x",
+        Kind::Symlink => b"l",
     }
 }
 
-// A word, and a space behind it.
+// A word, and a space after it.
 fn add_word(front: &mut Front, word: &[u8])
     requires { length front.old.items + length word.now + 1 ≤ FRONT }
     ensures text { front.new.items ≡ front.old.items ++ word.now ++ codes " " }
@@ -40,7 +40,7 @@ fn add_word(front: &mut Front, word: &[u8])
     let _ = front.try_push(b' ');
 }
 
-// A number, and a space behind it.
+// A number, and a space after it.
 fn add_number(front: &mut Front, number: u32)
     requires { length front.old.items + 41 ≤ FRONT }
     ensures text { front.new.items ≡ front.old.items ++ decimal number ++ codes " " }

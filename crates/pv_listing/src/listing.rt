@@ -74,9 +74,9 @@ fn write_within<R: Remarks, W: Sink>(
     node: u16,
 ) -> Result<(), ListStop>
     requires { IsWellFormed tree.now.tree }
-    ensures whole { OnOk result (W.told out.new ≡ and_all (W.told out.old) (lines_within tree.now.tree (R.line remarks.now) depth path.old.items node)) }
+    ensures whole { OnOk result (W.written out.new ≡ and_all (W.written out.old) (lines_within tree.now.tree (R.line remarks.now) depth path.old.items node)) }
     ensures path { OnOk result (path.new.items ≡ path.old.items) }
-    ensures beginning { OnErr result (TellsBeginning (lines_within tree.now.tree (R.line remarks.now) depth path.old.items node) (W.told out.old) (W.told out.new)) }
+    ensures beginning { OnErr result (TellsBeginning (lines_within tree.now.tree (R.line remarks.now) depth path.old.items node) (W.written out.old) (W.written out.new)) }
     ensures failed { IfErr result (λ stop. FailsBy stop (W.failures out.old) (W.failures out.new)) }
     ensures quiet { OnOk result (W.failures out.new ≡ W.failures out.old) }
 {
@@ -103,7 +103,7 @@ fn write_within<R: Remarks, W: Sink>(
 ///
 /// # Errors
 ///
-/// `Write` where a write failed, `Memory` where memory was refused for a path: the sink was told a beginning of the
+/// `Write` where a write failed, `Memory` where memory was refused for a path: the sink was given a beginning of the
 /// lines.
 pub fn write_lines<R: Remarks, W: Sink>(
     alloc: Global,
@@ -111,8 +111,8 @@ pub fn write_lines<R: Remarks, W: Sink>(
     remarks: &R,
     out: &mut W,
 ) -> Result<(), ListStop>
-    ensures whole { OnOk result (W.told out.new ≡ and_all (W.told out.old) (lines_of_all tree.now.tree (R.line remarks.now))) }
-    ensures beginning { OnErr result (TellsBeginning (lines_of_all tree.now.tree (R.line remarks.now)) (W.told out.old) (W.told out.new)) }
+    ensures whole { OnOk result (W.written out.new ≡ and_all (W.written out.old) (lines_of_all tree.now.tree (R.line remarks.now))) }
+    ensures beginning { OnErr result (TellsBeginning (lines_of_all tree.now.tree (R.line remarks.now)) (W.written out.old) (W.written out.new)) }
     ensures failed { IfErr result (λ stop. FailsBy stop (W.failures out.old) (W.failures out.new)) }
     ensures quiet { OnOk result (W.failures out.new ≡ W.failures out.old) }
 {
@@ -129,12 +129,12 @@ pub fn write_lines<R: Remarks, W: Sink>(
 ///
 /// # Errors
 ///
-/// `Write` where a write failed, `Memory` where memory was refused for a path: the sink was told a beginning of the
+/// `Write` where a write failed, `Memory` where memory was refused for a path: the sink was given a beginning of the
 /// listing.
 #[tactic(auto, unfolding(pv_model::specs::Listing::listing))]
 pub fn write_listing<W: Sink>(alloc: Global, tree: &Tree, out: &mut W) -> Result<(), ListStop>
-    ensures whole { OnOk result (W.told out.new ≡ and_all (W.told out.old) (listing tree.now.tree)) }
-    ensures beginning { OnErr result (TellsBeginning (listing tree.now.tree) (W.told out.old) (W.told out.new)) }
+    ensures whole { OnOk result (W.written out.new ≡ and_all (W.written out.old) (listing tree.now.tree)) }
+    ensures beginning { OnErr result (TellsBeginning (listing tree.now.tree) (W.written out.old) (W.written out.new)) }
     ensures failed { IfErr result (λ stop. FailsBy stop (W.failures out.old) (W.failures out.new)) }
     ensures quiet { OnOk result (W.failures out.new ≡ W.failures out.old) }
 {

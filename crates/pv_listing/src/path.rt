@@ -30,11 +30,11 @@ fn quoted(byte: u8) -> ArrayVec<u8, QUOTED>
     quoted
 }
 
-// A text of any length, as a program writes it between its marks. What stands for itself is written in one piece.
-#[tactic(auto, using(crate::proofs::Rests::rest_all, crate::proofs::Rests::told_text))]
+// A text of any length, as a program writes it between its marks. What stands for itself is written at once.
+#[tactic(auto, using(crate::proofs::Rests::rest_all, crate::proofs::Rests::written_text))]
 fn write_bytes<W: Sink>(out: &mut W, text: &[u8]) -> Result<(), Failed>
-    ensures whole { OnOk result (W.told out.new ≡ and_all (W.told out.old) (flat_map quote_byte text.now)) }
-    ensures beginning { OnErr result (TellsBeginning (flat_map quote_byte text.now) (W.told out.old) (W.told out.new)) }
+    ensures whole { OnOk result (W.written out.new ≡ and_all (W.written out.old) (flat_map quote_byte text.now)) }
+    ensures beginning { OnErr result (TellsBeginning (flat_map quote_byte text.now) (W.written out.old) (W.written out.new)) }
     ensures failed { OnErr result (Rose (W.failures out.old) (W.failures out.new)) }
     ensures quiet { OnOk result (W.failures out.new ≡ W.failures out.old) }
 {
@@ -42,13 +42,13 @@ fn write_bytes<W: Sink>(out: &mut W, text: &[u8]) -> Result<(), Failed>
     while !rest.is_empty() {
         let plain = plain_count(rest);
         if plain > 0 {
-            let (piece, behind) = rest.split_at(plain);
-            write_whole(out, piece)?;
-            rest = behind;
+            let (component, following) = rest.split_at(plain);
+            write_whole(out, component)?;
+            rest = following;
         } else {
-            let (first, behind) = rest.split_at(1);
+            let (first, following) = rest.split_at(1);
             write_whole(out, quoted(first[0]).as_slice())?;
-            rest = behind;
+            rest = following;
         }
     }
     Ok(())
@@ -61,27 +61,27 @@ fn listed_path(path: &[u8]) -> &[u8]
     if path.is_empty() { b"/" } else { path }
 }
 
-/// Writes a path as `write_path` does, between what stands before it, with its first mark, and what stands behind it, with
+/// Writes a path as `write_path` does, between what stands before it, with its first mark, and what stands after it, with
 /// its second.
 ///
 /// # Errors
 ///
-/// `Failed` where a write failed: the sink was told a beginning of it all.
-#[tactic(auto, using(pv_trace::proofs::Telling::told_both, pv_trace::proofs::Telling::begins_first, pv_trace::proofs::Telling::begins_then))]
+/// `Failed` where a write failed: the sink was given a beginning of it all.
+#[tactic(auto, using(pv_trace::proofs::Telling::written_both, pv_trace::proofs::Telling::begins_first, pv_trace::proofs::Telling::begins_then))]
 pub(crate) fn write_between<W: Sink>(
     out: &mut W,
     before: &[u8],
     path: &[u8],
-    behind: &[u8],
+    following: &[u8],
 ) -> Result<(), Failed>
-    ensures whole { OnOk result (W.told out.new ≡ and_all (W.told out.old) ((before.now ++ flat_map quote_byte (path_of_line path.now)) ++ behind.now)) }
-    ensures beginning { OnErr result (TellsBeginning ((before.now ++ flat_map quote_byte (path_of_line path.now)) ++ behind.now) (W.told out.old) (W.told out.new)) }
+    ensures whole { OnOk result (W.written out.new ≡ and_all (W.written out.old) ((before.now ++ flat_map quote_byte (path_of_line path.now)) ++ following.now)) }
+    ensures beginning { OnErr result (TellsBeginning ((before.now ++ flat_map quote_byte (path_of_line path.now)) ++ following.now) (W.written out.old) (W.written out.new)) }
     ensures failed { OnErr result (Rose (W.failures out.old) (W.failures out.new)) }
     ensures quiet { OnOk result (W.failures out.new ≡ W.failures out.old) }
 {
     write_whole(out, before)?;
     write_bytes(out, listed_path(path))?;
-    write_whole(out, behind)
+    write_whole(out, following)
 }
 
 /// Writes a path of any length as a line has it: as a program writes a text in its shortest form, the root's as a slash.
@@ -90,10 +90,10 @@ pub(crate) fn write_between<W: Sink>(
 ///
 /// # Errors
 ///
-/// `Failed` where a write failed: the sink was told a beginning of the text.
+/// `Failed` where a write failed: the sink was given a beginning of the text.
 pub fn write_path<W: Sink>(out: &mut W, path: &[u8]) -> Result<(), Failed>
-    ensures whole { OnOk result (W.told out.new ≡ and_all (W.told out.old) (quote (path_of_line path.now))) }
-    ensures beginning { OnErr result (TellsBeginning (quote (path_of_line path.now)) (W.told out.old) (W.told out.new)) }
+    ensures whole { OnOk result (W.written out.new ≡ and_all (W.written out.old) (quote (path_of_line path.now))) }
+    ensures beginning { OnErr result (TellsBeginning (quote (path_of_line path.now)) (W.written out.old) (W.written out.new)) }
     ensures failed { OnErr result (Rose (W.failures out.old) (W.failures out.new)) }
     ensures quiet { OnOk result (W.failures out.new ≡ W.failures out.old) }
 {

@@ -14,10 +14,10 @@ pub trait Remarks {
     ///
     /// # Errors
     ///
-    /// `Failed` where a write failed: the sink was told a beginning of what is said.
+    /// `Failed` where a write failed: the sink was given a beginning of what is said.
     fn write<W: Sink>(&self, out: &mut W, path: &[u8], node: u16) -> Result<(), Failed>
-        ensures whole { OnOk result (W.told out.new ≡ and_all (W.told out.old) (line self.now path.now node)) }
-        ensures beginning { OnErr result (TellsBeginning (line self.now path.now node) (W.told out.old) (W.told out.new)) }
+        ensures whole { OnOk result (W.written out.new ≡ and_all (W.written out.old) (line self.now path.now node)) }
+        ensures beginning { OnErr result (TellsBeginning (line self.now path.now node) (W.written out.old) (W.written out.new)) }
         ensures failed { OnErr result (Rose (W.failures out.old) (W.failures out.new)) }
         ensures quiet { OnOk result (W.failures out.new ≡ W.failures out.old) };
 }

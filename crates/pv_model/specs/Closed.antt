@@ -12,7 +12,7 @@ use Rattle.pv_model.specs.Numbered.{at_number}
 use Rattle.pv_model.specs.Promises.{Promises, contains}
 use Rattle.pv_model.specs.State.{OpenFile, Descriptor, Process, State, reads, writes}
 use Rattle.pv_model.specs.Tree.{Tree, find_entry, IsAtOrAbove}
-use Rattle.pv_model.specs.Unveil.{Table, entry_for, letters_at, Governs}
+use Rattle.pv_model.specs.Unveil.{Table, entry_for, permissions_at, Governs}
 
 -- a process is pledged, without a promise
 abbrev pub Lacks : Process → Promise → Type 0
@@ -23,9 +23,9 @@ pub data GovernsName (t : Tree) (table : Table) (d : ℕ) (name : Bytes) : ℕ �
   by_name : (k : ℕ) → entry_for table (Name d name) ≡ Some k → GovernsName t table d name k
   by_directory : (k : ℕ) → entry_for table (Name d name) ≡ None → Governs t table d k → GovernsName t table d name k
 
--- the letters by which a file is read, executed, or moved
+-- the permissions by which a file is read, executed, or moved
 abbrev pub opens_or_moves : Perms → Bool
-opens_or_moves letters = letters.r || letters.x || letters.c
+opens_or_moves permissions = permissions.r || permissions.x || permissions.c
 
 -- execve is not held, or leaves the process restrained
 abbrev pub IsHeldOverExec : Process → Type 0
@@ -38,16 +38,16 @@ module _ (s : State) (p : Process) (f : ℕ) where
       (x : Descriptor) × (file : OpenFile) × (at_number p.descriptors d ≡ Some x) × (at_number s.files x.file ≡ Some file)
       × (file.node ≡ f) × IsTrue (test file.mode)
 
-  -- an entry governs a name of the file, and its letters pass a test
+  -- an entry governs a name of the file, and its permissions pass a test
   abbrev pub GivesName : Table → (Perms → Bool) → ℕ → Type 0
   GivesName table test k =
-      (d : ℕ) × (name : Bytes) × (find_entry s.tree d name ≡ Some f) × GovernsName s.tree table d name k × IsTrue (test (letters_at table k))
+      (d : ℕ) × (name : Bytes) × (find_entry s.tree d name ≡ Some f) × GovernsName s.tree table d name k × IsTrue (test (permissions_at table k))
 
   -- an entry with c governs the directory of a name of the file, or one above it
   abbrev pub GivesAbove : Table → ℕ → Type 0
   GivesAbove table k =
       (d : ℕ) × (name : Bytes) × (e : ℕ) × (find_entry s.tree d name ≡ Some f) × IsAtOrAbove s.tree e d
-      × Governs s.tree table e k × IsTrue (letters_at table k).c
+      × Governs s.tree table e k × IsTrue (permissions_at table k).c
 
   -- by its promises a process opens, executes, moves and links nothing
   pub record IsPledgedShut : Type 0 where
@@ -77,7 +77,7 @@ module _ (s : State) (p : Process) (f : ℕ) where
   pub record IsUnveiledFrom (table : Table) : Type 0 where
     pub in_force : p.table ≡ Some table
     pub locked : IsTrue p.locked
-    pub names : (k : ℕ) → ¬ GivesName table (λ letters. letters.w) k
+    pub names : (k : ℕ) → ¬ GivesName table (λ permissions. permissions.w) k
     pub over_exec : IsHeldOverExec p
 
   -- beside what keeps it closed: the process does not write the file, nor ever will

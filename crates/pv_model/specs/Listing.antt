@@ -12,11 +12,11 @@ use Rattle.pv_model.specs.Trace.{quote}
 use Rattle.pv_model.specs.Tree.{Node, directory_node, file_node, link_node, Tree, root, node_at, entries_at}
 
 -- the letter of what a node is
-abbrev pub sort_letter : Node → Bytes
-sort_letter (directory_node es) = codes "d"
-sort_letter (file_node false bytes) = codes "f"
-sort_letter (file_node true bytes) = codes "x"
-sort_letter (link_node text) = codes "l"
+abbrev pub kind_letter : Node → Bytes
+kind_letter (directory_node es) = codes "d"
+kind_letter (file_node false bytes) = codes "f"
+kind_letter (file_node true bytes) = codes "x"
+kind_letter (link_node text) = codes "l"
 
 -- a path as a listing has it: the root's is a slash
 abbrev pub listed_path : Bytes → Bytes
@@ -27,7 +27,7 @@ listed_path (b ∷ bs) = b ∷ bs
 abbrev pub node_line : Bytes → ℕ → Option Node → Bytes
 node_line path n None = []
 node_line path n (Some node) =
-    sort_letter node ++ codes " " ++ decimal n ++ codes " " ++ decimal (size_of node) ++ codes " " ++ quote (listed_path path) ++ 10 ∷ []
+    kind_letter node ++ codes " " ++ decimal n ++ codes " " ++ decimal (size_of node) ++ codes " " ++ quote (listed_path path) ++ 10 ∷ []
 
 -- the lines of a tree, by what is said of each node at a path
 module _ (t : Tree) (line : Bytes → ℕ → Bytes) where

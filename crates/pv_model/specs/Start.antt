@@ -53,7 +53,7 @@ started_on t lines =
 unfoldable pub bundle_started : Bytes → Result Started RunFault
 bundle_started bytes =
     and_then of_manifest (read_bundle bytes) (λ manifest.
-    and_then of_manifest (tree_of manifest) (λ t. started_on t manifest.listed.behind))
+    and_then of_manifest (tree_of manifest) (λ t. started_on t manifest.listed.following))
 
 -- a run on an image: the image, the schedule, the first program
 unfoldable pub image_started : Bytes → Bytes → Result Started RunFault
@@ -71,8 +71,8 @@ pub record IsAccepted (image : Bytes) : Type 0 where
 abbrev pub at_most : ℕ → ℕ → ℕ
 at_most limit n = if nat_le n limit then n else limit
 
--- how many bytes stand before the lines behind a bundle's manifest
+-- how many bytes stand before the lines after a bundle's manifest
 abbrev pub schedule_start : Bytes → Manifest → ℕ
 schedule_start bytes m =
     let lines = lines_of bytes in
-    at_most (length bytes) (length (flat_map with_line_end (take (length lines - length m.listed.behind) lines)))
+    at_most (length bytes) (length (flat_map with_line_end (take (length lines - length m.listed.following) lines)))

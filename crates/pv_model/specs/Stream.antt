@@ -29,9 +29,9 @@ CountsNothingTaken before after (Ok zero) buffer = 0 < length buffer → Rose be
 CountsNothingTaken before after (Ok (suc n)) buffer = after ≡ before
 CountsNothingTaken before after (Err e) buffer = Rose before after
 
--- what was told before, and then the front of a buffer
+-- what was written before, and then the front of a buffer
 abbrev pub and_front : Option Bytes → ℕ → Bytes → Option Bytes
-and_front told n buffer = option_map (λ had. had ++ take n buffer) told
+and_front written n buffer = option_map (λ had. had ++ take n buffer) written
 
 -- the front of a buffer, and then what remains
 abbrev pub front_and : ℕ → Bytes → Option Bytes → Option Bytes

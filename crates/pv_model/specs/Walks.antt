@@ -9,10 +9,10 @@ use Rattle.pv_model.specs.declared.follow.Follow.TheVariants.{Last, Keep, KeepTr
 use Rattle.pv_model.specs.declared.open_flags.OpenFlags.{OpenFlags}
 use Rattle.pv_model.specs.declared.perms.Perms.{Perms}
 use Rattle.pv_model.specs.Bytes.{Bytes}
-use Rattle.pv_model.specs.Needs.{letters_of_open}
-use Rattle.pv_model.specs.Perms.{no_letters, letter_r, letter_x, letter_c, read_letters}
+use Rattle.pv_model.specs.Needs.{permissions_of_open}
+use Rattle.pv_model.specs.Perms.{no_permissions, permission_r, permission_x, permission_c, read_permissions}
 
--- a walk of a call: from where a relative path starts, what is done with a final link, the path, and the letters that are asked of the place at its end
+-- a walk of a call: from where a relative path starts, what is done with a final link, the path, and the permissions that are asked of the place at its end
 pub record Walk : Type 0 where
   pub start : Start
   pub follow : Follow
@@ -28,57 +28,57 @@ abbrev pub follow_of : OpenFlags → Follow
 follow_of f = if f.no_follow || (f.create && f.exclusive) then Keep else Last
 
 abbrev pub open_walk : Start → Bytes → OpenFlags → Walk
-open_walk start path f = record { start = start; follow = follow_of f; path = path; needed = letters_of_open f }
+open_walk start path f = record { start = start; follow = follow_of f; path = path; needed = permissions_of_open f }
 
 abbrev pub execve_walk : Bytes → Walk
-execve_walk path = from_here Last path letter_x
+execve_walk path = from_here Last path permission_x
 
 abbrev pub chdir_walk : Bytes → Walk
-chdir_walk path = from_here Last path letter_r
+chdir_walk path = from_here Last path permission_r
 
 abbrev pub stat_walk : Bytes → Walk
-stat_walk path = from_here Last path letter_r
+stat_walk path = from_here Last path permission_r
 
 abbrev pub lstat_walk : Bytes → Walk
-lstat_walk path = from_here Keep path letter_r
+lstat_walk path = from_here Keep path permission_r
 
 abbrev pub readlink_walk : Bytes → Walk
-readlink_walk path = from_here Keep path letter_r
+readlink_walk path = from_here Keep path permission_r
 
 abbrev pub mkdir_walk : Bytes → Walk
-mkdir_walk path = from_here KeepTrimmed path letter_c
+mkdir_walk path = from_here KeepTrimmed path permission_c
 
 abbrev pub symlink_walk : Bytes → Walk
-symlink_walk path = from_here Keep path letter_c
+symlink_walk path = from_here Keep path permission_c
 
 -- link walks to what there is, and then to its new name
 abbrev pub linked_walk : Bytes → Walk
-linked_walk path = from_here Last path letter_r
+linked_walk path = from_here Last path permission_r
 
 abbrev pub new_link_walk : Bytes → Walk
-new_link_walk path = from_here Keep path letter_c
+new_link_walk path = from_here Keep path permission_c
 
 abbrev pub unlink_walk : Bytes → Walk
-unlink_walk path = from_here Keep path letter_c
+unlink_walk path = from_here Keep path permission_c
 
 abbrev pub rmdir_walk : Bytes → Walk
-rmdir_walk path = from_here Keep path letter_c
+rmdir_walk path = from_here Keep path permission_c
 
 -- both walks of rename
 abbrev pub rename_walk : Bytes → Walk
-rename_walk path = from_here Keep path letter_c
+rename_walk path = from_here Keep path permission_c
 
--- unveil asks for the letters of its text, and its place is not judged by them: they are what its entry is to have
+-- unveil asks for the permissions of its text, and its place is not judged by them: they are what its entry is to have
 abbrev pub unveil_walk : Bytes → Perms → Walk
-unveil_walk path letters = from_here Last path letters
+unveil_walk path permissions = from_here Last path permissions
 
-abbrev pub letters_or_none : Option Perms → Perms
-letters_or_none None = no_letters
-letters_or_none (Some letters) = letters
+abbrev pub permissions_or_none : Option Perms → Perms
+permissions_or_none None = no_permissions
+permissions_or_none (Some permissions) = permissions
 
 -- the walks of a call, in order
 abbrev pub walks_of : Call → List Walk
-walks_of (Unveil (Some path) (Some text)) = unveil_walk path (letters_or_none (read_letters text)) ∷ []
+walks_of (Unveil (Some path) (Some text)) = unveil_walk path (permissions_or_none (read_permissions text)) ∷ []
 walks_of (Execve path) = execve_walk path ∷ []
 walks_of (Open path flags) = open_walk WorkingDirectory path flags ∷ []
 walks_of (OpenAt start path flags) = open_walk start path flags ∷ []

@@ -20,7 +20,7 @@ pub enum CallRef<'a> {
     Wait,
     /// pledge(2) with promises and execpromises; None leaves a value as it is.
     Pledge(Option<&'a Text>, Option<&'a Text>),
-    /// unveil(2) with a path and letters; two Nones lock.
+    /// unveil(2) with a path and permissions; two Nones lock.
     Unveil(Option<&'a Text>, Option<&'a Text>),
     /// execve(2) of a path.
     Execve(&'a Text),
@@ -84,7 +84,7 @@ impl Call {
             Call::Pledge(promises, execpromises) => {
                 CallRef::Pledge(promises.as_ref(), execpromises.as_ref())
             }
-            Call::Unveil(path, letters) => CallRef::Unveil(path.as_ref(), letters.as_ref()),
+            Call::Unveil(path, permissions) => CallRef::Unveil(path.as_ref(), permissions.as_ref()),
             Call::Execve(path) => CallRef::Execve(path),
             Call::Open(path, flags) => CallRef::Open(path, *flags),
             Call::OpenAt(start, path, flags) => CallRef::OpenAt(*start, path, *flags),

@@ -16,7 +16,7 @@ pub struct Layout {
     pub slot_length: usize,
     /// The greatest length of a name, in bytes.
     pub name_limit: usize,
-    /// Pointers of an inode to index blocks, behind the ten to blocks of content.
+    /// Pointers of an inode to index blocks, after the ten to blocks of content.
     pub index_pointers: u16,
     /// The greatest length of a content, in bytes.
     pub greatest_length: u32,

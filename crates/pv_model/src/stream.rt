@@ -33,10 +33,10 @@ pub trait Source {
 /// how many of them wait, and how many writes have failed so far.
 pub trait Sink {
     /// The bytes that it was given so far, where they are known.
-    ghost told: { Self → Option (List ℕ) };
+    ghost written: { Self → Option (List ℕ) };
 
-    /// How many of the bytes that it was given wait to be handed on: none, but where the sink gathers them.
-    ghost waits: { Self → ℕ };
+    /// How many of the bytes that it was given wait to be flushed: none, but where the sink gathers them.
+    ghost buffered: { Self → ℕ };
 
     /// How many writes have failed: the count stops at 2^64 - 1.
     ghost failures: { Self → ℕ };
@@ -45,14 +45,14 @@ pub trait Sink {
     /// that has some counts as a failure. On `Err` nothing was taken, and the failure has been counted.
     fn write(&mut self, buffer: &[u8]) -> Result<usize, Failed>
         ensures bound { WritesAtMost result buffer.now }
-        ensures bytes { IfOk result (λ n. told self.new ≡ and_front (told self.old) n buffer.now) }
-        ensures kept { OnErr result (told self.new ≡ told self.old) }
+        ensures bytes { IfOk result (λ n. written self.new ≡ and_front (written self.old) n buffer.now) }
+        ensures kept { OnErr result (written self.new ≡ written self.old) }
         ensures failed { CountsNothingTaken (failures self.old) (failures self.new) result buffer.now };
 
-    /// Hands on all that waits. On `Err` the failure has been counted, and some may still wait.
+    /// Flushes all that is buffered. On `Err` the failure has been counted, and some may still wait.
     fn flush(&mut self) -> Result<(), Failed>
-        ensures kept { told self.new ≡ told self.old }
-        ensures empty { OnOk result (waits self.new ≡ 0) }
+        ensures kept { written self.new ≡ written self.old }
+        ensures empty { OnOk result (buffered self.new ≡ 0) }
         ensures quiet { OnOk result (failures self.new ≡ failures self.old) }
         ensures failed { OnErr result (Rose (failures self.old) (failures self.new)) };
 }

@@ -1,6 +1,7 @@
 pub mod Dots
 pub mod FirstPlaces
-pub mod Pieces
+pub mod Components
 pub mod Spelling
 pub mod Steps
 pub mod Nodes
+pub mod Kept

@@ -5,13 +5,13 @@ use Rattle.std.specs.List.{list_all}
 use Rattle.std.proofs.Math.Seq.{take-append_seam, take-length}
 use Rattle.std.proofs.lemmas.Bool.{and_parts, leb-true}
 use Rattle.pv_model.specs.declared.place.Place.TheVariants.{At}
-use Rattle.pv_model.specs.declared.sort.Sort.TheVariants.{Directory}
+use Rattle.pv_model.specs.declared.sort.Kind.TheVariants.{Directory}
 use Rattle.pv_model.specs.Bytes.{Bytes, is_empty}
 use Rattle.pv_model.specs.Calls.Paths.{link_text}
 use Rattle.pv_model.specs.Tree.{Node, directory_node, file_node, link_node, Tree, root, node_at, find_entry, is_directory, is_directory_at, is_link_text, IsWellFormed}
-use Rattle.pv_model.specs.Walk.{Walked, Behind, Onward, at_node}
-use Rattle.pv_tree_laws.proofs.Places.{link-text, parent-directory}
-use Rattle.pv_tree_laws.proofs.Trees.{sound}
+use Rattle.pv_model.specs.Walk.{Walked, PastLink, Onward, at_node}
+use Rattle.pv_laws_trees.proofs.Places.{link-text, parent-directory}
+use Rattle.pv_laws_trees.proofs.Trees.{sound}
 use Rattle.pv_tree.specs.Trees.{sort_of, bytes_of}
 
 -- ---- what there is in a well-formed tree
@@ -43,12 +43,12 @@ text-read (Some (link_node text)) is short old new n long count bytes =
 
 -- ---- where a walk goes on from a directory
 
-module _ (t : Tree) (last : Bool) (behind : Behind) (onward : Onward) (at : ℕ) (piece : Bytes) (rest : List Bytes) (mark : Bool) (n : ℕ) where
+module _ (t : Tree) (last : Bool) (following : PastLink) (onward : Onward) (at : ℕ) (component : Bytes) (rest : List Bytes) (mark : Bool) (n : ℕ) where
   abbrev there : Option Node → Walked
-  there o = at_node t last behind onward at piece rest mark n o
+  there o = at_node t last following onward at component rest mark n o
 
   abbrev pub place : Walked
-  place = Ok (At at piece (Some n))
+  place = Ok (At at component (Some n))
 
   when_false : (b : Bool) (a c : Walked) → b ≡ false → (if b then a else c) ≡ c
   when_false false a c is = refl

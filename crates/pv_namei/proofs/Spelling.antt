@@ -1,4 +1,4 @@
--- Pieces with a slash behind each.
+-- Components with a slash after each.
 use Rattle.std.proofs.Common.{◌≡◌, ◌≤◌, ℕ, ◌+◌, Bool, true, false, cond, not, ◌&&◌, ◌==◌, List, [], ◌∷◌, ◌++◌, filter, length, refl, ap, ap₂, sym, ◌∙◌, append_assoc, arith}
 use Rattle.std.specs.List.{list_all}
 use Rattle.std.proofs.Math.ListN.{length-append}
@@ -7,9 +7,9 @@ use Rattle.std.proofs.lemmas.List.Elements.{filter-append}
 use Rattle.std.proofs.lemmas.List.Folds.{list_all-append}
 use Rattle.std.proofs.lemmas.List.Sums.{sum_by-cons, sum_by-append}
 use Rattle.pv_model.specs.Bytes.{Bytes, is_empty, onto_first}
-use Rattle.pv_model.specs.Walk.{split_slashes, pieces, weight}
-use Rattle.pv_tree_laws.proofs.Places.{is_spelled, is_piece, pieces-spelled}
-use Rattle.pv_namei.specs.Pieces.{with_slashes}
+use Rattle.pv_model.specs.Walk.{split_slashes, components, weight}
+use Rattle.pv_laws_trees.proofs.Places.{is_spelled, is_component, components-spelled}
+use Rattle.pv_namei.specs.Components.{with_slashes}
 
 abbrev any : ℕ → Bool
 any b = true
@@ -19,7 +19,7 @@ all_any [] = refl
 all_any (b ∷ bs) = all_any bs
 
 pub weight-cons : (p : Bytes) (ps : List Bytes) → weight (p ∷ ps) ≡ length p + 1 + weight ps
-weight-cons p ps = sum_by-cons (λ (piece : Bytes). length piece + 1) p ps
+weight-cons p ps = sum_by-cons (λ (component : Bytes). length component + 1) p ps
 
 -- how long the spelling is
 pub length-with_slashes : (ps : List Bytes) → length (with_slashes ps) ≡ weight ps
@@ -30,7 +30,7 @@ pub with_slashes-append : (ps qs : List Bytes) → with_slashes (ps ++ qs) ≡ w
 with_slashes-append [] qs = refl
 with_slashes-append (p ∷ ps) qs = ap (λ bs. p ++ 47 ∷ bs) (with_slashes-append ps qs) ∙ sym (append_assoc p (47 ∷ with_slashes ps) (with_slashes qs))
 
--- a first piece between slashes
+-- a first component between slashes
 split_filled : (bs : Bytes) → (first : Bytes) × (others : List Bytes) × (split_slashes bs ≡ first ∷ others)
 split_filled [] = ([], [], refl)
 split_filled (b ∷ bs) =
@@ -50,9 +50,9 @@ split-slash (c ∷ a) b =
       | false ↦ let filled = split_filled a in ap (onto_first c) (split-slash a b) ∙ onto-append c (split_slashes a) filled.0 filled.1 (split_slashes b) filled.2
     ]
 
--- a slash parts the pieces
-pub pieces-slash : (a b : Bytes) → pieces (a ++ 47 ∷ b) ≡ pieces a ++ pieces b
-pieces-slash a b = ap (filter (λ piece. not (is_empty piece))) (split-slash a b) ∙ filter-append (λ piece. not (is_empty piece)) (split_slashes a) (split_slashes b)
+-- a slash parts the components
+pub components-slash : (a b : Bytes) → components (a ++ 47 ∷ b) ≡ components a ++ components b
+components-slash a b = ap (filter (λ component. not (is_empty component))) (split-slash a b) ∙ filter-append (λ component. not (is_empty component)) (split_slashes a) (split_slashes b)
 
 split-alone : (p : Bytes) → is_spelled any p ≡ true → split_slashes p ≡ p ∷ []
 split-alone [] good = refl
@@ -64,31 +64,31 @@ split-alone (b ∷ p) good =
       | false ↦ λ is. ap (onto_first b) ih
     ] refl
 
-pieces-alone : (p : Bytes) → is_piece any p ≡ true → pieces p ≡ p ∷ []
-pieces-alone [] good = cc good
-pieces-alone (b ∷ p) good = ap (filter (λ piece. not (is_empty piece))) (split-alone (b ∷ p) good)
+components-alone : (p : Bytes) → is_component any p ≡ true → components p ≡ p ∷ []
+components-alone [] good = cc good
+components-alone (b ∷ p) good = ap (filter (λ component. not (is_empty component))) (split-alone (b ∷ p) good)
 
--- the pieces of what is spelled out are the pieces
-spelled_back : (ps : List Bytes) → list_all (is_piece any) ps ≡ true → pieces (with_slashes ps) ≡ ps
+-- the components of what is spelled out are the components
+spelled_back : (ps : List Bytes) → list_all (is_component any) ps ≡ true → components (with_slashes ps) ≡ ps
 spelled_back [] all = refl
 spelled_back (p ∷ ps) all =
-    let parts = and_parts (is_piece any p) (list_all (is_piece any) ps) all in
-    pieces-slash p (with_slashes ps) ∙ ap (λ qs. qs ++ pieces (with_slashes ps)) (pieces-alone p parts.0) ∙ ap (λ qs. p ∷ qs) (spelled_back ps parts.1)
+    let parts = and_parts (is_component any p) (list_all (is_component any) ps) all in
+    components-slash p (with_slashes ps) ∙ ap (λ qs. qs ++ components (with_slashes ps)) (components-alone p parts.0) ∙ ap (λ qs. p ∷ qs) (spelled_back ps parts.1)
 
-pieces_all : (path : Bytes) → list_all (is_piece any) (pieces path) ≡ true
-pieces_all path = pieces-spelled any path (all_any path)
+components_all : (path : Bytes) → list_all (is_component any) (components path) ≡ true
+components_all path = components-spelled any path (all_any path)
 
--- ---- two paths, spelled out one behind the other
+-- ---- two paths, spelled out one after the other
 
 pub weight-append : (ps qs : List Bytes) → weight (ps ++ qs) ≡ weight ps + weight qs
-weight-append ps qs = sum_by-append (λ (piece : Bytes). length piece + 1) ps qs
+weight-append ps qs = sum_by-append (λ (component : Bytes). length component + 1) ps qs
 
-pub pieces-joined : (a b bytes : Bytes) → bytes ≡ with_slashes (pieces a) ++ with_slashes (pieces b) → pieces bytes ≡ pieces a ++ pieces b
-pieces-joined a b bytes is =
-    ap pieces (is ∙ sym (with_slashes-append (pieces a) (pieces b)))
-    ∙ spelled_back (pieces a ++ pieces b) (list_all-append (is_piece any) (pieces a) (pieces b) ∙ ap₂ (λ x y. x && y) (pieces_all a) (pieces_all b))
+pub components-joined : (a b bytes : Bytes) → bytes ≡ with_slashes (components a) ++ with_slashes (components b) → components bytes ≡ components a ++ components b
+components-joined a b bytes is =
+    ap components (is ∙ sym (with_slashes-append (components a) (components b)))
+    ∙ spelled_back (components a ++ components b) (list_all-append (is_component any) (components a) (components b) ∙ ap₂ (λ x y. x && y) (components_all a) (components_all b))
 
--- ---- how much pieces weigh
+-- ---- how much components weigh
 
 weight-onto : (b : ℕ) (ps : List Bytes) (first : Bytes) (others : List Bytes) → ps ≡ first ∷ others → weight (onto_first b ps) ≡ weight ps + 1
 weight-onto b ps first others is =
@@ -103,16 +103,16 @@ weight-split (b ∷ bs) =
       | false ↦ let filled = split_filled bs in omega (arith, weight-onto b (split_slashes bs) filled.0 filled.1 filled.2, ih)
     ]
 
-weight-filled : (ps : List Bytes) → weight (filter (λ piece. not (is_empty piece)) ps) ≤ weight ps
+weight-filled : (ps : List Bytes) → weight (filter (λ component. not (is_empty component)) ps) ≤ weight ps
 weight-filled [] = omega arith
 weight-filled (p ∷ ps) =
-    let f : Bytes → Bool = λ piece. not (is_empty piece) in
+    let f : Bytes → Bool = λ component. not (is_empty component) in
     let ih = weight-filled ps in
     elim (not (is_empty p)) as (λ v. weight (cond v (p ∷ filter f ps) (filter f ps)) ≤ weight (p ∷ ps)) [
       | true ↦ omega (arith, weight-cons p (filter f ps), weight-cons p ps, ih)
       | false ↦ omega (arith, weight-cons p ps, ih)
     ]
 
--- the pieces of a path weigh at most its length and one
-pub weight-pieces : (bs : Bytes) → weight (pieces bs) ≤ length bs + 1
-weight-pieces bs = omega (arith, weight-filled (split_slashes bs), weight-split bs)
+-- the components of a path weigh at most its length and one
+pub weight-components : (bs : Bytes) → weight (components bs) ≤ length bs + 1
+weight-components bs = omega (arith, weight-filled (split_slashes bs), weight-split bs)

@@ -6,22 +6,22 @@ use Rattle.pv_model.specs.declared.errno.Errno.TheVariants.{ENOENT, ENAMETOOLONG
 use Rattle.pv_model.specs.declared.follow.Follow.{Follow}
 use Rattle.pv_model.specs.Bytes.{Bytes, is_empty}
 use Rattle.pv_model.specs.Tree.{Tree, root}
-use Rattle.pv_model.specs.Walk.{pieces, is_absolute, follows_last, end_mark, Walked, along, walk, resolve}
-use Rattle.pv_namei.specs.declared.ahead.Ahead.{Ahead}
-use Rattle.pv_namei.specs.declared.walk.Walk.{Walk}
-use Rattle.pv_namei.specs.Onward.{behind, first_walk, remaining, led}
+use Rattle.pv_model.specs.Walk.{components, is_absolute, follows_last, end_mark, Walked, along, walk, resolve}
+use Rattle.pv_namei.specs.declared.lead.Lead.{Lead}
+use Rattle.pv_namei.specs.declared.walk.WalkState.{WalkState}
+use Rattle.pv_namei.specs.Onward.{following, first_walk, remaining, led}
 
--- a walk goes along its pieces, up to the first link
-pub walk-along : (t : Tree) (last : Bool) (links : ℕ) (ps : List Bytes) (mark : Bool) (at : ℕ) → walk t last links ps mark at ≡ along t last (behind t last links) ps mark at
+-- a walk goes along its components, up to the first link
+pub walk-along : (t : Tree) (last : Bool) (links : ℕ) (ps : List Bytes) (mark : Bool) (at : ℕ) → walk t last links ps mark at ≡ along t last (following t last links) ps mark at
 walk-along t last zero ps mark at = refl
 walk-along t last (suc links) ps mark at = refl
 
--- a walk goes on where its first piece leads
-pub remaining-led : (t : Tree) (w : Walk) (ps : List Bytes) (piece : Bytes) (rest : List Bytes) → ps ≡ piece ∷ rest → (r : Result Ahead Errno)
-    → along t w.last (behind t w.last w.links) (piece ∷ rest) w.mark w.at ≡ led t w.last (behind t w.last w.links) rest w.mark w.at piece r
-    → remaining t w ps ≡ led t w.last (behind t w.last w.links) rest w.mark w.at piece r
-remaining-led t w ps piece rest is r leads =
-    walk-along t w.last w.links ps w.mark w.at ∙ ap (λ ps. along t w.last (behind t w.last w.links) ps w.mark w.at) is ∙ leads
+-- a walk goes on where its first component leads
+pub remaining-led : (t : Tree) (w : WalkState) (ps : List Bytes) (component : Bytes) (rest : List Bytes) → ps ≡ component ∷ rest → (r : Result Lead Errno)
+    → along t w.last (following t w.last w.links) (component ∷ rest) w.mark w.at ≡ led t w.last (following t w.last w.links) rest w.mark w.at component r
+    → remaining t w ps ≡ led t w.last (following t w.last w.links) rest w.mark w.at component r
+remaining-led t w ps component rest is r leads =
+    walk-along t w.last w.links ps w.mark w.at ∙ ap (λ ps. along t w.last (following t w.last w.links) ps w.mark w.at) is ∙ leads
 
 -- ---- the walk of a path
 
@@ -43,7 +43,7 @@ pub resolve-empty : (t : Tree) (follow : Follow) (start : ℕ) (path : Bytes) �
 unfolding resolve
 resolve-empty t follow start path none =
     ap (λ b. if b then Err ENOENT else if nat_lt 1023 (length path) then Err ENAMETOOLONG
-    else walk t (follows_last follow) 32 (pieces path) (end_mark follow path) (if is_absolute path then root else start)) (empty-is path ∙ none)
+    else walk t (follows_last follow) 32 (components path) (end_mark follow path) (if is_absolute path then root else start)) (empty-is path ∙ none)
 
 pub resolve-long : (t : Tree) (follow : Follow) (start : ℕ) (path : Bytes) → (length path == 0) ≡ false → 1023 < length path → resolve t follow start path ≡ Err ENAMETOOLONG
 unfolding resolve
@@ -51,13 +51,13 @@ resolve-long t follow start path some long =
     refused (is_empty path) (nat_lt 1023 (length path)) (Err ENOENT) (Err ENAMETOOLONG) _ (empty-is path ∙ some) (lt-ltb 1023 (length path) long)
 
 resolve-walk : (t : Tree) (follow : Follow) (start : ℕ) (path : Bytes) → (length path == 0) ≡ false → length path ≤ 1023
-    → resolve t follow start path ≡ remaining t (first_walk start path follow) (pieces path)
+    → resolve t follow start path ≡ remaining t (first_walk start path follow) (components path)
 unfolding resolve
 resolve-walk t follow start path some short =
     picked (is_empty path) (nat_lt 1023 (length path)) (Err ENOENT) (Err ENAMETOOLONG) _ (empty-is path ∙ some) (le-ltb 1023 (length path) short)
 
 -- it is what the walk answers that begins there
 pub resolve-remaining : (t : Tree) (follow : Follow) (start : ℕ) (path : Bytes) → (length path == 0) ≡ false → length path ≤ 1023
-    → (w : Walk) (rest : List Bytes) → w ≡ first_walk start path follow → rest ≡ pieces path → resolve t follow start path ≡ remaining t w rest
+    → (w : WalkState) (rest : List Bytes) → w ≡ first_walk start path follow → rest ≡ components path → resolve t follow start path ≡ remaining t w rest
 resolve-remaining t follow start path some short w rest walk-is rest-is =
     resolve-walk t follow start path some short ∙ sym (ap₂ (remaining t) walk-is rest-is)

@@ -1,2 +1,3 @@
-pub mod Pieces
+pub mod Components
 pub mod Onward
+pub mod Cached

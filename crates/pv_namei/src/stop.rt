@@ -20,8 +20,8 @@ pub(crate) enum End<'a> {
     Named {
         /// The directory's number.
         dir: u16,
-        /// The piece that is the name in it.
-        piece: &'a [u8],
+        /// The component that is the name in it.
+        component: &'a [u8],
         /// The node under the name, if there is one.
         node: Option<u16>,
     },
@@ -36,7 +36,7 @@ impl<'a> End<'a> {
         ensures { result ≡ place_of self.entry }
     {
         match self {
-            End::Named { dir, piece, node } => PlaceRef::at(dir, piece, node),
+            End::Named { dir, component, node } => PlaceRef::at(dir, component, node),
             End::Unnamed(node) => PlaceRef::of_node(node),
         }
     }

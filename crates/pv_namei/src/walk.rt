@@ -5,20 +5,20 @@ ghost use Rattle.pv_model.specs.Tree.{node_at, is_directory_at, find_entry, IsWe
 ghost use Rattle.pv_model.specs.Walk.{follows_last, end_mark, resolve};
 ghost use Rattle.pv_namei.specs.Onward.{first_walk, remaining, followed, entered, settled, arrived, passed, IsStop, IsNearer};
 
-use crate::ahead::{Ahead, look_ahead};
+use crate::lead::{Lead, lead_along};
 use crate::along::Along;
 use crate::joined::Joined;
 use crate::lookup::Lookup;
-use crate::piece::{ends_in_slash, is_absolute};
+use crate::component::{ends_in_slash, is_absolute};
 use crate::stop::{End, Stop};
 use pv_model::limits::{LINKS, NAME_V2, PATH, ROOT};
-use pv_model::{Errno, Follow, Place, Sort};
+use pv_model::{Errno, Follow, Place, Kind};
 use pv_tree::{PlaceRef, Tree};
 
-/// A walk on its way. The pieces that it has still before it stand beside it.
+/// A walk on its way. The components that it has still before it stand beside it.
 #[derive(Drop)]
-struct Walk {
-    // Whether a link is followed that is the last piece.
+struct WalkState {
+    // Whether a link is followed that is the last component.
     last: bool,
     // How many links it may still follow.
     links: usize,
@@ -31,12 +31,12 @@ struct Walk {
 // What a step gives: where the walk stops, or none where it goes on.
 type Step<'a> = Result<Option<Stop<'a>>, Errno>;
 
-impl Walk {
+impl WalkState {
     // The walk of a path from a directory.
-    fn new(start: u16, path: &[u8], follow: Follow) -> Walk
+    fn new(start: u16, path: &[u8], follow: Follow) -> WalkState
         ensures { result ≡ first_walk start path.now follow }
     {
-        Walk {
+        WalkState {
             last: follows_last(follow),
             links: LINKS,
             at: if is_absolute(path) { ROOT } else { start },
@@ -44,26 +44,26 @@ impl Walk {
         }
     }
 
-    // Goes on from what the directory has under a piece: it stops there, or enters a directory.
+    // Goes on from what the directory has under a component: it stops there, or enters a directory.
     fn enter<'a>(
         &mut self,
         tree: &Tree,
-        piece: &'a [u8],
+        component: &'a [u8],
         node: Option<u16>,
         rest: &Along<'_>,
     ) -> Step<'a>
         requires well_formed { IsWellFormed tree.now.tree }
         requires directory { IsTrue (is_directory_at tree.now.tree self.old.at) }
-        requires entry { find_entry tree.now.tree self.old.at piece.now ≡ node }
-        requires short { length piece.now ≤ NAME_V2 }
-        ensures onward { entered tree.now.tree self.old rest.now piece.now node ≡ settled tree.now.tree self.new rest.now result }
+        requires entry { find_entry tree.now.tree self.old.at component.now ≡ node }
+        requires short { length component.now ≤ NAME_V2 }
+        ensures onward { entered tree.now.tree self.old rest.now component.now node ≡ settled tree.now.tree self.new rest.now result }
         ensures stop { IfOk result (λ stop. IfSome stop (IsStop tree.now.tree)) }
         ensures directory { IsTrue (is_directory_at tree.now.tree self.new.at) }
         ensures links { self.new.links ≡ self.old.links }
     {
         let end = Ok(Some(Stop::End(End::Named {
             dir: self.at,
-            piece,
+            component,
             node,
         })));
         let is_last = rest.is_empty();
@@ -72,19 +72,19 @@ impl Walk {
             return if may_end { end } else { Err(Errno::ENOENT) };
         };
         match tree.kind(number) {
-            Sort::Symlink if may_end && !self.last => end,
-            Sort::Symlink => Ok(Some(Stop::Link(number))),
-            Sort::Directory if is_last => end,
-            Sort::Directory => {
+            Kind::Symlink if may_end && !self.last => end,
+            Kind::Symlink => Ok(Some(Stop::Link(number))),
+            Kind::Directory if is_last => end,
+            Kind::Directory => {
                 self.at = number;
                 Ok(None)
             }
-            Sort::File | Sort::Executable if may_end => end,
-            Sort::File | Sort::Executable => Err(Errno::ENOTDIR),
+            Kind::File | Kind::Executable if may_end => end,
+            Kind::File | Kind::Executable => Err(Errno::ENOTDIR),
         }
     }
 
-    // Takes the first piece.
+    // Takes the first component.
     fn step<'a, L: Lookup>(&mut self, tree: &Tree, lookup: &mut L, rest: &mut Along<'a>) -> Step<'a>
         requires well_formed { IsWellFormed tree.now.tree }
         requires directory { IsTrue (is_directory_at tree.now.tree self.old.at) }
@@ -96,19 +96,19 @@ impl Walk {
         ensures nearer { IsNearer rest.old rest.new result }
         ensures agrees { L.agrees lookup.new (find_entry tree.now.tree) }
     {
-        let Some(piece) = rest.take_first() else {
+        let Some(component) = rest.take_first() else {
             return Ok(Some(Stop::End(End::Unnamed(self.at))));
         };
-        match look_ahead(tree, lookup, self.at, piece)? {
-            Ahead::Directory(directory) => {
+        match lead_along(tree, lookup, self.at, component)? {
+            Lead::Directory(directory) => {
                 self.at = directory;
                 Ok(None)
             }
-            Ahead::Entry(node) => self.enter(tree, piece, node, rest),
+            Lead::Entry(node) => self.enter(tree, component, node, rest),
         }
     }
 
-    // Goes along the pieces up to the end, or to the first link that is followed.
+    // Goes along the components up to the end, or to the first link that is followed.
     fn go<'a, L: Lookup>(
         &mut self,
         tree: &Tree,
@@ -131,9 +131,9 @@ impl Walk {
         }
     }
 
-    // Goes on behind a link: along the pieces of its text and those that are left, from its directory or,
+    // Goes on after a link: along the components of its text and those that are left, from its directory or,
     // where the text begins with a slash, from the root. ELOOP comes where no link is left, else
-    // ENAMETOOLONG where the pieces weigh more than 1,024.
+    // ENAMETOOLONG where the components weigh more than 1,024.
     fn follow(
         &mut self,
         tree: &Tree,
@@ -164,7 +164,7 @@ impl Walk {
         Ok(())
     }
 
-    // Goes along the pieces of `from` to the end, which comes, or behind a link: then `to` has the pieces
+    // Goes along the components of `from` to the end, which comes, or after a link: then `to` has the components
     // that are left.
     fn pass<L: Lookup>(
         &mut self,
@@ -192,9 +192,9 @@ impl Walk {
         }
     }
 
-    // Goes on behind the first link, to the end. Two buffers take turns: along one the walk goes, and the
+    // Goes on after the first link, to the end. Two buffers take turns: along one the walk goes, and the
     // other takes what the next link leaves to walk.
-    fn go_behind<L: Lookup>(
+    fn go_after<L: Lookup>(
         &mut self,
         tree: &Tree,
         lookup: &mut L,
@@ -222,16 +222,16 @@ impl Walk {
         }
     }
 
-    // The same, where the name of the place stands in `behind`. Its locals are large, and each function pays at entry for
+    // The same, where the name of the place stands in `following`. Its locals are large, and each function pays at entry for
     // its own: so it stands apart from what a walk without links goes through.
     #[inline(never)]
-    fn place_behind<'a, L: Lookup>(
+    fn place_after<'a, L: Lookup>(
         &mut self,
         tree: &Tree,
         lookup: &mut L,
         link: u16,
         rest: &Along<'_>,
-        behind: &'a mut Option<Place>,
+        following: &'a mut Option<Place>,
     ) -> Result<PlaceRef<'a>, Errno>
         requires well_formed { IsWellFormed tree.now.tree }
         requires directory { IsTrue (is_directory_at tree.now.tree self.old.at) }
@@ -240,8 +240,8 @@ impl Walk {
         ensures place { result ≡ followed tree.now.tree self.old rest.now (link_text (node_at tree.now.tree link)) }
         ensures agrees { L.agrees lookup.new (find_entry tree.now.tree) }
     {
-        *behind = Some(self.go_behind(tree, lookup, link, rest)?);
-        match behind {
+        *following = Some(self.go_after(tree, lookup, link, rest)?);
+        match following {
             Some(place) => Ok(PlaceRef::of(place)),
             None => unreachable!(),
         }
@@ -258,7 +258,7 @@ fn read_link(tree: &Tree, link: u16, buffer: &mut [u8; PATH]) -> usize
     tree.read_at(link, 0, buffer)
 }
 
-// Whether a link that is the last piece is followed.
+// Whether a link that is the last component is followed.
 fn follows_last(follow: Follow) -> bool
     ensures { result ≡ follows_last follow }
 {
@@ -277,11 +277,11 @@ fn end_mark(follow: Follow, path: &[u8]) -> bool
 
 /// The place that a path names from a directory, symlink(7).
 ///
-/// An empty path is ENOENT, and one of more than 1,023 bytes ENAMETOOLONG. A piece that is longer than a
-/// name may be is ENAMETOOLONG. Nothing there is ENOENT, unless it is the last piece of a path with no slash
-/// behind it: that is a place too. A file with more behind it, if only a slash, is ENOTDIR. In a removed directory `..` and
-/// each name is ENOENT. The 33rd link is ELOOP, and where a link leaves pieces that weigh more than 1,024,
-/// each with a slash behind it, it is ENAMETOOLONG.
+/// An empty path is ENOENT, and one of more than 1,023 bytes ENAMETOOLONG. A component that is longer than a
+/// name may be is ENAMETOOLONG. Nothing there is ENOENT, unless it is the last component of a path with no slash
+/// after it: that is a place too. A file with more after it, if only a slash, is ENOTDIR. In a removed directory `..` and
+/// each name is ENOENT. The 33rd link is ELOOP, and where a link leaves components that weigh more than 1,024,
+/// each with a slash after it, it is ENAMETOOLONG.
 pub fn resolve<L: Lookup>(
     tree: &Tree,
     lookup: &mut L,
@@ -294,14 +294,14 @@ pub fn resolve<L: Lookup>(
     ensures place { result ≡ resolve tree.now.tree follow start path.now }
     ensures agrees { L.agrees lookup.new (find_entry tree.now.tree) }
 {
-    let mut behind = None;
-    match resolve_ref(tree, lookup, start, path, follow, &mut behind) {
+    let mut following = None;
+    match resolve_ref(tree, lookup, start, path, follow, &mut following) {
         Ok(place) => Ok(place.to_place()),
         Err(errno) => Err(errno),
     }
 }
 
-/// The same, with the name of the place where it stands: in the path, or, where a link was followed, in `behind`, which
+/// The same, with the name of the place where it stands: in the path, or, where a link was followed, in `following`, which
 /// then has the place.
 pub fn resolve_ref<'a, L: Lookup>(
     tree: &Tree,
@@ -309,7 +309,7 @@ pub fn resolve_ref<'a, L: Lookup>(
     start: u16,
     path: &'a [u8],
     follow: Follow,
-    behind: &'a mut Option<Place>,
+    following: &'a mut Option<Place>,
 ) -> Result<PlaceRef<'a>, Errno>
     requires start { IsTrue (is_directory_at tree.now.tree start) }
     requires agrees { L.agrees lookup.old (find_entry tree.now.tree) }
@@ -324,10 +324,10 @@ pub fn resolve_ref<'a, L: Lookup>(
     }
     // What its sizes tell with them: every tree is well-formed.
     let _ = tree.sizes();
-    let mut walk = Walk::new(start, path, follow);
+    let mut walk = WalkState::new(start, path, follow);
     let mut rest = Along::new(path);
     match walk.go(tree, lookup, &mut rest)? {
         Stop::End(end) => Ok(end.place()),
-        Stop::Link(link) => walk.place_behind(tree, lookup, link, &rest, behind),
+        Stop::Link(link) => walk.place_after(tree, lookup, link, &rest, following),
     }
 }

@@ -7,51 +7,51 @@ use Rattle.std.proofs.Math.ListN.{get_or, set}
 use Rattle.std.proofs.lemmas.Bool.{and_parts, and_from, cases_eq, eq-eqb, ne_eqb, ltb-true}
 use Rattle.pv_model.specs.Calls.Processes.{adopt, is_unclaimed, adopter, end_process}
 use Rattle.pv_model.specs.Numbered.{Numbered}
-use Rattle.pv_model.specs.State.{OpenFile, Program, Process, Record, ended_record, State, live_process}
+use Rattle.pv_model.specs.State.{OpenFile, Program, Process, ProcessRecord, ended_record, State, live_process}
 use Rattle.pv_model.specs.Tree.{Tree}
-use Rattle.pv_procs.specs.declared.place.Place.{Place}
+use Rattle.pv_procs.specs.declared.slot.ProcessSlot.{ProcessSlot}
 use Rattle.pv_procs.specs.declared.shared.Shared.{Shared}
-use Rattle.pv_procs.specs.Places.{IsKept, process_of, entry_by, entry_of, entries_of, is_above, ascends, is_numbered, uses, users_at, program_at, table_of, adopted, is_claimed}
+use Rattle.pv_procs.specs.Slots.{IsKept, process_of, entry_by, entry_of, entries_of, is_above, ascends, is_numbered, uses, users_at, program_at, table_of, adopted, is_claimed}
 use Rattle.pv_procs.specs.ProcessTable.{ProcessTable, state_with, process_in}
 use Rattle.pv_procs.proofs.Finding.{IsAt, put-at}
 use Rattle.pv_procs.proofs.Keeping.{bit, count_by-cons, list_all-set, list_all-at, count-set, ascends-set}
 
 -- ---- entries with other counts of users
 
-pub same-entries : (programs other : List Shared) → ((k : ℕ) → program_at other k ≡ program_at programs k) → (places : List Place) → entries_of other places ≡ entries_of programs places
+pub same-entries : (programs other : List Shared) → ((k : ℕ) → program_at other k ≡ program_at programs k) → (slots : List ProcessSlot) → entries_of other slots ≡ entries_of programs slots
 same-entries programs other same [] = refl
 same-entries programs other same (p ∷ ps) =
-    ap₂ (λ r (es : List (ℕ × Record)). (p.number, r) ∷ es) (ap (λ program. entry_by p program p.status) (same p.program)) (same-entries programs other same ps)
+    ap₂ (λ r (es : List (ℕ × ProcessRecord)). (p.number, r) ∷ es) (ap (λ program. entry_by p program p.status) (same p.program)) (same-entries programs other same ps)
 
 -- ---- orphans
 
-abbrev Same : ℕ × Record → ℕ × Record → Type 0
+abbrev Same : ℕ × ProcessRecord → ℕ × ProcessRecord → Type 0
 Same a b = a ≡ b
 
-adopted-entry : (old new : ℕ) (p : Place) (program : Program) (status : Option ℕ)
+adopted-entry : (old new : ℕ) (p : ProcessSlot) (program : Program) (status : Option ℕ)
     → Same (cond (p.parent == old) (p.number, entry_by (record p { parent = new }) program status) (p.number, entry_by p program status)) (adopt old new (p.number, entry_by p program status))
 adopted-entry old new p program None = refl
 adopted-entry old new p program (Some n) = refl
 
-abbrev keyed : List Shared → Place → ℕ × Record
+abbrev keyed : List Shared → ProcessSlot → ℕ × ProcessRecord
 keyed programs p = (p.number, entry_of programs p)
 
-keyed-adopted : (programs : List Shared) (old new : ℕ) (p : Place) → Same (keyed programs (adopted old new p))
+keyed-adopted : (programs : List Shared) (old new : ℕ) (p : ProcessSlot) → Same (keyed programs (adopted old new p))
     (cond (p.parent == old) (p.number, entry_by (record p { parent = new }) (program_at programs p.program) p.status) (p.number, entry_of programs p))
 keyed-adopted programs old new p =
     elim (p.parent == old) as (λ b. Same (keyed programs (cond b (record p { parent = new }) p))
     (cond b (p.number, entry_by (record p { parent = new }) (program_at programs p.program) p.status) (p.number, entry_of programs p))) [ true ↦ refl | false ↦ refl ]
 
-pub entries-adopted : (programs : List Shared) (old new : ℕ) (places : List Place) → entries_of programs (map (adopted old new) places) ≡ map (adopt old new) (entries_of programs places)
+pub entries-adopted : (programs : List Shared) (old new : ℕ) (slots : List ProcessSlot) → entries_of programs (map (adopted old new) slots) ≡ map (adopt old new) (entries_of programs slots)
 entries-adopted programs old new [] = refl
 entries-adopted programs old new (p ∷ ps) =
-    ap₂ (λ e (es : List (ℕ × Record)). e ∷ es) (keyed-adopted programs old new p ∙ adopted-entry old new p (program_at programs p.program) p.status) (entries-adopted programs old new ps)
+    ap₂ (λ e (es : List (ℕ × ProcessRecord)). e ∷ es) (keyed-adopted programs old new p ∙ adopted-entry old new p (program_at programs p.program) p.status) (entries-adopted programs old new ps)
 
-claimed-entry : (p : Place) (program : Program) (status : Option ℕ) → not (is_some status && (p.parent == 0)) ≡ not (is_unclaimed (entry_by p program status))
+claimed-entry : (p : ProcessSlot) (program : Program) (status : Option ℕ) → not (is_some status && (p.parent == 0)) ≡ not (is_unclaimed (entry_by p program status))
 claimed-entry p program None = refl
 claimed-entry p program (Some n) = refl
 
-pub entries-claimed : (programs : List Shared) (places : List Place) → entries_of programs (filter is_claimed places) ≡ filter (λ r. not (is_unclaimed r.1)) (entries_of programs places)
+pub entries-claimed : (programs : List Shared) (slots : List ProcessSlot) → entries_of programs (filter is_claimed slots) ≡ filter (λ r. not (is_unclaimed r.1)) (entries_of programs slots)
 entries-claimed programs [] = refl
 entries-claimed programs (p ∷ ps) =
     elim (is_claimed p) as (λ b. is_claimed p ≡ b → entries_of programs (cond b (p ∷ filter is_claimed ps) (filter is_claimed ps)) ≡ filter (λ r. not (is_unclaimed r.1)) (entries_of programs (p ∷ ps))) [
@@ -89,18 +89,18 @@ module _ {X : Type 0} (keeps : X → Bool) where
         | false ↦ λ is. count_by-kept test unless xs ∙ (let zero : bit (test x) ≡ 0 = ap bit (unless x is) in let e : count_by test xs ≡ bit (test x) + count_by test xs = omega (arith, zero) in e)
       ] refl ∙ sym (count_by-cons test x xs)
 
-ascends-adopted : (old new : ℕ) (places : List Place) → ascends (map (adopted old new) places) ≡ ascends places
+ascends-adopted : (old new : ℕ) (slots : List ProcessSlot) → ascends (map (adopted old new) slots) ≡ ascends slots
 ascends-adopted old new [] = refl
 ascends-adopted old new (p ∷ ps) =
     ap₂ (λ a b. a && b) (ap (λ n. list_all (is_above n) (map (adopted old new) ps)) (number-adopted p) ∙ list_all-map (adopted old new) (is_above p.number) above ps) (ascends-adopted old new ps)
   where
-    number-adopted : (q : Place) → (adopted old new q).number ≡ q.number
+    number-adopted : (q : ProcessSlot) → (adopted old new q).number ≡ q.number
     number-adopted q = elim (q.parent == old) as (λ b. (cond b (record q { parent = new }) q).number ≡ q.number) [ true ↦ refl | false ↦ refl ]
 
-    above : (q : Place) → is_above p.number (adopted old new q) ≡ is_above p.number q
+    above : (q : ProcessSlot) → is_above p.number (adopted old new q) ≡ is_above p.number q
     above q = ap (λ n. nat_lt p.number n) (number-adopted q)
 
-ascends-kept : (places : List Place) → ascends places ≡ true → ascends (filter is_claimed places) ≡ true
+ascends-kept : (slots : List ProcessSlot) → ascends slots ≡ true → ascends (filter is_claimed slots) ≡ true
 ascends-kept [] asc = refl
 ascends-kept (p ∷ ps) asc =
     let parts = and_parts (list_all (is_above p.number) ps) (ascends ps) asc in
@@ -109,28 +109,28 @@ ascends-kept (p ∷ ps) asc =
       | false ↦ ascends-kept ps parts.1
     ]
 
-by-parent : (test : Place → Bool) (old new : ℕ) → ((q : Place) → test (record q { parent = new }) ≡ test q) → (q : Place) → test (adopted old new q) ≡ test q
+by-parent : (test : ProcessSlot → Bool) (old new : ℕ) → ((q : ProcessSlot) → test (record q { parent = new }) ≡ test q) → (q : ProcessSlot) → test (adopted old new q) ≡ test q
 by-parent test old new same q = elim (q.parent == old) as (λ b. test (cond b (record q { parent = new }) q) ≡ test q) [ true ↦ same q | false ↦ refl ]
 
 -- what is not claimed has ended
-unclaimed-unused : (j : ℕ) (q : Place) → is_claimed q ≡ false → uses j q ≡ false
+unclaimed-unused : (j : ℕ) (q : ProcessSlot) → is_claimed q ≡ false → uses j q ≡ false
 unclaimed-unused j q is = by q.status refl
   where
     by : (s : Option ℕ) → q.status ≡ s → uses j q ≡ false
     by None none = let kept = ap (λ s. not (is_some s && (q.parent == 0))) none in cc
     by (Some n) some = ap (λ s. is_none s && (q.program == j)) some
 
-pub kept-claimed : (places : List Place) (programs : List Shared) (last old new : ℕ) → IsKept places programs last → IsKept (filter is_claimed (map (adopted old new) places)) programs last
-kept-claimed places programs last old new kept = record {
-  ascending = ascends-kept (map (adopted old new) places) (ascends-adopted old new places ∙ kept.ascending);
-  numbers = list_all-kept is_claimed (is_numbered last) (map (adopted old new) places)
-      (list_all-map (adopted old new) (is_numbered last) (by-parent (is_numbered last) old new (λ q. refl)) places ∙ kept.numbers);
+pub kept-claimed : (slots : List ProcessSlot) (programs : List Shared) (last old new : ℕ) → IsKept slots programs last → IsKept (filter is_claimed (map (adopted old new) slots)) programs last
+kept-claimed slots programs last old new kept = record {
+  ascending = ascends-kept (map (adopted old new) slots) (ascends-adopted old new slots ∙ kept.ascending);
+  numbers = list_all-kept is_claimed (is_numbered last) (map (adopted old new) slots)
+      (list_all-map (adopted old new) (is_numbered last) (by-parent (is_numbered last) old new (λ q. refl)) slots ∙ kept.numbers);
   last = kept.last;
   table = kept.table;
-  within = list_all-kept is_claimed (λ (p : Place). nat_lt p.program 32) (map (adopted old new) places)
-      (list_all-map (adopted old new) (λ (p : Place). nat_lt p.program 32) (by-parent (λ (p : Place). nat_lt p.program 32) old new (λ q. refl)) places ∙ kept.within);
-  users = λ j. kept.users j ∙ sym (count_by-kept is_claimed (uses j) (unclaimed-unused j) (map (adopted old new) places)
-      ∙ count_by-map (adopted old new) (uses j) (by-parent (uses j) old new (λ q. refl)) places);
+  within = list_all-kept is_claimed (λ (p : ProcessSlot). nat_lt p.program 32) (map (adopted old new) slots)
+      (list_all-map (adopted old new) (λ (p : ProcessSlot). nat_lt p.program 32) (by-parent (λ (p : ProcessSlot). nat_lt p.program 32) old new (λ q. refl)) slots ∙ kept.within);
+  users = λ j. kept.users j ∙ sym (count_by-kept is_claimed (uses j) (unclaimed-unused j) (map (adopted old new) slots)
+      ∙ count_by-map (adopted old new) (uses j) (by-parent (uses j) old new (λ q. refl)) slots);
 }
 
 -- ---- the place of a process that ends
@@ -142,66 +142,66 @@ counted p (y ∷ ys) zero x within is here =
 counted p (y ∷ ys) (suc k) x within is here =
     let rest = counted p ys k x (omega arith) is here in let all = count_by-cons p y ys in let e : 0 < count_by p (y ∷ ys) = omega (arith, rest, all) in e
 
-module _ (places : List Place) (programs : List Shared) (last : ℕ) (kept : IsKept places programs last) (pid k : ℕ) (place : Place) (at : IsAt places pid k place) (lives : place.status ≡ None) where
-  pub used-here : uses place.program place ≡ true
-  used-here = ap (λ s. is_none s && (place.program == place.program)) lives ∙ eq-eqb place.program place.program refl
+module _ (slots : List ProcessSlot) (programs : List Shared) (last : ℕ) (kept : IsKept slots programs last) (pid k : ℕ) (slot : ProcessSlot) (at : IsAt slots pid k slot) (lives : slot.status ≡ None) where
+  pub used-here : uses slot.program slot ≡ true
+  used-here = ap (λ s. is_none s && (slot.program == slot.program)) lives ∙ eq-eqb slot.program slot.program refl
 
-  pub has-users : 0 < users_at programs place.program
-  has-users = subst (λ n. 0 < n) (sym (kept.users place.program)) (counted (uses place.program) places k place at.within at.is used-here)
+  pub has-users : 0 < users_at programs slot.program
+  has-users = subst (λ n. 0 < n) (sym (kept.users slot.program)) (counted (uses slot.program) slots k slot at.within at.is used-here)
 
-  pub program-within : place.program < 32
-  program-within = ltb-true place.program 32 (list_all-at (λ (p : Place). nat_lt p.program 32) places k place kept.within at.within at.is)
+  pub program-within : slot.program < 32
+  program-within = ltb-true slot.program 32 (list_all-at (λ (p : ProcessSlot). nat_lt p.program 32) slots k slot kept.within at.within at.is)
 
-  module _ (other : List Shared) (long : length other ≡ length programs) (fewer : users_at other place.program + 1 ≡ users_at programs place.program)
-      (rest : (j : ℕ) → j ≢ place.program → users_at other j ≡ users_at programs j) (status : ℕ) where
-    abbrev gone : Place
-    gone = record place { status = Some status }
+  module _ (other : List Shared) (long : length other ≡ length programs) (fewer : users_at other slot.program + 1 ≡ users_at programs slot.program)
+      (rest : (j : ℕ) → j ≢ slot.program → users_at other j ≡ users_at programs j) (status : ℕ) where
+    abbrev gone : ProcessSlot
+    gone = record slot { status = Some status }
 
-    pub users-gone : (j : ℕ) → users_at other j ≡ count_by (uses j) (set places k gone)
+    pub users-gone : (j : ℕ) → users_at other j ≡ count_by (uses j) (set slots k gone)
     users-gone j =
-        let count = count-set (uses j) places k place gone at.within at.is in
+        let count = count-set (uses j) slots k slot gone at.within at.is in
         ⊎_elim
-        (λ (same : j ≡ place.program).
-        let here : bit (uses j place) ≡ 1 = ap bit (ap (λ i. uses i place) same ∙ used-here) in
+        (λ (same : j ≡ slot.program).
+        let here : bit (uses j slot) ≡ 1 = ap bit (ap (λ i. uses i slot) same ∙ used-here) in
         let few : users_at other j + 1 ≡ users_at programs j = ap (λ i. users_at other i + 1) same ∙ fewer ∙ ap (users_at programs) (sym same) in
         let was = kept.users j in
-        let e : users_at other j ≡ count_by (uses j) (set places k gone) = omega (arith, count, here, few, was) in e)
-        (λ (different : j ≢ place.program).
-        let none : bit (uses j place) ≡ 0 = ap bit (ap (λ s. is_none s && (place.program == j)) lives ∙ ne_eqb place.program j (λ same. different (sym same))) in
+        let e : users_at other j ≡ count_by (uses j) (set slots k gone) = omega (arith, count, here, few, was) in e)
+        (λ (different : j ≢ slot.program).
+        let none : bit (uses j slot) ≡ 0 = ap bit (ap (λ s. is_none s && (slot.program == j)) lives ∙ ne_eqb slot.program j (λ same. different (sym same))) in
         let was = kept.users j in
         let stays = rest j different in
-        let e : users_at other j ≡ count_by (uses j) (set places k gone) = omega (arith, count, none, stays, was) in e)
-        (cases_eq j place.program)
+        let e : users_at other j ≡ count_by (uses j) (set slots k gone) = omega (arith, count, none, stays, was) in e)
+        (cases_eq j slot.program)
 
-    pub kept-gone : IsKept (set places k gone) other last
+    pub kept-gone : IsKept (set slots k gone) other last
     kept-gone = record {
-      ascending = ascends-set places pid k place gone kept.ascending at at.number;
-      numbers = list_all-set (is_numbered last) places k gone kept.numbers (list_all-at (is_numbered last) places k place kept.numbers at.within at.is);
+      ascending = ascends-set slots pid k slot gone kept.ascending at at.number;
+      numbers = list_all-set (is_numbered last) slots k gone kept.numbers (list_all-at (is_numbered last) slots k slot kept.numbers at.within at.is);
       last = kept.last;
       table = long ∙ kept.table;
-      within = list_all-set (λ (p : Place). nat_lt p.program 32) places k gone kept.within (list_all-at (λ (p : Place). nat_lt p.program 32) places k place kept.within at.within at.is);
+      within = list_all-set (λ (p : ProcessSlot). nat_lt p.program 32) slots k gone kept.within (list_all-at (λ (p : ProcessSlot). nat_lt p.program 32) slots k slot kept.within at.within at.is);
       users = users-gone;
     }
 
-    module _ (same : (j : ℕ) → program_at other j ≡ program_at programs j) (heir : ℕ) (t : Tree) (files : Numbered OpenFile) (me : Process) (parent : me.parent ≡ place.parent) where
-      put-gone : entries_of other (set places k gone) ≡ put nat_cmp pid (ended_record me.parent status) (entries_of programs places)
+    module _ (same : (j : ℕ) → program_at other j ≡ program_at programs j) (heir : ℕ) (t : Tree) (files : Numbered OpenFile) (me : Process) (parent : me.parent ≡ slot.parent) where
+      put-gone : entries_of other (set slots k gone) ≡ put nat_cmp pid (ended_record me.parent status) (entries_of programs slots)
       put-gone =
-          put-at other places pid k place gone kept.ascending at at.number
-          ∙ ap₂ (λ r es. put nat_cmp pid r es) (ap (λ n. ended_record n status) (sym parent)) (same-entries programs other same places)
+          put-at other slots pid k slot gone kept.ascending at at.number
+          ∙ ap₂ (λ r es. put nat_cmp pid r es) (ap (λ n. ended_record n status) (sym parent)) (same-entries programs other same slots)
 
       abbrev put_state : State
-      put_state = record { tree = t; files = files; processes = put nat_cmp pid (ended_record me.parent status) (entries_of programs places); last_process = last }
+      put_state = record { tree = t; files = files; processes = put nat_cmp pid (ended_record me.parent status) (entries_of programs slots); last_process = last }
 
-      pub end-is : heir ≡ cond (is_some (live_process (find nat_cmp 1 (entries_of other (set places k gone))))) 1 0
-          → state_with t files (table_of (filter is_claimed (map (adopted pid heir) (set places k gone))) other last) ≡ end_process (state_with t files (table_of places programs last)) pid me status
+      pub end-is : heir ≡ cond (is_some (live_process (find nat_cmp 1 (entries_of other (set slots k gone))))) 1 0
+          → state_with t files (table_of (filter is_claimed (map (adopted pid heir) (set slots k gone))) other last) ≡ end_process (state_with t files (table_of slots programs last)) pid me status
       unfolding end_process
       end-is is =
           let heir_is : heir ≡ adopter put_state = is ∙ ap (λ es. cond (is_some (live_process (find nat_cmp 1 es))) 1 0) put-gone in
-          let entries : entries_of other (filter is_claimed (map (adopted pid heir) (set places k gone))) ≡ filter (λ r. not (is_unclaimed r.1)) (map (adopt pid (adopter put_state)) put_state.processes) =
-          entries-claimed other (map (adopted pid heir) (set places k gone)) ∙ ap (filter (λ r. not (is_unclaimed r.1)))
-          (entries-adopted other pid heir (set places k gone) ∙ ap₂ (λ n es. map (adopt pid n) es) heir_is put-gone) in
+          let entries : entries_of other (filter is_claimed (map (adopted pid heir) (set slots k gone))) ≡ filter (λ r. not (is_unclaimed r.1)) (map (adopt pid (adopter put_state)) put_state.processes) =
+          entries-claimed other (map (adopted pid heir) (set slots k gone)) ∙ ap (filter (λ r. not (is_unclaimed r.1)))
+          (entries-adopted other pid heir (set slots k gone) ∙ ap₂ (λ n es. map (adopt pid n) es) heir_is put-gone) in
           ap (λ es. record { tree = t; files = files; processes = es; last_process = last }) entries
 
 -- two names of one process
-pub parent-is : (ps : ProcessTable) (pid : ℕ) (program : Program) (place : Place) (me : Process) → process_in ps pid ≡ Some (process_of program place) → process_in ps pid ≡ Some me → me.parent ≡ place.parent
-parent-is ps pid program place me one other = let both : Some me ≡ Some (process_of program place) = sym other ∙ one in let same : me ≡ process_of program place = cc both in ap (λ (p : Process). p.parent) same
+pub parent-is : (ps : ProcessTable) (pid : ℕ) (program : Program) (slot : ProcessSlot) (me : Process) → process_in ps pid ≡ Some (process_of program slot) → process_in ps pid ≡ Some me → me.parent ≡ slot.parent
+parent-is ps pid program slot me one other = let both : Some me ≡ Some (process_of program slot) = sym other ∙ one in let same : me ≡ process_of program slot = cc both in ap (λ (p : Process). p.parent) same

@@ -15,36 +15,36 @@ use Rattle.std.proofs.lemmas.List.Quantifiers.{position-Some}
 use Rattle.std.proofs.lemmas.List.Sums.{prefix_len-le-length}
 use Rattle.pv_model.specs.State.{Program, Process, live, live_process}
 use Rattle.pv_model.specs.Calls.Processes.{parent_of}
-use Rattle.pv_procs.specs.declared.place.Place.{Place}
+use Rattle.pv_procs.specs.declared.slot.ProcessSlot.{ProcessSlot}
 use Rattle.pv_procs.specs.declared.shared.Shared.{Shared}
-use Rattle.pv_procs.specs.Places.{process_of, entry_by, entry_of, entries_of, is_above, ascends, program_at, table_of}
+use Rattle.pv_procs.specs.Slots.{process_of, entry_by, entry_of, entries_of, is_above, ascends, program_at, table_of}
 use Rattle.pv_procs.specs.ProcessTable.{ProcessTable, process_in, update, update_live}
 
 -- a place with a number stands at an index
-pub record IsAt (places : List Place) (pid k : ℕ) (place : Place) : Type 0 where
-  pub within : k < length places
-  pub is : place ≡ get_or places k place
-  pub number : place.number ≡ pid
+pub record IsAt (slots : List ProcessSlot) (pid k : ℕ) (slot : ProcessSlot) : Type 0 where
+  pub within : k < length slots
+  pub is : slot ≡ get_or slots k slot
+  pub number : slot.number ≡ pid
 
-pub above_at : (n : ℕ) (places : List Place) (k : ℕ) (place : Place) → list_all (is_above n) places ≡ true → k < length places → place ≡ get_or places k place → n < place.number
-above_at n [] k place all within is = absurd (omega arith)
-above_at n (p ∷ ps) zero place all within is =
-    subst (λ (q : Place). n < q.number) (sym is) (ltb-true n p.number (and_parts (is_above n p) (list_all (is_above n) ps) all).0)
-above_at n (p ∷ ps) (suc k) place all within is = above_at n ps k place (and_parts (is_above n p) (list_all (is_above n) ps) all).1 (omega arith) is
+pub above_at : (n : ℕ) (slots : List ProcessSlot) (k : ℕ) (slot : ProcessSlot) → list_all (is_above n) slots ≡ true → k < length slots → slot ≡ get_or slots k slot → n < slot.number
+above_at n [] k slot all within is = absurd (omega arith)
+above_at n (p ∷ ps) zero slot all within is =
+    subst (λ (q : ProcessSlot). n < q.number) (sym is) (ltb-true n p.number (and_parts (is_above n p) (list_all (is_above n) ps) all).0)
+above_at n (p ∷ ps) (suc k) slot all within is = above_at n ps k slot (and_parts (is_above n p) (list_all (is_above n) ps) all).1 (omega arith) is
 
--- what stands behind the first place of a list
-pub behind : (p : Place) (ps : List Place) (pid k : ℕ) (place : Place) → IsAt (p ∷ ps) pid (suc k) place → IsAt ps pid k place
-behind p ps pid k place at = record { within = omega (arith, at.within); is = at.is; number = at.number }
+-- what stands after the first place of a list
+pub following : (p : ProcessSlot) (ps : List ProcessSlot) (pid k : ℕ) (slot : ProcessSlot) → IsAt (p ∷ ps) pid (suc k) slot → IsAt ps pid k slot
+following p ps pid k slot at = record { within = omega (arith, at.within); is = at.is; number = at.number }
 
 -- has a greater number
-pub behind-more : (p : Place) (ps : List Place) (pid k : ℕ) (place : Place) → ascends (p ∷ ps) ≡ true → IsAt (p ∷ ps) pid (suc k) place → p.number < pid
-behind-more p ps pid k place asc at =
+pub past-more : (p : ProcessSlot) (ps : List ProcessSlot) (pid k : ℕ) (slot : ProcessSlot) → ascends (p ∷ ps) ≡ true → IsAt (p ∷ ps) pid (suc k) slot → p.number < pid
+past-more p ps pid k slot asc at =
     let parts = and_parts (list_all (is_above p.number) ps) (ascends ps) asc in
-    let there = behind p ps pid k place at in
-    subst (λ n. p.number < n) at.number (above_at p.number ps k place parts.0 there.within there.is)
+    let there = following p ps pid k slot at in
+    subst (λ n. p.number < n) at.number (above_at p.number ps k slot parts.0 there.within there.is)
 
-pub first-number : (p : Place) (ps : List Place) (pid : ℕ) (place : Place) → IsAt (p ∷ ps) pid zero place → pid ≡ p.number
-first-number p ps pid place at = sym at.number ∙ ap (λ (q : Place). q.number) at.is
+pub first-number : (p : ProcessSlot) (ps : List ProcessSlot) (pid : ℕ) (slot : ProcessSlot) → IsAt (p ∷ ps) pid zero slot → pid ≡ p.number
+first-number p ps pid slot at = sym at.number ∙ ap (λ (q : ProcessSlot). q.number) at.is
 
 pub greater : (q n : ℕ) → n < q → nat_cmp q n ≡ Greater
 greater q n more = ap₂ (λ a b. cond a Less (cond b Equal Greater)) (le-ltb q n (omega arith)) (ne_eqb q n (λ same. absurd (omega arith)))
@@ -56,37 +56,37 @@ past : (n m : ℕ) → n ≤ m → cond (nat_lt n m) (Some n) None ≡ None → 
 past n m within none = grind (arith, nat_tests)
 
 module _ (programs : List Shared) where
-  pub find-at : (places : List Place) (pid k : ℕ) (place : Place) → ascends places ≡ true → IsAt places pid k place
-      → find nat_cmp pid (entries_of programs places) ≡ Some (entry_of programs place)
-  find-at [] pid k place asc at = let within = at.within in absurd (omega arith)
-  find-at (p ∷ ps) pid zero place asc at =
+  pub find-at : (slots : List ProcessSlot) (pid k : ℕ) (slot : ProcessSlot) → ascends slots ≡ true → IsAt slots pid k slot
+      → find nat_cmp pid (entries_of programs slots) ≡ Some (entry_of programs slot)
+  find-at [] pid k slot asc at = let within = at.within in absurd (omega arith)
+  find-at (p ∷ ps) pid zero slot asc at =
       ap (λ b. cond b (Some (entry_of programs p)) (find nat_cmp pid (entries_of programs ps)))
-      (sym (unsigned_ties pid p.number) ∙ eq-eqb pid p.number (first-number p ps pid place at)) ∙ ap (λ q. Some (entry_of programs q)) (sym at.is)
-  find-at (p ∷ ps) pid (suc k) place asc at =
-      let more = behind-more p ps pid k place asc at in
+      (sym (unsigned_ties pid p.number) ∙ eq-eqb pid p.number (first-number p ps pid slot at)) ∙ ap (λ q. Some (entry_of programs q)) (sym at.is)
+  find-at (p ∷ ps) pid (suc k) slot asc at =
+      let more = past-more p ps pid k slot asc at in
       ap (λ b. cond b (Some (entry_of programs p)) (find nat_cmp pid (entries_of programs ps)))
       (sym (unsigned_ties pid p.number) ∙ ne_eqb pid p.number (λ same. absurd (omega arith)))
-      ∙ find-at ps pid k place (and_parts (list_all (is_above p.number) ps) (ascends ps) asc).1 (behind p ps pid k place at)
+      ∙ find-at ps pid k slot (and_parts (list_all (is_above p.number) ps) (ascends ps) asc).1 (following p ps pid k slot at)
 
-  pub put-at : (places : List Place) (pid k : ℕ) (place new : Place) → ascends places ≡ true → IsAt places pid k place → new.number ≡ pid
-      → entries_of programs (set places k new) ≡ put nat_cmp pid (entry_of programs new) (entries_of programs places)
-  put-at [] pid k place new asc at same = let within = at.within in absurd (omega arith)
-  put-at (p ∷ ps) pid zero place new asc at same =
-      let first = first-number p ps pid place at in
+  pub put-at : (slots : List ProcessSlot) (pid k : ℕ) (slot new : ProcessSlot) → ascends slots ≡ true → IsAt slots pid k slot → new.number ≡ pid
+      → entries_of programs (set slots k new) ≡ put nat_cmp pid (entry_of programs new) (entries_of programs slots)
+  put-at [] pid k slot new asc at same = let within = at.within in absurd (omega arith)
+  put-at (p ∷ ps) pid zero slot new asc at same =
+      let first = first-number p ps pid slot at in
       ap (λ n. (n, entry_of programs new) ∷ entries_of programs ps) (same ∙ first)
       ∙ sym (ap (λ o. by_order o ((pid, entry_of programs new) ∷ entries_of programs (p ∷ ps)) ((p.number, entry_of programs new) ∷ entries_of programs ps)
       ((p.number, entry_of programs p) ∷ put nat_cmp pid (entry_of programs new) (entries_of programs ps))) (equal pid p.number first))
-  put-at (p ∷ ps) pid (suc k) place new asc at same =
-      let more = behind-more p ps pid k place asc at in
+  put-at (p ∷ ps) pid (suc k) slot new asc at same =
+      let more = past-more p ps pid k slot asc at in
       ap (λ es. (p.number, entry_of programs p) ∷ es)
-      (put-at ps pid k place new (and_parts (list_all (is_above p.number) ps) (ascends ps) asc).1 (behind p ps pid k place at) same)
+      (put-at ps pid k slot new (and_parts (list_all (is_above p.number) ps) (ascends ps) asc).1 (following p ps pid k slot at) same)
       ∙ sym (ap (λ o. by_order o ((pid, entry_of programs new) ∷ entries_of programs (p ∷ ps)) ((p.number, entry_of programs new) ∷ entries_of programs ps)
       ((p.number, entry_of programs p) ∷ put nat_cmp pid (entry_of programs new) (entries_of programs ps))) (greater pid p.number more))
 
-  none-found : (places : List Place) (pid : ℕ) → position_or_len (λ (p : Place). p.number == pid) places ≡ length places → find nat_cmp pid (entries_of programs places) ≡ None
+  none-found : (slots : List ProcessSlot) (pid : ℕ) → position_or_len (λ (p : ProcessSlot). p.number == pid) slots ≡ length slots → find nat_cmp pid (entries_of programs slots) ≡ None
   none-found [] pid is = refl
   none-found (p ∷ ps) pid is =
-      elim (p.number == pid) as (λ b. (p.number == pid) ≡ b → cond (not b) (1 + prefix_len (λ (q : Place). not (q.number == pid)) ps) 0 ≡ suc (length ps)
+      elim (p.number == pid) as (λ b. (p.number == pid) ≡ b → cond (not b) (1 + prefix_len (λ (q : ProcessSlot). not (q.number == pid)) ps) 0 ≡ suc (length ps)
       → find nat_cmp pid (entries_of programs (p ∷ ps)) ≡ None) [
         | true ↦ λ here none. absurd (omega (arith, none))
         | false ↦ λ other one.
@@ -96,33 +96,33 @@ module _ (programs : List Shared) where
       ] refl is
 
   -- where no place has the number
-  pub find-none : (places : List Place) (pid : ℕ) → position (λ (p : Place). p.number == pid) places ≡ None → find nat_cmp pid (entries_of programs places) ≡ None
-  find-none places pid none =
-      none-found places pid
-      (past (position_or_len (λ (p : Place). p.number == pid) places) (length places) (prefix_len-le-length (λ (p : Place). not (p.number == pid)) places) none)
+  pub find-none : (slots : List ProcessSlot) (pid : ℕ) → position (λ (p : ProcessSlot). p.number == pid) slots ≡ None → find nat_cmp pid (entries_of programs slots) ≡ None
+  find-none slots pid none =
+      none-found slots pid
+      (past (position_or_len (λ (p : ProcessSlot). p.number == pid) slots) (length slots) (prefix_len-le-length (λ (p : ProcessSlot). not (p.number == pid)) slots) none)
 
 -- where a search stops
-pub found-at : (places : List Place) (pid k : ℕ) (place : Place) → position (λ (p : Place). p.number == pid) places ≡ Some k → place ≡ get_or places k place → IsAt places pid k place
-found-at places pid k place found is =
-    let at = position-Some (λ (p : Place). p.number == pid) places k place found in
-    record { within = at.0; is = is; number = eqb-true place.number pid (ap (λ (q : Place). q.number == pid) is ∙ at.1) }
+pub found-at : (slots : List ProcessSlot) (pid k : ℕ) (slot : ProcessSlot) → position (λ (p : ProcessSlot). p.number == pid) slots ≡ Some k → slot ≡ get_or slots k slot → IsAt slots pid k slot
+found-at slots pid k slot found is =
+    let at = position-Some (λ (p : ProcessSlot). p.number == pid) slots k slot found in
+    record { within = at.0; is = is; number = eqb-true slot.number pid (ap (λ (q : ProcessSlot). q.number == pid) is ∙ at.1) }
 
--- ---- where a search by halves stops
+-- ---- where a search by binary search stops
 
 onward : (n k : ℕ) → n ≡ k → 1 + n ≡ suc k
 onward n k is = omega (arith, is)
 
-first-at : (places : List Place) (pid k : ℕ) (place : Place) → ascends places ≡ true → IsAt places pid k place → position_or_len (λ (p : Place). p.number == pid) places ≡ k
-first-at [] pid k place asc at = let within = at.within in absurd (omega arith)
-first-at (p ∷ ps) pid zero place asc at =
-    ap (λ b. cond (not b) (1 + prefix_len (λ (q : Place). not (q.number == pid)) ps) 0) (eq-eqb p.number pid (sym (first-number p ps pid place at)))
-first-at (p ∷ ps) pid (suc k) place asc at =
-    let more = behind-more p ps pid k place asc at in
-    ap (λ b. cond (not b) (1 + prefix_len (λ (q : Place). not (q.number == pid)) ps) 0) (ne_eqb p.number pid (λ same. absurd (omega arith)))
-    ∙ onward (position_or_len (λ (q : Place). q.number == pid) ps) k (first-at ps pid k place (and_parts (list_all (is_above p.number) ps) (ascends ps) asc).1 (behind p ps pid k place at))
+first-at : (slots : List ProcessSlot) (pid k : ℕ) (slot : ProcessSlot) → ascends slots ≡ true → IsAt slots pid k slot → position_or_len (λ (p : ProcessSlot). p.number == pid) slots ≡ k
+first-at [] pid k slot asc at = let within = at.within in absurd (omega arith)
+first-at (p ∷ ps) pid zero slot asc at =
+    ap (λ b. cond (not b) (1 + prefix_len (λ (q : ProcessSlot). not (q.number == pid)) ps) 0) (eq-eqb p.number pid (sym (first-number p ps pid slot at)))
+first-at (p ∷ ps) pid (suc k) slot asc at =
+    let more = past-more p ps pid k slot asc at in
+    ap (λ b. cond (not b) (1 + prefix_len (λ (q : ProcessSlot). not (q.number == pid)) ps) 0) (ne_eqb p.number pid (λ same. absurd (omega arith)))
+    ∙ onward (position_or_len (λ (q : ProcessSlot). q.number == pid) ps) k (first-at ps pid k slot (and_parts (list_all (is_above p.number) ps) (ascends ps) asc).1 (following p ps pid k slot at))
 
 -- the numbers rise
-rises : (places : List Place) (i j : ℕ) (d : Place) → ascends places ≡ true → i ≤ j → j < length places → (get_or places i d).number ≤ (get_or places j d).number
+rises : (slots : List ProcessSlot) (i j : ℕ) (d : ProcessSlot) → ascends slots ≡ true → i ≤ j → j < length slots → (get_or slots i d).number ≤ (get_or slots j d).number
 rises [] i j d asc le within = absurd (omega arith)
 rises (p ∷ ps) zero zero d asc le within = omega arith
 rises (p ∷ ps) zero (suc j) d asc le within =
@@ -136,67 +136,67 @@ higher : (a b n : ℕ) → a ≤ b → ordering_index (nat_cmp a n) ≤ ordering
 higher a b n le = grind (arith, nat_tests)
 
 -- what no search finds
-first-none : (places : List Place) (pid : ℕ) → ((k : ℕ) (d : Place) → k < length places → nat_cmp (get_or places k d).number pid ≡ Equal → ⊥) → position_or_len (λ (p : Place). p.number == pid) places ≡ length places
+first-none : (slots : List ProcessSlot) (pid : ℕ) → ((k : ℕ) (d : ProcessSlot) → k < length slots → nat_cmp (get_or slots k d).number pid ≡ Equal → ⊥) → position_or_len (λ (p : ProcessSlot). p.number == pid) slots ≡ length slots
 first-none [] pid none = refl
 first-none (p ∷ ps) pid none =
-    ap (λ b. cond (not b) (1 + prefix_len (λ (q : Place). not (q.number == pid)) ps) 0) (ne_eqb p.number pid (λ same. none 0 p (omega arith) (equal p.number pid same)))
-    ∙ onward (position_or_len (λ (q : Place). q.number == pid) ps) (length ps) (first-none ps pid (λ k d within. none (suc k) d (omega (arith, within))))
+    ap (λ b. cond (not b) (1 + prefix_len (λ (q : ProcessSlot). not (q.number == pid)) ps) 0) (ne_eqb p.number pid (λ same. none 0 p (omega arith) (equal p.number pid same)))
+    ∙ onward (position_or_len (λ (q : ProcessSlot). q.number == pid) ps) (length ps) (first-none ps pid (λ k d within. none (suc k) d (omega (arith, within))))
 
 same-number : (q n : ℕ) → nat_cmp q n ≡ Equal → q ≡ n
 same-number q n tied = eqb-true q n (unsigned_ties q n ∙ ap is_eq tied)
 
 -- a place with the number is the first
-pub stood-found : (places : List Place) (pid k : ℕ) (place : Place) → ascends places ≡ true → IsAt places pid k place → Some k ≡ position (λ (p : Place). p.number == pid) places
-stood-found places pid k place asc at =
-    sym (ap (λ n. cond (nat_lt n (length places)) (Some n) None) (first-at places pid k place asc at) ∙ ap (λ b. cond b (Some k) None) (lt-ltb k (length places) at.within))
+pub stood-found : (slots : List ProcessSlot) (pid k : ℕ) (slot : ProcessSlot) → ascends slots ≡ true → IsAt slots pid k slot → Some k ≡ position (λ (p : ProcessSlot). p.number == pid) slots
+stood-found slots pid k slot asc at =
+    sym (ap (λ n. cond (nat_lt n (length slots)) (Some n) None) (first-at slots pid k slot asc at) ∙ ap (λ b. cond b (Some k) None) (lt-ltb k (length slots) at.within))
 
-module _ (places : List Place) (pid : ℕ) (asc : ascends places ≡ true) where
-  -- an index at which a search by halves stops is the first with the number
-  pub half-found : (k : ℕ) → k < length places → HoldsAt (λ (p : Place). nat_cmp p.number pid ≡ Equal) places k → Some k ≡ position (λ (p : Place). p.number == pid) places
-  half-found k within tied = by places refl within
+module _ (slots : List ProcessSlot) (pid : ℕ) (asc : ascends slots ≡ true) where
+  -- an index at which a search by binary search stops is the first with the number
+  pub half-found : (k : ℕ) → k < length slots → HoldsAt (λ (p : ProcessSlot). nat_cmp p.number pid ≡ Equal) slots k → Some k ≡ position (λ (p : ProcessSlot). p.number == pid) slots
+  half-found k within tied = by slots refl within
     where
-      by : (xs : List Place) → xs ≡ places → k < length xs → Some k ≡ position (λ (p : Place). p.number == pid) places
+      by : (xs : List ProcessSlot) → xs ≡ slots → k < length xs → Some k ≡ position (λ (p : ProcessSlot). p.number == pid) slots
       by [] is inside = absurd (omega arith)
       by (p ∷ ps) is inside =
-          let place = get_or places k p in
-          let number = same-number place.number pid (tied p) in
-          let at : IsAt places pid k place = record { within = within; is = get_or_default places k p place within; number = number } in
-          stood-found places pid k place asc at
+          let slot = get_or slots k p in
+          let number = same-number slot.number pid (tied p) in
+          let at : IsAt slots pid k slot = record { within = within; is = get_or_default slots k p slot within; number = number } in
+          stood-found slots pid k slot asc at
 
   -- and where it finds none, no place has it
-  pub half-none : (i : ℕ) → (IsNonDecreasingBy (λ (p : Place). ordering_index (nat_cmp p.number pid)) places
-      → AllWithin (λ (p : Place). nat_cmp p.number pid ≡ Less) places 0 i × AllWithin (λ (p : Place). nat_cmp p.number pid ≡ Greater) places i (length places))
-      → None ≡ position (λ (p : Place). p.number == pid) places
+  pub half-none : (i : ℕ) → (IsNonDecreasingBy (λ (p : ProcessSlot). ordering_index (nat_cmp p.number pid)) slots
+      → AllWithin (λ (p : ProcessSlot). nat_cmp p.number pid ≡ Less) slots 0 i × AllWithin (λ (p : ProcessSlot). nat_cmp p.number pid ≡ Greater) slots i (length slots))
+      → None ≡ position (λ (p : ProcessSlot). p.number == pid) slots
   half-none i parted =
-      let halves = parted (λ a b d le within. higher (get_or places a d).number (get_or places b d).number pid (rises places a b d asc le within)) in
-      let none = first-none places pid (λ k d within tied.
+      let halves = parted (λ a b d le within. higher (get_or slots a d).number (get_or slots b d).number pid (rises slots a b d asc le within)) in
+      let none = first-none slots pid (λ k d within tied.
       elim (nat_lt k i) as (λ b. nat_lt k i ≡ b → ⊥) [
         | true ↦ λ low. let less = halves.0 k d (omega arith) (ltb-true k i low) in cc
         | false ↦ λ high. let more = halves.1 k d (ltb-false k i high) within in cc
       ] refl) in
-      sym (ap (λ n. cond (nat_lt n (length places)) (Some n) None) none ∙ ap (λ b. cond b (Some (length places)) None) (le-ltb (length places) (length places) (omega arith)))
+      sym (ap (λ n. cond (nat_lt n (length slots)) (Some n) None) none ∙ ap (λ b. cond b (Some (length slots)) None) (le-ltb (length slots) (length slots) (omega arith)))
 
 -- ---- live processes
 
-pub live_status : (place : Place) (program : Program) (status : Option ℕ) → is_some (live_process (Some (entry_by place program status))) ≡ true → status ≡ None
-live_status place program None is = refl
-live_status place program (Some n) is = cc
+pub live_status : (slot : ProcessSlot) (program : Program) (status : Option ℕ) → is_some (live_process (Some (entry_by slot program status))) ≡ true → status ≡ None
+live_status slot program None is = refl
+live_status slot program (Some n) is = cc
 
-pub live_is : (place : Place) (program : Program) (status : Option ℕ) → status ≡ None → live_process (Some (entry_by place program status)) ≡ Some (process_of program place)
-live_is place program status none = ap (λ s. live_process (Some (entry_by place program s))) none
+pub live_is : (slot : ProcessSlot) (program : Program) (status : Option ℕ) → status ≡ None → live_process (Some (entry_by slot program status)) ≡ Some (process_of program slot)
+live_is slot program status none = ap (λ s. live_process (Some (entry_by slot program s))) none
 
-pub ended_is : (place : Place) (program : Program) (status : Option ℕ) (n : ℕ) → status ≡ Some n → live_process (Some (entry_by place program status)) ≡ None
-ended_is place program status n is = ap (λ s. live_process (Some (entry_by place program s))) is
+pub ended_is : (slot : ProcessSlot) (program : Program) (status : Option ℕ) (n : ℕ) → status ≡ Some n → live_process (Some (entry_by slot program status)) ≡ None
+ended_is slot program status n is = ap (λ s. live_process (Some (entry_by slot program s))) is
 
-pub live_test : (place : Place) (program : Program) (status : Option ℕ) (lives : Bool) → is_some status ≡ not lives → lives ≡ is_some (live_process (Some (entry_by place program status)))
-live_test place program None true is = refl
-live_test place program None false is = cc
-live_test place program (Some n) true is = cc
-live_test place program (Some n) false is = refl
+pub live_test : (slot : ProcessSlot) (program : Program) (status : Option ℕ) (lives : Bool) → is_some status ≡ not lives → lives ≡ is_some (live_process (Some (entry_by slot program status)))
+live_test slot program None true is = refl
+live_test slot program None false is = cc
+live_test slot program (Some n) true is = cc
+live_test slot program (Some n) false is = refl
 
-pub parent-entry : (place : Place) (program : Program) (status : Option ℕ) → parent_of (entry_by place program status) ≡ place.parent
-parent-entry place program None = refl
-parent-entry place program (Some n) = refl
+pub parent-entry : (slot : ProcessSlot) (program : Program) (status : Option ℕ) → parent_of (entry_by slot program status) ≡ slot.parent
+parent-entry slot program None = refl
+parent-entry slot program (Some n) = refl
 
 unless-none : {X : Type 0} (o : Option X) → (o ≡ None → ⊥) → is_some o ≡ true
 unless-none None not = absurd (not refl)
@@ -207,40 +207,40 @@ pub none-some : {X : Type 0} (o : Option X) → o ≡ None → is_some o ≡ tru
 none-some o none some = let no = ap is_some none in cc
 
 -- what is seen of a place and its process from what clauses see
-module _ (places : List Place) (programs : List Shared) (last : ℕ) (ps : ProcessTable) (seen : table_of places programs last ≡ ps) (pid : ℕ) where
-  pub seen-none : position (λ (p : Place). p.number == pid) places ≡ None → find nat_cmp pid ps.processes ≡ None
-  seen-none none = ap (λ (t : ProcessTable). find nat_cmp pid t.processes) (sym seen) ∙ find-none programs places pid none
+module _ (slots : List ProcessSlot) (programs : List Shared) (last : ℕ) (ps : ProcessTable) (seen : table_of slots programs last ≡ ps) (pid : ℕ) where
+  pub seen-none : position (λ (p : ProcessSlot). p.number == pid) slots ≡ None → find nat_cmp pid ps.processes ≡ None
+  seen-none none = ap (λ (t : ProcessTable). find nat_cmp pid t.processes) (sym seen) ∙ find-none programs slots pid none
 
   -- what has no place of a live process is not live
-  pub gone-in : live_process (find nat_cmp pid (entries_of programs places)) ≡ None → process_in ps pid ≡ None
+  pub gone-in : live_process (find nat_cmp pid (entries_of programs slots)) ≡ None → process_in ps pid ≡ None
   gone-in none = ap (λ (t : ProcessTable). process_in t pid) (sym seen) ∙ none
 
   -- a live process has a place
-  pub live-place : IsSome (process_in ps pid) → IsSome (position (λ (p : Place). p.number == pid) places)
-  live-place there = unless-none (position (λ (p : Place). p.number == pid) places) (λ none. none-some (process_in ps pid) (ap live_process (seen-none none)) there)
+  pub live-slot : IsSome (process_in ps pid) → IsSome (position (λ (p : ProcessSlot). p.number == pid) slots)
+  live-slot there = unless-none (position (λ (p : ProcessSlot). p.number == pid) slots) (λ none. none-some (process_in ps pid) (ap live_process (seen-none none)) there)
 
-  module _ (asc : ascends places ≡ true) (k : ℕ) (place : Place) (at : IsAt places pid k place) where
-    pub seen-at : find nat_cmp pid ps.processes ≡ Some (entry_of programs place)
-    seen-at = ap (λ (t : ProcessTable). find nat_cmp pid t.processes) (sym seen) ∙ find-at programs places pid k place asc at
+  module _ (asc : ascends slots ≡ true) (k : ℕ) (slot : ProcessSlot) (at : IsAt slots pid k slot) where
+    pub seen-at : find nat_cmp pid ps.processes ≡ Some (entry_of programs slot)
+    seen-at = ap (λ (t : ProcessTable). find nat_cmp pid t.processes) (sym seen) ∙ find-at programs slots pid k slot asc at
 
-    pub status-at : IsSome (process_in ps pid) → place.status ≡ None
-    status-at there = live_status place (program_at programs place.program) place.status (sym (ap (λ o. is_some (live_process o)) seen-at) ∙ there)
+    pub status-at : IsSome (process_in ps pid) → slot.status ≡ None
+    status-at there = live_status slot (program_at programs slot.program) slot.status (sym (ap (λ o. is_some (live_process o)) seen-at) ∙ there)
 
-    pub living : place.status ≡ None → process_in ps pid ≡ Some (process_of (program_at programs place.program) place)
-    living none = ap live_process seen-at ∙ live_is place (program_at programs place.program) place.status none
+    pub living : slot.status ≡ None → process_in ps pid ≡ Some (process_of (program_at programs slot.program) slot)
+    living none = ap live_process seen-at ∙ live_is slot (program_at programs slot.program) slot.status none
 
-    pub process-at : IsSome (process_in ps pid) → process_in ps pid ≡ Some (process_of (program_at programs place.program) place)
+    pub process-at : IsSome (process_in ps pid) → process_in ps pid ≡ Some (process_of (program_at programs slot.program) slot)
     process-at there = living (status-at there)
 
     -- another place there is a change of the live process
-    pub changed-at : (there : IsSome (process_in ps pid)) (new : Place) (f : Process → Process) → new.number ≡ pid → new.status ≡ None
-        → process_of (program_at programs new.program) new ≡ f (process_of (program_at programs place.program) place)
-        → table_of (set places k new) programs last ≡ update ps pid f
+    pub changed-at : (there : IsSome (process_in ps pid)) (new : ProcessSlot) (f : Process → Process) → new.number ≡ pid → new.status ≡ None
+        → process_of (program_at programs new.program) new ≡ f (process_of (program_at programs slot.program) slot)
+        → table_of (set slots k new) programs last ≡ update ps pid f
     changed-at there new f number status is =
-        let entry : entry_of programs new ≡ live (f (process_of (program_at programs place.program) place)) =
+        let entry : entry_of programs new ≡ live (f (process_of (program_at programs slot.program) slot)) =
         ap (entry_by new (program_at programs new.program)) status ∙ ap live is in
-        let put_there : table_of (set places k new) programs last ≡ record ps { processes = put nat_cmp pid (live (f (process_of (program_at programs place.program) place))) ps.processes } =
-        ap (λ es. record { processes = es; last_process = last }) (put-at programs places pid k place new asc at number)
-        ∙ ap (λ r. record { processes = put nat_cmp pid r (entries_of programs places); last_process = last }) entry
-        ∙ ap (λ (t : ProcessTable). record t { processes = put nat_cmp pid (live (f (process_of (program_at programs place.program) place))) t.processes }) seen in
+        let put_there : table_of (set slots k new) programs last ≡ record ps { processes = put nat_cmp pid (live (f (process_of (program_at programs slot.program) slot))) ps.processes } =
+        ap (λ es. record { processes = es; last_process = last }) (put-at programs slots pid k slot new asc at number)
+        ∙ ap (λ r. record { processes = put nat_cmp pid r (entries_of programs slots); last_process = last }) entry
+        ∙ ap (λ (t : ProcessTable). record t { processes = put nat_cmp pid (live (f (process_of (program_at programs slot.program) slot))) t.processes }) seen in
         put_there ∙ sym (ap (update_live ps pid f) (process-at there))

@@ -13,12 +13,12 @@ use Rattle.pv_model.specs.Attempt.{◌>>◌, refuse, refuse_if}
 use Rattle.pv_model.specs.Calls.Processes.{fork, child}
 use Rattle.pv_model.specs.Effect.{answers}
 use Rattle.pv_model.specs.Numbered.{Numbered}
-use Rattle.pv_model.specs.State.{OpenFile, Process, Record, live, State, with_process}
+use Rattle.pv_model.specs.State.{OpenFile, Process, ProcessRecord, live, State, with_process}
 use Rattle.pv_model.specs.Tree.{Tree}
-use Rattle.pv_procs.specs.declared.place.Place.{Place}
+use Rattle.pv_procs.specs.declared.slot.ProcessSlot.{ProcessSlot}
 use Rattle.pv_procs.specs.declared.shared.Shared.{Shared}
-use Rattle.pv_procs.specs.Children.{child_place}
-use Rattle.pv_procs.specs.Places.{IsKept, IsRoomy, process_of, entry_of, entries_of, is_above, ascends, is_numbered, uses, users_at, program_at, table_of}
+use Rattle.pv_procs.specs.Children.{child_slot}
+use Rattle.pv_procs.specs.Slots.{IsKept, IsRoomy, process_of, entry_of, entries_of, is_above, ascends, is_numbered, uses, users_at, program_at, table_of}
 use Rattle.pv_procs.specs.ProcessTable.{ProcessTable, IsProcessTable, state_with, process_in}
 use Rattle.pv_procs.proofs.Finding.{IsAt}
 use Rattle.pv_procs.proofs.Keeping.{bit, count_by-cons, list_all-at}
@@ -33,36 +33,36 @@ less-is x y =
       | false ↦ elim (x == y) as (λ b. is_lt (cond b Equal Greater) ≡ false) [ true ↦ refl | false ↦ refl ]
     ]
 
-below-is : (programs : List Shared) (n : ℕ) (places : List Place) → below_all nat_cmp n (entries_of programs places) ≡ list_all (is_above n) places
+below-is : (programs : List Shared) (n : ℕ) (slots : List ProcessSlot) → below_all nat_cmp n (entries_of programs slots) ≡ list_all (is_above n) slots
 below-is programs n [] = refl
 below-is programs n (p ∷ ps) = ap₂ (λ a b. a && b) (less-is n p.number) (below-is programs n ps)
 
-sorted-is : (programs : List Shared) (places : List Place) → is_sorted nat_cmp (entries_of programs places) ≡ ascends places
+sorted-is : (programs : List Shared) (slots : List ProcessSlot) → is_sorted nat_cmp (entries_of programs slots) ≡ ascends slots
 sorted-is programs [] = refl
 sorted-is programs (p ∷ ps) = ap₂ (λ a b. a && b) (below-is programs p.number ps) (sorted-is programs ps)
 
-numbers-are : (programs : List Shared) (last : ℕ) (places : List Place) → list_all (λ (r : ℕ × Record). nat_le 1 r.0 && nat_le r.0 last) (entries_of programs places) ≡ list_all (is_numbered last) places
+numbers-are : (programs : List Shared) (last : ℕ) (slots : List ProcessSlot) → list_all (λ (r : ℕ × ProcessRecord). nat_le 1 r.0 && nat_le r.0 last) (entries_of programs slots) ≡ list_all (is_numbered last) slots
 numbers-are programs last [] = refl
 numbers-are programs last (p ∷ ps) = ap (λ b. is_numbered last p && b) (numbers-are programs last ps)
 
-pub length-entries : (programs : List Shared) (places : List Place) → length (entries_of programs places) ≡ length places
-length-entries programs places = length-map places (λ p. (p.number, entry_of programs p))
+pub length-entries : (programs : List Shared) (slots : List ProcessSlot) → length (entries_of programs slots) ≡ length slots
+length-entries programs slots = length-map slots (λ p. (p.number, entry_of programs p))
 
-pub told : (places spare : List Place) (programs : List Shared) (last capacity spare_capacity : ℕ) → IsKept places programs last
-    → IsRoomy (length places) (length spare) capacity spare_capacity → IsProcessTable (table_of places programs last)
-told places spare programs last capacity spare_capacity kept roomy = record {
-  ascending = sorted-is programs places ∙ kept.ascending;
-  numbers = numbers-are programs last places ∙ kept.numbers;
-  count = omega (arith, length-entries programs places, roomy.full);
+pub told : (slots spare : List ProcessSlot) (programs : List Shared) (last capacity spare_capacity : ℕ) → IsKept slots programs last
+    → IsRoomy (length slots) (length spare) capacity spare_capacity → IsProcessTable (table_of slots programs last)
+told slots spare programs last capacity spare_capacity kept roomy = record {
+  ascending = sorted-is programs slots ∙ kept.ascending;
+  numbers = numbers-are programs last slots ∙ kept.numbers;
+  count = omega (arith, length-entries programs slots, roomy.full);
   last = kept.last;
 }
 
 -- ---- a greater number at the end
 
-at-most : (last : ℕ) (p : Place) → is_numbered last p ≡ true → p.number ≤ last
+at-most : (last : ℕ) (p : ProcessSlot) → is_numbered last p ≡ true → p.number ≤ last
 at-most last p is = leb-true p.number last (and_parts (nat_le 1 p.number) (nat_le p.number last) is).1
 
-ascends-append : (places : List Place) (new : Place) (last : ℕ) → ascends places ≡ true → list_all (is_numbered last) places ≡ true → last < new.number → ascends (places ++ new ∷ []) ≡ true
+ascends-append : (slots : List ProcessSlot) (new : ProcessSlot) (last : ℕ) → ascends slots ≡ true → list_all (is_numbered last) slots ≡ true → last < new.number → ascends (slots ++ new ∷ []) ≡ true
 ascends-append [] new last asc numbers more = refl
 ascends-append (p ∷ ps) new last asc numbers more =
     let parts = and_parts (list_all (is_above p.number) ps) (ascends ps) asc in
@@ -72,7 +72,7 @@ ascends-append (p ∷ ps) new last asc numbers more =
     (list_all-append (is_above p.number) ps (new ∷ []) ∙ and_from _ _ parts.0 (and_from _ _ (lt-ltb p.number new.number (omega arith)) refl))
     (ascends-append ps new last parts.1 low.1 more)
 
-numbered-more : (places : List Place) (last : ℕ) → list_all (is_numbered last) places ≡ true → list_all (is_numbered (suc last)) places ≡ true
+numbered-more : (slots : List ProcessSlot) (last : ℕ) → list_all (is_numbered last) slots ≡ true → list_all (is_numbered (suc last)) slots ≡ true
 numbered-more [] last numbers = refl
 numbered-more (p ∷ ps) last numbers =
     let low = and_parts (is_numbered last p) (list_all (is_numbered last) ps) numbers in
@@ -90,8 +90,8 @@ count-append p (x ∷ xs) y =
 greater : (q n : ℕ) → n < q → nat_cmp q n ≡ Greater
 greater q n more = ap₂ (λ a b. cond a Less (cond b Equal Greater)) (le-ltb q n (omega arith)) (ne_eqb q n (λ same. absurd (omega arith)))
 
-put-append : (programs : List Shared) (places : List Place) (new : Place) (last : ℕ) → list_all (is_numbered last) places ≡ true → last < new.number
-    → entries_of programs (places ++ new ∷ []) ≡ put nat_cmp new.number (entry_of programs new) (entries_of programs places)
+put-append : (programs : List Shared) (slots : List ProcessSlot) (new : ProcessSlot) (last : ℕ) → list_all (is_numbered last) slots ≡ true → last < new.number
+    → entries_of programs (slots ++ new ∷ []) ≡ put nat_cmp new.number (entry_of programs new) (entries_of programs slots)
 put-append programs [] new last numbers more = refl
 put-append programs (p ∷ ps) new last numbers more =
     let low = and_parts (is_numbered last p) (list_all (is_numbered last) ps) numbers in
@@ -102,63 +102,63 @@ put-append programs (p ∷ ps) new last numbers more =
 
 -- ---- fork
 
-module _ (places : List Place) (programs : List Shared) (last : ℕ) (kept : IsKept places programs last) where
-  pub users-few : (k : ℕ) → length places < 32 → users_at programs k < 32
-  users-few k few = omega (arith, kept.users k, count_by-le-length (uses k) places)
+module _ (slots : List ProcessSlot) (programs : List Shared) (last : ℕ) (kept : IsKept slots programs last) where
+  pub users-few : (k : ℕ) → length slots < 32 → users_at programs k < 32
+  users-few k few = omega (arith, kept.users k, count_by-le-length (uses k) slots)
 
-  module _ (pid k : ℕ) (place : Place) (at : IsAt places pid k place) (other : List Shared) (long : length other ≡ length programs)
-      (more : users_at other place.program ≡ users_at programs place.program + 1) (rest : (j : ℕ) → j ≢ place.program → users_at other j ≡ users_at programs j) where
-    abbrev new : Place
-    new = child_place (suc last) place
+  module _ (pid k : ℕ) (slot : ProcessSlot) (at : IsAt slots pid k slot) (other : List Shared) (long : length other ≡ length programs)
+      (more : users_at other slot.program ≡ users_at programs slot.program + 1) (rest : (j : ℕ) → j ≢ slot.program → users_at other j ≡ users_at programs j) where
+    abbrev new : ProcessSlot
+    new = child_slot (suc last) slot
 
-    users-new : (j : ℕ) → users_at other j ≡ count_by (uses j) (places ++ new ∷ [])
+    users-new : (j : ℕ) → users_at other j ≡ count_by (uses j) (slots ++ new ∷ [])
     users-new j =
-        let count = count-append (uses j) places new in
+        let count = count-append (uses j) slots new in
         let was = kept.users j in
         ⊎_elim
-        (λ (same : j ≡ place.program).
-        let here : bit (uses j new) ≡ 1 = ap bit (eq-eqb place.program j (sym same)) in
+        (λ (same : j ≡ slot.program).
+        let here : bit (uses j new) ≡ 1 = ap bit (eq-eqb slot.program j (sym same)) in
         let one : users_at other j ≡ users_at programs j + 1 = ap (users_at other) same ∙ more ∙ ap (λ i. users_at programs i + 1) (sym same) in
-        let e : users_at other j ≡ count_by (uses j) (places ++ new ∷ []) = omega (arith, count, here, one, was) in e)
-        (λ (different : j ≢ place.program).
-        let none : bit (uses j new) ≡ 0 = ap bit (ne_eqb place.program j (λ same. different (sym same))) in
+        let e : users_at other j ≡ count_by (uses j) (slots ++ new ∷ []) = omega (arith, count, here, one, was) in e)
+        (λ (different : j ≢ slot.program).
+        let none : bit (uses j new) ≡ 0 = ap bit (ne_eqb slot.program j (λ same. different (sym same))) in
         let stays = rest j different in
-        let e : users_at other j ≡ count_by (uses j) (places ++ new ∷ []) = omega (arith, count, none, stays, was) in e)
-        (cases_eq j place.program)
+        let e : users_at other j ≡ count_by (uses j) (slots ++ new ∷ []) = omega (arith, count, none, stays, was) in e)
+        (cases_eq j slot.program)
 
-    pub kept-new : last < 99999 → IsKept (places ++ new ∷ []) other (suc last)
+    pub kept-new : last < 99999 → IsKept (slots ++ new ∷ []) other (suc last)
     kept-new few = record {
-      ascending = ascends-append places new last kept.ascending kept.numbers (omega arith);
-      numbers = list_all-append (is_numbered (suc last)) places (new ∷ [])
-          ∙ and_from _ _ (numbered-more places last kept.numbers) (and_from _ _ (and_from _ _ (le-leb 1 (suc last) (omega arith)) (le-leb (suc last) (suc last) (omega arith))) refl);
+      ascending = ascends-append slots new last kept.ascending kept.numbers (omega arith);
+      numbers = list_all-append (is_numbered (suc last)) slots (new ∷ [])
+          ∙ and_from _ _ (numbered-more slots last kept.numbers) (and_from _ _ (and_from _ _ (le-leb 1 (suc last) (omega arith)) (le-leb (suc last) (suc last) (omega arith))) refl);
       last = omega arith;
       table = long ∙ kept.table;
-      within = list_all-append (λ (p : Place). nat_lt p.program 32) places (new ∷ [])
-          ∙ and_from _ _ kept.within (and_from _ _ (list_all-at (λ (p : Place). nat_lt p.program 32) places k place kept.within at.within at.is) refl);
+      within = list_all-append (λ (p : ProcessSlot). nat_lt p.program 32) slots (new ∷ [])
+          ∙ and_from _ _ kept.within (and_from _ _ (list_all-at (λ (p : ProcessSlot). nat_lt p.program 32) slots k slot kept.within at.within at.is) refl);
       users = users-new;
     }
 
-    module _ (same : (j : ℕ) → program_at other j ≡ program_at programs j) (t : Tree) (files : Numbered OpenFile) (me : Process) (mine : me ≡ process_of (program_at programs place.program) place) where
+    module _ (same : (j : ℕ) → program_at other j ≡ program_at programs j) (t : Tree) (files : Numbered OpenFile) (me : Process) (mine : me ≡ process_of (program_at programs slot.program) slot) where
       abbrev before : State
-      before = state_with t files (table_of places programs last)
+      before = state_with t files (table_of slots programs last)
 
       child-is : entry_of other new ≡ live (child before pid me)
       child-is =
-          ap (λ program. live (process_of program new)) (same place.program)
-          ∙ ap (λ n. live (record (process_of (program_at programs place.program) new) { parent = n })) at.number
+          ap (λ program. live (process_of program new)) (same slot.program)
+          ∙ ap (λ n. live (record (process_of (program_at programs slot.program) new) { parent = n })) at.number
           ∙ ap (λ (p : Process). live (child before pid p)) (sym mine)
 
       abbrev forked : State
       forked = record (with_process before (suc last) (child before pid me)) { last_process = suc last }
 
-      forked-is : state_with t files (table_of (places ++ new ∷ []) other (suc last)) ≡ forked
+      forked-is : state_with t files (table_of (slots ++ new ∷ []) other (suc last)) ≡ forked
       forked-is =
           ap (λ es. record { tree = t; files = files; processes = es; last_process = suc last })
-          (put-append other places new last kept.numbers (omega arith) ∙ ap₂ (λ r es. put nat_cmp (suc last) r es) child-is (same-entries programs other same places))
+          (put-append other slots new last kept.numbers (omega arith) ∙ ap₂ (λ r es. put nat_cmp (suc last) r es) child-is (same-entries programs other same slots))
 
-      pub fork-is : length places < 32 → last < 99999 → fork before pid me ≡ answers (state_with t files (table_of (places ++ new ∷ []) other (suc last))) (suc last)
+      pub fork-is : length slots < 32 → last < 99999 → fork before pid me ≡ answers (state_with t files (table_of (slots ++ new ∷ []) other (suc last))) (suc last)
       fork-is few low =
-          let count : nat_le 32 (length before.processes) ≡ false = lt-leb 32 (length before.processes) (omega (arith, length-entries programs places)) in
+          let count : nat_le 32 (length before.processes) ≡ false = lt-leb 32 (length before.processes) (omega (arith, length-entries programs slots)) in
           let number : nat_lt 99999 (suc last) ≡ false = le-ltb 99999 (suc last) (omega arith) in
           ap₂ (λ a b. refuse_if EAGAIN (a || b) >> answers forked (suc last)) count number ∙ ap (λ s. answers s (suc last)) (sym forked-is)
 

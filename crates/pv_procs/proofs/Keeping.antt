@@ -4,9 +4,9 @@ use Rattle.std.specs.List.{list_all}
 use Rattle.std.proofs.Math.ListN.{get_or, set, length-set}
 use Rattle.std.proofs.lemmas.Bool.{and_parts, and_from, lt-ltb}
 use Rattle.std.proofs.lemmas.List.Sums.{sum_by-cons}
-use Rattle.pv_procs.specs.declared.place.Place.{Place}
+use Rattle.pv_procs.specs.declared.slot.ProcessSlot.{ProcessSlot}
 use Rattle.pv_procs.specs.declared.shared.Shared.{Shared}
-use Rattle.pv_procs.specs.Places.{IsKept, IsRoomy, is_above, ascends, is_numbered, uses}
+use Rattle.pv_procs.specs.Slots.{IsKept, IsRoomy, is_above, ascends, is_numbered, uses}
 use Rattle.pv_procs.proofs.Finding.{IsAt, above_at}
 
 abbrev pub bit : Bool → ℕ
@@ -40,34 +40,34 @@ module _ {X : Type 0} where
       let before = count_by-cons p z zs in
       let e : count_by p (z ∷ set zs k y) + bit (p x) ≡ count_by p (z ∷ zs) + bit (p y) = omega (arith, rest, after, before) in e
 
-pub ascends-set : (places : List Place) (pid k : ℕ) (place new : Place) → ascends places ≡ true → IsAt places pid k place → new.number ≡ pid → ascends (set places k new) ≡ true
-ascends-set [] pid k place new asc at same = refl
-ascends-set (p ∷ ps) pid zero place new asc at same =
-    ap (λ n. list_all (is_above n) ps && ascends ps) (same ∙ sym at.number ∙ ap (λ (q : Place). q.number) at.is) ∙ asc
-ascends-set (p ∷ ps) pid (suc k) place new asc at same =
+pub ascends-set : (slots : List ProcessSlot) (pid k : ℕ) (slot new : ProcessSlot) → ascends slots ≡ true → IsAt slots pid k slot → new.number ≡ pid → ascends (set slots k new) ≡ true
+ascends-set [] pid k slot new asc at same = refl
+ascends-set (p ∷ ps) pid zero slot new asc at same =
+    ap (λ n. list_all (is_above n) ps && ascends ps) (same ∙ sym at.number ∙ ap (λ (q : ProcessSlot). q.number) at.is) ∙ asc
+ascends-set (p ∷ ps) pid (suc k) slot new asc at same =
     let parts = and_parts (list_all (is_above p.number) ps) (ascends ps) asc in
-    let more = above_at p.number ps k place parts.0 (omega (arith, at.within)) at.is in
+    let more = above_at p.number ps k slot parts.0 (omega (arith, at.within)) at.is in
     and_from _ _ (list_all-set (is_above p.number) ps k new parts.0 (lt-ltb p.number new.number (subst (λ n. p.number < n) (at.number ∙ sym same) more)))
-    (ascends-set ps pid k place new parts.1 (record { within = omega (arith, at.within); is = at.is; number = at.number }) same)
+    (ascends-set ps pid k slot new parts.1 (record { within = omega (arith, at.within); is = at.is; number = at.number }) same)
 
-module _ (places : List Place) (programs : List Shared) (last : ℕ) (kept : IsKept places programs last) (pid k : ℕ) (place : Place) (at : IsAt places pid k place) where
+module _ (slots : List ProcessSlot) (programs : List Shared) (last : ℕ) (kept : IsKept slots programs last) (pid k : ℕ) (slot : ProcessSlot) (at : IsAt slots pid k slot) where
   -- another place there, of the same number, program and status
-  pub kept-set : (new : Place) → new.number ≡ pid → new.program ≡ place.program → new.status ≡ place.status → IsKept (set places k new) programs last
+  pub kept-set : (new : ProcessSlot) → new.number ≡ pid → new.program ≡ slot.program → new.status ≡ slot.status → IsKept (set slots k new) programs last
   kept-set new number program status = record {
-    ascending = ascends-set places pid k place new kept.ascending at number;
-    numbers = list_all-set (is_numbered last) places k new kept.numbers
-        (ap (λ n. Rattle.std.specs.Prelude.nat_le 1 n && Rattle.std.specs.Prelude.nat_le n last) (number ∙ sym at.number) ∙ list_all-at (is_numbered last) places k place kept.numbers at.within at.is);
+    ascending = ascends-set slots pid k slot new kept.ascending at number;
+    numbers = list_all-set (is_numbered last) slots k new kept.numbers
+        (ap (λ n. Rattle.std.specs.Prelude.nat_le 1 n && Rattle.std.specs.Prelude.nat_le n last) (number ∙ sym at.number) ∙ list_all-at (is_numbered last) slots k slot kept.numbers at.within at.is);
     last = kept.last;
     table = kept.table;
-    within = list_all-set (λ (p : Place). nat_lt p.program 32) places k new kept.within
-        (ap (λ n. nat_lt n 32) program ∙ list_all-at (λ (p : Place). nat_lt p.program 32) places k place kept.within at.within at.is);
+    within = list_all-set (λ (p : ProcessSlot). nat_lt p.program 32) slots k new kept.within
+        (ap (λ n. nat_lt n 32) program ∙ list_all-at (λ (p : ProcessSlot). nat_lt p.program 32) slots k slot kept.within at.within at.is);
     users = λ j.
-        let count = count-set (uses j) places k place new at.within at.is in
-        let same : bit (uses j new) ≡ bit (uses j place) = ap₂ (λ s n. bit (is_none s && (n == j))) status program in
-        kept.users j ∙ (let e : count_by (uses j) places ≡ count_by (uses j) (set places k new) = omega (arith, count, same) in e);
+        let count = count-set (uses j) slots k slot new at.within at.is in
+        let same : bit (uses j new) ≡ bit (uses j slot) = ap₂ (λ s n. bit (is_none s && (n == j))) status program in
+        kept.users j ∙ (let e : count_by (uses j) slots ≡ count_by (uses j) (set slots k new) = omega (arith, count, same) in e);
   }
 
-pub roomy-set : (places spare : List Place) (k : ℕ) (new : Place) (capacity spare_capacity : ℕ) → IsRoomy (length places) (length spare) capacity spare_capacity
-    → IsRoomy (length (set places k new)) (length spare) capacity spare_capacity
-roomy-set places spare k new capacity spare_capacity is =
-    record { full = ap (λ n. n + length spare) (length-set places k new) ∙ is.full; room = is.room; spare_room = is.spare_room }
+pub roomy-set : (slots spare : List ProcessSlot) (k : ℕ) (new : ProcessSlot) (capacity spare_capacity : ℕ) → IsRoomy (length slots) (length spare) capacity spare_capacity
+    → IsRoomy (length (set slots k new)) (length spare) capacity spare_capacity
+roomy-set slots spare k new capacity spare_capacity is =
+    record { full = ap (λ n. n + length spare) (length-set slots k new) ∙ is.full; room = is.room; spare_room = is.spare_room }

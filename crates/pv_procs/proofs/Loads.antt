@@ -9,13 +9,13 @@ use Rattle.std.proofs.lemmas.Bool.Decides.{nat_tests}
 use Rattle.std.proofs.lemmas.List.Quantifiers.{position-Some}
 use Rattle.std.proofs.lemmas.List.Sums.{count_by-le-length, prefix_len-le-length}
 use Rattle.pv_model.specs.Calls.Processes.{with_program}
-use Rattle.pv_model.specs.State.{Program, Record, live, State}
-use Rattle.pv_procs.specs.declared.place.Place.{Place}
+use Rattle.pv_model.specs.State.{Program, ProcessRecord, live, State}
+use Rattle.pv_procs.specs.declared.slot.ProcessSlot.{ProcessSlot}
 use Rattle.pv_procs.specs.declared.shared.Shared.{Shared}
 use Rattle.pv_procs.specs.Parts.{after_exec, first_record}
-use Rattle.pv_procs.specs.Places.{IsKept, process_of, entry_by, entry_of, entries_of, is_above, ascends, is_numbered, uses, users_at, user_count, program_at, shared_program, table_of}
+use Rattle.pv_procs.specs.Slots.{IsKept, process_of, entry_by, entry_of, entries_of, is_above, ascends, is_numbered, uses, users_at, user_count, program_at, shared_program, table_of}
 use Rattle.pv_procs.specs.ProcessTable.{ProcessTable, process_in, update, update_live}
-use Rattle.pv_procs.proofs.Finding.{IsAt, behind-more, behind, first-number, greater, equal}
+use Rattle.pv_procs.proofs.Finding.{IsAt, past-more, following, first-number, greater, equal}
 use Rattle.pv_procs.proofs.Keeping.{bit, count_by-cons, count-set, list_all-set, list_all-at, ascends-set}
 use Rattle.pv_procs.proofs.Ends.{users-gone}
 
@@ -65,7 +65,7 @@ free-users programs free found =
     read (s ∷ ss) (suc k) within = read ss k (omega arith)
 
 -- whether a place has a live process whose program has a place below n
-abbrev below : ℕ → Place → Bool
+abbrev below : ℕ → ProcessSlot → Bool
 below n p = is_none p.status && nat_lt p.program n
 
 tests-more : (n m : ℕ) → bit (nat_lt m (suc n)) ≡ bit (nat_lt m n) + bit (m == n)
@@ -75,10 +75,10 @@ status-more : (n m : ℕ) (b : Bool) → bit (b && nat_lt m (suc n)) ≡ bit (b 
 status-more n m false = refl
 status-more n m true = tests-more n m
 
-below-more : (n : ℕ) (p : Place) → bit (below (suc n) p) ≡ bit (below n p) + bit (uses n p)
+below-more : (n : ℕ) (p : ProcessSlot) → bit (below (suc n) p) ≡ bit (below n p) + bit (uses n p)
 below-more n p = status-more n p.program (is_none p.status)
 
-count-more : (n : ℕ) (places : List Place) → count_by (below (suc n)) places ≡ count_by (below n) places + count_by (uses n) places
+count-more : (n : ℕ) (slots : List ProcessSlot) → count_by (below (suc n)) slots ≡ count_by (below n) slots + count_by (uses n) slots
 count-more n [] = refl
 count-more n (p ∷ ps) =
     let rest = count-more n ps in
@@ -89,17 +89,17 @@ count-more n (p ∷ ps) =
     let e : count_by (below (suc n)) (p ∷ ps) ≡ count_by (below n) (p ∷ ps) + count_by (uses n) (p ∷ ps) = omega (arith, rest, one, a, b, d) in e
 
 -- as many places as programs that have a user
-each-used : (n : ℕ) (places : List Place) → ((j : ℕ) → j < n → 0 < count_by (uses j) places) → n ≤ count_by (below n) places
-each-used zero places used = omega arith
-each-used (suc n) places used =
-    let rest = each-used n places (λ j less. used j (omega arith)) in
+each-used : (n : ℕ) (slots : List ProcessSlot) → ((j : ℕ) → j < n → 0 < count_by (uses j) slots) → n ≤ count_by (below n) slots
+each-used zero slots used = omega arith
+each-used (suc n) slots used =
+    let rest = each-used n slots (λ j less. used j (omega arith)) in
     let last = used n (omega arith) in
-    omega (arith, rest, last, count-more n places)
+    omega (arith, rest, last, count-more n slots)
 
 -- ---- the entries, where the program at one place is another, and nobody has it
 
 module _ (programs other : List Shared) (free : ℕ) (same : (j : ℕ) → j ≢ free → program_at other j ≡ program_at programs j) where
-  unused-entry : (p : Place) → uses free p ≡ false → entry_of other p ≡ entry_of programs p
+  unused-entry : (p : ProcessSlot) → uses free p ≡ false → entry_of other p ≡ entry_of programs p
   unused-entry p unused = by p.status refl
     where
       by : (status : Option ℕ) → p.status ≡ status → entry_of other p ≡ entry_of programs p
@@ -112,63 +112,63 @@ module _ (programs other : List Shared) (free : ℕ) (same : (j : ℕ) → j ≢
   bit-none false is = refl
   bit-none true is = absurd (omega (arith, is))
 
-  unused-entries : (places : List Place) → count_by (uses free) places ≡ 0 → entries_of other places ≡ entries_of programs places
+  unused-entries : (slots : List ProcessSlot) → count_by (uses free) slots ≡ 0 → entries_of other slots ≡ entries_of programs slots
   unused-entries [] none = refl
   unused-entries (p ∷ ps) none =
       let all = count_by-cons (uses free) p ps in
-      ap₂ (λ r (es : List (ℕ × Record)). (p.number, r) ∷ es) (unused-entry p (bit-none (uses free p) (omega (arith, all, none)))) (unused-entries ps (omega (arith, all, none)))
+      ap₂ (λ r (es : List (ℕ × ProcessRecord)). (p.number, r) ∷ es) (unused-entry p (bit-none (uses free p) (omega (arith, all, none)))) (unused-entries ps (omega (arith, all, none)))
 
   -- another place at k, whatever program the old one had
-  pub put-loaded : (places : List Place) (pid k : ℕ) (place gone new : Place) → ascends places ≡ true → IsAt places pid k place → new.number ≡ pid → count_by (uses free) (set places k gone) ≡ 0
-      → entries_of other (set places k new) ≡ put nat_cmp pid (entry_of other new) (entries_of programs places)
-  put-loaded [] pid k place gone new asc at number none = let within = at.within in absurd (omega arith)
-  put-loaded (p ∷ ps) pid zero place gone new asc at number none =
-      let first = first-number p ps pid place at in
+  pub put-loaded : (slots : List ProcessSlot) (pid k : ℕ) (slot gone new : ProcessSlot) → ascends slots ≡ true → IsAt slots pid k slot → new.number ≡ pid → count_by (uses free) (set slots k gone) ≡ 0
+      → entries_of other (set slots k new) ≡ put nat_cmp pid (entry_of other new) (entries_of programs slots)
+  put-loaded [] pid k slot gone new asc at number none = let within = at.within in absurd (omega arith)
+  put-loaded (p ∷ ps) pid zero slot gone new asc at number none =
+      let first = first-number p ps pid slot at in
       let all = count_by-cons (uses free) gone ps in
-      ap₂ (λ n (es : List (ℕ × Record)). (n, entry_of other new) ∷ es) (number ∙ first) (unused-entries ps (omega (arith, all, none)))
+      ap₂ (λ n (es : List (ℕ × ProcessRecord)). (n, entry_of other new) ∷ es) (number ∙ first) (unused-entries ps (omega (arith, all, none)))
       ∙ sym (ap (λ o. by_order o ((pid, entry_of other new) ∷ entries_of programs (p ∷ ps)) ((p.number, entry_of other new) ∷ entries_of programs ps)
       ((p.number, entry_of programs p) ∷ put nat_cmp pid (entry_of other new) (entries_of programs ps))) (equal pid p.number first))
-  put-loaded (p ∷ ps) pid (suc k) place gone new asc at number none =
-      let more = behind-more p ps pid k place asc at in
+  put-loaded (p ∷ ps) pid (suc k) slot gone new asc at number none =
+      let more = past-more p ps pid k slot asc at in
       let all = count_by-cons (uses free) p (set ps k gone) in
-      ap₂ (λ r (es : List (ℕ × Record)). (p.number, r) ∷ es) (unused-entry p (bit-none (uses free p) (omega (arith, all, none))))
-      (put-loaded ps pid k place gone new (and_parts (list_all (is_above p.number) ps) (ascends ps) asc).1 (behind p ps pid k place at) number (omega (arith, all, none)))
+      ap₂ (λ r (es : List (ℕ × ProcessRecord)). (p.number, r) ∷ es) (unused-entry p (bit-none (uses free p) (omega (arith, all, none))))
+      (put-loaded ps pid k slot gone new (and_parts (list_all (is_above p.number) ps) (ascends ps) asc).1 (following p ps pid k slot at) number (omega (arith, all, none)))
       ∙ sym (ap (λ o. by_order o ((pid, entry_of other new) ∷ entries_of programs (p ∷ ps)) ((p.number, entry_of other new) ∷ entries_of programs ps)
       ((p.number, entry_of programs p) ∷ put nat_cmp pid (entry_of other new) (entries_of programs ps))) (greater pid p.number more))
 
 -- ---- load
 
-module _ (places : List Place) (programs : List Shared) (last : ℕ) (kept : IsKept places programs last) (pid k : ℕ) (place : Place) (at : IsAt places pid k place) (lives : place.status ≡ None)
-    (let_go : List Shared) (long : length let_go ≡ length programs) (fewer : users_at let_go place.program + 1 ≡ users_at programs place.program)
-    (rest : (j : ℕ) → j ≢ place.program → users_at let_go j ≡ users_at programs j) where
-  abbrev gone : Place
-  gone = record place { status = Some 0 }
+module _ (slots : List ProcessSlot) (programs : List Shared) (last : ℕ) (kept : IsKept slots programs last) (pid k : ℕ) (slot : ProcessSlot) (at : IsAt slots pid k slot) (lives : slot.status ≡ None)
+    (let_go : List Shared) (long : length let_go ≡ length programs) (fewer : users_at let_go slot.program + 1 ≡ users_at programs slot.program)
+    (rest : (j : ℕ) → j ≢ slot.program → users_at let_go j ≡ users_at programs j) where
+  abbrev gone : ProcessSlot
+  gone = record slot { status = Some 0 }
 
-  without : (j : ℕ) → users_at let_go j ≡ count_by (uses j) (set places k gone)
-  without = users-gone places programs last kept pid k place at lives let_go long fewer rest 0
+  without : (j : ℕ) → users_at let_go j ≡ count_by (uses j) (set slots k gone)
+  without = users-gone slots programs last kept pid k slot at lives let_go long fewer rest 0
 
   -- there is a place that nobody uses
-  pub some-free : length places ≤ 32 → position has_user let_go ≡ None → ⊥
+  pub some-free : length slots ≤ 32 → position has_user let_go ≡ None → ⊥
   some-free few none =
       let full = past (position_or_len has_user let_go) (length let_go) (prefix_len-le-length (λ s. not (has_user s)) let_go) none in
       let table = kept.table in
-      let each = each-used 32 (set places k gone) (λ j less. subst (λ n. 0 < n) (without j) (all-used let_go j full (omega (arith, long, table)))) in
-      let count = count-set (below 32) places k place gone at.within at.is in
-      let mine : bit (below 32 place) ≡ 1 = ap bit (ap (λ s. is_none s && nat_lt place.program 32) lives ∙ list_all-at (λ (p : Place). nat_lt p.program 32) places k place kept.within at.within at.is) in
-      let most = count_by-le-length (below 32) places in
+      let each = each-used 32 (set slots k gone) (λ j less. subst (λ n. 0 < n) (without j) (all-used let_go j full (omega (arith, long, table)))) in
+      let count = count-set (below 32) slots k slot gone at.within at.is in
+      let mine : bit (below 32 slot) ≡ 1 = ap bit (ap (λ s. is_none s && nat_lt slot.program 32) lives ∙ list_all-at (λ (p : ProcessSlot). nat_lt p.program 32) slots k slot kept.within at.within at.is) in
+      let most = count_by-le-length (below 32) slots in
       absurd (omega (arith, each, count, mine, most, few))
 
   module _ (free : ℕ) (within : free < length let_go) (unused : users_at let_go free ≡ 0) (program : Program) where
     abbrev loaded : List Shared
     loaded = set let_go free (record { program = program; users = 1 })
 
-    abbrev pub changed : Place
-    changed = record place { program = free; «record» = after_exec place.record }
+    abbrev pub changed : ProcessSlot
+    changed = record slot { program = free; «record» = after_exec slot.record }
 
-    users-loaded : (j : ℕ) → users_at loaded j ≡ count_by (uses j) (set places k changed)
+    users-loaded : (j : ℕ) → users_at loaded j ≡ count_by (uses j) (set slots k changed)
     users-loaded j =
-        let with_gone = count-set (uses j) places k place gone at.within at.is in
-        let with_changed = count-set (uses j) places k place changed at.within at.is in
+        let with_gone = count-set (uses j) slots k slot gone at.within at.is in
+        let with_changed = count-set (uses j) slots k slot changed at.within at.is in
         let was = without j in
         let same_test : bit (uses j changed) ≡ bit (free == j) = ap (λ s. bit (is_none s && (free == j))) lives in
         ⊎_elim
@@ -176,40 +176,40 @@ module _ (places : List Place) (programs : List Shared) (last : ℕ) (kept : IsK
         let here : bit (free == j) ≡ 1 = ap bit (eq-eqb free j (sym same)) in
         let one : users_at loaded j ≡ 1 = ap (users_at loaded) same ∙ ap user_count (slice_get-set_same let_go free _ within) in
         let none : users_at let_go j ≡ 0 = ap (users_at let_go) same ∙ unused in
-        let e : users_at loaded j ≡ count_by (uses j) (set places k changed) = omega (arith, with_gone, with_changed, was, same_test, here, one, none) in e)
+        let e : users_at loaded j ≡ count_by (uses j) (set slots k changed) = omega (arith, with_gone, with_changed, was, same_test, here, one, none) in e)
         (λ (different : j ≢ free).
         let other : bit (free == j) ≡ 0 = ap bit (ne_eqb free j (λ same. different (sym same))) in
         let stays : users_at loaded j ≡ users_at let_go j = ap user_count (slice_get-set_other let_go free j _ different) in
-        let e : users_at loaded j ≡ count_by (uses j) (set places k changed) = omega (arith, with_gone, with_changed, was, same_test, other, stays) in e)
+        let e : users_at loaded j ≡ count_by (uses j) (set slots k changed) = omega (arith, with_gone, with_changed, was, same_test, other, stays) in e)
         (cases_eq j free)
 
-    pub kept-loaded : IsKept (set places k changed) loaded last
+    pub kept-loaded : IsKept (set slots k changed) loaded last
     kept-loaded = record {
-      ascending = ascends-set places pid k place changed kept.ascending at at.number;
-      numbers = list_all-set (is_numbered last) places k changed kept.numbers (list_all-at (is_numbered last) places k place kept.numbers at.within at.is);
+      ascending = ascends-set slots pid k slot changed kept.ascending at at.number;
+      numbers = list_all-set (is_numbered last) slots k changed kept.numbers (list_all-at (is_numbered last) slots k slot kept.numbers at.within at.is);
       last = kept.last;
       table = length-set let_go free _ ∙ long ∙ kept.table;
-      within = list_all-set (λ (p : Place). nat_lt p.program 32) places k changed kept.within (lt-ltb free 32 (omega (arith, within, long, kept.table)));
+      within = list_all-set (λ (p : ProcessSlot). nat_lt p.program 32) slots k changed kept.within (lt-ltb free 32 (omega (arith, within, long, kept.table)));
       users = users-loaded;
     }
 
-    pub load-is : (same : (j : ℕ) → program_at let_go j ≡ program_at programs j) (s : State) (ps : ProcessTable) (seen : table_of places programs last ≡ ps)
-        (process : process_in ps pid ≡ Some (process_of (program_at programs place.program) place)) → table_of (set places k changed) loaded last ≡ update ps pid (λ p. with_program s pid p program)
+    pub load-is : (same : (j : ℕ) → program_at let_go j ≡ program_at programs j) (s : State) (ps : ProcessTable) (seen : table_of slots programs last ≡ ps)
+        (process : process_in ps pid ≡ Some (process_of (program_at programs slot.program) slot)) → table_of (set slots k changed) loaded last ≡ update ps pid (λ p. with_program s pid p program)
     load-is same s ps seen process =
         let others : (j : ℕ) → j ≢ free → program_at loaded j ≡ program_at programs j = λ j different. ap shared_program (slice_get-set_other let_go free j _ different) ∙ same j in
         let own : program_at loaded free ≡ program = ap shared_program (slice_get-set_same let_go free _ within) in
-        let new : entry_of loaded changed ≡ live (with_program s pid (process_of (program_at programs place.program) place) program) =
-        ap (λ p. entry_by changed p place.status) own ∙ ap (entry_by changed program) lives in
+        let new : entry_of loaded changed ≡ live (with_program s pid (process_of (program_at programs slot.program) slot) program) =
+        ap (λ p. entry_by changed p slot.status) own ∙ ap (entry_by changed program) lives in
         ap (λ es. record { processes = es; last_process = last })
-        (put-loaded programs loaded free others places pid k place gone changed kept.ascending at at.number (sym (without free) ∙ unused)
-        ∙ ap (λ r. put nat_cmp pid r (entries_of programs places)) new)
-        ∙ ap (λ (t : ProcessTable). record t { processes = put nat_cmp pid (live (with_program s pid (process_of (program_at programs place.program) place) program)) t.processes }) seen
+        (put-loaded programs loaded free others slots pid k slot gone changed kept.ascending at at.number (sym (without free) ∙ unused)
+        ∙ ap (λ r. put nat_cmp pid r (entries_of programs slots)) new)
+        ∙ ap (λ (t : ProcessTable). record t { processes = put nat_cmp pid (live (with_program s pid (process_of (program_at programs slot.program) slot) program)) t.processes }) seen
         ∙ sym (ap (update_live ps pid (λ p. with_program s pid p program)) process)
 
 -- ---- the places at first
 
-abbrev pub first_place : Place
-first_place = record { number = 1; parent = 0; status = None; program = 0; «record» = first_record }
+abbrev pub first_slot : ProcessSlot
+first_slot = record { number = 1; parent = 0; status = None; program = 0; «record» = first_record }
 
 abbrev pub unused_program : Shared
 unused_program = record { program = []; users = 0 }
@@ -219,12 +219,12 @@ unused-at zero j = refl
 unused-at (suc n) zero = refl
 unused-at (suc n) (suc j) = unused-at n j
 
-pub first-kept : (program : Program) → IsKept (first_place ∷ []) ((record { program = program; users = 1 }) ∷ replicate 31 unused_program) 1
+pub first-kept : (program : Program) → IsKept (first_slot ∷ []) ((record { program = program; users = 1 }) ∷ replicate 31 unused_program) 1
 first-kept program = record { ascending = refl; numbers = refl; last = omega arith; table = refl; within = refl; users = users }
   where
-    users : (j : ℕ) → users_at ((record { program = program; users = 1 }) ∷ replicate 31 unused_program) j ≡ count_by (uses j) (first_place ∷ [])
+    users : (j : ℕ) → users_at ((record { program = program; users = 1 }) ∷ replicate 31 unused_program) j ≡ count_by (uses j) (first_slot ∷ [])
     users zero = refl
     users (suc j) =
-        let none : bit (uses (suc j) first_place) ≡ 0 = ap bit (ne_eqb 0 (suc j) (λ same. absurd (omega (arith, same)))) in
-        let all = count_by-cons (uses (suc j)) first_place [] in
-        unused-at 31 j ∙ (let e : 0 ≡ count_by (uses (suc j)) (first_place ∷ []) = omega (arith, none, all) in e)
+        let none : bit (uses (suc j) first_slot) ≡ 0 = ap bit (ne_eqb 0 (suc j) (λ same. absurd (omega (arith, same)))) in
+        let all = count_by-cons (uses (suc j)) first_slot [] in
+        unused-at 31 j ∙ (let e : 0 ≡ count_by (uses (suc j)) (first_slot ∷ []) = omega (arith, none, all) in e)

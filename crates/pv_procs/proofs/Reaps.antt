@@ -15,12 +15,12 @@ use Rattle.pv_model.specs.Bytes.{is_empty, little_endian}
 use Rattle.pv_model.specs.Calls.Processes.{parent_of, statuses, reap, wait}
 use Rattle.pv_model.specs.Effect.{Effect, Reply, returns_bytes, waits, answers_bytes}
 use Rattle.pv_model.specs.Numbered.{Numbered}
-use Rattle.pv_model.specs.State.{OpenFile, Process, Record, State}
+use Rattle.pv_model.specs.State.{OpenFile, Process, ProcessRecord, State}
 use Rattle.pv_model.specs.Tree.{Tree}
-use Rattle.pv_procs.specs.declared.place.Place.{Place}
+use Rattle.pv_procs.specs.declared.slot.ProcessSlot.{ProcessSlot}
 use Rattle.pv_procs.specs.declared.shared.Shared.{Shared}
 use Rattle.pv_procs.specs.declared.processes.Reap.TheVariants.{Child, Blocked, NoChild}
-use Rattle.pv_procs.specs.Places.{IsKept, entry_by, entry_of, entries_of, is_above, ascends, is_numbered, is_ended_child, uses, users_at, program_at, table_of}
+use Rattle.pv_procs.specs.Slots.{IsKept, entry_by, entry_of, entries_of, is_above, ascends, is_numbered, is_ended_child, uses, users_at, program_at, table_of}
 use Rattle.pv_procs.specs.ProcessTable.{ProcessTable, state_with}
 use Rattle.pv_procs.specs.Reaping.{waited}
 use Rattle.pv_procs.proofs.Finding.{parent-entry, above_at}
@@ -32,77 +32,77 @@ past n m within none = grind (arith, nat_tests)
 -- ---- children
 
 module _ (programs : List Shared) (pid : ℕ) where
-  abbrev is_child : ℕ × Record → Bool
+  abbrev is_child : ℕ × ProcessRecord → Bool
   is_child r = parent_of r.1 == pid
 
-  abbrev pub children_in : List Place → List (ℕ × Record)
-  children_in places = filter is_child (entries_of programs places)
+  abbrev pub children_in : List ProcessSlot → List (ℕ × ProcessRecord)
+  children_in slots = filter is_child (entries_of programs slots)
 
   -- the first place, by its parent and its status
-  abbrev first_by : Place → List (ℕ × Record) → Bool → Option ℕ → List (ℕ × ℕ)
+  abbrev first_by : ProcessSlot → List (ℕ × ProcessRecord) → Bool → Option ℕ → List (ℕ × ℕ)
   first_by p rest b status = statuses (cond b ((p.number, entry_by p (program_at programs p.program) status) ∷ rest) rest)
 
-  first-is : (p : Place) (ps : List Place) (b : Bool) → (p.parent == pid) ≡ b → (status : Option ℕ) → p.status ≡ status
+  first-is : (p : ProcessSlot) (ps : List ProcessSlot) (b : Bool) → (p.parent == pid) ≡ b → (status : Option ℕ) → p.status ≡ status
       → statuses (children_in (p ∷ ps)) ≡ first_by p (children_in ps) b status
   first-is p ps b is status has =
       ap (λ t. statuses (cond t ((p.number, entry_of programs p) ∷ children_in ps) (children_in ps))) (ap (λ n. n == pid) (parent-entry p (program_at programs p.program) p.status) ∙ is)
       ∙ ap (first_by p (children_in ps) b) has
 
-  test-is : (p : Place) (b : Bool) → (p.parent == pid) ≡ b → (status : Option ℕ) → p.status ≡ status → is_ended_child pid p ≡ (b && is_some status)
+  test-is : (p : ProcessSlot) (b : Bool) → (p.parent == pid) ≡ b → (status : Option ℕ) → p.status ≡ status → is_ended_child pid p ≡ (b && is_some status)
   test-is p b is status has = ap₂ (λ a s. a && is_some s) is has
 
   -- where no child has ended
-  none-ended : (places : List Place) → position_or_len (λ (p : Place). is_ended_child pid p) places ≡ length places → statuses (children_in places) ≡ []
+  none-ended : (slots : List ProcessSlot) → position_or_len (λ (p : ProcessSlot). is_ended_child pid p) slots ≡ length slots → statuses (children_in slots) ≡ []
   none-ended [] is = refl
   none-ended (p ∷ ps) is =
       by (λ test.
-      let counts = ap (λ b. cond (not b) (1 + prefix_len (λ (q : Place). not (is_ended_child pid q)) ps) 0) (sym test) ∙ is in none-ended ps (omega (arith, counts)))
+      let counts = ap (λ b. cond (not b) (1 + prefix_len (λ (q : ProcessSlot). not (is_ended_child pid q)) ps) 0) (sym test) ∙ is in none-ended ps (omega (arith, counts)))
       (p.parent == pid) refl p.status refl
     where
       by : (is_ended_child pid p ≡ false → statuses (children_in ps) ≡ []) → (b : Bool) → (p.parent == pid) ≡ b → (status : Option ℕ) → p.status ≡ status → statuses (children_in (p ∷ ps)) ≡ []
-      by behind false same status has = first-is p ps false same status has ∙ behind (test-is p false same status has)
-      by behind true same None has = first-is p ps true same None has ∙ behind (test-is p true same None has)
-      by behind true same (Some n) has =
-          let counts = ap (λ b. cond (not b) (1 + prefix_len (λ (q : Place). not (is_ended_child pid q)) ps) 0) (sym (test-is p true same (Some n) has)) ∙ is in
+      by following false same status has = first-is p ps false same status has ∙ following (test-is p false same status has)
+      by following true same None has = first-is p ps true same None has ∙ following (test-is p true same None has)
+      by following true same (Some n) has =
+          let counts = ap (λ b. cond (not b) (1 + prefix_len (λ (q : ProcessSlot). not (is_ended_child pid q)) ps) 0) (sym (test-is p true same (Some n) has)) ∙ is in
           absurd (omega (arith, counts))
 
-  pub nobody-ended : (places : List Place) → position (λ (p : Place). is_ended_child pid p) places ≡ None → statuses (children_in places) ≡ []
-  nobody-ended places none =
-      none-ended places
-      (past (position_or_len (λ (p : Place). is_ended_child pid p) places) (length places) (prefix_len-le-length (λ (p : Place). not (is_ended_child pid p)) places) none)
+  pub nobody-ended : (slots : List ProcessSlot) → position (λ (p : ProcessSlot). is_ended_child pid p) slots ≡ None → statuses (children_in slots) ≡ []
+  nobody-ended slots none =
+      none-ended slots
+      (past (position_or_len (λ (p : ProcessSlot). is_ended_child pid p) slots) (length slots) (prefix_len-le-length (λ (p : ProcessSlot). not (is_ended_child pid p)) slots) none)
 
   -- the first that has
-  first-ended : (places : List Place) (k : ℕ) (place : Place) (status : ℕ) → k < length places → place ≡ get_or places k place → is_ended_child pid place ≡ true → place.status ≡ Some status
-      → ((j : ℕ) → j < k → is_ended_child pid (get_or places j place) ≡ false) → (rest : List (ℕ × ℕ)) × (statuses (children_in places) ≡ (place.number, status) ∷ rest)
-  first-ended [] k place status within is test has before = absurd (omega arith)
-  first-ended (p ∷ ps) zero place status within is test has before =
-      let same : (p.parent == pid) ≡ true = ap (λ (q : Place). q.parent == pid) (sym is) ∙ (and_parts (place.parent == pid) (is_some place.status) test).0 in
-      let ended : p.status ≡ Some status = ap (λ (q : Place). q.status) (sym is) ∙ has in
-      (statuses (children_in ps), first-is p ps true same (Some status) ended ∙ ap (λ (q : Place). (q.number, status) ∷ statuses (children_in ps)) (sym is))
-  first-ended (p ∷ ps) (suc k) place status within is test has before =
-      by (first-ended ps k place status (omega arith) is test has (λ j less. before (suc j) (omega arith))) (p.parent == pid) refl p.status refl
+  first-ended : (slots : List ProcessSlot) (k : ℕ) (slot : ProcessSlot) (status : ℕ) → k < length slots → slot ≡ get_or slots k slot → is_ended_child pid slot ≡ true → slot.status ≡ Some status
+      → ((j : ℕ) → j < k → is_ended_child pid (get_or slots j slot) ≡ false) → (rest : List (ℕ × ℕ)) × (statuses (children_in slots) ≡ (slot.number, status) ∷ rest)
+  first-ended [] k slot status within is test has before = absurd (omega arith)
+  first-ended (p ∷ ps) zero slot status within is test has before =
+      let same : (p.parent == pid) ≡ true = ap (λ (q : ProcessSlot). q.parent == pid) (sym is) ∙ (and_parts (slot.parent == pid) (is_some slot.status) test).0 in
+      let ended : p.status ≡ Some status = ap (λ (q : ProcessSlot). q.status) (sym is) ∙ has in
+      (statuses (children_in ps), first-is p ps true same (Some status) ended ∙ ap (λ (q : ProcessSlot). (q.number, status) ∷ statuses (children_in ps)) (sym is))
+  first-ended (p ∷ ps) (suc k) slot status within is test has before =
+      by (first-ended ps k slot status (omega arith) is test has (λ j less. before (suc j) (omega arith))) (p.parent == pid) refl p.status refl
     where
-      by : (rest : List (ℕ × ℕ)) × (statuses (children_in ps) ≡ (place.number, status) ∷ rest) → (b : Bool) → (p.parent == pid) ≡ b → (s : Option ℕ) → p.status ≡ s → (rest : List (ℕ × ℕ)) × (statuses (children_in (p ∷ ps)) ≡ (place.number, status) ∷ rest)
+      by : (rest : List (ℕ × ℕ)) × (statuses (children_in ps) ≡ (slot.number, status) ∷ rest) → (b : Bool) → (p.parent == pid) ≡ b → (s : Option ℕ) → p.status ≡ s → (rest : List (ℕ × ℕ)) × (statuses (children_in (p ∷ ps)) ≡ (slot.number, status) ∷ rest)
       by more false same s ended = (more.0, first-is p ps false same s ended ∙ more.1)
       by more true same None ended = (more.0, first-is p ps true same None ended ∙ more.1)
       by more true same (Some n) ended = let no = sym (test-is p true same (Some n) ended) ∙ before 0 (omega arith) in cc
 
   -- whether there is one
-  pub any-child : (places : List Place) → list_any (λ (p : Place). p.parent == pid) places ≡ not (is_empty (children_in places))
+  pub any-child : (slots : List ProcessSlot) → list_any (λ (p : ProcessSlot). p.parent == pid) slots ≡ not (is_empty (children_in slots))
   any-child [] = refl
   any-child (p ∷ ps) = by (any-child ps) (p.parent == pid) refl
     where
-      by : list_any (λ (q : Place). q.parent == pid) ps ≡ not (is_empty (children_in ps)) → (b : Bool) → (p.parent == pid) ≡ b → list_any (λ (p : Place). p.parent == pid) (p ∷ ps) ≡ not (is_empty (children_in (p ∷ ps)))
+      by : list_any (λ (q : ProcessSlot). q.parent == pid) ps ≡ not (is_empty (children_in ps)) → (b : Bool) → (p.parent == pid) ≡ b → list_any (λ (p : ProcessSlot). p.parent == pid) (p ∷ ps) ≡ not (is_empty (children_in (p ∷ ps)))
       by rest b same =
-          ap (λ t. t || list_any (λ (q : Place). q.parent == pid) ps) same
-          ∙ elim b as (λ t. (t || list_any (λ (q : Place). q.parent == pid) ps) ≡ not (is_empty (cond t ((p.number, entry_of programs p) ∷ children_in ps) (children_in ps)))) [ true ↦ refl | false ↦ rest ]
+          ap (λ t. t || list_any (λ (q : ProcessSlot). q.parent == pid) ps) same
+          ∙ elim b as (λ t. (t || list_any (λ (q : ProcessSlot). q.parent == pid) ps) ≡ not (is_empty (cond t ((p.number, entry_of programs p) ∷ children_in ps) (children_in ps)))) [ true ↦ refl | false ↦ rest ]
           ∙ sym (ap (λ t. not (is_empty (cond t ((p.number, entry_of programs p) ∷ children_in ps) (children_in ps)))) (ap (λ n. n == pid) (parent-entry p (program_at programs p.program) p.status) ∙ same))
 
-  abbrev pub ended_in : List Place → Bool
-  ended_in places = list_any (λ (p : Place). is_ended_child pid p) places
+  abbrev pub ended_in : List ProcessSlot → Bool
+  ended_in slots = list_any (λ (p : ProcessSlot). is_ended_child pid p) slots
 
   -- whether one has ended
-  pub any-ended : (places : List Place) → list_any (λ (p : Place). is_ended_child pid p) places ≡ not (is_empty (statuses (children_in places)))
+  pub any-ended : (slots : List ProcessSlot) → list_any (λ (p : ProcessSlot). is_ended_child pid p) slots ≡ not (is_empty (statuses (children_in slots)))
   any-ended [] = refl
   any-ended (p ∷ ps) = by (any-ended ps) (p.parent == pid) refl p.status refl
     where
@@ -136,32 +136,32 @@ module _ {X : Type 0} where
       let before = count_by-cons p y ys in
       let e : count_by p (y ∷ remove ys k) + bit (p x) ≡ count_by p (y ∷ ys) = omega (arith, rest, after, before) in e
 
-ascends-remove : (places : List Place) (k : ℕ) → ascends places ≡ true → ascends (remove places k) ≡ true
+ascends-remove : (slots : List ProcessSlot) (k : ℕ) → ascends slots ≡ true → ascends (remove slots k) ≡ true
 ascends-remove [] zero asc = refl
 ascends-remove [] (suc k) asc = refl
 ascends-remove (p ∷ ps) zero asc = (and_parts (list_all (is_above p.number) ps) (ascends ps) asc).1
 ascends-remove (p ∷ ps) (suc k) asc =
     let parts = and_parts (list_all (is_above p.number) ps) (ascends ps) asc in and_from _ _ (list_all-remove (is_above p.number) ps k parts.0) (ascends-remove ps k parts.1)
 
-pub kept-remove : (places : List Place) (programs : List Shared) (last : ℕ) → IsKept places programs last → (k : ℕ) (place : Place) (status : ℕ) → k < length places → place ≡ get_or places k place
-    → place.status ≡ Some status → IsKept (remove places k) programs last
-kept-remove places programs last kept k place status within is ended = record {
-  ascending = ascends-remove places k kept.ascending;
-  numbers = list_all-remove (is_numbered last) places k kept.numbers;
+pub kept-remove : (slots : List ProcessSlot) (programs : List Shared) (last : ℕ) → IsKept slots programs last → (k : ℕ) (slot : ProcessSlot) (status : ℕ) → k < length slots → slot ≡ get_or slots k slot
+    → slot.status ≡ Some status → IsKept (remove slots k) programs last
+kept-remove slots programs last kept k slot status within is ended = record {
+  ascending = ascends-remove slots k kept.ascending;
+  numbers = list_all-remove (is_numbered last) slots k kept.numbers;
   last = kept.last;
   table = kept.table;
-  within = list_all-remove (λ (p : Place). nat_lt p.program 32) places k kept.within;
+  within = list_all-remove (λ (p : ProcessSlot). nat_lt p.program 32) slots k kept.within;
   users = λ j.
-      let count = count-remove (uses j) places k place within is in
-      let none : bit (uses j place) ≡ 0 = ap (λ s. bit (is_none s && (place.program == j))) ended in
+      let count = count-remove (uses j) slots k slot within is in
+      let none : bit (uses j slot) ≡ 0 = ap (λ s. bit (is_none s && (slot.program == j))) ended in
       let was = kept.users j in
-      let e : users_at programs j ≡ count_by (uses j) (remove places k) = omega (arith, count, none, was) in e;
+      let e : users_at programs j ≡ count_by (uses j) (remove slots k) = omega (arith, count, none, was) in e;
 }
 
 abbrev others : ℕ → ℕ → Bool
 others number n = not (n == number)
 
-all-others : (programs : List Shared) (number : ℕ) (places : List Place) → list_all (is_above number) places ≡ true → where_key nat_cmp (others number) (entries_of programs places) ≡ entries_of programs places
+all-others : (programs : List Shared) (number : ℕ) (slots : List ProcessSlot) → list_all (is_above number) slots ≡ true → where_key nat_cmp (others number) (entries_of programs slots) ≡ entries_of programs slots
 all-others programs number [] all = refl
 all-others programs number (p ∷ ps) all =
     let parts = and_parts (is_above number p) (list_all (is_above number) ps) all in
@@ -170,64 +170,64 @@ all-others programs number (p ∷ ps) all =
     (ne_eqb p.number number (λ same. absurd (omega arith)))
     ∙ ap (λ es. (p.number, entry_of programs p) ∷ es) (all-others programs number ps parts.1)
 
-pub remove-at : (programs : List Shared) (places : List Place) (k : ℕ) (place : Place) → ascends places ≡ true → k < length places → place ≡ get_or places k place
-    → where_key nat_cmp (others place.number) (entries_of programs places) ≡ entries_of programs (remove places k)
-remove-at programs [] k place asc within is = absurd (omega arith)
-remove-at programs (p ∷ ps) zero place asc within is =
-    let same : p.number ≡ place.number = ap (λ (q : Place). q.number) (sym is) in
-    ap (λ b. cond (not b) ((p.number, entry_of programs p) ∷ where_key nat_cmp (others place.number) (entries_of programs ps)) (where_key nat_cmp (others place.number) (entries_of programs ps)))
-    (eq-eqb p.number place.number same)
+pub remove-at : (programs : List Shared) (slots : List ProcessSlot) (k : ℕ) (slot : ProcessSlot) → ascends slots ≡ true → k < length slots → slot ≡ get_or slots k slot
+    → where_key nat_cmp (others slot.number) (entries_of programs slots) ≡ entries_of programs (remove slots k)
+remove-at programs [] k slot asc within is = absurd (omega arith)
+remove-at programs (p ∷ ps) zero slot asc within is =
+    let same : p.number ≡ slot.number = ap (λ (q : ProcessSlot). q.number) (sym is) in
+    ap (λ b. cond (not b) ((p.number, entry_of programs p) ∷ where_key nat_cmp (others slot.number) (entries_of programs ps)) (where_key nat_cmp (others slot.number) (entries_of programs ps)))
+    (eq-eqb p.number slot.number same)
     ∙ ap (λ n. where_key nat_cmp (others n) (entries_of programs ps)) (sym same)
     ∙ all-others programs p.number ps (and_parts (list_all (is_above p.number) ps) (ascends ps) asc).0
-remove-at programs (p ∷ ps) (suc k) place asc within is =
+remove-at programs (p ∷ ps) (suc k) slot asc within is =
     let parts = and_parts (list_all (is_above p.number) ps) (ascends ps) asc in
-    let more = above_at p.number ps k place parts.0 (omega arith) is in
-    ap (λ b. cond (not b) ((p.number, entry_of programs p) ∷ where_key nat_cmp (others place.number) (entries_of programs ps)) (where_key nat_cmp (others place.number) (entries_of programs ps)))
-    (ne_eqb p.number place.number (λ same. absurd (omega arith)))
-    ∙ ap (λ es. (p.number, entry_of programs p) ∷ es) (remove-at programs ps k place parts.1 (omega arith) is)
+    let more = above_at p.number ps k slot parts.0 (omega arith) is in
+    ap (λ b. cond (not b) ((p.number, entry_of programs p) ∷ where_key nat_cmp (others slot.number) (entries_of programs ps)) (where_key nat_cmp (others slot.number) (entries_of programs ps)))
+    (ne_eqb p.number slot.number (λ same. absurd (omega arith)))
+    ∙ ap (λ es. (p.number, entry_of programs p) ∷ es) (remove-at programs ps k slot parts.1 (omega arith) is)
 
 -- ---- wait
 
-module _ (places : List Place) (programs : List Shared) (last pid : ℕ) (t : Tree) (files : Numbered OpenFile) (me : Process) where
+module _ (slots : List ProcessSlot) (programs : List Shared) (last pid : ℕ) (t : Tree) (files : Numbered OpenFile) (me : Process) where
   abbrev before : State
-  before = state_with t files (table_of places programs last)
+  before = state_with t files (table_of slots programs last)
 
   abbrev wait_by : Bool → List (ℕ × ℕ) → Attempt Effect
   wait_by childless ended = refuse_if ECHILD childless >> reap before pid me ended
 
-  pub childless : list_any (λ (p : Place). p.parent == pid) places ≡ false → wait before pid me ≡ waited NoChild before
+  pub childless : list_any (λ (p : ProcessSlot). p.parent == pid) slots ≡ false → wait before pid me ≡ waited NoChild before
   childless none =
-      let empty : is_empty (children_in programs pid places) ≡ true = by (is_empty (children_in programs pid places)) refl in
-      ap (λ b. wait_by b (statuses (children_in programs pid places))) empty
+      let empty : is_empty (children_in programs pid slots) ≡ true = by (is_empty (children_in programs pid slots)) refl in
+      ap (λ b. wait_by b (statuses (children_in programs pid slots))) empty
     where
-      by : (b : Bool) → is_empty (children_in programs pid places) ≡ b → is_empty (children_in programs pid places) ≡ true
+      by : (b : Bool) → is_empty (children_in programs pid slots) ≡ b → is_empty (children_in programs pid slots) ≡ true
       by true is = is
-      by false is = let no = sym none ∙ any-child programs pid places ∙ ap not is in cc
+      by false is = let no = sym none ∙ any-child programs pid slots ∙ ap not is in cc
 
-  pub blocked : list_any (λ (p : Place). p.parent == pid) places ≡ true → position (λ (p : Place). is_ended_child pid p) places ≡ None → wait before pid me ≡ waited Blocked before
+  pub blocked : list_any (λ (p : ProcessSlot). p.parent == pid) slots ≡ true → position (λ (p : ProcessSlot). is_ended_child pid p) slots ≡ None → wait before pid me ≡ waited Blocked before
   blocked some none =
-      let full : is_empty (children_in programs pid places) ≡ false = by (is_empty (children_in programs pid places)) refl in
-      ap₂ wait_by full (nobody-ended programs pid places none)
+      let full : is_empty (children_in programs pid slots) ≡ false = by (is_empty (children_in programs pid slots)) refl in
+      ap₂ wait_by full (nobody-ended programs pid slots none)
     where
-      by : (b : Bool) → is_empty (children_in programs pid places) ≡ b → is_empty (children_in programs pid places) ≡ false
+      by : (b : Bool) → is_empty (children_in programs pid slots) ≡ b → is_empty (children_in programs pid slots) ≡ false
       by false is = is
-      by true is = let no = sym some ∙ any-child programs pid places ∙ ap not is in cc
+      by true is = let no = sym some ∙ any-child programs pid slots ∙ ap not is in cc
 
   -- what has ended is no empty list
-  not-empty : (rs : List (ℕ × Record)) (one : ℕ × ℕ) (rest : List (ℕ × ℕ)) → statuses rs ≡ one ∷ rest → is_empty rs ≡ false
+  not-empty : (rs : List (ℕ × ProcessRecord)) (one : ℕ × ℕ) (rest : List (ℕ × ℕ)) → statuses rs ≡ one ∷ rest → is_empty rs ≡ false
   not-empty [] one rest is = cc
   not-empty (r ∷ rs) one rest is = refl
 
-  pub reaped : ascends places ≡ true → (k : ℕ) (place : Place) (status : ℕ) → position (λ (p : Place). is_ended_child pid p) places ≡ Some k → place ≡ get_or places k place
-      → place.status ≡ Some status → wait before pid me ≡ waited (Child place.number status) (state_with t files (table_of (remove places k) programs last))
-  reaped asc k place status found is ended =
-      let at = position-Some (λ (p : Place). is_ended_child pid p) places k place found in
-      let test : is_ended_child pid place ≡ true = ap (is_ended_child pid) is ∙ at.1 in
-      let first = first-ended programs pid places k place status at.0 is test ended at.2 in
-      ap₂ wait_by (not-empty (children_in programs pid places) (place.number, status) first.0 first.1) first.1
-      ∙ ap (λ es. answers_bytes (record { tree = t; files = files; processes = es; last_process = last }) place.number (little_endian 4 status)) (remove-at programs places k place asc at.0 is)
+  pub reaped : ascends slots ≡ true → (k : ℕ) (slot : ProcessSlot) (status : ℕ) → position (λ (p : ProcessSlot). is_ended_child pid p) slots ≡ Some k → slot ≡ get_or slots k slot
+      → slot.status ≡ Some status → wait before pid me ≡ waited (Child slot.number status) (state_with t files (table_of (remove slots k) programs last))
+  reaped asc k slot status found is ended =
+      let at = position-Some (λ (p : ProcessSlot). is_ended_child pid p) slots k slot found in
+      let test : is_ended_child pid slot ≡ true = ap (is_ended_child pid) is ∙ at.1 in
+      let first = first-ended programs pid slots k slot status at.0 is test ended at.2 in
+      ap₂ wait_by (not-empty (children_in programs pid slots) (slot.number, status) first.0 first.1) first.1
+      ∙ ap (λ es. answers_bytes (record { tree = t; files = files; processes = es; last_process = last }) slot.number (little_endian 4 status)) (remove-at programs slots k slot asc at.0 is)
 
-  waits-by : (rs : List (ℕ × Record)) (ss : List (ℕ × ℕ)) → IsTrue (not (is_empty rs) && not (not (is_empty ss))) ↔ (wait_by (is_empty rs) ss ≡ give (before, waits))
+  waits-by : (rs : List (ℕ × ProcessRecord)) (ss : List (ℕ × ℕ)) → IsTrue (not (is_empty rs) && not (not (is_empty ss))) ↔ (wait_by (is_empty rs) ss ≡ give (before, waits))
   waits-by [] ss = (λ no. cc, λ no. cc)
   waits-by (r ∷ rs) [] = (λ is. refl, λ is. refl)
   waits-by (r ∷ rs) (one ∷ ss) = (λ no. cc, λ no. apart one ss no)
@@ -242,26 +242,26 @@ module _ (places : List Place) (programs : List Shared) (last pid : ℕ) (t : Tr
           told : returns_bytes number (little_endian 4 status) ≡ waits → false ≡ true
           told is = cc
 
-  waits-where : (IsTrue (list_any (λ (p : Place). p.parent == pid) places && not (ended_in programs pid places))) ↔ (wait before pid me ≡ give (before, waits))
+  waits-where : (IsTrue (list_any (λ (p : ProcessSlot). p.parent == pid) slots && not (ended_in programs pid slots))) ↔ (wait before pid me ≡ give (before, waits))
   waits-where =
-      rw (any-child programs pid places, any-ended programs pid places) (waits-by (children_in programs pid places) (statuses (children_in programs pid places)))
+      rw (any-child programs pid slots, any-ended programs pid slots) (waits-by (children_in programs pid slots) (statuses (children_in programs pid slots)))
 
   -- whether a wait waits, by two tests
-  pub waits-tested : (some ended result : Bool) → some ≡ list_any (λ (p : Place). p.parent == pid) places → ended ≡ list_any (λ (p : Place). is_ended_child pid p) places
-      → result ≡ (some && not ended) → (table : ProcessTable) → table_of places programs last ≡ table
+  pub waits-tested : (some ended result : Bool) → some ≡ list_any (λ (p : ProcessSlot). p.parent == pid) slots → ended ≡ list_any (λ (p : ProcessSlot). is_ended_child pid p) slots
+      → result ≡ (some && not ended) → (table : ProcessTable) → table_of slots programs last ≡ table
       → IsTrue result ↔ (wait (state_with t files table) pid me ≡ give (state_with t files table, waits))
   waits-tested some ended result is has both table same =
       subst (λ (v : ProcessTable). IsTrue result ↔ (wait (state_with t files v) pid me ≡ give (state_with t files v, waits))) same
       (subst (λ b. IsTrue b ↔ (wait before pid me ≡ give (before, waits))) (sym (both ∙ ap₂ (λ a b. a && not b) is has)) waits-where)
 
 -- it is there, and has ended
-pub ended-within : (pid : ℕ) (places : List Place) (k : ℕ) (place : Place) → position (λ (p : Place). is_ended_child pid p) places ≡ Some k → k < length places
-ended-within pid places k place found = (position-Some (λ (p : Place). is_ended_child pid p) places k place found).0
+pub ended-within : (pid : ℕ) (slots : List ProcessSlot) (k : ℕ) (slot : ProcessSlot) → position (λ (p : ProcessSlot). is_ended_child pid p) slots ≡ Some k → k < length slots
+ended-within pid slots k slot found = (position-Some (λ (p : ProcessSlot). is_ended_child pid p) slots k slot found).0
 
-pub ended-status : (pid : ℕ) (places : List Place) (k : ℕ) (place : Place) → position (λ (p : Place). is_ended_child pid p) places ≡ Some k → place ≡ get_or places k place → is_some place.status ≡ true
-ended-status pid places k place found is =
-    let at = position-Some (λ (p : Place). is_ended_child pid p) places k place found in
-    (and_parts (place.parent == pid) (is_some place.status) (ap (is_ended_child pid) is ∙ at.1)).1
+pub ended-status : (pid : ℕ) (slots : List ProcessSlot) (k : ℕ) (slot : ProcessSlot) → position (λ (p : ProcessSlot). is_ended_child pid p) slots ≡ Some k → slot ≡ get_or slots k slot → is_some slot.status ≡ true
+ended-status pid slots k slot found is =
+    let at = position-Some (λ (p : ProcessSlot). is_ended_child pid p) slots k slot found in
+    (and_parts (slot.parent == pid) (is_some slot.status) (ap (is_ended_child pid) is ∙ at.1)).1
 
 pub status-is : (status : Option ℕ) (n : ℕ) → is_some status ≡ true → Rattle.std.specs.Prelude.unwrap_or status 0 ≡ n → status ≡ Some n
 status-is None n some is = cc

@@ -13,9 +13,9 @@ use Rattle.pv_model.specs.Program.{calls_for, next}
 use Rattle.pv_model.specs.State.{Process, live, live_process}
 use Rattle.pv_script.specs.Context.{Context, in_context, is_inside}
 use Rattle.pv_script.specs.Passing.{Passes}
-use Rattle.pv_procs.specs.declared.place.Place.{Place}
+use Rattle.pv_procs.specs.declared.slot.ProcessSlot.{ProcessSlot}
 use Rattle.pv_procs.specs.declared.shared.Shared.{Shared}
-use Rattle.pv_procs.specs.Places.{IsKept, process_of, ascends, program_at, table_of}
+use Rattle.pv_procs.specs.Slots.{IsKept, process_of, ascends, program_at, table_of}
 use Rattle.pv_procs.specs.ProcessTable.{ProcessTable, process_in, with_process, update, update_live}
 use Rattle.pv_procs.specs.Turns.{AwaitsCall, CallsNext, Moves, PassesIn, context_of}
 use Rattle.pv_procs.proofs.Finding.{IsAt, found-at, living, status-at, process-at, changed-at}
@@ -26,80 +26,80 @@ program-read [] k s within is = absurd (omega arith)
 program-read (t ∷ ts) zero s within is = ap (λ (u : Shared). u.program) (sym is)
 program-read (t ∷ ts) (suc k) s within is = program-read ts k s (omega arith) is
 
-module _ (places : List Place) (programs : List Shared) (last : ℕ) (ps : ProcessTable) (seen : table_of places programs last ≡ ps) (pid : ℕ) (asc : ascends places ≡ true)
-    (k : ℕ) (place : Place) (at : IsAt places pid k place) (there : IsSome (process_in ps pid)) where
+module _ (slots : List ProcessSlot) (programs : List Shared) (last : ℕ) (ps : ProcessTable) (seen : table_of slots programs last ≡ ps) (pid : ℕ) (asc : ascends slots ≡ true)
+    (k : ℕ) (slot : ProcessSlot) (at : IsAt slots pid k slot) (there : IsSome (process_in ps pid)) where
   abbrev own : Process
-  own = process_of (program_at programs place.program) place
+  own = process_of (program_at programs slot.program) slot
 
-  abbrev turned : Context → Place
-  turned m = record place { «record» = record place.record { machine = m } }
+  abbrev turned : Context → ProcessSlot
+  turned m = record slot { «record» = record slot.record { context = m } }
 
-  pub machine-changed : (m : Context) (f : Process → Process) → in_context own own.program m ≡ f (in_context own own.program place.record.machine) → table_of (set places k (turned m)) programs last ≡ update ps pid f
-  machine-changed m f is =
-      changed-at places programs last ps seen pid asc k place at there (turned m) f at.number (status-at places programs last ps seen pid asc k place at there) is
+  pub context-changed : (m : Context) (f : Process → Process) → in_context own own.program m ≡ f (in_context own own.program slot.record.context) → table_of (set slots k (turned m)) programs last ≡ update ps pid f
+  context-changed m f is =
+      changed-at slots programs last ps seen pid asc k slot at there (turned m) f at.number (status-at slots programs last ps seen pid asc k slot at there) is
 
-  pub machine-put : (m : Context) → table_of (set places k (turned m)) programs last ≡ with_process ps pid (in_context own own.program m)
-  machine-put m =
-      machine-changed m (λ p. in_context own own.program m) refl ∙ ap (update_live ps pid (λ p. in_context own own.program m)) (process-at places programs last ps seen pid asc k place at there)
+  pub context-put : (m : Context) → table_of (set slots k (turned m)) programs last ≡ with_process ps pid (in_context own own.program m)
+  context-put m =
+      context-changed m (λ p. in_context own own.program m) refl ∙ ap (update_live ps pid (λ p. in_context own own.program m)) (process-at slots programs last ps seen pid asc k slot at there)
 
 -- where a live process stands, and the program that it shares
-pub record Stands (places : List Place) (programs : List Shared) (pid k : ℕ) (place : Place) (shared : Shared) : Type 0 where
-  pub at : IsAt places pid k place
-  pub live : place.status ≡ None
-  pub program : program_at programs place.program ≡ shared.program
+pub record Stands (slots : List ProcessSlot) (programs : List Shared) (pid k : ℕ) (slot : ProcessSlot) (shared : Shared) : Type 0 where
+  pub at : IsAt slots pid k slot
+  pub live : slot.status ≡ None
+  pub program : program_at programs slot.program ≡ shared.program
 
-pub stands : (places : List Place) (programs : List Shared) (last : ℕ) → IsKept places programs last → (pid k : ℕ) (place : Place) (shared : Shared)
-    → position (λ (p : Place). p.number == pid) places ≡ Some k → HoldsAt (λ (p : Place). p.status ≡ None) places k → place ≡ get_or places k place
-    → shared ≡ get_or programs place.program shared → Stands places programs pid k place shared
-stands places programs last kept pid k place shared found lives is same =
-    let at = found-at places pid k place found is in
-    let none = ap (λ (p : Place). p.status) is ∙ lives place in
-    let below = program-within places programs last kept pid k place at none in
+pub stands : (slots : List ProcessSlot) (programs : List Shared) (last : ℕ) → IsKept slots programs last → (pid k : ℕ) (slot : ProcessSlot) (shared : Shared)
+    → position (λ (p : ProcessSlot). p.number == pid) slots ≡ Some k → HoldsAt (λ (p : ProcessSlot). p.status ≡ None) slots k → slot ≡ get_or slots k slot
+    → shared ≡ get_or programs slot.program shared → Stands slots programs pid k slot shared
+stands slots programs last kept pid k slot shared found lives is same =
+    let at = found-at slots pid k slot found is in
+    let none = ap (λ (p : ProcessSlot). p.status) is ∙ lives slot in
+    let below = program-within slots programs last kept pid k slot at none in
     let table = kept.table in
-    record { at = at; live = none; program = program-read programs place.program shared (omega (arith, below, table)) same }
+    record { at = at; live = none; program = program-read programs slot.program shared (omega (arith, below, table)) same }
 
 -- what a process became that changed alone
 put-there : (ps : ProcessTable) (pid : ℕ) (p : Process) → process_in (with_process ps pid p) pid ≡ Some p
 put-there ps pid p =
     ap live_process (find-put nat_cmp nat_cmp_total pid pid (live p) ps.processes ∙ ap (λ o. cond (is_eq o) (Some (live p)) (find nat_cmp pid ps.processes)) (tied_itself nat_cmp_total pid))
 
-module _ (places : List Place) (programs : List Shared) (last : ℕ) (ps : ProcessTable) (seen : table_of places programs last ≡ ps) (pid : ℕ) (asc : ascends places ≡ true)
-    (k : ℕ) (place : Place) (at : IsAt places pid k place) (none : place.status ≡ None) (m : Context) where
+module _ (slots : List ProcessSlot) (programs : List Shared) (last : ℕ) (ps : ProcessTable) (seen : table_of slots programs last ≡ ps) (pid : ℕ) (asc : ascends slots ≡ true)
+    (k : ℕ) (slot : ProcessSlot) (at : IsAt slots pid k slot) (none : slot.status ≡ None) (m : Context) where
   abbrev me : Process
-  me = process_of (program_at programs place.program) place
+  me = process_of (program_at programs slot.program) slot
 
   lives : process_in ps pid ≡ Some me
-  lives = living places programs last ps seen pid asc k place at none
+  lives = living slots programs last ps seen pid asc k slot at none
 
   -- the machine changed as its process does
-  pub moved : (by : Process → Process → Type 0) → by me (in_context me me.program m) → Moves by pid ps (table_of (set places k (record place { «record» = record place.record { machine = m } })) programs last)
+  pub moved : (by : Process → Process → Type 0) → by me (in_context me me.program m) → Moves by pid ps (table_of (set slots k (record slot { «record» = record slot.record { context = m } })) programs last)
   moved by step = record {
     me = me;
     lives = lives;
     after = in_context me me.program m;
     step = step;
-    only = machine-put places programs last ps seen pid asc k place at (ap is_some lives) m;
+    only = context-put slots programs last ps seen pid asc k slot at (ap is_some lives) m;
   }
 
   -- it stopped before a call
-  pub awaiting : is_inside me.program m ≡ false → AwaitsCall (process_in (table_of (set places k (record place { «record» = record place.record { machine = m } })) programs last) pid)
+  pub awaiting : is_inside me.program m ≡ false → AwaitsCall (process_in (table_of (set slots k (record slot { «record» = record slot.record { context = m } })) programs last) pid)
   awaiting call = λ found is.
-      let there = ap (λ t. process_in t pid) (machine-put places programs last ps seen pid asc k place at (ap is_some lives) m) ∙ put-there ps pid (in_context me me.program m) in
+      let there = ap (λ t. process_in t pid) (context-put slots programs last ps seen pid asc k slot at (ap is_some lives) m) ∙ put-there ps pid (in_context me me.program m) in
       let same : in_context me me.program m ≡ found = cc in
       subst (λ (p : Process). is_inside p.program (context_of p) ≡ false) same call
 
   -- it is as it was
-  unchanged : m ≡ place.record.machine → table_of (set places k (record place { «record» = record place.record { machine = m } })) programs last ≡ ps
+  unchanged : m ≡ slot.record.context → table_of (set slots k (record slot { «record» = record slot.record { context = m } })) programs last ≡ ps
   unchanged same =
-      ap (λ n. table_of (set places k (record place { «record» = record place.record { machine = n } })) programs last) same
-      ∙ ap (λ p. table_of (set places k p) programs last) at.is ∙ ap (λ xs. table_of xs programs last) (set-get_or places k place) ∙ seen
+      ap (λ n. table_of (set slots k (record slot { «record» = record slot.record { context = n } })) programs last) same
+      ∙ ap (λ p. table_of (set slots k p) programs last) at.is ∙ ap (λ xs. table_of xs programs last) (set-get_or slots k slot) ∙ seen
 
   -- a call comes next
-  pub at-call : (call : CallRef) → m ≡ place.record.machine → next me ≡ calls_for (call_of call)
-      → CallsNext call (process_in ps pid) × (table_of (set places k (record place { «record» = record place.record { machine = m } })) programs last ≡ ps)
+  pub at-call : (call : CallRef) → m ≡ slot.record.context → next me ≡ calls_for (call_of call)
+      → CallsNext call (process_in ps pid) × (table_of (set slots k (record slot { «record» = record slot.record { context = m } })) programs last ≡ ps)
   at-call call same comes = ((me, lives, comes), unchanged same)
 
   -- it made so many
-  pub passed : (n : ℕ) → Passes n me (in_context me me.program m) → PassesIn n pid ps (table_of (set places k (record place { «record» = record place.record { machine = m } })) programs last)
+  pub passed : (n : ℕ) → Passes n me (in_context me me.program m) → PassesIn n pid ps (table_of (set slots k (record slot { «record» = record slot.record { context = m } })) programs last)
   passed zero same = unchanged (ap context_of same)
   passed (suc n) steps = moved (Passes (suc n)) steps

@@ -1,17 +1,17 @@
 -- What becomes of the processes when a record was lent.
 use Rattle.std.specs.Prelude.{ℕ}
 use Rattle.std.specs.Borrow.{Lends, MutBor, Fml}
-use Rattle.pv_procs.specs.declared.record.Record.{Record}
-use Rattle.pv_procs.specs.contracts.record.Record.{the_row as record_row}
+use Rattle.pv_procs.specs.declared.record.ProcessRecord.{ProcessRecord}
+use Rattle.pv_procs.specs.contracts.record.ProcessRecord.{the_row as record_row}
 use Rattle.pv_procs.specs.contracts.record.Stored.{the_row as stored_row}
 use Rattle.pv_procs.specs.contracts.processes.Processes.{the_row}
 use Rattle.pv_procs.specs.Parts.{with_record}
 use Rattle.pv_procs.specs.ProcessTable.{ProcessTable, update}
 
--- the process with that number ends with the last value behind the result as its record
-abbrev pub LendsRecord : MutBor ProcessTable → ℕ → MutBor Record → Fml
+-- the process with that number ends with the last value after the result as its record
+abbrev pub LendsRecord : MutBor ProcessTable → ℕ → MutBor ProcessRecord → Fml
 LendsRecord ps pid r = Lends the_row record_row ps r (λ w. update ps.now pid (λ p. with_record p w))
 
--- what stores a record ends with the last value behind the result
-abbrev pub LendsStored : MutBor Record → MutBor Record → Fml
+-- what stores a record ends with the last value after the result
+abbrev pub LendsStored : MutBor ProcessRecord → MutBor ProcessRecord → Fml
 LendsStored stored r = Lends stored_row record_row stored r (λ w. w)

@@ -1,7 +1,7 @@
 pub mod Children
 pub mod Lent
 pub mod Parts
-pub mod Places
+pub mod Slots
 pub mod ProcessTable
 pub mod Reaping
 pub mod Turns

@@ -2,19 +2,19 @@
 use Rattle.std.specs.Prelude.{is_some, ◌&&◌, if◌then◌else◌, [], map, None}
 use Rattle.pv_model.specs.Calls.Processes.{descriptor_after_exec}
 use Rattle.pv_model.specs.State.{Process, first_process, no_registers, no_bytes}
-use Rattle.pv_procs.specs.declared.record.Record.{Record}
+use Rattle.pv_procs.specs.declared.record.ProcessRecord.{ProcessRecord}
 
-abbrev pub record_of : Process → Record
+abbrev pub record_of : Process → ProcessRecord
 record_of p = record {
   pledge = record { promises = p.promises; execpromises = p.execpromises };
   unveiled = record { table = p.table; locked = p.locked };
   directory = p.directory;
   descriptors = p.descriptors;
-  machine = record { line = p.line; registers = p.registers; buffer = p.buffer };
+  context = record { line = p.line; registers = p.registers; buffer = p.buffer };
 }
 
 -- a process with another record
-abbrev pub with_record : Process → Record → Process
+abbrev pub with_record : Process → ProcessRecord → Process
 with_record p r = record p {
   promises = r.pledge.promises;
   execpromises = r.pledge.execpromises;
@@ -22,17 +22,17 @@ with_record p r = record p {
   locked = r.unveiled.locked;
   directory = r.directory;
   descriptors = r.descriptors;
-  line = r.machine.line;
-  registers = r.machine.registers;
-  buffer = r.machine.buffer;
+  line = r.context.line;
+  registers = r.context.registers;
+  buffer = r.context.buffer;
 }
 
 -- that of a process before its first step
-abbrev pub first_record : Record
+abbrev pub first_record : ProcessRecord
 first_record = record_of (first_process [])
 
 -- what execve leaves of it
-abbrev pub after_exec : Record → Record
+abbrev pub after_exec : ProcessRecord → ProcessRecord
 after_exec r = record {
   pledge = record { promises = r.pledge.execpromises; execpromises = r.pledge.execpromises };
   unveiled = record {
@@ -41,5 +41,5 @@ after_exec r = record {
   };
   directory = r.directory;
   descriptors = map descriptor_after_exec r.descriptors;
-  machine = record { line = 1; registers = no_registers; buffer = no_bytes };
+  context = record { line = 1; registers = no_registers; buffer = no_bytes };
 }

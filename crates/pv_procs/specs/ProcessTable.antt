@@ -6,12 +6,12 @@ use Rattle.std.specs.Ordering.{nat_cmp}
 use Rattle.pv_model.specs.declared.limits.TheConstants.{PROCESSES, LAST_PROCESS}
 use Rattle.pv_model.specs.Numbered.{Numbered}
 use Rattle.pv_model.specs.Program.{Next, inside}
-use Rattle.pv_model.specs.State.{OpenFile, Program, Process, Record, live, State, live_process, first_process}
+use Rattle.pv_model.specs.State.{OpenFile, Program, Process, ProcessRecord, live, State, live_process, first_process}
 use Rattle.pv_model.specs.Tree.{Tree}
 
 -- the processes by their numbers, and the last number given: these parts of the definitions' state
 pub record ProcessTable : Type 0 where
-  pub processes : List (ℕ × Record)
+  pub processes : List (ℕ × ProcessRecord)
   pub last_process : ℕ
 
 -- the state with these processes
@@ -45,7 +45,7 @@ pub record IsProcessTable (ps : ProcessTable) : Type 0 where
   pub count : length ps.processes ≤ PROCESSES
   pub last : ps.last_process ≤ LAST_PROCESS
 
--- a process where an instruction inside it comes next, behind that
+-- a process where an instruction inside it comes next, after that
 abbrev pub after_inside : Process → Next → Process
 after_inside p (inside after) = after
 after_inside p _ = p

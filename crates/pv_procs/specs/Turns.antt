@@ -6,8 +6,8 @@ use Rattle.pv_model.specs.Program.{inside, calls_for, next}
 use Rattle.pv_model.specs.State.{Process}
 use Rattle.pv_script.specs.Context.{Context, is_inside}
 use Rattle.pv_script.specs.Passing.{Passes}
-use Rattle.pv_procs.specs.declared.processes.Ahead.{Ahead}
-use Rattle.pv_procs.specs.declared.processes.Ahead.TheVariants.{Gone, Register, Call}
+use Rattle.pv_procs.specs.declared.processes.Fetched.{Fetched}
+use Rattle.pv_procs.specs.declared.processes.Fetched.TheVariants.{Gone, Register, Call}
 use Rattle.pv_procs.specs.ProcessTable.{ProcessTable, process_in, with_process}
 
 abbrev pub context_of : Process → Context
@@ -39,7 +39,7 @@ PassesIn zero pid old new = new ≡ old
 PassesIn (suc n) pid old new = Moves (Passes (suc n)) pid old new
 
 -- what came next in a process was made, if it is an instruction inside it, and else nothing changed
-abbrev pub Registered : Ahead → ℕ → ProcessTable → ProcessTable → Type 0
+abbrev pub Registered : Fetched → ℕ → ProcessTable → ProcessTable → Type 0
 Registered Gone pid old new = (process_in old pid ≡ None) × (new ≡ old)
 Registered Register pid old new = Performs pid old new
 Registered (Call call) pid old new = CallsNext call (process_in old pid) × (new ≡ old)

@@ -3,15 +3,15 @@
 //! There are 32 places for processes that are live, or have ended and are not waited for, and a table of 32
 //! programs, which live processes share, each with the count of its users. Memory is asked for once, by
 //! `Processes::new`. Clauses see the processes as the definitions' list of records by number, beside the last
-//! number given (`ProcessTable`), and what a live process owns as a `Record`. `processes` has what callers use,
-//! `place` a place for a process and `shared` one for a program.
+//! number given (`ProcessTable`), and what a live process owns as a `ProcessRecord`. `processes` has what callers use,
+//! `slot` a place for a process and `shared` one for a program.
 #![tactic(auto)]
 
 mod ending;
-mod place;
+mod slot;
 pub mod processes;
 pub mod record;
 mod shared;
 
-pub use processes::{Ahead, Processes, Reap};
-pub use record::Record;
+pub use processes::{Fetched, Processes, Reap};
+pub use record::ProcessRecord;

@@ -14,11 +14,11 @@ ghost use Rattle.pv_model.specs.Program.{next, calls_for};
 ghost use Rattle.pv_model.specs.State.{OpenFile, Process, State};
 ghost use Rattle.pv_model.specs.Tree.{Tree};
 
-use crate::Record;
+use crate::ProcessRecord;
 use crate::ending::settle;
-use crate::place::{
-    Place, adopter, blank, ended_child_of, has_child, has_ended_child, index_of, index_of_live,
-    live_index, make_child, spare_places,
+use crate::slot::{
+    ProcessSlot, adopter, blank, ended_child_of, has_child, has_ended_child, index_of, index_of_live,
+    live_index, make_child, spare_slots,
 };
 use crate::shared::{Shared, first_programs, free_program, let_go, take_up};
 use pv_model::limits::{LAST_PROCESS, PROCESSES};
@@ -29,7 +29,7 @@ use std::marker::Model;
 
 /// What comes next in a process.
 #[derive(Clone, Copy)]
-pub enum Ahead<'a> {
+pub enum Fetched<'a> {
     /// Nothing: it is not live.
     Gone,
     /// An instruction on registers, or a jump.
@@ -53,8 +53,8 @@ pub enum Reap {
 #[derive(Drop)]
 pub struct Processes {
     // Those that are used, in the order of their numbers.
-    places: Vec<Place>,
-    spare: Vec<Place>,
+    slots: Vec<ProcessSlot>,
+    spare: Vec<ProcessSlot>,
     programs: Vec<Shared>,
     last: u32,
 }
@@ -65,12 +65,12 @@ impl Model for Processes {
     ghost Value = { ProcessTable };
 
     ghost use Rattle.std.specs.Prelude.{length, vec_capacity};
-    ghost use Rattle.pv_procs.specs.Places.{table_of, IsKept, IsRoomy};
+    ghost use Rattle.pv_procs.specs.Slots.{table_of, IsKept, IsRoomy};
 
-    ghost view = { λ t. table_of t.places.items t.programs.items t.last };
+    ghost view = { λ t. table_of t.slots.items t.programs.items t.last };
 
-    ghost invariant = { λ t. IsKept t.places.items t.programs.items t.last
-        × IsRoomy (length t.places.items) (length t.spare.items) (vec_capacity t.places) (vec_capacity t.spare) };
+    ghost invariant = { λ t. IsKept t.slots.items t.programs.items t.last
+        × IsRoomy (length t.slots.items) (length t.spare.items) (vec_capacity t.slots) (vec_capacity t.spare) };
 }
 
 impl Processes {
@@ -89,11 +89,11 @@ impl Processes {
         ensures { IfOk result (λ processes. processes ≡ first_processes program) }
     {
         let programs = first_programs(alloc, program)?;
-        let mut places = Vec::with_capacity(alloc, PROCESSES)?;
-        places.push_reserved(blank(alloc, 1)?);
-        let spare = spare_places(alloc)?;
+        let mut slots = Vec::with_capacity(alloc, PROCESSES)?;
+        slots.push_reserved(blank(alloc, 1)?);
+        let spare = spare_slots(alloc)?;
         Ok(Processes {
-            places,
+            slots,
             spare,
             programs,
             last: 1,
@@ -104,15 +104,15 @@ impl Processes {
     pub fn facts(&self)
         ensures { IsProcessTable self.now }
     {
-        let _ = &self.places;
+        let _ = &self.slots;
     }
 
     /// Whether a process is live.
     pub fn live(&self, pid: u32) -> bool
         ensures { result ≡ is_some (process_in self.now pid) }
     {
-        match index_of(&self.places, pid) {
-            Some(k) => self.places[k].status.is_none(),
+        match index_of(&self.slots, pid) {
+            Some(k) => self.slots[k].status.is_none(),
             None => false,
         }
     }
@@ -121,39 +121,39 @@ impl Processes {
     pub fn parent_of(&self, pid: u32) -> Option<u32>
         ensures { result ≡ option_map parent_of (find nat_cmp pid self.now.processes) }
     {
-        match index_of(&self.places, pid) {
-            Some(k) => Some(self.places[k].parent),
+        match index_of(&self.slots, pid) {
+            Some(k) => Some(self.slots[k].parent),
             None => None,
         }
     }
 
     /// What a live process owns.
-    pub fn record(&self, pid: u32) -> &Record
+    pub fn record(&self, pid: u32) -> &ProcessRecord
         requires { IsSome (process_in self.now pid) }
         ensures { option_map record_of (process_in self.now pid) ≡ Some result.now }
     {
-        let k = live_index(&self.places, pid);
-        self.places[k].record.get()
+        let k = live_index(&self.slots, pid);
+        self.slots[k].record.get()
     }
 
     /// What a process owns, where it is live.
-    pub fn live_record(&self, pid: u32) -> Option<&Record>
+    pub fn live_record(&self, pid: u32) -> Option<&ProcessRecord>
         ensures { option_map record_of (process_in self.now pid) ≡ option_copied result }
     {
-        match index_of_live(&self.places, pid) {
-            Some(k) => Some(self.places[k].record.get()),
+        match index_of_live(&self.slots, pid) {
+            Some(k) => Some(self.slots[k].record.get()),
             None => None,
         }
     }
 
     /// What a live process owns, to be changed.
-    pub fn record_mut(&mut self, pid: u32) -> &mut Record
+    pub fn record_mut(&mut self, pid: u32) -> &mut ProcessRecord
         requires { IsSome (process_in self.old pid) }
         ensures* writes_back { sem 𝓛 (LendsRecord self.entry pid result) }
         ensures value { option_map record_of (process_in self.old pid) ≡ Some result.now }
     {
-        let k = live_index(&self.places, pid);
-        self.places[k].record.get_mut()
+        let k = live_index(&self.slots, pid);
+        self.slots[k].record.get_mut()
     }
 
     /// The child that fork(2) makes of a live process: its number is the answer. It has a copy of what its parent
@@ -175,14 +175,14 @@ impl Processes {
         if self.last == LAST_PROCESS {
             return Err(Errno::EAGAIN);
         }
-        let Some(mut place) = self.spare.pop() else {
+        let Some(mut slot) = self.spare.pop() else {
             return Err(Errno::EAGAIN);
         };
-        let k = live_index(&self.places, pid);
+        let k = live_index(&self.slots, pid);
         let number = self.last + 1;
-        make_child(&mut place, number, &self.places[k]);
-        take_up(&mut self.programs, place.program);
-        self.places.push_reserved(place);
+        make_child(&mut slot, number, &self.slots[k]);
+        take_up(&mut self.programs, slot.program);
+        self.slots.push_reserved(slot);
         self.last = number;
         Ok(number)
     }
@@ -193,15 +193,15 @@ impl Processes {
             → wait (state_with t files self.old) pid me ≡ waited result (state_with t files self.new) }
         ensures unchanged { result ≡ Reap.NoChild → self.new ≡ self.old }
     {
-        let Some(k) = ended_child_of(&self.places, pid) else {
-            if has_child(&self.places, pid) {
+        let Some(k) = ended_child_of(&self.slots, pid) else {
+            if has_child(&self.slots, pid) {
                 return Reap::Blocked;
             }
             return Reap::NoChild;
         };
-        let place = self.places.remove(k);
-        let child = Reap::Child(place.number, place.status.unwrap_or(0));
-        self.spare.push_reserved(place);
+        let slot = self.slots.remove(k);
+        let child = Reap::Child(slot.number, slot.status.unwrap_or(0));
+        self.spare.push_reserved(slot);
         child
     }
 
@@ -210,7 +210,7 @@ impl Processes {
         ensures { (t : Tree) (files : Numbered OpenFile) (me : Process)
             → IsTrue result ↔ (wait (state_with t files self.now) pid me ≡ give (state_with t files self.now, waits)) }
     {
-        has_child(&self.places, pid) && !has_ended_child(&self.places, pid)
+        has_child(&self.slots, pid) && !has_ended_child(&self.slots, pid)
     }
 
     /// Gives a live process another program, execve(2): its promises become its execpromises, without these its
@@ -220,15 +220,15 @@ impl Processes {
         requires { IsSome (process_in self.old pid) }
         ensures { (s : State) → self.new ≡ update self.old pid (λ me. with_program s pid me program) }
     {
-        let k = live_index(&self.places, pid);
-        let place = &mut self.places[k];
-        let_go(&mut self.programs, place.program);
+        let k = live_index(&self.slots, pid);
+        let slot = &mut self.slots[k];
+        let_go(&mut self.programs, slot.program);
         let Some(free) = free_program(&self.programs) else {
             unreachable!()
         };
         self.programs[free] = Shared { program, users: 1 };
-        place.program = free;
-        place.record.get_mut().after_exec();
+        slot.program = free;
+        slot.record.get_mut().after_exec();
     }
 
     /// Ends a live process, with the status that a parent's wait(2) tells.
@@ -241,13 +241,13 @@ impl Processes {
         ensures { (t : Tree) (files : Numbered OpenFile) (me : Process) → process_in self.old pid ≡ Some me
             → state_with t files self.new ≡ end_process (state_with t files self.old) pid me status }
     {
-        let k = live_index(&self.places, pid);
-        let place = &mut self.places[k];
-        place.status = Some(status);
-        let program = place.program;
+        let k = live_index(&self.slots, pid);
+        let slot = &mut self.slots[k];
+        slot.status = Some(status);
+        let program = slot.program;
         let_go(&mut self.programs, program);
-        let heir = adopter(&self.places);
-        settle(&mut self.places, &mut self.spare, pid, heir);
+        let heir = adopter(&self.slots);
+        settle(&mut self.slots, &mut self.spare, pid, heir);
     }
 
     /// The program of a live process.
@@ -255,24 +255,24 @@ impl Processes {
         requires { IsSome (process_in self.now pid) }
         ensures { option_map (λ me. me.program) (process_in self.now pid) ≡ Some result.now }
     {
-        let k = live_index(&self.places, pid);
-        let place = &self.places[k];
-        &self.programs[place.program].program
+        let k = live_index(&self.slots, pid);
+        let slot = &self.slots[k];
+        &self.programs[slot.program].program
     }
 
     /// What comes next in a process: an instruction on registers or a jump, which is made, or a call, with its texts
     /// kept: past the last line, an exit.
-    pub fn ahead<'a>(&mut self, pid: u32, texts: &'a mut CallTexts) -> Ahead<'a>
+    pub fn step_or_fetch<'a>(&mut self, pid: u32, texts: &'a mut CallTexts) -> Fetched<'a>
         ensures { Registered result pid self.old self.new }
     {
-        let Some(k) = index_of_live(&self.places, pid) else {
-            return Ahead::Gone;
+        let Some(k) = index_of_live(&self.slots, pid) else {
+            return Fetched::Gone;
         };
-        let place = &mut self.places[k];
-        let shared = &self.programs[place.program];
-        match place.record.get_mut().machine.ahead(&shared.program, texts) {
-            Some(call) => Ahead::Call(call),
-            None => Ahead::Register,
+        let slot = &mut self.slots[k];
+        let shared = &self.programs[slot.program];
+        match slot.record.get_mut().context.step_or_fetch(&shared.program, texts) {
+            Some(call) => Fetched::Call(call),
+            None => Fetched::Register,
         }
     }
 
@@ -283,23 +283,23 @@ impl Processes {
         ensures made { PassesIn result pid self.old self.new }
         ensures whole { result < most → AwaitsCall (process_in self.new pid) }
     {
-        let Some(k) = index_of_live(&self.places, pid) else {
+        let Some(k) = index_of_live(&self.slots, pid) else {
             return 0;
         };
-        let place = &mut self.places[k];
-        let shared = &self.programs[place.program];
-        place.record.get_mut().machine.pass(&shared.program, most)
+        let slot = &mut self.slots[k];
+        let shared = &self.programs[slot.program];
+        slot.record.get_mut().context.pass(&shared.program, most)
     }
 
-    /// A live process goes on to its next line, at most to the one behind the last.
+    /// A live process goes on to its next line, at most to the one after the last.
     pub fn advance(&mut self, pid: u32)
         requires { IsSome (process_in self.old pid) }
         ensures { self.new ≡ update self.old pid at_next_line }
     {
-        let k = live_index(&self.places, pid);
-        let place = &mut self.places[k];
-        let shared = &self.programs[place.program];
-        place.record.get_mut().machine.advance(&shared.program);
+        let k = live_index(&self.slots, pid);
+        let slot = &mut self.slots[k];
+        let shared = &self.programs[slot.program];
+        slot.record.get_mut().context.advance(&shared.program);
     }
 
     /// Tells a live process what a call came to: r0 has the value, and r1 the error, 0 where there is none.
@@ -307,9 +307,9 @@ impl Processes {
         requires { IsSome (process_in self.old pid) }
         ensures { self.new ≡ update self.old pid (λ p. with_result p value error) }
     {
-        let k = live_index(&self.places, pid);
-        let place = &mut self.places[k];
-        place.record.get_mut().machine.tell(value, error);
+        let k = live_index(&self.slots, pid);
+        let slot = &mut self.slots[k];
+        slot.record.get_mut().context.tell(value, error);
     }
 
     /// Puts bytes, at most 4,096, to the front of a live process's buffer.
@@ -318,8 +318,8 @@ impl Processes {
         requires size { length bytes.now ≤ BUFFER }
         ensures { self.new ≡ update self.old pid (with_front bytes.now) }
     {
-        let k = live_index(&self.places, pid);
-        let place = &mut self.places[k];
-        place.record.get_mut().machine.put_front(bytes);
+        let k = live_index(&self.slots, pid);
+        let slot = &mut self.slots[k];
+        slot.record.get_mut().context.put_front(bytes);
     }
 }

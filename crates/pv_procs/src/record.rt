@@ -5,14 +5,14 @@ ghost use Rattle.std.specs.Borrow.{sem};
 use pv_files::Descriptors;
 use pv_model::limits::ROOT;
 use pv_promises::Pledge;
-use pv_script::Machine;
+use pv_script::Context;
 use pv_unveil::Table;
 use std::alloc::{AllocError, Global};
 use std::marker::Model;
 
 /// What a live process owns. Its program, which it may share, and its parent stand beside it.
 #[derive(Drop)]
-pub struct Record {
+pub struct ProcessRecord {
     /// What it has promised, pledge(2).
     pub pledge: Pledge,
     /// What it has unveiled, unveil(2).
@@ -22,35 +22,35 @@ pub struct Record {
     /// Its descriptors.
     pub descriptors: Descriptors,
     /// The line that comes next, the registers and the buffer.
-    pub machine: Machine,
+    pub context: Context,
 }
 
-impl Record {
+impl ProcessRecord {
     ghost use Rattle.pv_procs.specs.Parts.{first_record, after_exec};
 
     // That of a process before its first step.
     #[tactic(auto, unfolding(pv_script::specs::Context::first_context))]
-    pub(crate) fn new(alloc: Global) -> Result<Record, AllocError>
+    pub(crate) fn new(alloc: Global) -> Result<ProcessRecord, AllocError>
         ensures { IfOk result (λ r. r ≡ first_record) }
     {
-        Ok(Record {
+        Ok(ProcessRecord {
             pledge: Pledge::new(),
             unveiled: Table::new(alloc)?,
             directory: ROOT,
             descriptors: Descriptors::new(),
-            machine: Machine::new(alloc)?,
+            context: Context::new(alloc)?,
         })
     }
 
     // Becomes as another, as fork(2) makes a child's.
-    pub(crate) fn copy_from(&mut self, other: &Record)
+    pub(crate) fn copy_from(&mut self, other: &ProcessRecord)
         ensures { self.new ≡ other.now }
     {
         self.pledge = other.pledge;
         self.unveiled.copy_from(&other.unveiled);
         self.directory = other.directory;
         self.descriptors = other.descriptors;
-        self.machine.copy_from(&other.machine);
+        self.context.copy_from(&other.context);
     }
 
     // Becomes what execve(2) leaves.
@@ -62,20 +62,20 @@ impl Record {
         self.pledge.after_exec();
         self.unveiled.after_exec(keeps);
         self.descriptors.after_exec();
-        self.machine.reset();
+        self.context.reset();
     }
 }
 
 /// A record that stands apart, so that what has it is small to move: a contract sees the record.
 #[derive(Drop)]
 pub(crate) struct Stored {
-    owned: Box<Record>,
+    owned: Box<ProcessRecord>,
 }
 
 impl Model for Stored {
-    ghost use Rattle.pv_procs.specs.declared.record.Record.{Record};
+    ghost use Rattle.pv_procs.specs.declared.record.ProcessRecord.{ProcessRecord};
 
-    ghost Value = { Record };
+    ghost Value = { ProcessRecord };
 
     ghost view = { λ s. s.owned.value };
 }
@@ -89,19 +89,19 @@ impl Stored {
         ensures { IfOk result (λ r. r ≡ first_record) }
     {
         Ok(Stored {
-            owned: Box::new(alloc, Record::new(alloc)?)?,
+            owned: Box::new(alloc, ProcessRecord::new(alloc)?)?,
         })
     }
 
     // The record.
-    pub(crate) fn get(&self) -> &Record
+    pub(crate) fn get(&self) -> &ProcessRecord
         ensures { result.now ≡ self.now }
     {
         &*self.owned
     }
 
     // The record, to be changed.
-    pub(crate) fn get_mut(&mut self) -> &mut Record
+    pub(crate) fn get_mut(&mut self) -> &mut ProcessRecord
         ensures* writes_back { sem 𝓛 (LendsStored self.entry result) }
         ensures value { result.now ≡ self.old }
     {

@@ -1,6 +1,6 @@
 //! Programs that processes share.
 ghost use Rattle.std.specs.Prelude.{◌≡◌, ◌≢◌, ℕ, ◌+◌, ◌<◌, ◌==◌, [], ◌∷◌, replicate, length, position, slice_get, slice_set, vec_len, IfOk};
-ghost use Rattle.pv_procs.specs.Places.{users_at, program_at};
+ghost use Rattle.pv_procs.specs.Slots.{users_at, program_at};
 
 use pv_model::limits::PROCESSES;
 use pv_script::Program;
@@ -21,7 +21,7 @@ pub(crate) fn first_programs(alloc: Global, program: Program) -> Result<Vec<Shar
 {
     let mut programs = Vec::with_capacity(alloc, PROCESSES)?;
     programs.push(Shared { program, users: 1 })?;
-    for _place in 0..PROCESSES - 1 {
+    for _slot in 0..PROCESSES - 1 {
         let program = Program::empty(alloc);
         programs.push(Shared { program, users: 0 })?;
     }

@@ -16,20 +16,20 @@ is_space b = b == 32
 abbrev pub is_word : Bytes → Bool
 is_word word = not (length word == 0)
 
-onto_first_same : (b : ℕ) (pieces : List Bytes) → onto_first b pieces ≡ list.onto_first b pieces
+onto_first_same : (b : ℕ) (components : List Bytes) → onto_first b components ≡ list.onto_first b components
 onto_first_same b [] = refl
-onto_first_same b (piece ∷ pieces) = refl
+onto_first_same b (component ∷ components) = refl
 
 split_spaces-slice_split : (text : Bytes) → split_spaces text ≡ slice_split is_space text
 split_spaces-slice_split [] = refl
 split_spaces-slice_split (b ∷ bs) = rw (split_spaces-slice_split bs, onto_first_same b (slice_split is_space bs)) refl
 
-keywords_are_words : (pieces : List Bytes) → filter (λ word. not (is_empty word)) pieces ≡ filter is_word pieces
+keywords_are_words : (components : List Bytes) → filter (λ word. not (is_empty word)) components ≡ filter is_word components
 keywords_are_words [] = refl
-keywords_are_words ([] ∷ pieces) = keywords_are_words pieces
-keywords_are_words ((b ∷ bs) ∷ pieces) =
+keywords_are_words ([] ∷ components) = keywords_are_words components
+keywords_are_words ((b ∷ bs) ∷ components) =
     let longer : suc (length bs) ≢ 0 = omega arith in
-    rw (ne_eqb (suc (length bs)) 0 longer) (ap (λ words. (b ∷ bs) ∷ words) (keywords_are_words pieces))
+    rw (ne_eqb (suc (length bs)) 0 longer) (ap (λ words. (b ∷ bs) ∷ words) (keywords_are_words components))
 
 -- what a text that is split at its spaces gives are its keywords
 pub keywords-slice_split : (text : Bytes) → keywords text ≡ filter is_word (slice_split is_space text)

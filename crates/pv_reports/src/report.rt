@@ -15,8 +15,8 @@ use std::alloc::Global;
 
 // Writes the line of a file at a path.
 fn write_found<W: Sink>(out: &mut W, path: &[u8], found: &Verdict) -> Result<(), Failed>
-    ensures whole { OnOk result (W.told out.new ≡ and_all (W.told out.old) (found_line path.now (Ok found.now))) }
-    ensures beginning { OnErr result (TellsBeginning (found_line path.now (Ok found.now)) (W.told out.old) (W.told out.new)) }
+    ensures whole { OnOk result (W.written out.new ≡ and_all (W.written out.old) (found_line path.now (Ok found.now))) }
+    ensures beginning { OnErr result (TellsBeginning (found_line path.now (Ok found.now)) (W.written out.old) (W.written out.new)) }
     ensures failed { OnErr result (Rose (W.failures out.old) (W.failures out.new)) }
     ensures quiet { OnOk result (W.failures out.new ≡ W.failures out.old) }
 {
@@ -49,11 +49,11 @@ impl<'a> Remarks for FoundLines<'a> {
 ///
 /// # Errors
 ///
-/// `Write` where a write failed, `Memory` where memory was refused for a path: the sink was told a beginning of the report.
+/// `Write` where a write failed, `Memory` where memory was refused for a path: the sink was given a beginning of the report.
 #[tactic(auto, unfolding(pv_model::specs::Listing::report))]
 pub fn write_report<W: Sink>(alloc: Global, session: &Session, out: &mut W) -> Result<(), ListStop>
-    ensures whole { OnOk result (W.told out.new ≡ and_all (W.told out.old) (report session.now)) }
-    ensures beginning { OnErr result (TellsBeginning (report session.now) (W.told out.old) (W.told out.new)) }
+    ensures whole { OnOk result (W.written out.new ≡ and_all (W.written out.old) (report session.now)) }
+    ensures beginning { OnErr result (TellsBeginning (report session.now) (W.written out.old) (W.written out.new)) }
     ensures failed { IfErr result (λ stop. FailsBy stop (W.failures out.old) (W.failures out.new)) }
     ensures quiet { OnOk result (W.failures out.new ≡ W.failures out.old) }
 {

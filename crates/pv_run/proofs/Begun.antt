@@ -9,15 +9,15 @@ use Rattle.pv_model.specs.Step.{Schedule, boot, steps_of}
 use Rattle.pv_model.specs.Start.{Started}
 use Rattle.pv_run.specs.Run.{HasBegun, HasRun, IsSummaryOf, StandsIn, StopsBy, started_from, text_of}
 use Rattle.pv_run.specs.declared.turns.Summary.{Summary}
-use Rattle.pv_session.specs.Running.{BeginsLines, ToldLines, run_of}
+use Rattle.pv_session.specs.Running.{BeginsLines, WrittenLines, run_of}
 
 module _ (asked : Result Started RunFault) (s : State) (schedule : Schedule) (is : asked ≡ Ok (started_from s schedule)) (machine : boot program_of s.tree ≡ Some s)
     (before after : Option Bytes) where
-  pub has_run : (summary : Summary) → IsSummaryOf (started_from s schedule) summary → ToldLines (run_of s schedule).lines before after → HasRun asked before after summary
-  has_run summary counts told = record {
+  pub has_run : (summary : Summary) → IsSummaryOf (started_from s schedule) summary → WrittenLines (run_of s schedule).lines before after → HasRun asked before after summary
+  has_run summary counts written = record {
     text = text_of (started_from s schedule);
     is_run = record { it = started_from s schedule; is_asked = is; is_machine = machine; text_is = refl; counts = counts };
-    told = told;
+    written = written;
   }
 
   pub has_begun : BeginsLines (run_of s schedule).lines before after → HasBegun asked before after
@@ -25,7 +25,7 @@ module _ (asked : Result Started RunFault) (s : State) (schedule : Schedule) (is
     text = text_of (started_from s schedule);
     summary = record { steps = length (steps_of schedule); lines = length (run_of s schedule).lines };
     is_run = record { it = started_from s schedule; is_asked = is; is_machine = machine; text_is = refl; counts = record { steps = refl; lines = refl } };
-    told = begun;
+    written = begun;
   }
 
   -- a run that stopped before its end

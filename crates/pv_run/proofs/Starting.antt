@@ -21,10 +21,10 @@ use Rattle.pv_model.specs.Start.{and_then, booted, bundle_started, image_started
 use Rattle.pv_model.specs.State.{Program, State, first_state}
 use Rattle.pv_model.specs.Step.{Schedule, boot}
 use Rattle.pv_model.specs.Tree.{Tree}
-use Rattle.pv_image.specs.Reading.{RefusesManifest, manifest_before}
-use Rattle.pv_image.specs.declared.manifest.Manifest.{Manifest as ParsedManifest}
-use Rattle.pv_image_laws.proofs.Starts.{starts}
-use Rattle.pv_laws.specs.States.{IsFirstTree}
+use Rattle.pv_image_manifest.specs.Reading.{RefusesManifest, manifest_before}
+use Rattle.pv_image_manifest.specs.declared.manifest.Manifest.{Manifest as ParsedManifest}
+use Rattle.pv_laws_images.proofs.Starts.{starts}
+use Rattle.pv_laws_states.specs.States.{IsFirstTree}
 use Rattle.pv_script.specs.Reading.{RefusesSchedule}
 use Rattle.pv_tree.specs.Standing.{IsAtRest}
 use Rattle.pv_run.specs.Images.{IsImageFault}
@@ -62,7 +62,7 @@ module _ (t : Tree) (lines : List Bytes) where
 -- ---- the checks of a bundle: its manifest, and then the run on its tree
 
 module _ (bytes : Bytes) (m : Manifest) (asked : read_bundle bytes ≡ Ok m) where
-  pub on_tree : (t : Tree) → tree_of m ≡ Ok t → bundle_started bytes ≡ started_on t m.listed.behind
+  pub on_tree : (t : Tree) → tree_of m ≡ Ok t → bundle_started bytes ≡ started_on t m.listed.following
   unfolding bundle_started
   on_tree t made = rw (asked, made) refl
 
@@ -145,7 +145,7 @@ pub schedule_of_text : (text : Bytes) → read_schedule text ≡ schedule_of_lin
 unfolding read_schedule
 schedule_of_text text = refl
 
--- what stands behind a place is all that stands there
+-- what stands after a place is all that stands there
 pub rest-all : (text : Bytes) (n : ℕ) → take (length text - n) (drop n text) ≡ drop n text
 rest-all text n = take_all (length text - n) (drop n text) (omega (arith, length-drop n text))
 

@@ -10,10 +10,10 @@ use Rattle.pv_model.specs.Start.{Started}
 use Rattle.pv_model.specs.Step.{Schedule, boot}
 use Rattle.pv_model.specs.Tree.{Tree}
 use Rattle.pv_run.proofs.Begun.{has_begun}
-use Rattle.pv_run.specs.Images.{BeginsImage, HasRunOn, HasRunUncut, IsWriteFault, StandsOn, ToldImage, last_tree}
+use Rattle.pv_run.specs.Images.{BeginsImage, HasRunOn, HasRunUncut, IsWriteFault, StandsOn, WrittenImage, last_tree}
 use Rattle.pv_run.specs.Run.{HasBegun, IsSummaryOf, IsTextOf, StopsBy, started_from, text_of}
 use Rattle.pv_run.specs.declared.turns.Summary.{Summary}
-use Rattle.pv_session.specs.Running.{BeginsLines, ToldLines, run_of}
+use Rattle.pv_session.specs.Running.{BeginsLines, WrittenLines, run_of}
 use Rattle.pv_trace.specs.Streams.{TellsBeginning, and_all}
 use Rattle.pv_trace.proofs.Streaming.{begins_whole}
 
@@ -28,16 +28,16 @@ module _ (asked : Result Started RunFault) (s : State) (schedule : Schedule) (is
 
   -- the tree of what stands after the run
   module _ (t : Tree) (after : State) (same : t ≡ after.tree) (left : after ≡ (run_of s schedule).final) (summary : Summary) (counts : IsSummaryOf (started_from s schedule) summary)
-      (told : ToldLines (run_of s schedule).lines tb ta) where
+      (written : WrittenLines (run_of s schedule).lines tb ta) where
     is_last : t ≡ last_tree (started_from s schedule)
     is_last = same ∙ ap (λ (x : State). x.tree) left
 
-    pub has_run_on : ToldImage t ib ia → HasRunOn asked tb ta ib ia summary
-    has_run_on written = record {
+    pub has_run_on : WrittenImage t ib ia → HasRunOn asked tb ta ib ia summary
+    has_run_on as_written = record {
       text = text_of (started_from s schedule);
       is_run = is_text summary counts;
-      told = told;
-      written = subst (λ (x : Tree). ToldImage x ib ia) is_last written;
+      written = written;
+      as_written = subst (λ (x : Tree). WrittenImage x ib ia) is_last as_written;
     }
 
     -- a run whose image was not written whole
@@ -47,11 +47,11 @@ module _ (asked : Result Started RunFault) (s : State) (schedule : Schedule) (is
       text = text_of (started_from s schedule);
       summary = summary;
       is_run = is_text summary counts;
-      told = told;
+      written = written;
       begun = subst (λ (x : Tree). BeginsImage x ib ia) is_last (cut refl);
     })
     unwritten Memory e same_fault kind cut memory =
-        rw same_fault (inr (has_begun asked s schedule is machine tb ta (begins_whole (text_of (started_from s schedule)) tb ta told)), memory refl)
+        rw same_fault (inr (has_begun asked s schedule is machine tb ta (begins_whole (text_of (started_from s schedule)) tb ta written)), memory refl)
     unwritten Read e same_fault kind cut memory = elim kind [ ]
     unwritten (Image f) e same_fault kind cut memory = elim kind [ ]
     unwritten (Manifest f) e same_fault kind cut memory = elim kind [ ]

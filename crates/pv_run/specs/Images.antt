@@ -11,11 +11,11 @@ use Rattle.pv_run.specs.Run.{HasBegun, IsTextOf}
 use Rattle.pv_run.specs.declared.turns.Summary.{Summary}
 use Rattle.pv_session.specs.Running.{run_of}
 use Rattle.pv_trace.specs.Streams.{and_all}
-use Rattle.pv_writer.specs.Told.{TellsImage, BeginsImage as BeginsWrittenImage}
+use Rattle.pv_image_write.specs.Written.{TellsImage, BeginsImage as BeginsWrittenImage}
 
--- what was told grew by bytes that hold a tree: its root and its named nodes
-abbrev pub ToldImage : Tree → Option Bytes → Option Bytes → Type 0
-ToldImage t before after = TellsImage (named_tree t) before after
+-- what was written grew by bytes that hold a tree: its root and its named nodes
+abbrev pub WrittenImage : Tree → Option Bytes → Option Bytes → Type 0
+WrittenImage t before after = TellsImage (named_tree t) before after
 
 -- bytes that hold a tree were told up to somewhere
 abbrev pub BeginsImage : Tree → Option Bytes → Option Bytes → Type 0
@@ -29,15 +29,15 @@ last_tree it = (run_of it.state it.schedule).final.tree
 pub record HasRunOn (asked : Result Started RunFault) (trace_before trace_after image_before image_after : Option Bytes) (summary : Summary) : Type 0 where
   pub text : Bytes
   pub is_run : IsTextOf asked text summary
-  pub told : trace_after ≡ and_all trace_before text
-  pub written : ToldImage (last_tree is_run.it) image_before image_after
+  pub written : trace_after ≡ and_all trace_before text
+  pub as_written : WrittenImage (last_tree is_run.it) image_before image_after
 
 -- a run was made, and the tree that it leaves was told up to somewhere
 pub record HasRunUncut (asked : Result Started RunFault) (trace_before trace_after image_before image_after : Option Bytes) : Type 0 where
   pub text : Bytes
   pub summary : Summary
   pub is_run : IsTextOf asked text summary
-  pub told : trace_after ≡ and_all trace_before text
+  pub written : trace_after ≡ and_all trace_before text
   pub begun : BeginsImage (last_tree is_run.it) image_before image_after
 
 -- a refusal stands in what is asked, before any other, and then nothing was written; no image was written of a run that stopped

@@ -36,11 +36,11 @@ pub record IsTextOf (asked : Result Started RunFault) (text : Bytes) (summary : 
   pub text_is : text ≡ text_of it
   pub counts : IsSummaryOf it summary
 
--- a run was made: what was told grew by just its text
+-- a run was made: what was written grew by just its text
 pub record HasRun (asked : Result Started RunFault) (before after : Option Bytes) (summary : Summary) : Type 0 where
   pub text : Bytes
   pub is_run : IsTextOf asked text summary
-  pub told : after ≡ and_all before text
+  pub written : after ≡ and_all before text
 
 -- where a line could not be written a failure was counted, and where memory was refused none was
 abbrev pub StopsBy : RunFault → ℕ → ℕ → Type 0
@@ -53,7 +53,7 @@ pub record HasBegun (asked : Result Started RunFault) (before after : Option Byt
   pub text : Bytes
   pub summary : Summary
   pub is_run : IsTextOf asked text summary
-  pub told : TellsBeginning text before after
+  pub written : TellsBeginning text before after
 
 -- a refusal stands in what is asked, before any other
 abbrev pub StandsIn : Result Started RunFault → Option Bytes → Option Bytes → RunFault → Type 0
@@ -94,10 +94,10 @@ TellsNothingUnlessCut before after WriteTrace = ⊤
 TellsNothingUnlessCut before after Memory = ⊤
 TellsNothingUnlessCut before after fault = after ≡ before
 
--- all of a trace was handed on, but where it could not be written
-abbrev pub WaitsOnlyIfCut : RunFault → ℕ → Type 0
-WaitsOnlyIfCut WriteTrace waiting = ⊤
-WaitsOnlyIfCut fault waiting = waiting ≡ 0
+-- all of a trace was flushed, but where it could not be written
+abbrev pub BufferedOnlyIfCut : RunFault → ℕ → Type 0
+BufferedOnlyIfCut WriteTrace waiting = ⊤
+BufferedOnlyIfCut fault waiting = waiting ≡ 0
 
 -- a refusal is that of what was asked, but for memory
 abbrev pub RefusesStart : {A : Type 0} → RunFault → Result A RunFault → Type 0

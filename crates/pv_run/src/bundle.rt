@@ -4,12 +4,12 @@ ghost use Rattle.pv_model.specs.Grammar.Programs.{program_of};
 ghost use Rattle.pv_model.specs.Start.{bundle_started};
 ghost use Rattle.pv_model.specs.Step.{boot};
 ghost use Rattle.pv_model.specs.Stream.{Rose};
-ghost use Rattle.pv_run.specs.Run.{HasRun, IsBundleFault, IsBytesFault, IsStartFault, RefusesStart, StandsIn, TellsNothingUnlessCut, WaitsOnlyIfCut, started_from};
+ghost use Rattle.pv_run.specs.Run.{HasRun, IsBundleFault, IsBytesFault, IsStartFault, RefusesStart, StandsIn, TellsNothingUnlessCut, BufferedOnlyIfCut, started_from};
 ghost use Rattle.pv_run.specs.Streams.{GivesMoreThan};
 
 use crate::stream::{SOURCE_BYTES, read_whole};
 use crate::turns::{Ready, Summary, make_turns, start_on};
-use pv_image::{Bundle, build};
+use pv_image_manifest::{Bundle, build};
 use pv_model::{RunFault, Sink, Source};
 use std::alloc::Global;
 
@@ -29,13 +29,13 @@ fn start_bundle(alloc: Global, bytes: &[u8]) -> Result<Ready, RunFault>
 // Runs what the bytes of a bundle ask for.
 fn run_bytes<W: Sink>(alloc: Global, bytes: &[u8], trace: &mut W) -> Result<Summary, RunFault>
     requires { length bytes.now ≤ SOURCE_BYTES }
-    ensures ran { IfOk result (λ summary. HasRun (bundle_started bytes.now) (W.told trace.old) (W.told trace.new) summary) }
-    ensures refused { IfErr result (λ fault. StandsIn (bundle_started bytes.now) (W.told trace.old) (W.told trace.new) fault) }
+    ensures ran { IfOk result (λ summary. HasRun (bundle_started bytes.now) (W.written trace.old) (W.written trace.new) summary) }
+    ensures refused { IfErr result (λ fault. StandsIn (bundle_started bytes.now) (W.written trace.old) (W.written trace.new) fault) }
     ensures kind { IfErr result IsBytesFault }
-    ensures unwritten { IfErr result (TellsNothingUnlessCut (W.told trace.old) (W.told trace.new)) }
+    ensures unwritten { IfErr result (TellsNothingUnlessCut (W.written trace.old) (W.written trace.new)) }
     ensures write { result ≡ Err RunFault.WriteTrace → Rose (W.failures trace.old) (W.failures trace.new) }
-    ensures empty { OnOk result (W.waits trace.new ≡ 0) }
-    ensures stopped { IfErr result (λ fault. W.waits trace.old ≡ 0 → WaitsOnlyIfCut fault (W.waits trace.new)) }
+    ensures empty { OnOk result (W.buffered trace.new ≡ 0) }
+    ensures stopped { IfErr result (λ fault. W.buffered trace.old ≡ 0 → BufferedOnlyIfCut fault (W.buffered trace.new)) }
 {
     let mut ready = start_bundle(alloc, bytes)?;
     make_turns(alloc, &mut ready, trace)
@@ -46,7 +46,7 @@ fn run_bytes<W: Sink>(alloc: Global, bytes: &[u8], trace: &mut W) -> Result<Summ
 /// The bundle is read whole. Then its manifest, the manifest's entries, the schedule and the program of
 /// `init` are checked in this order, and nothing is written before all of them have passed. Then the lines
 /// of each step are written before the next step is made. Where the answer is `Ok`, the trace has grown by
-/// just the text of the machine's run on the manifest's tree, all of it was handed on, and the summary counts its steps
+/// just the text of the machine's run on the manifest's tree, all of it was flushed, and the summary counts its steps
 /// and its lines.
 ///
 /// # Errors
@@ -59,22 +59,22 @@ fn run_bytes<W: Sink>(alloc: Global, bytes: &[u8], trace: &mut W) -> Result<Summ
 /// - `WriteTrace`: a write failed; the trace has grown by a beginning of the text, and no step was made
 ///   after it.
 ///
-/// After each other fault nothing was written. What was written before a fault was handed on, but for `WriteTrace`.
+/// After each other fault nothing was written. What was written before a fault was flushed, but for `WriteTrace`.
 pub fn run_tree<S: Source, W: Sink>(
     alloc: Global,
     bundle: &mut S,
     trace: &mut W,
 ) -> Result<Summary, RunFault>
-    ensures ran { IfOk result (λ summary. IfSome (S.remaining bundle.old) (λ bytes. HasRun (bundle_started bytes) (W.told trace.old) (W.told trace.new) summary)) }
-    ensures refused { IfErr result (λ fault. IfSome (S.remaining bundle.old) (λ bytes. StandsIn (bundle_started bytes) (W.told trace.old) (W.told trace.new) fault)) }
+    ensures ran { IfOk result (λ summary. IfSome (S.remaining bundle.old) (λ bytes. HasRun (bundle_started bytes) (W.written trace.old) (W.written trace.new) summary)) }
+    ensures refused { IfErr result (λ fault. IfSome (S.remaining bundle.old) (λ bytes. StandsIn (bundle_started bytes) (W.written trace.old) (W.written trace.new) fault)) }
     ensures kind { IfErr result IsBundleFault }
 
     // Nothing is written but the text, and a fault of reading or writing was counted.
-    ensures unwritten { IfErr result (TellsNothingUnlessCut (W.told trace.old) (W.told trace.new)) }
+    ensures unwritten { IfErr result (TellsNothingUnlessCut (W.written trace.old) (W.written trace.new)) }
     ensures read { result ≡ Err RunFault.Read → Rose (S.failures bundle.old) (S.failures bundle.new) ⊎ GivesMoreThan SOURCE_BYTES (S.remaining bundle.old) }
     ensures write { result ≡ Err RunFault.WriteTrace → Rose (W.failures trace.old) (W.failures trace.new) }
-    ensures empty { OnOk result (W.waits trace.new ≡ 0) }
-    ensures stopped { IfErr result (λ fault. W.waits trace.old ≡ 0 → WaitsOnlyIfCut fault (W.waits trace.new)) }
+    ensures empty { OnOk result (W.buffered trace.new ≡ 0) }
+    ensures stopped { IfErr result (λ fault. W.buffered trace.old ≡ 0 → BufferedOnlyIfCut fault (W.buffered trace.new)) }
 {
     let bytes = read_whole(alloc, bundle)?;
     run_bytes(alloc, &bytes, trace)

@@ -5,16 +5,16 @@ ghost use Rattle.pv_model.specs.Mount.{mounted};
 ghost use Rattle.pv_model.specs.Start.{image_started};
 ghost use Rattle.pv_model.specs.Step.{boot};
 ghost use Rattle.pv_model.specs.Stream.{Rose};
-ghost use Rattle.pv_run.specs.Images.{BeginsImage, HasRunOn, IsImageFault, IsImageRunFault, IsRunFault, IsWriteFault, StandsOn, TellsNeitherUnlessCut, ToldImage};
-ghost use Rattle.pv_run.specs.Run.{IsStartFault, RefusesStart, WaitsOnlyIfCut, started_from};
+ghost use Rattle.pv_run.specs.Images.{BeginsImage, HasRunOn, IsImageFault, IsImageRunFault, IsRunFault, IsWriteFault, StandsOn, TellsNeitherUnlessCut, WrittenImage};
+ghost use Rattle.pv_run.specs.Run.{IsStartFault, RefusesStart, BufferedOnlyIfCut, started_from};
 ghost use Rattle.pv_run.specs.Streams.{GivesMoreThan};
 
 use crate::stream::{SOURCE_BYTES, read_whole};
 use crate::turns::{Ready, Summary, make_turns, start_on};
 use pv_model::{ImageFault, RunFault, Sink, Source};
-use pv_mount::mount;
+use pv_image_mount::mount;
 use pv_tree::{Store, Tree};
-use pv_writer::{WriteFault, write_tree};
+use pv_image_write::{WriteFault, write_tree};
 use std::alloc::Global;
 
 // The store of the tree that an image holds. `listed` tells whether all its directories will be listed, so that it is worth
@@ -52,14 +52,14 @@ pub(crate) fn start_image(
 ///
 /// # Errors
 ///
-/// `Memory` where memory was refused: then nothing was written. `WriteImage` where a write failed: the sink was told a
+/// `Memory` where memory was refused: then nothing was written. `WriteImage` where a write failed: the sink was given a
 /// beginning of the bytes.
 pub fn write_image<O: Sink>(alloc: Global, tree: &Tree, image: &mut O) -> Result<(), RunFault>
-    ensures whole { OnOk result (ToldImage tree.now.tree (O.told image.old) (O.told image.new)) }
-    ensures cut { result ≡ Err RunFault.WriteImage → BeginsImage tree.now.tree (O.told image.old) (O.told image.new) }
+    ensures whole { OnOk result (WrittenImage tree.now.tree (O.written image.old) (O.written image.new)) }
+    ensures cut { result ≡ Err RunFault.WriteImage → BeginsImage tree.now.tree (O.written image.old) (O.written image.new) }
     ensures failed { result ≡ Err RunFault.WriteImage → Rose (O.failures image.old) (O.failures image.new) }
-    ensures memory { result ≡ Err RunFault.Memory → O.told image.new ≡ O.told image.old }
-    ensures handed { OnOk result (O.waits image.new ≡ 0) }
+    ensures memory { result ≡ Err RunFault.Memory → O.written image.new ≡ O.written image.old }
+    ensures flushed { OnOk result (O.buffered image.new ≡ 0) }
     ensures kind { IfErr result IsWriteFault }
 {
     match write_tree(alloc, tree, image) {
@@ -78,17 +78,17 @@ fn run_image<W: Sink, O: Sink>(
     image: &mut O,
 ) -> Result<Summary, RunFault>
     requires { length schedule.now ≤ SOURCE_BYTES }
-    ensures ran { IfOk result (λ summary. HasRunOn (image_started bytes.items schedule.now) (W.told trace.old) (W.told trace.new) (O.told image.old) (O.told image.new) summary) }
-    ensures refused { IfErr result (λ fault. StandsOn (image_started bytes.items schedule.now) (W.told trace.old) (W.told trace.new) (O.told image.old) (O.told image.new) fault) }
+    ensures ran { IfOk result (λ summary. HasRunOn (image_started bytes.items schedule.now) (W.written trace.old) (W.written trace.new) (O.written image.old) (O.written image.new) summary) }
+    ensures refused { IfErr result (λ fault. StandsOn (image_started bytes.items schedule.now) (W.written trace.old) (W.written trace.new) (O.written image.old) (O.written image.new) fault) }
     ensures kind { IfErr result IsImageRunFault }
     ensures write_trace { result ≡ Err RunFault.WriteTrace → Rose (W.failures trace.old) (W.failures trace.new) }
     ensures write_image { result ≡ Err RunFault.WriteImage → Rose (O.failures image.old) (O.failures image.new) }
 
-    // Nothing is written but the text and the image, and what was written was handed on.
-    ensures unwritten { IfErr result (TellsNeitherUnlessCut (W.told trace.old) (W.told trace.new) (O.told image.old) (O.told image.new)) }
-    ensures empty { OnOk result (W.waits trace.new ≡ 0) }
-    ensures stopped { IfErr result (λ fault. W.waits trace.old ≡ 0 → WaitsOnlyIfCut fault (W.waits trace.new)) }
-    ensures handed { OnOk result (O.waits image.new ≡ 0) }
+    // Nothing is written but the text and the image, and what was written was flushed.
+    ensures unwritten { IfErr result (TellsNeitherUnlessCut (W.written trace.old) (W.written trace.new) (O.written image.old) (O.written image.new)) }
+    ensures empty { OnOk result (W.buffered trace.new ≡ 0) }
+    ensures stopped { IfErr result (λ fault. W.buffered trace.old ≡ 0 → BufferedOnlyIfCut fault (W.buffered trace.new)) }
+    ensures flushed { OnOk result (O.buffered image.new ≡ 0) }
 {
     let mut ready = start_image(alloc, bytes, schedule, true)?;
     let summary = make_turns(alloc, &mut ready, trace)?;
@@ -103,7 +103,7 @@ fn run_image<W: Sink, O: Sink>(
 /// are written before the next step is made, and at the end an image of the tree that is left: its root and
 /// its nodes that have a name, under their numbers, with the sizes and the version of the image. Where the
 /// answer is `Ok`, the trace has grown by just the text of the machine's run on the image's tree, `image` by
-/// bytes that hold that machine's last tree, both were handed on, and the summary counts the steps and the lines.
+/// bytes that hold that machine's last tree, both were flushed, and the summary counts the steps and the lines.
 ///
 /// # Errors
 ///
@@ -116,7 +116,7 @@ fn run_image<W: Sink, O: Sink>(
 ///   and no image was written.
 /// - `WriteImage`: a write failed; the trace is whole, and `image` has grown by a beginning of the bytes.
 ///
-/// After each other fault nothing was written. What was written of the trace before a fault was handed on, but for
+/// After each other fault nothing was written. What was written of the trace before a fault was flushed, but for
 /// `WriteTrace`.
 pub fn run<I: Source, S: Source, W: Sink, O: Sink>(
     alloc: Global,
@@ -126,9 +126,9 @@ pub fn run<I: Source, S: Source, W: Sink, O: Sink>(
     image: &mut O,
 ) -> Result<Summary, RunFault>
     ensures ran { IfOk result (λ summary. IfSome (I.remaining bytes.old) (λ b. IfSome (S.remaining schedule.old) (λ turns.
-        HasRunOn (image_started b turns) (W.told trace.old) (W.told trace.new) (O.told image.old) (O.told image.new) summary))) }
+        HasRunOn (image_started b turns) (W.written trace.old) (W.written trace.new) (O.written image.old) (O.written image.new) summary))) }
     ensures refused { IfErr result (λ fault. IfSome (I.remaining bytes.old) (λ b. IfSome (S.remaining schedule.old) (λ turns.
-        StandsOn (image_started b turns) (W.told trace.old) (W.told trace.new) (O.told image.old) (O.told image.new) fault))) }
+        StandsOn (image_started b turns) (W.written trace.old) (W.written trace.new) (O.written image.old) (O.written image.new) fault))) }
     ensures kind { IfErr result IsRunFault }
 
     // A fault of reading or writing was counted.
@@ -137,11 +137,11 @@ pub fn run<I: Source, S: Source, W: Sink, O: Sink>(
     ensures write_trace { result ≡ Err RunFault.WriteTrace → Rose (W.failures trace.old) (W.failures trace.new) }
     ensures write_image { result ≡ Err RunFault.WriteImage → Rose (O.failures image.old) (O.failures image.new) }
 
-    // Nothing is written but the text and the image, and what was written was handed on.
-    ensures unwritten { IfErr result (TellsNeitherUnlessCut (W.told trace.old) (W.told trace.new) (O.told image.old) (O.told image.new)) }
-    ensures empty { OnOk result (W.waits trace.new ≡ 0) }
-    ensures stopped { IfErr result (λ fault. W.waits trace.old ≡ 0 → WaitsOnlyIfCut fault (W.waits trace.new)) }
-    ensures handed { OnOk result (O.waits image.new ≡ 0) }
+    // Nothing is written but the text and the image, and what was written was flushed.
+    ensures unwritten { IfErr result (TellsNeitherUnlessCut (W.written trace.old) (W.written trace.new) (O.written image.old) (O.written image.new)) }
+    ensures empty { OnOk result (W.buffered trace.new ≡ 0) }
+    ensures stopped { IfErr result (λ fault. W.buffered trace.old ≡ 0 → BufferedOnlyIfCut fault (W.buffered trace.new)) }
+    ensures flushed { OnOk result (O.buffered image.new ≡ 0) }
 {
     let bytes = read_whole(alloc, bytes)?;
     let schedule = read_whole(alloc, schedule)?;

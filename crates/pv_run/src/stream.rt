@@ -67,9 +67,9 @@ impl Gathered {
 }
 
 impl Sink for Gathered {
-    ghost told = { λ s. Some s.bytes.items };
+    ghost written = { λ s. Some s.bytes.items };
 
-    ghost waits = { λ _. 0 };
+    ghost buffered = { λ _. 0 };
 
     ghost failures = { λ s. s.failures };
 

@@ -5,8 +5,8 @@ ghost use Rattle.pv_model.specs.Grammar.Programs.{program_of};
 ghost use Rattle.pv_model.specs.Start.{started_on};
 ghost use Rattle.pv_model.specs.Step.{boot};
 ghost use Rattle.pv_model.specs.Stream.{Rose};
-ghost use Rattle.pv_run.specs.Run.{IsFaultOnTree, IsSummaryOf, RefusesStart, StopsBy, WaitsOnlyIfCut, started_from};
-ghost use Rattle.pv_session.specs.Running.{BeginsLines, ToldLines, run_of};
+ghost use Rattle.pv_run.specs.Run.{IsFaultOnTree, IsSummaryOf, RefusesStart, StopsBy, BufferedOnlyIfCut, started_from};
+ghost use Rattle.pv_session.specs.Running.{BeginsLines, WrittenLines, run_of};
 
 use crate::stream::SOURCE_BYTES;
 use pv_model::{Failed, RunFault, Sink};
@@ -45,10 +45,10 @@ pub(crate) fn start_on(alloc: Global, store: Store, schedule: &[u8]) -> Result<R
     Ok(Ready { session, schedule })
 }
 
-// Hands on what waits of a trace.
+// Flushes what is buffered of a trace.
 fn hand_on<W: Sink>(trace: &mut W) -> Result<(), RunFault>
-    ensures kept { W.told trace.new ≡ W.told trace.old }
-    ensures empty { OnOk result (W.waits trace.new ≡ 0) }
+    ensures kept { W.written trace.new ≡ W.written trace.old }
+    ensures empty { OnOk result (W.buffered trace.new ≡ 0) }
     ensures quiet { OnOk result (W.failures trace.new ≡ W.failures trace.old) }
     ensures failed { OnErr result (Rose (W.failures trace.old) (W.failures trace.new)) }
     ensures kind { IfErr result (λ f. f ≡ RunFault.WriteTrace) }
@@ -59,7 +59,7 @@ fn hand_on<W: Sink>(trace: &mut W) -> Result<(), RunFault>
     }
 }
 
-// Makes the turns of a schedule, and hands on what waits of their lines: the summary counts the steps and the lines.
+// Makes the turns of a schedule, and flushes what is buffered of their lines: the summary counts the steps and the lines.
 pub(crate) fn make_turns<W: Sink>(
     alloc: Global,
     ready: &mut Ready,
@@ -67,12 +67,12 @@ pub(crate) fn make_turns<W: Sink>(
 ) -> Result<Summary, RunFault>
     ensures after { OnOk result (ready.new.session ≡ (run_of ready.old.session ready.old.schedule).final) }
     ensures ran { IfOk result (λ summary. IsSummaryOf (started_from ready.old.session ready.old.schedule) summary) }
-    ensures whole { OnOk result (ToldLines (run_of ready.old.session ready.old.schedule).lines (W.told trace.old) (W.told trace.new)) }
+    ensures whole { OnOk result (WrittenLines (run_of ready.old.session ready.old.schedule).lines (W.written trace.old) (W.written trace.new)) }
     ensures quiet { OnOk result (W.failures trace.new ≡ W.failures trace.old) }
-    ensures beginning { OnErr result (BeginsLines (run_of ready.old.session ready.old.schedule).lines (W.told trace.old) (W.told trace.new)) }
+    ensures beginning { OnErr result (BeginsLines (run_of ready.old.session ready.old.schedule).lines (W.written trace.old) (W.written trace.new)) }
     ensures failed { IfErr result (λ fault. StopsBy fault (W.failures trace.old) (W.failures trace.new)) }
-    ensures empty { OnOk result (W.waits trace.new ≡ 0) }
-    ensures stopped { IfErr result (λ fault. WaitsOnlyIfCut fault (W.waits trace.new)) }
+    ensures empty { OnOk result (W.buffered trace.new ≡ 0) }
+    ensures stopped { IfErr result (λ fault. BufferedOnlyIfCut fault (W.buffered trace.new)) }
 {
     let steps = step_count(ready.schedule.turns());
     match run_schedule(alloc, &mut ready.session, ready.schedule.turns(), trace) {

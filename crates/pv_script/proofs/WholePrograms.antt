@@ -17,52 +17,52 @@ abbrev pub Reader : Type 0
 Reader = Bytes → Result Instruction What
 
 -- the instructions that were read, before those that are still to be read
-abbrev pub behind_program : Program → Result Program ParseFault → Result Program ParseFault
-behind_program front (Ok program) = Ok (front ++ program)
-behind_program front (Err fault) = Err fault
+abbrev pub after_program : Program → Result Program ParseFault → Result Program ParseFault
+after_program front (Ok program) = Ok (front ++ program)
+after_program front (Err fault) = Err fault
 
-onto_more : (front : Program) (i : Instruction) (rest : Result Program ParseFault) → behind_program front (onto_program i rest) ≡ behind_program (front ++ i ∷ []) rest
+onto_more : (front : Program) (i : Instruction) (rest : Result Program ParseFault) → after_program front (onto_program i rest) ≡ after_program (front ++ i ∷ []) rest
 onto_more front i (Ok program) = ap (λ (p : Program). Ok p) (sym (append_assoc front (i ∷ []) program))
 onto_more front i (Err fault) = refl
 
 -- what a loop over the lines of a program keeps
 pub record IsProgramSoFar (read : Reader) (front : Program) (rest : Bytes) (n : ℕ) (whole : Result Program ParseFault) : Type 0 where
-  pub is : behind_program front (program_from read (lines_of rest) n) ≡ whole
+  pub is : after_program front (program_from read (lines_of rest) n) ≡ whole
 
 pub IsProgramSoFar-start : (read : Reader) (bytes : Bytes) (whole : Result Program ParseFault) → program_from read (lines_of bytes) 1 ≡ whole → IsProgramSoFar read [] bytes 1 whole
 IsProgramSoFar-start read bytes whole is = record { is = alone (program_from read (lines_of bytes) 1) ∙ is }
   where
-    alone : (r : Result Program ParseFault) → behind_program [] r ≡ r
+    alone : (r : Result Program ParseFault) → after_program [] r ≡ r
     alone (Ok program) = refl
     alone (Err fault) = refl
 
-module _ (read : Reader) (front : Program) (rest line behind : Bytes) (n : ℕ) (whole : Result Program ParseFault) (split : lines_of rest ≡ line ∷ lines_of behind)
+module _ (read : Reader) (front : Program) (rest line following : Bytes) (n : ℕ) (whole : Result Program ParseFault) (split : lines_of rest ≡ line ∷ lines_of following)
     (kept : IsProgramSoFar read front rest n whole) where
-  at_line : (n ≡ 257 → ⊥) → behind_program front (or_line n (read line) (program_from read (lines_of behind) (suc n))) ≡ whole
+  at_line : (n ≡ 257 → ⊥) → after_program front (or_line n (read line) (program_from read (lines_of following) (suc n))) ≡ whole
   at_line few =
       let t : eqb n 257 ≡ false = ne_eqb n 257 few in
-      let one : program_from read (lines_of rest) n ≡ or_line n (read line) (program_from read (lines_of behind) (suc n)) =
+      let one : program_from read (lines_of rest) n ≡ or_line n (read line) (program_from read (lines_of following) (suc n)) =
       ap (λ ls. program_from read ls n) split ∙ rw t refl in
-      ap (behind_program front) (sym one) ∙ kept.is
+      ap (after_program front) (sym one) ∙ kept.is
 
-  pub IsProgramSoFar-step : (i : Instruction) → (n ≡ 257 → ⊥) → Ok i ≡ read line → IsProgramSoFar read (front ++ i ∷ []) behind (n + 1) whole
+  pub IsProgramSoFar-step : (i : Instruction) → (n ≡ 257 → ⊥) → Ok i ≡ read line → IsProgramSoFar read (front ++ i ∷ []) following (n + 1) whole
   IsProgramSoFar-step i few is =
       let next : n + 1 ≡ suc n = omega arith in
       record {
-        is = rw next (sym (onto_more front i (program_from read (lines_of behind) (suc n)))
-            ∙ ap (λ r. behind_program front (or_line n r (program_from read (lines_of behind) (suc n)))) is ∙ at_line few);
+        is = rw next (sym (onto_more front i (program_from read (lines_of following) (suc n)))
+            ∙ ap (λ r. after_program front (or_line n r (program_from read (lines_of following) (suc n)))) is ∙ at_line few);
       }
 
   pub IsProgramSoFar-refused : (what : What) → (n ≡ 257 → ⊥) → Err what ≡ read line → whole ≡ Err (Line n what)
   IsProgramSoFar-refused what few is =
-      sym (at_line few) ∙ ap (λ r. behind_program front (or_line n r (program_from read (lines_of behind) (suc n)))) (sym is)
+      sym (at_line few) ∙ ap (λ r. after_program front (or_line n r (program_from read (lines_of following) (suc n)))) (sym is)
 
   pub IsProgramSoFar-full : n ≡ 257 → whole ≡ Err (Line 257 TooMany)
   IsProgramSoFar-full full =
       let t : eqb n 257 ≡ true = eq-eqb n 257 full in
       let one : program_from read (lines_of rest) n ≡ Err (Line 257 TooMany) = ap (λ ls. program_from read ls n) split ∙ rw t refl in
-      sym kept.is ∙ ap (behind_program front) one
+      sym kept.is ∙ ap (after_program front) one
 
 pub IsProgramSoFar-end : (read : Reader) (front : Program) (rest : Bytes) (n : ℕ) (whole : Result Program ParseFault) → lines_of rest ≡ [] → IsProgramSoFar read front rest n whole → whole ≡ Ok front
 IsProgramSoFar-end read front rest n whole none kept =
-    sym kept.is ∙ ap (λ ls. behind_program front (program_from read ls n)) none ∙ ap (λ (p : Program). Ok p) (append-nil front)
+    sym kept.is ∙ ap (λ ls. after_program front (program_from read ls n)) none ∙ ap (λ (p : Program). Ok p) (append-nil front)

@@ -10,52 +10,52 @@ use Rattle.pv_model.specs.Grammar.Schedules.{turn_of, onto_schedule, or_schedule
 use Rattle.pv_model.specs.Step.{Schedule}
 
 -- the turns that were read, before those that are still to be read
-abbrev pub behind_schedule : Schedule → Result Schedule ScheduleFault → Result Schedule ScheduleFault
-behind_schedule front (Ok schedule) = Ok (front ++ schedule)
-behind_schedule front (Err fault) = Err fault
+abbrev pub after_schedule : Schedule → Result Schedule ScheduleFault → Result Schedule ScheduleFault
+after_schedule front (Ok schedule) = Ok (front ++ schedule)
+after_schedule front (Err fault) = Err fault
 
-onto_more : (front : Schedule) (turn : ℕ × ℕ) (rest : Result Schedule ScheduleFault) → behind_schedule front (onto_schedule turn rest) ≡ behind_schedule (front ++ turn ∷ []) rest
+onto_more : (front : Schedule) (turn : ℕ × ℕ) (rest : Result Schedule ScheduleFault) → after_schedule front (onto_schedule turn rest) ≡ after_schedule (front ++ turn ∷ []) rest
 onto_more front turn (Ok schedule) = ap (λ (s : Schedule). Ok s) (sym (append_assoc front (turn ∷ []) schedule))
 onto_more front turn (Err fault) = refl
 
 -- what a loop over the lines of a schedule keeps
 pub record IsScheduleSoFar (front : Schedule) (rest : Bytes) (n : ℕ) (bytes : Bytes) : Type 0 where
-  pub is : behind_schedule front (schedule_from (lines_of rest) n) ≡ read_schedule bytes
+  pub is : after_schedule front (schedule_from (lines_of rest) n) ≡ read_schedule bytes
 
 pub IsScheduleSoFar-start : (bytes : Bytes) → IsScheduleSoFar [] bytes 1 bytes
 unfolding read_schedule
 IsScheduleSoFar-start bytes = record { is = whole (schedule_from (lines_of bytes) 1) }
   where
-    whole : (read : Result Schedule ScheduleFault) → behind_schedule [] read ≡ read
+    whole : (read : Result Schedule ScheduleFault) → after_schedule [] read ≡ read
     whole (Ok schedule) = refl
     whole (Err fault) = refl
 
-module _ (front : Schedule) (rest line behind : Bytes) (n : ℕ) (bytes : Bytes) (split : lines_of rest ≡ line ∷ lines_of behind) (kept : IsScheduleSoFar front rest n bytes) where
-  at_line : (n ≡ 65537 → ⊥) → behind_schedule front (or_schedule_line n (turn_of line) (schedule_from (lines_of behind) (suc n))) ≡ read_schedule bytes
+module _ (front : Schedule) (rest line following : Bytes) (n : ℕ) (bytes : Bytes) (split : lines_of rest ≡ line ∷ lines_of following) (kept : IsScheduleSoFar front rest n bytes) where
+  at_line : (n ≡ 65537 → ⊥) → after_schedule front (or_schedule_line n (turn_of line) (schedule_from (lines_of following) (suc n))) ≡ read_schedule bytes
   at_line few =
       let t : eqb n 65537 ≡ false = ne_eqb n 65537 few in
-      let one : schedule_from (lines_of rest) n ≡ or_schedule_line n (turn_of line) (schedule_from (lines_of behind) (suc n)) =
+      let one : schedule_from (lines_of rest) n ≡ or_schedule_line n (turn_of line) (schedule_from (lines_of following) (suc n)) =
       ap (λ ls. schedule_from ls n) split ∙ rw t refl in
-      ap (behind_schedule front) (sym one) ∙ kept.is
+      ap (after_schedule front) (sym one) ∙ kept.is
 
-  pub IsScheduleSoFar-step : (turn : ℕ × ℕ) → (n ≡ 65537 → ⊥) → Some turn ≡ turn_of line → IsScheduleSoFar (front ++ turn ∷ []) behind (n + 1) bytes
+  pub IsScheduleSoFar-step : (turn : ℕ × ℕ) → (n ≡ 65537 → ⊥) → Some turn ≡ turn_of line → IsScheduleSoFar (front ++ turn ∷ []) following (n + 1) bytes
   IsScheduleSoFar-step turn few read =
       let next : n + 1 ≡ suc n = omega arith in
       record {
-        is = rw next (sym (onto_more front turn (schedule_from (lines_of behind) (suc n)))
-            ∙ ap (λ r. behind_schedule front (or_schedule_line n r (schedule_from (lines_of behind) (suc n)))) read ∙ at_line few);
+        is = rw next (sym (onto_more front turn (schedule_from (lines_of following) (suc n)))
+            ∙ ap (λ r. after_schedule front (or_schedule_line n r (schedule_from (lines_of following) (suc n)))) read ∙ at_line few);
       }
 
   pub IsScheduleSoFar-refused : (n ≡ 65537 → ⊥) → None ≡ turn_of line → read_schedule bytes ≡ Err (Line n)
   IsScheduleSoFar-refused few read =
-      sym (at_line few) ∙ ap (λ r. behind_schedule front (or_schedule_line n r (schedule_from (lines_of behind) (suc n)))) (sym read)
+      sym (at_line few) ∙ ap (λ r. after_schedule front (or_schedule_line n r (schedule_from (lines_of following) (suc n)))) (sym read)
 
   pub IsScheduleSoFar-full : n ≡ 65537 → read_schedule bytes ≡ Err (Line 65537)
   IsScheduleSoFar-full full =
       let t : eqb n 65537 ≡ true = eq-eqb n 65537 full in
       let one : schedule_from (lines_of rest) n ≡ Err (Line 65537) = ap (λ ls. schedule_from ls n) split ∙ rw t refl in
-      sym kept.is ∙ ap (behind_schedule front) one
+      sym kept.is ∙ ap (after_schedule front) one
 
 pub IsScheduleSoFar-end : (front : Schedule) (rest : Bytes) (n : ℕ) (bytes : Bytes) → lines_of rest ≡ [] → IsScheduleSoFar front rest n bytes → read_schedule bytes ≡ Ok front
 IsScheduleSoFar-end front rest n bytes none kept =
-    sym kept.is ∙ ap (λ ls. behind_schedule front (schedule_from ls n)) none ∙ ap (λ (s : Schedule). Ok s) (append-nil front)
+    sym kept.is ∙ ap (λ ls. after_schedule front (schedule_from ls n)) none ∙ ap (λ (s : Schedule). Ok s) (append-nil front)

@@ -3,7 +3,7 @@ use Rattle.std.specs.Prelude.{◌++◌, length, take, drop}
 use Rattle.std.specs.Borrow.{Array, Lends, MutBor, Fml, u8}
 use Rattle.pv_model.specs.Bytes.{Bytes}
 use Rattle.pv_script.specs.contracts.buffer.Buffer.{the_row as buffer_row}
-use Rattle.pv_script.specs.contracts.machine.Machine.{the_row}
+use Rattle.pv_script.specs.contracts.context.Context.{the_row}
 use Rattle.pv_script.specs.Context.{Context}
 
 -- a buffer with these bytes at its front, which stays as long
@@ -14,10 +14,10 @@ with_bytes buffer bytes = take (length buffer) (bytes ++ drop (length bytes) buf
 abbrev pub with_buffer : Context → Bytes → Context
 with_buffer m bytes = record m { buffer = with_bytes m.buffer bytes }
 
--- the buffer ends with the last bytes behind the result
+-- the buffer ends with the last bytes after the result
 abbrev pub LendsBytes : MutBor Bytes → MutBor Bytes → Fml
 LendsBytes b r = Lends buffer_row (Array u8 0) b r (with_bytes b.now)
 
--- the machine ends with the last bytes behind the result in its buffer
+-- the machine ends with the last bytes after the result in its buffer
 abbrev pub LendsBuffer : MutBor Context → MutBor Bytes → Fml
 LendsBuffer m r = Lends the_row (Array u8 0) m r (with_buffer m.now)

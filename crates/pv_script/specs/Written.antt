@@ -3,8 +3,8 @@ use Rattle.std.specs.Prelude.{◌≡◌, ◌≤◌, ◌-◌, ℕ, length, drop, 
 use Rattle.pv_model.specs.declared.limits.TheConstants.{BUFFER}
 use Rattle.pv_model.specs.Bytes.{Bytes}
 
--- the bytes are those of a buffer, and all behind the first `used` are zero
-pub record IsZeroBehind (bytes : Bytes) (used : ℕ) : Type 0 where
+-- the bytes are those of a buffer, and all after the first `used` are zero
+pub record IsZeroAfter (bytes : Bytes) (used : ℕ) : Type 0 where
   pub whole : length bytes ≡ BUFFER
   pub within : used ≤ BUFFER
-  pub behind : drop used bytes ≡ replicate (BUFFER - used) 0
+  pub following : drop used bytes ≡ replicate (BUFFER - used) 0

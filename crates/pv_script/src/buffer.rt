@@ -7,7 +7,7 @@ use pv_model::limits::BUFFER;
 use std::alloc::{AllocError, Global};
 use std::marker::Model;
 
-/// The 4,096 bytes of a process's buffer. Those behind the first `used` were never written, and are zero, so that a copy
+/// The 4,096 bytes of a process's buffer. Those after the first `used` were never written, and are zero, so that a copy
 /// need not copy them. A contract sees the bytes.
 #[derive(Drop)]
 pub(crate) struct Buffer {
@@ -20,11 +20,11 @@ impl Model for Buffer {
 
     ghost Value = { Bytes };
 
-    ghost use Rattle.pv_script.specs.Written.{IsZeroBehind};
+    ghost use Rattle.pv_script.specs.Written.{IsZeroAfter};
 
     ghost view = { λ b. b.bytes.items };
 
-    ghost invariant = { λ b. IsZeroBehind b.bytes.items b.used };
+    ghost invariant = { λ b. IsZeroAfter b.bytes.items b.used };
 }
 
 // Puts bytes to the front of others.

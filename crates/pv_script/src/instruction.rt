@@ -166,8 +166,8 @@ fn process_call(word: &[u8], rest: &[u8]) -> Option<Result<Instruction, What>>
         )| Instruction::Pledge(promises, execpromises)));
     }
     if is(word, b"unveil") {
-        return or_argument(two_texts_or_null(rest).map(|(path, letters)| Instruction::Unveil(
-            path, letters,
+        return or_argument(two_texts_or_null(rest).map(|(path, permissions)| Instruction::Unveil(
+            path, permissions,
         )));
     }
     if is(word, b"execve") {
@@ -264,7 +264,7 @@ fn path_call(word: &[u8], rest: &[u8]) -> Option<Result<Instruction, What>>
     None
 }
 
-// The instruction that a word and what stands behind it spell.
+// The instruction that a word and what stands after it spell.
 #[tactic(auto, unfolding(pv_model::specs::Grammar::Instructions::instruction_by))]
 fn by_word(lines: u16, word: &[u8], rest: &[u8]) -> Result<Instruction, What>
     ensures { result ≡ instruction_by lines word.now rest.now }
@@ -284,7 +284,7 @@ fn by_word(lines: u16, word: &[u8], rest: &[u8]) -> Result<Instruction, What>
 /// The instruction that a line spells, in a program of so many lines, of which at most 256 count.
 ///
 /// `Err(Word)` says that its first word is no name of an instruction, `Err(Argument)` that what stands
-/// behind it has not the form that the instruction wants, and `Err(Target)` that it is a jump to a line
+/// after it has not the form that the instruction wants, and `Err(Target)` that it is a jump to a line
 /// that the program has not.
 pub fn instruction(lines: u16, line: &[u8]) -> Result<Instruction, What>
     ensures { result ≡ instruction_of lines line.now }

@@ -2,19 +2,19 @@
 //!
 //! A text is read line by line, over the words and arguments of `pv_text`: `instruction` reads a line of a
 //! program, `program` a program and `schedule` a schedule. The readers answer exactly what the functions of
-//! `pv_model`'s grammar give. `machine` is the part of a process that its instructions change: the line that
+//! `pv_model`'s grammar give. `context` is the part of a process that its instructions change: the line that
 //! comes next, the registers and the buffer, of which `buffer` knows how many bytes may have been written.
 //! Contracts see a program and a schedule as their lists, and a machine as a `Context`.
 #![tactic(auto)]
 
 mod buffer;
 pub mod instruction;
-pub mod machine;
+pub mod context;
 pub mod program;
 pub mod schedule;
 pub mod texts;
 
-pub use machine::Machine;
+pub use context::Context;
 pub use program::Program;
 pub use schedule::Schedule;
 pub use texts::CallTexts;

@@ -11,7 +11,7 @@ use pv_text::lines::{count_lines, split_line};
 use std::alloc::Global;
 use std::marker::Model;
 
-// The line behind the last that a program may have, counted from 1.
+// The line after the last that a program may have, counted from 1.
 const TOO_MANY: u16 = LINES as u16 + 1;
 
 /// A program: at most 256 instructions. A contract sees their list.
@@ -54,7 +54,7 @@ impl Program {
         let mut lines = Vec::new(alloc);
         let mut rest = bytes;
         let mut line_number: u16 = 1;
-        while let Some((line, behind)) = split_line(rest) {
+        while let Some((line, following)) = split_line(rest) {
             if line_number == TOO_MANY {
                 return Err(ParseFault::Line(TOO_MANY, What::TooMany));
             }
@@ -63,7 +63,7 @@ impl Program {
                 Err(what) => return Err(ParseFault::Line(line_number, what)),
             }
             line_number += 1;
-            rest = behind;
+            rest = following;
         }
         Ok(Program { lines })
     }

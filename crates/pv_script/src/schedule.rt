@@ -8,7 +8,7 @@ ghost use Rattle.pv_text.specs.Reading.{Reads};
 
 use pv_model::ScheduleFault;
 use pv_model::limits::LAST_PROCESS;
-use pv_text::lines::{behind_one_space, split_line, split_word};
+use pv_text::lines::{after_one_space, split_line, split_word};
 use pv_text::words::decimal;
 use std::alloc::Global;
 use std::marker::Model;
@@ -55,7 +55,7 @@ fn count(bytes: &[u8]) -> Option<(u32, &[u8])>
 fn one_count(bytes: &[u8]) -> Option<u32>
     ensures { result ≡ one_argument (word_at count_of) bytes.now }
 {
-    let (first, rest) = count(behind_one_space(bytes)?)?;
+    let (first, rest) = count(after_one_space(bytes)?)?;
     if rest.is_empty() { Some(first) } else { None }
 }
 
@@ -72,7 +72,7 @@ fn turn(line: &[u8]) -> Option<(u32, u32)>
 }
 
 impl Schedule {
-    /// The schedule that a text spells: a line is a process's number, and behind a space how many steps it
+    /// The schedule that a text spells: a line is a process's number, and after a space how many steps it
     /// makes, one where none stands; each number is from 1 to 99,999.
     ///
     /// `Err(Line(n))` names the least line that is none, counted from 1, and the 65,537th where there are
@@ -84,7 +84,7 @@ impl Schedule {
         let mut turns = Vec::new(alloc);
         let mut rest = text;
         let mut line_number: u32 = 1;
-        while let Some((line, behind)) = split_line(rest) {
+        while let Some((line, following)) = split_line(rest) {
             if line_number == 65_537 {
                 return Err(ScheduleFault::Line(65_537));
             }
@@ -93,7 +93,7 @@ impl Schedule {
                 None => return Err(ScheduleFault::Line(line_number)),
             }
             line_number += 1;
-            rest = behind;
+            rest = following;
         }
         Ok(Schedule { turns })
     }

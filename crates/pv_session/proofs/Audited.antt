@@ -15,10 +15,10 @@ use Rattle.pv_model.specs.Sealed
 use Rattle.pv_model.specs.State.{State}
 use Rattle.pv_model.specs.Tree.{root, node_at}
 use Rattle.pv_model.specs.Walk.{resolve}
-use Rattle.pv_laws.specs.States.{IsWhole}
-use Rattle.pv_rights.proofs.Verdicts.{verdicts-exact}
-use Rattle.pv_runs.proofs.Ranges.{program_of-spells}
-use Rattle.pv_secrets.proofs.ForEver.{sealed-for_ever, frozen-for_ever}
+use Rattle.pv_laws_states.specs.States.{IsWhole}
+use Rattle.pv_laws_access.proofs.Verdicts.{verdicts-exact}
+use Rattle.pv_laws_runs.proofs.Ranges.{program_of-spells}
+use Rattle.pv_laws_secrecy.proofs.ForEver.{sealed-for_ever, frozen-for_ever}
 use Rattle.pv_session.specs.Audits.{node_there, node_named, IsSecret, IsUnchanging, KeepsSecret, KeepsSecretAt}
 
 module _ (s : State) (whole : IsWhole s) where

@@ -1,14 +1,14 @@
 -- Several steps inside a process, as a run.
 use Rattle.std.proofs.Common.{◌≡◌, ◌∙◌, ℕ, zero, suc, [], ap, sym, add-one, Some}
-use Rattle.pv_laws.proofs.Processes.{process_at-same, with_process-twice}
+use Rattle.pv_laws_states.proofs.Processes.{process_at-same, with_process-twice}
 use Rattle.pv_model.specs.Program.{inside, next}
 use Rattle.pv_model.specs.State.{Process, State, process_at, with_process}
 use Rattle.pv_model.specs.Step.{Run, Stepped}
-use Rattle.pv_parts.specs.Changes.{PassesInside}
+use Rattle.pv_calls_state.specs.Changes.{PassesInside}
 use Rattle.pv_script.specs.Passing.{Passes}
 use Rattle.pv_session.specs.Running.{turn}
 use Rattle.pv_session.proofs.Stepping.{step-inside}
-use Rattle.pv_session.proofs.Turns.{behind, one_step, single, turn_more}
+use Rattle.pv_session.proofs.Turns.{following, one_step, single, turn_more}
 
 -- a run without a line
 abbrev pub silent : State → Run
@@ -24,11 +24,11 @@ inside-more (suc n) s pid me after at made =
     let mid = with_process s pid made.0 in
     let before = inside-more n s pid me made.0 at made.1 in
     ap (turn s pid) (sym (add-one (suc n))) ∙ turn_more s mid pid (suc n) (sym (ap (λ (r : Run). r.final) before))
-    ∙ ap (λ r. behind r (one_step mid pid)) before
-    ∙ ap (λ r. behind (silent mid) r) (inside-one mid pid made.0 after (process_at-same s pid made.0) made.2)
+    ∙ ap (λ r. following r (one_step mid pid)) before
+    ∙ ap (λ r. following (silent mid) r) (inside-one mid pid made.0 after (process_at-same s pid made.0) made.2)
     ∙ ap silent (with_process-twice s pid made.0 after)
 
--- instructions inside a process that were made in one piece are a turn without a line
+-- instructions inside a process that were made at once are a turn without a line
 pub passed-is : (s new : State) (pid n : ℕ) → PassesInside n pid s new → turn s pid n ≡ silent new
 passed-is s new pid zero same = ap silent (sym same)
 passed-is s new pid (suc n) made = inside-more n s pid made.me made.after made.lives made.step ∙ ap silent (sym made.only)

@@ -1,7 +1,7 @@
 -- A step of the machine, by what is fetched and answered.
 use Rattle.std.proofs.Common.{◌≡◌, ◌∙◌, ℕ, ℤ, List, [], ap, sym, refl, Option, None, Some, Result, Ok, Err}
 use Rattle.std.specs.Prelude.{IfOk, OnOk}
-use Rattle.pv_parts.specs.Changes.{StepsInside}
+use Rattle.pv_calls_state.specs.Changes.{StepsInside}
 use Rattle.pv_calls.specs.Kernel.{Running}
 use Rattle.pv_model.specs.declared.kernel_fault.StepFault.{StepFault}
 use Rattle.pv_model.specs.declared.call.Call.{Call}
@@ -16,7 +16,7 @@ use Rattle.pv_model.specs.Step.{Stepped, step, step_of, step_by}
 use Rattle.pv_model.specs.Trace.{Line, buffer_of, call_lines, gone_lines, moved_words}
 use Rattle.pv_model.specs.Bytes.{Bytes}
 use Rattle.std.proofs.lemmas.List.{append-nil}
-use Rattle.pv_session.specs.Running.{BeginsLines, ToldLines, stepped}
+use Rattle.pv_session.specs.Running.{BeginsLines, WrittenLines, stepped}
 use Rattle.pv_session.proofs.Writes.{write-keeps}
 use Rattle.pv_trace.specs.Steps.{lines_by, moved_by}
 
@@ -90,7 +90,7 @@ module _ (s : State) (pid : ℕ) (call : Call) (new : Running) where
       → stepped s pid ≡ record { after = new.state; outcome = outcome; lines = lines_by pid (buffer_of (process_at new.state pid)) call outcome new.walks }
   called-is outcome fetched answered = step-called s pid fetched.0 call (record { after = new.state; outcome = outcome; walks = new.walks }) fetched.1 fetched.2 answered
 
-  -- its lines, by what the kernel tells behind it
+  -- its lines, by what the kernel tells after it
   pub called-lines : (outcome : Outcome) → Asks s pid call → answer program_of s pid call ≡ record { after = new.state; outcome = outcome; walks = new.walks }
       → (front : Bytes) (walks : ℕ) → front ≡ buffer_of (process_at new.state pid) → walks ≡ new.walks → lines_by pid front call outcome walks ≡ (stepped s pid).lines
   called-lines outcome fetched answered front walks buffer begun =
@@ -111,11 +111,11 @@ pub gone-lines : (s t : State) (pid : ℕ) → s ≡ t → process_at s pid ≡ 
 gone-lines s t pid same none = ap (λ x. (stepped x pid).lines) (sym same) ∙ ap (λ (x : Stepped). x.lines) (step-gone s pid none)
 
 -- nothing is told of no lines
-pub told-none : (told : Option Bytes) → ToldLines [] told told
-told-none None = refl
-told-none (Some had) = ap (λ (bs : Bytes). Some bs) (sym (append-nil had))
+pub written-none : (written : Option Bytes) → WrittenLines [] written written
+written-none None = refl
+written-none (Some had) = ap (λ (bs : Bytes). Some bs) (sym (append-nil had))
 
--- a sink that was told nothing more was told a beginning of any lines
-pub begins-none : (lines : List Line) (told : Option Bytes) → BeginsLines lines told told
+-- a sink that was written nothing more was told a beginning of any lines
+pub begins-none : (lines : List Line) (written : Option Bytes) → BeginsLines lines written written
 begins-none lines None = (0, refl)
 begins-none lines (Some had) = (0, ap (λ (bs : Bytes). Some bs) (sym (append-nil had)))

@@ -10,16 +10,16 @@ use Rattle.pv_model.specs.Step.{Run, Schedule, run, steps_of}
 use Rattle.pv_model.specs.Trace.{line_bytes, trace_bytes}
 use Rattle.pv_model.proofs.Runs.{run-append}
 use Rattle.pv_trace.specs.Streams.{and_all, TellsBeginning}
-use Rattle.pv_trace.proofs.Telling.{told_both, begins_first, begins_then}
-use Rattle.pv_session.specs.Running.{stepped, turn, run_of, run_of_first, ToldLines, BeginsLines}
+use Rattle.pv_trace.proofs.Telling.{written_both, begins_first, begins_then}
+use Rattle.pv_session.specs.Running.{stepped, turn, run_of, run_of_first, WrittenLines, BeginsLines}
 
 -- one copy more, at the end
 replicate_more : {X : Type 0} (n : ℕ) (x : X) → replicate (suc n) x ≡ replicate n x ++ x ∷ []
 replicate_more zero x = refl
 replicate_more (suc n) x = ap (λ xs. x ∷ xs) (replicate_more n x)
 
-abbrev pub behind : Run → Run → Run
-behind first next = record { lines = first.lines ++ next.lines; final = next.final }
+abbrev pub following : Run → Run → Run
+following first next = record { lines = first.lines ++ next.lines; final = next.final }
 
 abbrev pub one_step : State → ℕ → Run
 one_step s pid = record { lines = (stepped s pid).lines; final = (stepped s pid).after }
@@ -28,10 +28,10 @@ pub single : (s : State) (pid : ℕ) → run program_of (pid ∷ []) s ≡ one_s
 single s pid = ap (λ ls. let it : Run = record { lines = ls; final = (stepped s pid).after } in it) (append-nil (stepped s pid).lines)
 
 -- one step more of a process
-pub turn_more : (s mid : State) (pid n : ℕ) → mid ≡ (turn s pid n).final → turn s pid (n + 1) ≡ behind (turn s pid n) (one_step mid pid)
+pub turn_more : (s mid : State) (pid n : ℕ) → mid ≡ (turn s pid n).final → turn s pid (n + 1) ≡ following (turn s pid n) (one_step mid pid)
 turn_more s mid pid n at =
     ap (λ k. turn s pid k) (add-one n) ∙ ap (λ pids. run program_of pids s) (replicate_more n pid)
-    ∙ run-append program_of (replicate n pid) (pid ∷ []) s ∙ ap (λ r. behind (turn s pid n) r) (single (turn s pid n).final pid ∙ ap (λ m. one_step m pid) (sym at))
+    ∙ run-append program_of (replicate n pid) (pid ∷ []) s ∙ ap (λ r. following (turn s pid n) r) (single (turn s pid n).final pid ∙ ap (λ m. one_step m pid) (sym at))
 
 steps_more : (schedule : Schedule) (i : ℕ) → i < length schedule
     → steps_of (take (i + 1) schedule) ≡ steps_of (take i schedule) ++ replicate (get_or schedule i (0, 0)).1 (get_or schedule i (0, 0)).0
@@ -43,40 +43,40 @@ steps_more schedule i within =
 
 -- one turn more of a schedule
 pub schedule_more : (s mid : State) (schedule : Schedule) (i : ℕ) → i < length schedule → mid ≡ (run_of_first s i schedule).final
-    → run_of_first s (i + 1) schedule ≡ behind (run_of_first s i schedule) (turn mid (get_or schedule i (0, 0)).0 (get_or schedule i (0, 0)).1)
+    → run_of_first s (i + 1) schedule ≡ following (run_of_first s i schedule) (turn mid (get_or schedule i (0, 0)).0 (get_or schedule i (0, 0)).1)
 schedule_more s mid schedule i within at =
     let entry = get_or schedule i (0, 0) in
     ap (λ pids. run program_of pids s) (steps_more schedule i within)
     ∙ run-append program_of (steps_of (take i schedule)) (replicate entry.1 entry.0) s
-    ∙ ap (λ m. behind (run_of_first s i schedule) (turn m entry.0 entry.1)) (sym at)
+    ∙ ap (λ m. following (run_of_first s i schedule) (turn m entry.0 entry.1)) (sym at)
 
--- a run, and another behind it
+-- a run, and another after it
 module _ (first next : Run) where
-  text_of_both : trace_bytes (behind first next).lines ≡ trace_bytes first.lines ++ trace_bytes next.lines
+  text_of_both : trace_bytes (following first next).lines ≡ trace_bytes first.lines ++ trace_bytes next.lines
   text_of_both = flat_map-append line_bytes first.lines next.lines
 
-  -- what is told of a run is told of it and another behind it
-  pub told_behind : (before mid after : Option Bytes) → ToldLines first.lines before mid → ToldLines next.lines mid after → ToldLines (behind first next).lines before after
-  told_behind before mid after told more =
-      told_both (trace_bytes first.lines) (trace_bytes next.lines) before mid after told more ∙ ap (and_all before) (sym text_of_both)
+  -- what is told of a run is told of it and another after it
+  pub written_after : (before mid after : Option Bytes) → WrittenLines first.lines before mid → WrittenLines next.lines mid after → WrittenLines (following first next).lines before after
+  written_after before mid after written more =
+      written_both (trace_bytes first.lines) (trace_bytes next.lines) before mid after written more ∙ ap (and_all before) (sym text_of_both)
 
   -- a run that is told whole and a beginning of another are a beginning of both
-  pub begun_behind : (before mid after : Option Bytes) → ToldLines first.lines before mid → BeginsLines next.lines mid after → BeginsLines (behind first next).lines before after
-  begun_behind before mid after told begun =
-      subst (λ (bs : Bytes). TellsBeginning bs before after) (sym text_of_both) (begins_then (trace_bytes first.lines) (trace_bytes next.lines) before mid after told begun)
+  pub begun_after : (before mid after : Option Bytes) → WrittenLines first.lines before mid → BeginsLines next.lines mid after → BeginsLines (following first next).lines before after
+  begun_after before mid after written begun =
+      subst (λ (bs : Bytes). TellsBeginning bs before after) (sym text_of_both) (begins_then (trace_bytes first.lines) (trace_bytes next.lines) before mid after written begun)
 
-  -- a beginning of a run is one of it and another behind it
-  pub begun_before : (before after : Option Bytes) → BeginsLines first.lines before after → BeginsLines (behind first next).lines before after
+  -- a beginning of a run is one of it and another after it
+  pub begun_before : (before after : Option Bytes) → BeginsLines first.lines before after → BeginsLines (following first next).lines before after
   begun_before before after begun =
       subst (λ (bs : Bytes). TellsBeginning bs before after) (sym text_of_both) (begins_first (trace_bytes first.lines) (trace_bytes next.lines) before after begun)
 
 -- some steps of a process, and then others
-pub turn_then : (s mid : State) (pid n k : ℕ) → mid ≡ (turn s pid n).final → turn s pid (n + k) ≡ behind (turn s pid n) (turn mid pid k)
+pub turn_then : (s mid : State) (pid n k : ℕ) → mid ≡ (turn s pid n).final → turn s pid (n + k) ≡ following (turn s pid n) (turn mid pid k)
 turn_then s mid pid n k at =
     ap (λ pids. run program_of pids s) (sym (replicate-append-replicate n k pid))
-    ∙ run-append program_of (replicate n pid) (replicate k pid) s ∙ ap (λ m. behind (turn s pid n) (turn m pid k)) (sym at)
+    ∙ run-append program_of (replicate n pid) (replicate k pid) s ∙ ap (λ m. following (turn s pid n) (turn m pid k)) (sym at)
 
-pub turn_rest : (s : State) (pid n count : ℕ) → n ≤ count → turn s pid count ≡ behind (turn s pid n) (turn (turn s pid n).final pid (count - n))
+pub turn_rest : (s : State) (pid n count : ℕ) → n ≤ count → turn s pid count ≡ following (turn s pid n) (turn (turn s pid n).final pid (count - n))
 turn_rest s pid n count within =
     let all : count ≡ n + (count - n) = omega arith in
     ap (λ k. turn s pid k) all ∙ turn_then s (turn s pid n).final pid n (count - n) refl
@@ -91,12 +91,12 @@ turn_passed s mid new pid n k at after none =
     ∙ ap (λ t. let it : Run = record { lines = (turn s pid n).lines; final = t } in it) (sym after)
 
 -- some turns of a schedule, and then the others
-pub schedule_rest : (s : State) (schedule : Schedule) (n : ℕ) → run_of s schedule ≡ behind (run_of_first s n schedule) (run_of (run_of_first s n schedule).final (drop n schedule))
+pub schedule_rest : (s : State) (schedule : Schedule) (n : ℕ) → run_of s schedule ≡ following (run_of_first s n schedule) (run_of (run_of_first s n schedule).final (drop n schedule))
 schedule_rest s schedule n =
     ap (λ sch. run_of s sch) (sym (take-append-drop n schedule))
     ∙ ap (λ pids. run program_of pids s) (flat_map-append (λ e. replicate e.1 e.0) (take n schedule) (drop n schedule))
     ∙ run-append program_of (steps_of (take n schedule)) (steps_of (drop n schedule)) s
 
 -- the lines of both
-pub lines_behind : (first next : Run) (n m : ℕ) → n ≡ length first.lines → m ≡ length next.lines → n + m ≡ length (behind first next).lines
-lines_behind first next n m before more = ap (λ k. k + m) before ∙ ap (λ k. length first.lines + k) more ∙ sym (length-append first.lines next.lines)
+pub lines_after : (first next : Run) (n m : ℕ) → n ≡ length first.lines → m ≡ length next.lines → n + m ≡ length (following first next).lines
+lines_after first next n m before more = ap (λ k. k + m) before ∙ ap (λ k. length first.lines + k) more ∙ sym (length-append first.lines next.lines)

@@ -12,26 +12,26 @@ use Rattle.pv_model.specs.Calls.Processes.{with_result}
 use Rattle.pv_model.specs.Effect.{Effect, answers, returns, returns_bytes, ends, waits}
 use Rattle.pv_model.specs.State.{OpenFile, Program, Process, State, writes, process_at, with_process}
 use Rattle.pv_model.specs.Trace.{buffer_of}
-use Rattle.pv_laws.proofs.Attempts.{Leads, leads-demand, leads-refuse_if, leads-room}
-use Rattle.pv_laws.proofs.Outcomes.{at_call, by_answer}
-use Rattle.pv_laws.proofs.Processes.{process_at-same, update-is}
-use Rattle.pv_laws.proofs.Trim.{processes-trim}
+use Rattle.pv_laws_states.proofs.Attempts.{Leads, leads-demand, leads-refuse_if, leads-room}
+use Rattle.pv_laws_states.proofs.Outcomes.{at_call, by_answer}
+use Rattle.pv_laws_states.proofs.Processes.{process_at-same, update-is}
+use Rattle.pv_laws_states.proofs.Trim.{processes-trim}
 
 -- a write changes no process
 abbrev SameProcesses : State → Effect → Type 0
 SameProcesses s e = e.0.processes ≡ s.processes
 
 module _ (s : State) (pid : ℕ) (me : Process) where
-  written : (k : ℕ) (file : OpenFile) (count : ℕ) → (after_write s pid me k file count).processes ≡ s.processes
-  written k file zero = refl
-  written k file (suc n) = refl
+  as_written : (k : ℕ) (file : OpenFile) (count : ℕ) → (after_write s pid me k file count).processes ≡ s.processes
+  as_written k file zero = refl
+  as_written k file (suc n) = refl
 
   write-leads : (d n : ℤ) → Leads (SameProcesses s) (write s pid me d n)
   write-leads d n =
       leads-demand (SameProcesses s) EBADF (open_file_for s pid me writes d) _ (λ found is.
       leads-demand (SameProcesses s) EINVAL (within BUFFER n) _ (λ count fits.
       leads-refuse_if (SameProcesses s) EFBIG (is_past_greatest s.tree (write_end s pid me found.1 count)) _ (λ near.
-      leads-room (SameProcesses s) (after_write s pid me found.0 found.1 count) (λ roomy. answers roomy count) (λ long fit. written found.0 found.1 count))))
+      leads-room (SameProcesses s) (after_write s pid me found.0 found.1 count) (λ roomy. answers roomy count) (λ long fit. as_written found.0 found.1 count))))
 
 -- where a call answers a value, its process has this buffer
 abbrev KeepsBuffer : ℕ → Bytes → Answered → Type 0
@@ -40,10 +40,10 @@ KeepsBuffer pid buffer a = (n : ℕ) → a.outcome ≡ Value n → buffer_of (pr
 kept-by : (s t : State) (pid : ℕ) (me : Process) → process_at t pid ≡ Some me → (a : Attempt Effect) → Leads (SameProcesses t) a → KeepsBuffer pid me.buffer (answer_by_attempt s t pid me a)
 kept-by s t pid me at (done walks (after, returns v)) same = λ n is.
     let there : process_at after pid ≡ Some me = ap (λ rs. Rattle.pv_model.specs.State.live_process (Rattle.std.specs.FinMap.Entries.find Rattle.std.specs.Ordering.nat_cmp pid rs)) same ∙ at in
-    let told = with_result me (pos v) 0 in
+    let written = with_result me (pos v) 0 in
     ap (λ rs. buffer_of (Rattle.pv_model.specs.State.live_process (Rattle.std.specs.FinMap.Entries.find Rattle.std.specs.Ordering.nat_cmp pid rs)))
     (processes-trim (update after pid (λ p. with_result p (pos v) 0)) ∙ ap (λ (x : State). x.processes) (update-is after pid (λ p. with_result p (pos v) 0) me there))
-    ∙ ap buffer_of (process_at-same after pid told)
+    ∙ ap buffer_of (process_at-same after pid written)
 kept-by s t pid me at (done walks (after, returns_bytes v bytes)) same = λ n is. cc is
 kept-by s t pid me at (done walks (after, ends status)) same = λ n is. cc is
 kept-by s t pid me at (done walks (after, waits)) same = λ n is. cc is

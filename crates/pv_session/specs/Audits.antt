@@ -14,7 +14,7 @@ use Rattle.pv_model.specs.Step.{run}
 use Rattle.pv_model.specs.Touch.{file_bytes}
 use Rattle.pv_model.specs.Tree.{root}
 use Rattle.pv_model.specs.Walk.{resolve}
-use Rattle.pv_secrets.specs.Sealing.{IsLeftFrozen, TellsNothing}
+use Rattle.pv_laws_secrecy.specs.Sealing.{IsLeftFrozen, TellsNothing}
 
 abbrev pub node_there : Result Place Errno → Option ℕ
 node_there (Ok place) = node_of place

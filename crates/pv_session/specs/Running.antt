@@ -26,9 +26,9 @@ run_of_first s count schedule = run program_of (steps_of (take count schedule)) 
 abbrev pub run_of : State → Schedule → Run
 run_of s schedule = run program_of (steps_of schedule) s
 
--- the text of lines is told behind what was told before
-abbrev pub ToldLines : List Line → Option Bytes → Option Bytes → Type 0
-ToldLines lines before after = after ≡ and_all before (trace_bytes lines)
+-- the text of lines is told after what was written before
+abbrev pub WrittenLines : List Line → Option Bytes → Option Bytes → Type 0
+WrittenLines lines before after = after ≡ and_all before (trace_bytes lines)
 
 -- a beginning of the text of lines is told
 abbrev pub BeginsLines : List Line → Option Bytes → Option Bytes → Type 0

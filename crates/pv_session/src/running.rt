@@ -2,14 +2,14 @@
 ghost use Rattle.std.specs.Prelude.{◌≡◌, ◌*◌, ◌≤◌, length, IfOk, IfErr, OnOk, OnErr};
 ghost use Rattle.pv_model.specs.declared.limits.TheConstants.{SCHEDULE_LINES};
 ghost use Rattle.pv_model.specs.Step.{steps_of};
-ghost use Rattle.pv_session.specs.Running.{BeginsLines, FailsBy, ToldLines, stepped, turn, run_of};
+ghost use Rattle.pv_session.specs.Running.{BeginsLines, FailsBy, WrittenLines, stepped, turn, run_of};
 
 use crate::session::{Session, Stop};
 use pv_model::{Sink, StepFault};
 use std::alloc::Global;
 
 // Makes so many steps of a process and writes the lines of each before the next: answers how many. Those on registers
-// that follow one another are made in one piece.
+// that follow one another are made at once.
 fn run_turn<W: Sink>(
     alloc: Global,
     session: &mut Session,
@@ -18,22 +18,22 @@ fn run_turn<W: Sink>(
     trace: &mut W,
 ) -> Result<u64, Stop>
     ensures after { OnOk result (session.new ≡ (turn session.old pid count).final) }
-    ensures whole { OnOk result (ToldLines (turn session.old pid count).lines (W.told trace.old) (W.told trace.new)) }
+    ensures whole { OnOk result (WrittenLines (turn session.old pid count).lines (W.written trace.old) (W.written trace.new)) }
     ensures lines { IfOk result (λ n. n ≡ length (turn session.old pid count).lines) }
     ensures few { IfOk result (λ n. n ≤ 7 * count) }
-    ensures beginning { OnErr result (BeginsLines (turn session.old pid count).lines (W.told trace.old) (W.told trace.new)) }
+    ensures beginning { OnErr result (BeginsLines (turn session.old pid count).lines (W.written trace.old) (W.written trace.new)) }
     ensures failed { IfErr result (λ stop. FailsBy stop (W.failures trace.old) (W.failures trace.new)) }
     ensures quiet { OnOk result (W.failures trace.new ≡ W.failures trace.old) }
 {
     let mut lines = 0;
     let mut made = 0;
     while made < count {
-        let told = session.trace_step(alloc, pid, trace)?;
+        let written = session.trace_step(alloc, pid, trace)?;
         made += 1;
-        if told == 0 {
+        if written == 0 {
             made += session.pass(pid, count - made);
         }
-        lines += u64::from(told);
+        lines += u64::from(written);
     }
     Ok(lines)
 }
@@ -44,7 +44,7 @@ fn run_turn<W: Sink>(
 /// # Errors
 ///
 /// `Write` where a write failed, `Memory` where memory was refused for a step: no step was made after it, and the
-/// sink was told a beginning of the lines.
+/// sink was given a beginning of the lines.
 pub fn run_schedule<W: Sink>(
     alloc: Global,
     session: &mut Session,
@@ -53,9 +53,9 @@ pub fn run_schedule<W: Sink>(
 ) -> Result<u64, Stop>
     requires { length schedule.now ≤ SCHEDULE_LINES }
     ensures after { OnOk result (session.new ≡ (run_of session.old schedule.now).final) }
-    ensures whole { OnOk result (ToldLines (run_of session.old schedule.now).lines (W.told trace.old) (W.told trace.new)) }
+    ensures whole { OnOk result (WrittenLines (run_of session.old schedule.now).lines (W.written trace.old) (W.written trace.new)) }
     ensures lines { IfOk result (λ n. n ≡ length (run_of session.old schedule.now).lines) }
-    ensures beginning { OnErr result (BeginsLines (run_of session.old schedule.now).lines (W.told trace.old) (W.told trace.new)) }
+    ensures beginning { OnErr result (BeginsLines (run_of session.old schedule.now).lines (W.written trace.old) (W.written trace.new)) }
     ensures failed { IfErr result (λ stop. FailsBy stop (W.failures trace.old) (W.failures trace.new)) }
     ensures quiet { OnOk result (W.failures trace.new ≡ W.failures trace.old) }
 {
@@ -66,7 +66,7 @@ pub fn run_schedule<W: Sink>(
     Ok(lines)
 }
 
-// Makes so many steps of a process, whose lines nobody reads: those on registers that follow one another in one piece.
+// Makes so many steps of a process, whose lines nobody reads: those on registers that follow one another at once.
 fn pass_turn(alloc: Global, session: &mut Session, pid: u32, count: u32) -> Result<(), StepFault>
     ensures { OnOk result (session.new ≡ (turn session.old pid count).final) }
 {

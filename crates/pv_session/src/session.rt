@@ -1,6 +1,6 @@
 //! The machine, step by step.
 ghost use Rattle.std.specs.Prelude.{◌≡◌, ◌⊎◌, ◌<◌, ◌≤◌, IfOk, IfErr, IsTrue, OnOk, OnErr, Ok, Err, Some, [], length};
-ghost use Rattle.pv_laws.specs.States.{IsFirstTree, is_call};
+ghost use Rattle.pv_laws_states.specs.States.{IsFirstTree, is_call};
 ghost use Rattle.pv_model.specs.CallRef.{call_of};
 ghost use Rattle.pv_model.specs.declared.limits.TheConstants.{BUFFER};
 ghost use Rattle.pv_model.specs.Sealed.{audit as audit_by_definition, audit_node as audit_of};
@@ -10,15 +10,15 @@ ghost use Rattle.pv_model.specs.State.{process_at};
 ghost use Rattle.pv_procs.specs.Turns.{AwaitsCall, CallsNext};
 ghost use Rattle.pv_session.specs.Audits.{KeepsSecret, KeepsSecretAt};
 ghost use Rattle.pv_session.specs.declared.session.Stop.TheVariants.{Memory, Write};
-ghost use Rattle.pv_session.specs.Running.{BeginsLines, FailsBy, ToldLines, stepped, turn};
+ghost use Rattle.pv_session.specs.Running.{BeginsLines, FailsBy, WrittenLines, stepped, turn};
 
 use pv_audit::{audit, audit_node};
-use pv_cache::CachedLookup;
+use pv_namei::CachedLookup;
 use pv_calls::Kernel;
 use pv_model::{AuditFault, BootFault, CallRef, Failed, Outcome, Sink, StepFault, Verdict};
-use pv_procs::Ahead;
+use pv_procs::Fetched;
 use pv_script::CallTexts;
-use pv_trace::{Sheet, write_call_lines, write_gone_line};
+use pv_trace::{LineBuffer, write_call_lines, write_gone_line};
 use pv_tree::{Store, Tree};
 use std::alloc::Global;
 use std::marker::Model;
@@ -51,12 +51,12 @@ impl From<Failed> for Stop {
 /// The machine on a tree: its state, which `step` moves on.
 #[derive(Drop)]
 pub struct Session {
-    // It stands apart, as the sheet below, so that a session is small to move.
+    // It stands apart, as the line buffer below, so that a session is small to move.
     kernel: Box<Kernel<CachedLookup>>,
     // The texts of the call that was made last: those of each next one take their place.
     texts: CallTexts,
     // What the lines of a trace are made on.
-    sheet: Box<Sheet>,
+    line_buffer: Box<LineBuffer>,
 }
 
 impl Model for Session {
@@ -71,7 +71,7 @@ impl Model for Session {
 fn trace_call<W: Sink>(
     alloc: Global,
     kernel: &mut Kernel<CachedLookup>,
-    sheet: &mut Sheet,
+    line_buffer: &mut LineBuffer,
     pid: u32,
     call: CallRef<'_>,
     trace: &mut W,
@@ -79,17 +79,17 @@ fn trace_call<W: Sink>(
     requires next { CallsNext call (process_at kernel.old.state pid) }
     requires callable { IsTrue (is_call (call_of call)) }
     ensures after { OnOk result (kernel.new.state ≡ (stepped kernel.old.state pid).after) }
-    ensures whole { OnOk result (ToldLines (stepped kernel.old.state pid).lines (W.told trace.old) (W.told trace.new)) }
+    ensures whole { OnOk result (WrittenLines (stepped kernel.old.state pid).lines (W.written trace.old) (W.written trace.new)) }
     ensures lines { IfOk result (λ n. n ≡ length (stepped kernel.old.state pid).lines) }
     ensures few { IfOk result (λ n. n ≤ 7) }
-    ensures beginning { OnErr result (BeginsLines (stepped kernel.old.state pid).lines (W.told trace.old) (W.told trace.new)) }
+    ensures beginning { OnErr result (BeginsLines (stepped kernel.old.state pid).lines (W.written trace.old) (W.written trace.new)) }
     ensures failed { IfErr result (λ stop. FailsBy stop (W.failures trace.old) (W.failures trace.new)) }
     ensures quiet { OnOk result (W.failures trace.new ≡ W.failures trace.old) }
 {
     let outcome = kernel.call(alloc, pid, call)?;
     let front = kernel.buffer(pid);
     let walks = kernel.walks();
-    Ok(write_call_lines(trace, sheet, pid, front, call, outcome, walks)?)
+    Ok(write_call_lines(trace, line_buffer, pid, front, call, outcome, walks)?)
 }
 
 impl Session {
@@ -104,12 +104,12 @@ impl Session {
         ensures booted { IfOk result (λ session. booted store ≡ Ok session) }
         ensures refused { IfErr result (λ fault. (fault ≡ BootFault.Memory) ⊎ (booted store ≡ Err fault)) }
     {
-        let sheet = Box::new(alloc, Sheet::new())?;
+        let line_buffer = Box::new(alloc, LineBuffer::new())?;
         match Kernel::boot(alloc, store) {
             Ok(kernel) => Ok(Session {
                 kernel: Box::new(alloc, kernel)?,
                 texts: CallTexts::new(),
-                sheet,
+                line_buffer,
             }),
             Err(fault) => Err(fault),
         }
@@ -127,10 +127,10 @@ impl Session {
         ensures unchanged { OnErr result (self.new ≡ self.old) }
     {
         let kernel = &mut *self.kernel;
-        match kernel.ahead(pid, &mut self.texts) {
-            Ahead::Gone => Ok(Outcome::Gone),
-            Ahead::Register => Ok(Outcome::Value(0)),
-            Ahead::Call(call) => kernel.call(alloc, pid, call),
+        match kernel.step_or_fetch(pid, &mut self.texts) {
+            Fetched::Gone => Ok(Outcome::Gone),
+            Fetched::Register => Ok(Outcome::Value(0)),
+            Fetched::Call(call) => kernel.call(alloc, pid, call),
         }
     }
 
@@ -196,7 +196,7 @@ impl Session {
     /// # Errors
     ///
     /// `Memory` where memory was refused for the step, which was then not made, and nothing was written; `Write`
-    /// where a write failed: the sink was told a beginning of the lines.
+    /// where a write failed: the sink was given a beginning of the lines.
     pub fn trace_step<W: Sink>(
         &mut self,
         alloc: Global,
@@ -204,21 +204,21 @@ impl Session {
         trace: &mut W,
     ) -> Result<u8, Stop>
         ensures after { OnOk result (self.new ≡ (stepped self.old pid).after) }
-        ensures whole { OnOk result (ToldLines (stepped self.old pid).lines (W.told trace.old) (W.told trace.new)) }
+        ensures whole { OnOk result (WrittenLines (stepped self.old pid).lines (W.written trace.old) (W.written trace.new)) }
         ensures lines { IfOk result (λ n. n ≡ length (stepped self.old pid).lines) }
         ensures few { IfOk result (λ n. n ≤ 7) }
-        ensures beginning { OnErr result (BeginsLines (stepped self.old pid).lines (W.told trace.old) (W.told trace.new)) }
+        ensures beginning { OnErr result (BeginsLines (stepped self.old pid).lines (W.written trace.old) (W.written trace.new)) }
         ensures failed { IfErr result (λ stop. FailsBy stop (W.failures trace.old) (W.failures trace.new)) }
         ensures quiet { OnOk result (W.failures trace.new ≡ W.failures trace.old) }
     {
         let kernel = &mut *self.kernel;
-        match kernel.ahead(pid, &mut self.texts) {
-            Ahead::Gone => {
-                write_gone_line(trace, &mut *self.sheet, pid)?;
+        match kernel.step_or_fetch(pid, &mut self.texts) {
+            Fetched::Gone => {
+                write_gone_line(trace, &mut *self.line_buffer, pid)?;
                 Ok(1)
             }
-            Ahead::Register => Ok(0),
-            Ahead::Call(call) => trace_call(alloc, kernel, &mut *self.sheet, pid, call, trace),
+            Fetched::Register => Ok(0),
+            Fetched::Call(call) => trace_call(alloc, kernel, &mut *self.line_buffer, pid, call, trace),
         }
     }
 }

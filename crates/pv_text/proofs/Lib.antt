@@ -1,3 +1,3 @@
-pub mod FirstPieces
+pub mod FirstComponents
 pub mod TextLines
 pub mod WordsAndTexts

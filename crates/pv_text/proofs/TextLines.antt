@@ -9,7 +9,7 @@ use Rattle.std.proofs.lemmas.List.Quantifiers.{position-Some}
 use Rattle.std.proofs.lemmas.List.Sums.{fails_before_first, prefix_len-le-length}
 use Rattle.memchr.specs.Find.{IsFirstByte}
 use Rattle.pv_model.specs.Bytes.{Bytes, onto_first}
-use Rattle.pv_model.specs.Grammar.Lines.{lines_of, word_of, behind_word}
+use Rattle.pv_model.specs.Grammar.Lines.{lines_of, word_of, after_word}
 use Rattle.pv_text.specs.Lines.{IsSplit}
 
 -- the first place that passes, or the length, is at most the length
@@ -77,8 +77,8 @@ first_line b (c ∷ bs) =
 onto_word : (b : ℕ) (bs word : Bytes) (end : ℕ) → word ≡ take end bs → b ∷ word ≡ take (1 + end) (b ∷ bs)
 onto_word b bs word end h = let one_more : 1 + end ≡ suc end = omega arith in rw (h, one_more) refl
 
-past_word : (b : ℕ) (bs behind : Bytes) (end : ℕ) → behind ≡ drop end bs → behind ≡ drop (1 + end) (b ∷ bs)
-past_word b bs behind end h = let one_more : 1 + end ≡ suc end = omega arith in rw (h, one_more) refl
+past_word : (b : ℕ) (bs following : Bytes) (end : ℕ) → following ≡ drop end bs → following ≡ drop (1 + end) (b ∷ bs)
+past_word b bs following end h = let one_more : 1 + end ≡ suc end = omega arith in rw (h, one_more) refl
 
 pub word_is : (bs : Bytes) → word_of bs ≡ take (end_of_word bs) bs
 word_is [] = refl
@@ -88,12 +88,12 @@ word_is (b ∷ bs) =
       | false ↦ onto_word b bs (word_of bs) (end_of_word bs) (word_is bs)
     ]
 
-pub behind_word_is : (bs : Bytes) → behind_word bs ≡ drop (end_of_word bs) bs
-behind_word_is [] = refl
-behind_word_is (b ∷ bs) =
-    elim (b == 32) as (λ t. cond t (b ∷ bs) (behind_word bs) ≡ drop (cond (not t) (1 + end_of_word bs) 0) (b ∷ bs)) [
+pub after_word_is : (bs : Bytes) → after_word bs ≡ drop (end_of_word bs) bs
+after_word_is [] = refl
+after_word_is (b ∷ bs) =
+    elim (b == 32) as (λ t. cond t (b ∷ bs) (after_word bs) ≡ drop (cond (not t) (1 + end_of_word bs) 0) (b ∷ bs)) [
       | true ↦ refl
-      | false ↦ past_word b bs (behind_word bs) (end_of_word bs) (behind_word_is bs)
+      | false ↦ past_word b bs (after_word bs) (end_of_word bs) (after_word_is bs)
     ]
 
 -- a text that is split where its first line ends
@@ -102,7 +102,7 @@ lines_split [] line rest end some is front back = absurd cc
 lines_split (b ∷ bs) line rest end some is front back =
     rw (front, back, is) (first_line b bs ∙ ap (λ d. take (end_of_line (b ∷ bs)) (b ∷ bs) ∷ lines_of d) (sym (drop-drop 1 (end_of_line (b ∷ bs)) (b ∷ bs))))
 
--- the text behind a line: past its end, or none
+-- the text after a line: past its end, or none
 pub lines_past : (bs line rest : Bytes) (end : ℕ) → eqb (length bs) 0 ≡ false → end ≡ end_of_line bs → line ≡ take end bs → rest ≡ drop end bs → lines_of bs ≡ line ∷ lines_of (take (length rest - 1) (drop 1 rest))
 lines_past bs line rest end some is front back =
     lines_split bs line rest end some is front back ∙ ap (λ d. line ∷ lines_of d) (sym (take_all (length rest - 1) (drop 1 rest) (omega (arith, length-drop 1 rest))))
@@ -111,7 +111,7 @@ pub lines_to_end : (bs line rest : Bytes) (end : ℕ) → eqb (length bs) 0 ≡ 
 lines_to_end bs line [] end some is front back short = lines_split bs line [] end some is front back
 lines_to_end bs line (b ∷ rest) end some is front back short = absurd (omega arith)
 
--- ---- the bytes that are left behind a line
+-- ---- the bytes that are left after a line
 
 abbrev EndsAt : ℕ → Bytes → Type 0
 EndsAt end bs = end < length bs → bs ≡ take end bs ++ 10 ∷ drop (end + 1) bs

@@ -9,7 +9,7 @@ use Rattle.std.proofs.lemmas.List.Sums.{fails_before_first}
 use Rattle.std.specs.Cmp.Lexicographic.{pointwise}
 use Rattle.pv_model.specs.declared.open_flags.OpenFlags.{OpenFlags}
 use Rattle.pv_model.specs.Bytes.{Bytes, is_empty}
-use Rattle.pv_model.specs.Grammar.Arguments.{Parsed, outside, behind_backslash, behind_x, hex_value, first_digit, onto_text, if_short, text_rest, in_range, negative_of, number_of, without_front, if_nothing_left}
+use Rattle.pv_model.specs.Grammar.Arguments.{Parsed, outside, after_backslash, after_x, hex_value, first_digit, onto_text, if_short, text_rest, in_range, negative_of, number_of, without_front, if_nothing_left}
 use Rattle.pv_model.specs.Trace.{is_plain}
 use Rattle.pv_model.specs.Grammar.Lines.{value_from, is_digit, is_decimal, decimal_of, has_leading_zero}
 use Rattle.pv_text.proofs.TextLines.{position_or_len-within}
@@ -20,10 +20,10 @@ no_first_digit None = refl
 no_first_digit (Some high) = refl
 
 -- what is too short for an escape is none
-pub short_escape : (bs : Bytes) → length bs < 3 → text_rest bs behind_backslash ≡ None
+pub short_escape : (bs : Bytes) → length bs < 3 → text_rest bs after_backslash ≡ None
 short_escape [] short = refl
-short_escape (a ∷ []) short = elim (a == 120) as (λ t. cond t (text_rest [] behind_x) None ≡ None) [ true ↦ refl | false ↦ refl ]
-short_escape (a ∷ b ∷ []) short = elim (a == 120) as (λ t. cond t (text_rest (b ∷ []) behind_x) None ≡ None) [ true ↦ no_first_digit (hex_value b) | false ↦ refl ]
+short_escape (a ∷ []) short = elim (a == 120) as (λ t. cond t (text_rest [] after_x) None ≡ None) [ true ↦ refl | false ↦ refl ]
+short_escape (a ∷ b ∷ []) short = elim (a == 120) as (λ t. cond t (text_rest (b ∷ []) after_x) None ≡ None) [ true ↦ no_first_digit (hex_value b) | false ↦ refl ]
 short_escape (a ∷ b ∷ c ∷ bs) short = absurd (omega arith)
 
 onto_more : (front : Bytes) (b : ℕ) (parsed : Parsed Bytes) → onto_front front (onto_text b parsed) ≡ onto_front (front ++ b ∷ []) parsed
@@ -45,7 +45,7 @@ plain_step : (b : ℕ) (bs : Bytes) → is_plain b ≡ true → text_rest (b ∷
 plain_step b bs plain = go (b == 34) (b == 92) (is_plain b) (nat_le 32 b && nat_le b 126) refl plain
   where
     go : (quote slash is front : Bool) → is ≡ (front && not quote && not slash) → is ≡ true
-        → cond quote (Some ([], bs)) (cond slash (text_rest bs behind_backslash) (cond is (onto_text b (text_rest bs outside)) None)) ≡ onto_text b (text_rest bs outside)
+        → cond quote (Some ([], bs)) (cond slash (text_rest bs after_backslash) (cond is (onto_text b (text_rest bs outside)) None)) ≡ onto_text b (text_rest bs outside)
     go false false true front same t = refl
     go false true true true same t = absurd cc
     go false true true false same t = absurd cc
@@ -93,10 +93,10 @@ too_long front (Some p) long = let t : leb (length (front ++ p.0)) 1100 ≡ fals
 pub IsFront-long : (front rest bytes : Bytes) → 1100 < length front → IsFront front rest bytes → if_short (text_rest bytes outside) ≡ None
 IsFront-long front rest bytes long kept = ap if_short (sym kept) ∙ too_long front (text_rest rest outside) long
 
-pub IsFront-ended : (front rest bytes behind : Bytes) → text_rest rest outside ≡ text_end rest → text_end rest ≡ Some ([], behind) → length front ≤ 1100 → IsFront front rest bytes → if_short (text_rest bytes outside) ≡ Some (front, behind)
-IsFront-ended front rest bytes behind read ended short kept =
+pub IsFront-ended : (front rest bytes following : Bytes) → text_rest rest outside ≡ text_end rest → text_end rest ≡ Some ([], following) → length front ≤ 1100 → IsFront front rest bytes → if_short (text_rest bytes outside) ≡ Some (front, following)
+IsFront-ended front rest bytes following read ended short kept =
     let t : leb (length front) 1100 ≡ true = le-leb _ _ short in
-    ap if_short (sym kept ∙ ap (onto_front front) (read ∙ ended) ∙ ap (λ (text : Bytes). Some (text, behind)) (append-nil front)) ∙ rw t refl
+    ap if_short (sym kept ∙ ap (onto_front front) (read ∙ ended) ∙ ap (λ (text : Bytes). Some (text, following)) (append-nil front)) ∙ rw t refl
 
 pub IsFront-none : (front rest bytes : Bytes) → text_rest rest outside ≡ text_end rest → text_end rest ≡ None → IsFront front rest bytes → if_short (text_rest bytes outside) ≡ None
 IsFront-none front rest bytes read none kept = ap if_short (sym kept ∙ ap (onto_front front) (read ∙ none))
@@ -176,7 +176,7 @@ negative_is (b ∷ bs) n minus is some within =
 
 -- ---- flags
 
--- what stands behind a front, by one comparison
+-- what stands after a front, by one comparison
 pub front_is : (front bs : Bytes) → without_front front bs ≡ cond (pointwise eqb (take (length front) bs) front) (Some (drop (length front) bs)) None
 front_is [] bs = refl
 front_is (a ∷ front) [] = refl

@@ -5,7 +5,7 @@ use Rattle.pv_model.specs.Bytes.{Bytes}
 use Rattle.pv_model.specs.Grammar.Arguments.{Parsed, outside, text_rest}
 use Rattle.pv_model.specs.Grammar.Lines.{decimal_of}
 
--- a value and the bytes behind it are what was to be read, or nothing was to be read
+-- a value and the bytes after it are what was to be read, or nothing was to be read
 abbrev pub Reads : {A : Type 0} → Option (A × Bor Bytes) → Parsed A → Type 0
 Reads None parsed = parsed ≡ None
 Reads (Some p) parsed = parsed ≡ Some (p.0, p.1.now)

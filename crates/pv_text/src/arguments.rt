@@ -1,9 +1,9 @@
-//! The arguments of a line: each stands behind a space, and nothing stands behind the last.
+//! The arguments of a line: each stands after a space, and nothing stands after the last.
 ghost use Rattle.std.specs.Prelude.{◌≡◌};
 ghost use Rattle.pv_model.specs.Grammar.Arguments.{text_at, text_or_null_at, operand_at, register_at, number_at, whence_at, origin_at, flags_at, word_at, no_argument, one_argument, two_arguments, three_arguments};
 ghost use Rattle.pv_text.specs.Reading.{held_of};
 
-use crate::lines::behind_one_space;
+use crate::lines::after_one_space;
 use crate::texts::{text, text_or_null};
 use crate::words::{flags, number, operand, origin, register, size, whence};
 use pv_model::{OpenFlags, Operand, Origin, Register, Text, Whence};
@@ -19,7 +19,7 @@ pub fn no_argument(bytes: &[u8]) -> Option<()>
 pub fn one_operand(bytes: &[u8]) -> Option<Operand>
     ensures { result ≡ one_argument operand_at bytes.now }
 {
-    let Some((operand, rest)) = operand(behind_one_space(bytes)?) else {
+    let Some((operand, rest)) = operand(after_one_space(bytes)?) else {
         return None;
     };
     if rest.is_empty() { Some(operand) } else { None }
@@ -29,7 +29,7 @@ pub fn one_operand(bytes: &[u8]) -> Option<Operand>
 pub fn two_operands(bytes: &[u8]) -> Option<(Operand, Operand)>
     ensures { result ≡ two_arguments operand_at operand_at bytes.now }
 {
-    let Some((first, rest)) = operand(behind_one_space(bytes)?) else {
+    let Some((first, rest)) = operand(after_one_space(bytes)?) else {
         return None;
     };
     let second = one_operand(rest)?;
@@ -40,7 +40,7 @@ pub fn two_operands(bytes: &[u8]) -> Option<(Operand, Operand)>
 pub fn one_number(bytes: &[u8]) -> Option<i32>
     ensures { result ≡ one_argument number_at bytes.now }
 {
-    let (number, rest) = number(behind_one_space(bytes)?)?;
+    let (number, rest) = number(after_one_space(bytes)?)?;
     if rest.is_empty() { Some(number) } else { None }
 }
 
@@ -48,7 +48,7 @@ pub fn one_number(bytes: &[u8]) -> Option<i32>
 pub fn register_and_number(bytes: &[u8]) -> Option<(Register, i32)>
     ensures { result ≡ two_arguments register_at number_at bytes.now }
 {
-    let Some((first, rest)) = register(behind_one_space(bytes)?) else {
+    let Some((first, rest)) = register(after_one_space(bytes)?) else {
         return None;
     };
     let second = one_number(rest)?;
@@ -59,7 +59,7 @@ pub fn register_and_number(bytes: &[u8]) -> Option<(Register, i32)>
 fn one_whence(bytes: &[u8]) -> Option<Whence>
     ensures { result ≡ one_argument whence_at bytes.now }
 {
-    let (first, rest) = whence(behind_one_space(bytes)?)?;
+    let (first, rest) = whence(after_one_space(bytes)?)?;
     if rest.is_empty() { Some(first) } else { None }
 }
 
@@ -67,7 +67,7 @@ fn one_whence(bytes: &[u8]) -> Option<Whence>
 fn operand_and_whence(bytes: &[u8]) -> Option<(Operand, Whence)>
     ensures { result ≡ two_arguments operand_at whence_at bytes.now }
 {
-    let Some((first, rest)) = operand(behind_one_space(bytes)?) else {
+    let Some((first, rest)) = operand(after_one_space(bytes)?) else {
         return None;
     };
     let second = one_whence(rest)?;
@@ -78,7 +78,7 @@ fn operand_and_whence(bytes: &[u8]) -> Option<(Operand, Whence)>
 pub fn two_operands_and_whence(bytes: &[u8]) -> Option<(Operand, Operand, Whence)>
     ensures { result ≡ three_arguments operand_at operand_at whence_at bytes.now }
 {
-    let Some((first, rest)) = operand(behind_one_space(bytes)?) else {
+    let Some((first, rest)) = operand(after_one_space(bytes)?) else {
         return None;
     };
     let (second, third) = operand_and_whence(rest)?;
@@ -89,7 +89,7 @@ pub fn two_operands_and_whence(bytes: &[u8]) -> Option<(Operand, Operand, Whence
 pub fn one_text(bytes: &[u8]) -> Option<Text>
     ensures { result ≡ one_argument text_at bytes.now }
 {
-    let (text, rest) = text(behind_one_space(bytes)?)?;
+    let (text, rest) = text(after_one_space(bytes)?)?;
     if rest.is_empty() { Some(text) } else { None }
 }
 
@@ -97,7 +97,7 @@ pub fn one_text(bytes: &[u8]) -> Option<Text>
 pub fn two_texts(bytes: &[u8]) -> Option<(Text, Text)>
     ensures { result ≡ two_arguments text_at text_at bytes.now }
 {
-    let (first, rest) = text(behind_one_space(bytes)?)?;
+    let (first, rest) = text(after_one_space(bytes)?)?;
     let second = one_text(rest)?;
     Some((first, second))
 }
@@ -106,7 +106,7 @@ pub fn two_texts(bytes: &[u8]) -> Option<(Text, Text)>
 fn one_text_or_null(bytes: &[u8]) -> Option<Option<Text>>
     ensures { result ≡ one_argument text_or_null_at bytes.now }
 {
-    let (first, rest) = text_or_null(behind_one_space(bytes)?)?;
+    let (first, rest) = text_or_null(after_one_space(bytes)?)?;
     if rest.is_empty() { Some(first) } else { None }
 }
 
@@ -114,7 +114,7 @@ fn one_text_or_null(bytes: &[u8]) -> Option<Option<Text>>
 pub fn two_texts_or_null(bytes: &[u8]) -> Option<(Option<Text>, Option<Text>)>
     ensures { result ≡ two_arguments text_or_null_at text_or_null_at bytes.now }
 {
-    let (first, rest) = text_or_null(behind_one_space(bytes)?)?;
+    let (first, rest) = text_or_null(after_one_space(bytes)?)?;
     let second = one_text_or_null(rest)?;
     Some((first, second))
 }
@@ -123,7 +123,7 @@ pub fn two_texts_or_null(bytes: &[u8]) -> Option<(Option<Text>, Option<Text>)>
 fn one_flags(bytes: &[u8]) -> Option<OpenFlags>
     ensures { result ≡ one_argument flags_at bytes.now }
 {
-    let (first, rest) = flags(behind_one_space(bytes)?)?;
+    let (first, rest) = flags(after_one_space(bytes)?)?;
     if rest.is_empty() { Some(first) } else { None }
 }
 
@@ -131,7 +131,7 @@ fn one_flags(bytes: &[u8]) -> Option<OpenFlags>
 pub fn text_and_flags(bytes: &[u8]) -> Option<(Text, OpenFlags)>
     ensures { result ≡ two_arguments text_at flags_at bytes.now }
 {
-    let (first, rest) = text(behind_one_space(bytes)?)?;
+    let (first, rest) = text(after_one_space(bytes)?)?;
     let second = one_flags(rest)?;
     Some((first, second))
 }
@@ -140,7 +140,7 @@ pub fn text_and_flags(bytes: &[u8]) -> Option<(Text, OpenFlags)>
 pub fn origin_text_and_flags(bytes: &[u8]) -> Option<(Origin, Text, OpenFlags)>
     ensures { result ≡ three_arguments origin_at text_at flags_at bytes.now }
 {
-    let Some((first, rest)) = origin(behind_one_space(bytes)?) else {
+    let Some((first, rest)) = origin(after_one_space(bytes)?) else {
         return None;
     };
     let (second, third) = text_and_flags(rest)?;
@@ -151,7 +151,7 @@ pub fn origin_text_and_flags(bytes: &[u8]) -> Option<(Origin, Text, OpenFlags)>
 fn one_size(bytes: &[u8]) -> Option<u32>
     ensures { result ≡ one_argument (word_at held_of) bytes.now }
 {
-    let (first, rest) = size(behind_one_space(bytes)?)?;
+    let (first, rest) = size(after_one_space(bytes)?)?;
     if rest.is_empty() { Some(first) } else { None }
 }
 
@@ -160,7 +160,7 @@ fn one_size(bytes: &[u8]) -> Option<u32>
 pub fn two_sizes(bytes: &[u8]) -> Option<(u32, u32)>
     ensures { result ≡ two_arguments (word_at held_of) (word_at held_of) bytes.now }
 {
-    let (first, rest) = size(behind_one_space(bytes)?)?;
+    let (first, rest) = size(after_one_space(bytes)?)?;
     let second = one_size(rest)?;
     Some((first, second))
 }
@@ -170,7 +170,7 @@ pub fn two_sizes(bytes: &[u8]) -> Option<(u32, u32)>
 pub fn text_and_size(bytes: &[u8]) -> Option<(Text, u32)>
     ensures { result ≡ two_arguments text_at (word_at held_of) bytes.now }
 {
-    let (text, rest) = text(behind_one_space(bytes)?)?;
+    let (text, rest) = text(after_one_space(bytes)?)?;
     let size = one_size(rest)?;
     Some((text, size))
 }

@@ -1,7 +1,7 @@
 //! Lines of a text, and the words of a line.
 ghost use Rattle.std.specs.Prelude.{◌≡◌, ◌+◌, ◌<◌, ◌≤◌, ◌==◌, ◌∷◌, [], min, length, MatchOption, IfSome, Option, option_map};
 ghost use Rattle.std.specs.List.{position, position_or_len};
-ghost use Rattle.pv_model.specs.Grammar.Lines.{lines_of, word_of, behind_word, behind_space};
+ghost use Rattle.pv_model.specs.Grammar.Lines.{lines_of, word_of, after_word, after_space};
 ghost use Rattle.pv_text.specs.Lines.{IsSplit};
 
 use memchr::memchr;
@@ -21,9 +21,9 @@ pub fn first_of(bytes: &[u8], byte: u8) -> usize
     position_of(bytes, byte).unwrap_or(bytes.len())
 }
 
-/// The first line of a text, without its end, and the text behind it; nothing of an empty text.
+/// The first line of a text, without its end, and the text after it; nothing of an empty text.
 ///
-/// An LF ends each line but the last, where it may be missing: then nothing stands behind it.
+/// An LF ends each line but the last, where it may be missing: then nothing stands after it.
 pub fn split_line(text: &[u8]) -> Option<(&[u8], &[u8])>
     ensures lines { MatchOption result (lines_of text.now ≡ []) (λ p. lines_of text.now ≡ p.0.now ∷ lines_of p.1.now) }
     ensures bytes { IfSome result (λ p. IsSplit text.now p.0.now p.1.now) }
@@ -34,7 +34,7 @@ pub fn split_line(text: &[u8]) -> Option<(&[u8], &[u8])>
     }
     let (line, rest) = text.split_at(first_of(text, b'\n'));
     match rest {
-        [_, behind @ ..] => Some((line, behind)),
+        [_, following @ ..] => Some((line, following)),
         [] => Some((line, rest)),
     }
 }
@@ -42,14 +42,14 @@ pub fn split_line(text: &[u8]) -> Option<(&[u8], &[u8])>
 /// The first word of a line, and what stands from the first space on.
 pub fn split_word(line: &[u8]) -> (&[u8], &[u8])
     ensures word { result.0.now ≡ word_of line.now }
-    ensures behind { result.1.now ≡ behind_word line.now }
+    ensures following { result.1.now ≡ after_word line.now }
 {
     line.split_at(first_of(line, b' '))
 }
 
-/// What stands behind a space, if the bytes begin with one.
-pub fn behind_one_space(bytes: &[u8]) -> Option<&[u8]>
-    ensures { option_map (λ r. r.now) result ≡ behind_space bytes.now }
+/// What stands after a space, if the bytes begin with one.
+pub fn after_one_space(bytes: &[u8]) -> Option<&[u8]>
+    ensures { option_map (λ r. r.now) result ≡ after_space bytes.now }
 {
     match bytes {
         [b' ', rest @ ..] => Some(rest),
@@ -63,10 +63,10 @@ pub fn count_lines(text: &[u8], limit: u16) -> u16
 {
     let mut rest = text;
     for count in 0..limit {
-        let Some((_, behind)) = split_line(rest) else {
+        let Some((_, following)) = split_line(rest) else {
             return count;
         };
-        rest = behind;
+        rest = following;
     }
     limit
 }

@@ -1,6 +1,6 @@
 //! Texts in quotation marks.
 ghost use Rattle.std.specs.Prelude.{◌≡◌, ◌<◌, length, not, position, None, MatchOption, IfSome};
-ghost use Rattle.pv_model.specs.Grammar.Arguments.{text_at, text_or_null_at, hex_value, text_rest, if_short, onto_text, outside, behind_backslash};
+ghost use Rattle.pv_model.specs.Grammar.Arguments.{text_at, text_or_null_at, hex_value, text_rest, if_short, onto_text, outside, after_backslash};
 ghost use Rattle.pv_model.specs.Trace.{is_plain as stands_for_itself};
 ghost use Rattle.pv_text.specs.Reading.{IsFront, Reads, text_end};
 
@@ -20,9 +20,9 @@ fn hex_digit(byte: u8) -> Option<u8>
     }
 }
 
-// The byte of an escape behind its backslash, and what follows it.
+// The byte of an escape after its backslash, and what follows it.
 fn escape(bytes: &[u8]) -> Option<(u8, &[u8])>
-    ensures read { MatchOption result (text_rest bytes.now behind_backslash ≡ None) (λ p. text_rest bytes.now behind_backslash ≡ onto_text p.0 (text_rest p.1.now outside)) }
+    ensures read { MatchOption result (text_rest bytes.now after_backslash ≡ None) (λ p. text_rest bytes.now after_backslash ≡ onto_text p.0 (text_rest p.1.now outside)) }
     ensures shorter { IfSome result (λ p. length p.1.now < length bytes.now) }
 {
     let [first, high, low, rest @ ..] = bytes else {
@@ -68,22 +68,22 @@ fn character(bytes: &[u8]) -> Option<(u8, &[u8])>
     }
 }
 
-// The rest of a text behind its quotation mark, up to the one that ends it. What stands for itself up to the first
-// byte that does not is taken in one piece.
-fn text_behind(bytes: &[u8]) -> Option<(Text, &[u8])>
+// The rest of a text after its quotation mark, up to the one that ends it. What stands for itself up to the first
+// byte that does not is taken at once.
+fn text_after(bytes: &[u8]) -> Option<(Text, &[u8])>
     ensures { Reads result (if_short (text_rest bytes.now outside)) }
 {
     let (plain, mut rest) = split_plain(bytes);
     let mut text = Text::new(plain)?;
-    while let Some((byte, behind)) = character(rest) {
+    while let Some((byte, following)) = character(rest) {
         if text.len() == TEXT {
             return None;
         }
         text.push(byte);
-        rest = behind;
+        rest = following;
     }
     match rest {
-        [b'"', behind @ ..] => Some((text, behind)),
+        [b'"', following @ ..] => Some((text, following)),
         _ => None,
     }
 }
@@ -94,7 +94,7 @@ pub fn text(bytes: &[u8]) -> Option<(Text, &[u8])>
     ensures { Reads result (text_at bytes.now) }
 {
     match bytes {
-        [b'"', rest @ ..] => text_behind(rest),
+        [b'"', rest @ ..] => text_after(rest),
         _ => None,
     }
 }

@@ -71,13 +71,13 @@ module _ (bs rest : Bytes) (split : drop (length bs - length rest) bs ≡ rest) 
         let parts : take (n + m) bs ≡ take n bs ++ take m rest = take-add n m bs ∙ ap (λ r. take n bs ++ take m r) split in
         ap (flat_map quote_byte) parts ∙ flat_map-append quote_byte (take n bs) (take m rest) ∙ ap₂ (λ (a b : Bytes). a ++ b) same front ∙ sym parts
 
-  -- what stands behind a piece at its front
-  module _ (m : ℕ) (behind : Bytes) (inside : length rest ≤ length bs) (lengths : length behind + m ≡ length rest) where
-    count : length bs - length behind ≡ length bs - length rest + m
+  -- what stands after a component at its front
+  module _ (m : ℕ) (following : Bytes) (inside : length rest ≤ length bs) (lengths : length following + m ≡ length rest) where
+    count : length bs - length following ≡ length bs - length rest + m
     count = omega (arith, inside, lengths)
 
-    pub behind_piece : behind ≡ drop m rest → drop (length bs - length behind) bs ≡ behind
-    behind_piece is = ap (λ k. drop k bs) count ∙ sym (drop-drop m (length bs - length rest) bs) ∙ ap (drop m) split ∙ sym is
+    pub after_component : following ≡ drop m rest → drop (length bs - length following) bs ≡ following
+    after_component is = ap (λ k. drop k bs) count ∙ sym (drop-drop m (length bs - length rest) bs) ∙ ap (drop m) split ∙ sym is
 
-    pub piece_same : flat_map quote_byte (take (length bs - length rest) bs) ≡ take (length bs - length rest) bs → list_all is_plain (take m rest) ≡ true → flat_map quote_byte (take (length bs - length behind) bs) ≡ take (length bs - length behind) bs
-    piece_same same plain = rw count (onward_same same m (all_same (take m rest) plain))
+    pub component_same : flat_map quote_byte (take (length bs - length rest) bs) ≡ take (length bs - length rest) bs → list_all is_plain (take m rest) ≡ true → flat_map quote_byte (take (length bs - length following) bs) ≡ take (length bs - length following) bs
+    component_same same plain = rw count (onward_same same m (all_same (take m rest) plain))

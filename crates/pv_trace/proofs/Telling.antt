@@ -1,4 +1,4 @@
--- What sinks are told, text by text.
+-- What sinks are given, text by text.
 use Rattle.std.proofs.Common.{◌≡◌, ◌++◌, ◌∙◌, ap, sym, ℕ, List, [], ◌∷◌, take, append_assoc, refl, zero, suc, Option, None, Some}
 use Rattle.std.specs.Prelude.{OnOk, OnErr, Result, Ok, Err}
 use Rattle.std.proofs.lemmas.List.{append-nil}
@@ -8,7 +8,7 @@ use Rattle.pv_model.specs.Stream.{and_front}
 use Rattle.pv_model.specs.Trace.{Line, line_bytes, trace_bytes}
 use Rattle.pv_trace.specs.Streams.{and_all, TellsBeginning}
 
--- the front of a text is a front of that text and another behind it
+-- the front of a text is a front of that text and another after it
 front_first : (a b : Bytes) (k : ℕ) → (n : ℕ) × (take n (a ++ b) ≡ take k a)
 front_first [] b zero = (0, refl)
 front_first [] b (suc k) = (0, refl)
@@ -20,32 +20,32 @@ front_then : (a b : Bytes) (k : ℕ) → (n : ℕ) × (take n (a ++ b) ≡ a ++ 
 front_then [] b k = (k, refl)
 front_then (x ∷ a) b k = let p = front_then a b k in (suc p.0, ap (λ bs. x ∷ bs) p.1)
 
--- a beginning of a text is one of that text and another behind it
+-- a beginning of a text is one of that text and another after it
 pub begins_first : (a b : Bytes) (before after : Option Bytes) → TellsBeginning a before after → TellsBeginning (a ++ b) before after
-begins_first a b None after told = (0, told.1)
-begins_first a b (Some had) after told =
-    let p = front_first a b told.0 in (p.0, told.1 ∙ ap (λ bs. Some (had ++ bs)) (sym p.1))
+begins_first a b None after written = (0, written.1)
+begins_first a b (Some had) after written =
+    let p = front_first a b written.0 in (p.0, written.1 ∙ ap (λ bs. Some (had ++ bs)) (sym p.1))
 
 -- a whole text and then a beginning of another are a beginning of both
 pub begins_then : (a b : Bytes) (before mid after : Option Bytes) → mid ≡ and_all before a → TellsBeginning b mid after → TellsBeginning (a ++ b) before after
-begins_then a b None mid after first told = (0, told.1 ∙ ap (λ t. and_front t told.0 b) first)
-begins_then a b (Some had) mid after first told =
-    let p = front_then a b told.0 in
-    (p.0, told.1 ∙ ap (λ t. and_front t told.0 b) first ∙ ap Some (append_assoc had a (take told.0 b)) ∙ ap (λ bs. Some (had ++ bs)) (sym p.1))
+begins_then a b None mid after first written = (0, written.1 ∙ ap (λ t. and_front t written.0 b) first)
+begins_then a b (Some had) mid after first written =
+    let p = front_then a b written.0 in
+    (p.0, written.1 ∙ ap (λ t. and_front t written.0 b) first ∙ ap Some (append_assoc had a (take written.0 b)) ∙ ap (λ bs. Some (had ++ bs)) (sym p.1))
 
 -- two whole texts
-pub told_both : (a b : Bytes) (before mid after : Option Bytes) → mid ≡ and_all before a → after ≡ and_all mid b → after ≡ and_all before (a ++ b)
-told_both a b None mid after first second = second ∙ ap (λ t. and_all t b) first
-told_both a b (Some had) mid after first second = second ∙ ap (λ t. and_all t b) first ∙ ap Some (append_assoc had a b)
+pub written_both : (a b : Bytes) (before mid after : Option Bytes) → mid ≡ and_all before a → after ≡ and_all mid b → after ≡ and_all before (a ++ b)
+written_both a b None mid after first second = second ∙ ap (λ t. and_all t b) first
+written_both a b (Some had) mid after first second = second ∙ ap (λ t. and_all t b) first ∙ ap Some (append_assoc had a b)
 
 -- ---- lines
 
 -- the text of no lines
-pub told_no_lines : (before : Option Bytes) → before ≡ and_all before (trace_bytes [])
-told_no_lines None = refl
-told_no_lines (Some had) = ap Some (sym (append-nil had))
+pub written_no_lines : (before : Option Bytes) → before ≡ and_all before (trace_bytes [])
+written_no_lines None = refl
+written_no_lines (Some had) = ap Some (sym (append-nil had))
 
--- the text of lines behind another text, and then that of further lines
+-- the text of lines after another text, and then that of further lines
 pub text_joined : (before mid after : Bytes) (xs ys : List Line)
     → mid ≡ before ++ trace_bytes xs → after ≡ mid ++ trace_bytes ys → after ≡ before ++ trace_bytes (xs ++ ys)
 text_joined before mid after xs ys first second =

@@ -7,7 +7,7 @@ use Rattle.pv_model.specs.declared.perms.Perms.{Perms}
 use Rattle.pv_model.specs.Bytes.{Bytes}
 use Rattle.pv_model.specs.CallRef.{call_of}
 use Rattle.pv_model.specs.Errno.{errno_number, errno_name}
-use Rattle.pv_model.specs.Perms.{letters_text}
+use Rattle.pv_model.specs.Perms.{permissions_text}
 use Rattle.pv_model.specs.Trace.{Word as TraceWord, PromiseVerdict as TracePromise, UnveilVerdict as TraceUnveil, Way as TraceWay, Returned as TraceReturned, call_word, nami_word, pldg_word, unvl_word, gio_word, ret_word, psig_word, wait_word, gone_word, for_kill, for_refusal, for_increase, no_entry, entry_lacks, table_locked, gave, took, value_of, error_of, flags_text}
 use Rattle.pv_trace.specs.declared.line.PromiseVerdict.{PromiseVerdict}
 use Rattle.pv_trace.specs.declared.line.PromiseVerdict.TheVariants.{Killed, Refused, Increase}
@@ -59,14 +59,14 @@ HasFewBytes word = ⊤
 unfoldable pub flags_bytes : OpenFlags → Bytes
 flags_bytes f = flags_text f
 
--- letters in the order rwxc
-unfoldable pub letters_bytes : Perms → Bytes
-letters_bytes letters = letters_text letters
+-- permissions in the order rwxc
+unfoldable pub permissions_bytes : Perms → Bytes
+permissions_bytes permissions = permissions_text permissions
 
--- the letters that an entry lacks, or that no entry gives
+-- the permissions that an entry lacks, or that no entry gives
 abbrev pub needed_text : Option ℕ → Perms → Bytes
-needed_text None letters = codes "none, needs " ++ letters_bytes letters
-needed_text (Some k) letters = codes "entry " ++ decimal k ++ codes ", needs " ++ letters_bytes letters
+needed_text None permissions = codes "none, needs " ++ permissions_bytes permissions
+needed_text (Some k) permissions = codes "entry " ++ decimal k ++ codes ", needs " ++ permissions_bytes permissions
 
 -- an error with its number and its name
 unfoldable pub errno_text : Errno → Bytes

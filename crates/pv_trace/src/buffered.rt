@@ -1,49 +1,49 @@
-//! Bytes that are gathered, and handed on in large pieces.
+//! Bytes that are gathered, and flushed in large components.
 ghost use Rattle.std.specs.Prelude.{◌≡◌, ◌+◌, ◌++◌, ◌≤◌, [], drop, length, vec_len, OnOk, OnErr};
 ghost use Rattle.pv_model.specs.Stream.{Rose};
 ghost use Rattle.pv_trace.specs.Streams.{and_all};
-ghost use Rattle.pv_trace.specs.declared.buffered.TheConstants.{PIECE};
+ghost use Rattle.pv_trace.specs.declared.buffered.TheConstants.{CHUNK};
 
 use crate::stream::write_some;
 use pv_model::{Failed, Sink};
 use std::alloc::Global;
 
 /// How many bytes may wait.
-pub const PIECE: usize = 65_536;
+pub const CHUNK: usize = 65_536;
 
 /// A sink that gathers what it is given, and hands it on to another when it is full, or by `flush`. Where it has no
-/// memory for more, it hands on at once.
+/// memory for more, it flushes at once.
 ///
-/// Nothing is handed on when it is dropped: its owner calls `flush` at the end.
+/// Nothing is flushed when it is dropped: its owner calls `flush` at the end.
 #[derive(Drop)]
 pub struct Buffered<W: Sink + Drop> {
     sink: W,
     waiting: Vec<u8>,
-    ghost few: { vec_len waiting ≤ PIECE },
+    ghost few: { vec_len waiting ≤ CHUNK },
 }
 
 impl<W: Sink + Drop> Buffered<W> {
-    /// A sink that hands on to this one, and that was given nothing yet.
+    /// A sink that flushes to this one, and that was given nothing yet.
     pub fn new(alloc: Global, sink: W) -> Buffered<W>
         ensures sink { result.sink ≡ sink }
         ensures empty { result.waiting.items ≡ [] }
     {
         // Room that is not written takes no page.
-        let waiting = match Vec::with_capacity(alloc, PIECE) {
+        let waiting = match Vec::with_capacity(alloc, CHUNK) {
             Ok(waiting) => waiting,
             Err(_) => Vec::new(alloc),
         };
         Buffered { sink, waiting }
     }
 
-    /// The sink that is handed on to.
+    /// The sink that is flushed to.
     pub fn sink(&self) -> &W
         ensures { result.now ≡ self.now.sink }
     {
         &self.sink
     }
 
-    // Forgets so many bytes at the front, which were handed on.
+    // Forgets so many bytes at the front, which were flushed.
     fn forget(&mut self, count: usize)
         requires { count ≤ length self.old.waiting.items }
         ensures waiting { self.new.waiting.items ≡ drop count self.old.waiting.items }
@@ -54,10 +54,10 @@ impl<W: Sink + Drop> Buffered<W> {
         self.waiting.truncate(left);
     }
 
-    // Hands on all that waits here: where that fails, what was not taken still waits.
-    #[tactic(auto, using(crate::proofs::Streaming::handed_part, crate::proofs::Streaming::handed_all, crate::proofs::Streaming::told_more))]
+    // Flushes all that is buffered here: where that fails, what was not taken still waits.
+    #[tactic(auto, using(crate::proofs::Streaming::flushed_part, crate::proofs::Streaming::flushed_all, crate::proofs::Streaming::written_more))]
     fn hand_on(&mut self) -> Result<(), Failed>
-        ensures told { and_all (W.told self.new.sink) self.new.waiting.items ≡ and_all (W.told self.old.sink) self.old.waiting.items }
+        ensures written { and_all (W.written self.new.sink) self.new.waiting.items ≡ and_all (W.written self.old.sink) self.old.waiting.items }
         ensures empty { OnOk result (self.new.waiting.items ≡ []) }
         ensures quiet { OnOk result (W.failures self.new.sink ≡ W.failures self.old.sink) }
         ensures failed { OnErr result (Rose (W.failures self.old.sink) (W.failures self.new.sink)) }
@@ -78,18 +78,18 @@ impl<W: Sink + Drop> Buffered<W> {
 }
 
 impl<W: Sink + Drop> Sink for Buffered<W> {
-    ghost told = { λ s. and_all (W.told s.sink) s.waiting.items };
+    ghost written = { λ s. and_all (W.written s.sink) s.waiting.items };
 
-    ghost waits = { λ s. length s.waiting.items + W.waits s.sink };
+    ghost buffered = { λ s. length s.waiting.items + W.buffered s.sink };
 
     ghost failures = { λ s. W.failures s.sink };
 
-    #[tactic(auto, using(crate::proofs::Streaming::more_waits, crate::proofs::Streaming::told_nothing))]
+    #[tactic(auto, using(crate::proofs::Streaming::more_buffered, crate::proofs::Streaming::written_nothing))]
     fn write(&mut self, buffer: &[u8]) -> Result<usize, Failed> {
         let mut bytes = buffer;
-        if bytes.len() > PIECE - self.waiting.len() {
+        if bytes.len() > CHUNK - self.waiting.len() {
             self.hand_on()?;
-            bytes = &buffer[..buffer.len().min(PIECE)];
+            bytes = &buffer[..buffer.len().min(CHUNK)];
         }
         match self.waiting.extend_from_slice(bytes) {
             Ok(()) => Ok(bytes.len()),

@@ -5,15 +5,15 @@ ghost use Rattle.std.specs.List.{join_by};
 ghost use Rattle.pv_model.specs.declared.limits.TheConstants.{TEXT};
 ghost use Rattle.pv_model.specs.CallRef.{call_of};
 ghost use Rattle.pv_model.specs.Trace.{quote, quote_or_null, flag_text, start_text, call_name, call_text, call_line, mode_text, whence_text};
-ghost use Rattle.pv_trace.specs.declared.sheet.TheConstants.{SHEET};
+ghost use Rattle.pv_trace.specs.declared.line_buffer.TheConstants.{LINE_BUFFER};
 ghost use Rattle.pv_trace.specs.Words.{flags_bytes};
 
-use crate::sheet::{Sheet, put, put_quoted, put_quoted_or_null, put_signed};
+use crate::line_buffer::{LineBuffer, put, put_quoted, put_quoted_or_null, put_signed};
 use pv_model::{CallRef, Mode, OpenFlags, Start, Text, Whence};
 
 // What a file is opened for. Each word is put by itself, here and below, so that its length is known where it is copied.
-fn put_mode(out: &mut Sheet, mode: Mode)
-    requires { length out.old.items + 2 ≤ SHEET }
+fn put_mode(out: &mut LineBuffer, mode: Mode)
+    requires { length out.old.items + 2 ≤ LINE_BUFFER }
     ensures text { out.new.items ≡ out.old.items ++ mode_text mode }
     ensures growth { length out.new.items ≤ length out.old.items + 2 }
 {
@@ -25,8 +25,8 @@ fn put_mode(out: &mut Sheet, mode: Mode)
 }
 
 // A flag with its plus sign, where it is set.
-fn put_flag(out: &mut Sheet, set: bool, name: &[u8])
-    requires { length out.old.items + 1 + length name.now ≤ SHEET }
+fn put_flag(out: &mut LineBuffer, set: bool, name: &[u8])
+    requires { length out.old.items + 1 + length name.now ≤ LINE_BUFFER }
     ensures text { out.new.items ≡ out.old.items ++ flag_text set name.now }
     ensures growth { length out.new.items ≤ length out.old.items + 1 + length name.now }
 {
@@ -38,8 +38,8 @@ fn put_flag(out: &mut Sheet, set: bool, name: &[u8])
 
 // The flags of an open, as a program writes them.
 #[tactic(auto, unfolding(crate::specs::Words::flags_bytes))]
-fn put_flags(out: &mut Sheet, flags: OpenFlags)
-    requires { length out.old.items + 48 ≤ SHEET }
+fn put_flags(out: &mut LineBuffer, flags: OpenFlags)
+    requires { length out.old.items + 48 ≤ LINE_BUFFER }
     ensures text { out.new.items ≡ out.old.items ++ flags_bytes flags }
     ensures growth { length out.new.items ≤ length out.old.items + 48 }
 {
@@ -54,8 +54,8 @@ fn put_flags(out: &mut Sheet, flags: OpenFlags)
 }
 
 // Where an offset is counted from.
-fn put_whence(out: &mut Sheet, whence: Whence)
-    requires { length out.old.items + 3 ≤ SHEET }
+fn put_whence(out: &mut LineBuffer, whence: Whence)
+    requires { length out.old.items + 3 ≤ LINE_BUFFER }
     ensures text { out.new.items ≡ out.old.items ++ whence_text whence }
     ensures growth { length out.new.items ≤ length out.old.items + 3 }
 {
@@ -66,8 +66,8 @@ fn put_whence(out: &mut Sheet, whence: Whence)
     }
 }
 
-fn put_start(out: &mut Sheet, start: Start)
-    requires { length out.old.items + 40 ≤ SHEET }
+fn put_start(out: &mut LineBuffer, start: Start)
+    requires { length out.old.items + 40 ≤ LINE_BUFFER }
     ensures text { out.new.items ≡ out.old.items ++ start_text start }
     ensures growth { length out.new.items ≤ length out.old.items + 40 }
 {
@@ -79,8 +79,8 @@ fn put_start(out: &mut Sheet, start: Start)
 
 // The name of a call.
 #[tactic(auto, unfolding(pv_model::specs::Trace::call_text))]
-pub(crate) fn put_name(out: &mut Sheet, call: CallRef<'_>)
-    requires { length out.old.items + 9 ≤ SHEET }
+pub(crate) fn put_name(out: &mut LineBuffer, call: CallRef<'_>)
+    requires { length out.old.items + 9 ≤ LINE_BUFFER }
     ensures text { out.new.items ≡ out.old.items ++ call_name (call_of call.entry) }
     ensures growth { length out.new.items ≤ length out.old.items + 9 }
 {
@@ -118,8 +118,8 @@ pub(crate) fn put_name(out: &mut Sheet, call: CallRef<'_>)
     }
 }
 
-fn put_two_numbers(out: &mut Sheet, first: i32, second: i32)
-    requires { length out.old.items + 82 ≤ SHEET }
+fn put_two_numbers(out: &mut LineBuffer, first: i32, second: i32)
+    requires { length out.old.items + 82 ≤ LINE_BUFFER }
     ensures text { out.new.items ≡ out.old.items ++ join_by (λ bs. bs) (codes ", ") (signed_decimal first ∷ signed_decimal second ∷ []) }
     ensures growth { length out.new.items ≤ length out.old.items + 82 }
 {
@@ -128,8 +128,8 @@ fn put_two_numbers(out: &mut Sheet, first: i32, second: i32)
     put_signed(out, second);
 }
 
-fn put_two_texts(out: &mut Sheet, first: &Text, second: &Text)
-    requires { length out.old.items + 8 * TEXT + 6 ≤ SHEET }
+fn put_two_texts(out: &mut LineBuffer, first: &Text, second: &Text)
+    requires { length out.old.items + 8 * TEXT + 6 ≤ LINE_BUFFER }
     ensures text { out.new.items ≡ out.old.items ++ join_by (λ bs. bs) (codes ", ") (quote first.now ∷ quote second.now ∷ []) }
     ensures growth { length out.new.items ≤ length out.old.items + 8 * TEXT + 6 }
 {
@@ -138,8 +138,8 @@ fn put_two_texts(out: &mut Sheet, first: &Text, second: &Text)
     put_quoted(out, second);
 }
 
-fn put_two_options(out: &mut Sheet, first: Option<&Text>, second: Option<&Text>)
-    requires { length out.old.items + 8 * TEXT + 6 ≤ SHEET }
+fn put_two_options(out: &mut LineBuffer, first: Option<&Text>, second: Option<&Text>)
+    requires { length out.old.items + 8 * TEXT + 6 ≤ LINE_BUFFER }
     ensures text { out.new.items ≡ out.old.items ++ join_by (λ bs. bs) (codes ", ") (quote_or_null (option_copied first.entry) ∷ quote_or_null (option_copied second.entry) ∷ []) }
     ensures growth { length out.new.items ≤ length out.old.items + 8 * TEXT + 6 }
 {
@@ -148,8 +148,8 @@ fn put_two_options(out: &mut Sheet, first: Option<&Text>, second: Option<&Text>)
     put_quoted_or_null(out, second);
 }
 
-fn put_open(out: &mut Sheet, path: &Text, flags: OpenFlags)
-    requires { length out.old.items + 4 * TEXT + 52 ≤ SHEET }
+fn put_open(out: &mut LineBuffer, path: &Text, flags: OpenFlags)
+    requires { length out.old.items + 4 * TEXT + 52 ≤ LINE_BUFFER }
     ensures text { out.new.items ≡ out.old.items ++ join_by (λ bs. bs) (codes ", ") (quote path.now ∷ flags_bytes flags ∷ []) }
     ensures growth { length out.new.items ≤ length out.old.items + 4 * TEXT + 52 }
 {
@@ -158,8 +158,8 @@ fn put_open(out: &mut Sheet, path: &Text, flags: OpenFlags)
     put_flags(out, flags);
 }
 
-fn put_openat(out: &mut Sheet, start: Start, path: &Text, flags: OpenFlags)
-    requires { length out.old.items + 4 * TEXT + 94 ≤ SHEET }
+fn put_openat(out: &mut LineBuffer, start: Start, path: &Text, flags: OpenFlags)
+    requires { length out.old.items + 4 * TEXT + 94 ≤ LINE_BUFFER }
     ensures text { out.new.items ≡ out.old.items ++ join_by (λ bs. bs) (codes ", ") (start_text start ∷ quote path.now ∷ flags_bytes flags ∷ []) }
     ensures growth { length out.new.items ≤ length out.old.items + 4 * TEXT + 94 }
 {
@@ -168,8 +168,8 @@ fn put_openat(out: &mut Sheet, start: Start, path: &Text, flags: OpenFlags)
     put_open(out, path, flags);
 }
 
-fn put_lseek(out: &mut Sheet, descriptor: i32, by: i32, whence: Whence)
-    requires { length out.old.items + 87 ≤ SHEET }
+fn put_lseek(out: &mut LineBuffer, descriptor: i32, by: i32, whence: Whence)
+    requires { length out.old.items + 87 ≤ LINE_BUFFER }
     ensures text { out.new.items ≡ out.old.items ++ join_by (λ bs. bs) (codes ", ") (signed_decimal descriptor ∷ signed_decimal by ∷ whence_text whence ∷ []) }
     ensures growth { length out.new.items ≤ length out.old.items + 87 }
 {
@@ -180,8 +180,8 @@ fn put_lseek(out: &mut Sheet, descriptor: i32, by: i32, whence: Whence)
 
 // The arguments of a call, joined by commas.
 #[tactic(auto, unfolding(pv_model::specs::Trace::call_text, crate::specs::Words::flags_bytes))]
-fn put_arguments(out: &mut Sheet, call: &CallRef<'_>)
-    requires { length out.old.items + 8 * TEXT + 6 ≤ SHEET }
+fn put_arguments(out: &mut LineBuffer, call: &CallRef<'_>)
+    requires { length out.old.items + 8 * TEXT + 6 ≤ LINE_BUFFER }
     ensures text { out.new.items ≡ out.old.items ++ join_by (λ bs. bs) (codes ", ") (call_text (call_of call.now)).1 }
     ensures growth { length out.new.items ≤ length out.old.items + 8 * TEXT + 6 }
 {
@@ -218,8 +218,8 @@ fn put_arguments(out: &mut Sheet, call: &CallRef<'_>)
 }
 
 // A call with its arguments.
-pub(crate) fn put_call(out: &mut Sheet, call: CallRef<'_>)
-    requires { length out.old.items + 8 * TEXT + 17 ≤ SHEET }
+pub(crate) fn put_call(out: &mut LineBuffer, call: CallRef<'_>)
+    requires { length out.old.items + 8 * TEXT + 17 ≤ LINE_BUFFER }
     ensures text { out.new.items ≡ out.old.items ++ call_line (call_of call.entry) }
     ensures growth { length out.new.items ≤ length out.old.items + 8 * TEXT + 17 }
 {

@@ -2,11 +2,11 @@
 ghost use Rattle.std.specs.Prelude.{◌≡◌, ◌++◌, ◌+◌, ◌≤◌, length, OnOk, OnErr};
 ghost use Rattle.pv_model.specs.Stream.{Rose};
 ghost use Rattle.pv_model.specs.Trace.{line, line_bytes};
-ghost use Rattle.pv_trace.specs.declared.sheet.TheConstants.{LINE_BYTES, SHEET};
+ghost use Rattle.pv_trace.specs.declared.line_buffer.TheConstants.{LINE_BYTES, LINE_BUFFER};
 ghost use Rattle.pv_trace.specs.Streams.{and_all, TellsBeginning};
 ghost use Rattle.pv_trace.specs.Words.{word_of, HasFewBytes};
 
-use crate::sheet::Sheet;
+use crate::line_buffer::LineBuffer;
 use crate::stream::write_whole;
 use crate::words::{
     put_call_line, put_error_line, put_gone_line, put_killed_line, put_moved_line, put_path_line,
@@ -29,9 +29,9 @@ pub enum PromiseVerdict {
 /// What an unveil table decided, unveil(2).
 #[derive(Clone, Copy, Debug, PartialEq, Eq)]
 pub enum UnveilVerdict {
-    /// No entry governs the place, of which these letters are needed.
+    /// No entry governs the place, of which these permissions are needed.
     NoEntry(Perms),
-    /// The entry with this number lacks a letter of those that are needed.
+    /// The entry with this number lacks a permission of those that are needed.
     EntryLacks(u8, Perms),
     /// The table is locked.
     Locked,
@@ -100,10 +100,10 @@ impl<'a> Model for Line<'a> {
     ghost invariant = { λ l. HasFewBytes l.word };
 }
 
-// Puts a line on a sheet, behind what it has.
-fn put_line(out: &mut Sheet, pid: u32, word: &Word)
+// Puts a line on a line buffer, after what it has.
+fn put_line(out: &mut LineBuffer, pid: u32, word: &Word)
     requires few { HasFewBytes word.now }
-    requires room { length out.old.items + LINE_BYTES ≤ SHEET }
+    requires room { length out.old.items + LINE_BYTES ≤ LINE_BUFFER }
     ensures text { out.new.items ≡ out.old.items ++ line_bytes (line pid (word_of word.now)) }
     ensures growth { length out.new.items ≤ length out.old.items + LINE_BYTES }
 {
@@ -123,18 +123,18 @@ fn put_line(out: &mut Sheet, pid: u32, word: &Word)
     }
 }
 
-/// Writes a line that is made on a sheet, whatever that had. It takes no memory.
+/// Writes a line that is made on a line buffer, whatever that had. It takes no memory.
 ///
 /// # Errors
 ///
-/// `Failed` where a write failed: the sink was told a beginning of the line.
-pub fn write_line<W: Sink>(out: &mut W, sheet: &mut Sheet, line: &Line) -> Result<(), Failed>
-    ensures whole { OnOk result (W.told out.new ≡ and_all (W.told out.old) (line_bytes line.now)) }
-    ensures beginning { OnErr result (TellsBeginning (line_bytes line.now) (W.told out.old) (W.told out.new)) }
+/// `Failed` where a write failed: the sink was given a beginning of the line.
+pub fn write_line<W: Sink>(out: &mut W, line_buffer: &mut LineBuffer, line: &Line) -> Result<(), Failed>
+    ensures whole { OnOk result (W.written out.new ≡ and_all (W.written out.old) (line_bytes line.now)) }
+    ensures beginning { OnErr result (TellsBeginning (line_bytes line.now) (W.written out.old) (W.written out.new)) }
     ensures failed { OnErr result (Rose (W.failures out.old) (W.failures out.new)) }
     ensures quiet { OnOk result (W.failures out.new ≡ W.failures out.old) }
 {
-    sheet.clear();
-    put_line(sheet, line.pid, &line.word);
-    write_whole(out, sheet.as_slice())
+    line_buffer.clear();
+    put_line(line_buffer, line.pid, &line.word);
+    write_whole(out, line_buffer.as_slice())
 }

@@ -54,11 +54,11 @@ pub fn plain_count(text: &[u8]) -> usize
     ensures next { result < length text.now → stands_for_itself (get_or text.now result 0) ≡ false }
 {
     let mut rest = text;
-    while let Some((piece, behind)) = rest.split_first_chunk::<AT_ONCE>() {
-        if !are_plain(piece) {
+    while let Some((component, following)) = rest.split_first_chunk::<AT_ONCE>() {
+        if !are_plain(component) {
             break;
         }
-        rest = behind;
+        rest = following;
     }
     text.len() - rest.len() + plain_front(rest)
 }

@@ -2,17 +2,17 @@
 ghost use Rattle.std.specs.Prelude.{◌≡◌, ◌++◌, ◌+◌, ◌*◌, ◌≤◌, [], ◌∷◌, length, take, map, IfOk, OnOk, OnErr};
 ghost use Rattle.pv_model.specs.declared.limits.TheConstants.{BUFFER};
 ghost use Rattle.pv_model.specs.CallRef.{call_of};
-ghost use Rattle.pv_model.specs.Perms.{read_letters};
+ghost use Rattle.pv_model.specs.Perms.{read_permissions};
 ghost use Rattle.pv_model.specs.Stream.{Rose};
-ghost use Rattle.pv_model.specs.Trace.{trace_bytes, needed_by, asked_letters as letters_asked, gone_lines};
-ghost use Rattle.pv_model.specs.Walks.{letters_or_none, walks_of, walk_number};
+ghost use Rattle.pv_model.specs.Trace.{trace_bytes, needed_by, asked_permissions as permissions_asked, gone_lines};
+ghost use Rattle.pv_model.specs.Walks.{permissions_or_none, walks_of, walk_number};
 ghost use Rattle.pv_trace.specs.Steps.{path_line, path_lines_of, refusal_verdict, promise_lines_of, unveil_lines_of, moved_lines_of, end_lines_of, lines_by};
 ghost use Rattle.pv_trace.specs.Streams.{and_all, TellsBeginning};
 ghost use Rattle.pv_trace.specs.Words.{promise_verdict_of};
-ghost use Rattle.pv_trace.specs.declared.sheet.TheConstants.{LINE_BYTES, PATH_LINE_BYTES, SHORT_LINE_BYTES, SHEET};
+ghost use Rattle.pv_trace.specs.declared.line_buffer.TheConstants.{LINE_BYTES, PATH_LINE_BYTES, SHORT_LINE_BYTES, LINE_BUFFER};
 
 use crate::line::{Line, PromiseVerdict, UnveilVerdict, Way, Word, write_line};
-use crate::sheet::Sheet;
+use crate::line_buffer::LineBuffer;
 use crate::stream::write_whole;
 use crate::words::{
     put_call_line, put_error_line, put_killed_line, put_moved_line, put_path_line,
@@ -23,8 +23,8 @@ use pv_model::{CallRef, Cause, Errno, Failed, Outcome, Perms, Sink, Text};
 // The lines of the walks along one path, of which there is at most one. It answers how many lines it put, as each call
 // below does that puts some.
 #[tactic(auto, using(crate::proofs::Paths::take_one))]
-fn put_one_path(out: &mut Sheet, pid: u32, path: &Text, walks: u8) -> u8
-    requires { length out.old.items + PATH_LINE_BYTES ≤ SHEET }
+fn put_one_path(out: &mut LineBuffer, pid: u32, path: &Text, walks: u8) -> u8
+    requires { length out.old.items + PATH_LINE_BYTES ≤ LINE_BUFFER }
     ensures text { out.new.items ≡ out.old.items ++ trace_bytes (map (path_line pid) (take walks (path.now ∷ []))) }
     ensures count { result ≡ length (map (path_line pid) (take walks (path.now ∷ []))) }
     ensures few { result ≤ 1 }
@@ -40,8 +40,8 @@ fn put_one_path(out: &mut Sheet, pid: u32, path: &Text, walks: u8) -> u8
 
 // The lines of the walks along two paths.
 #[tactic(auto, using(crate::proofs::Paths::take_two))]
-fn put_two_paths(out: &mut Sheet, pid: u32, first: &Text, second: &Text, walks: u8) -> u8
-    requires { length out.old.items + 2 * PATH_LINE_BYTES ≤ SHEET }
+fn put_two_paths(out: &mut LineBuffer, pid: u32, first: &Text, second: &Text, walks: u8) -> u8
+    requires { length out.old.items + 2 * PATH_LINE_BYTES ≤ LINE_BUFFER }
     ensures text { out.new.items ≡ out.old.items ++ trace_bytes (map (path_line pid) (take walks (first.now ∷ second.now ∷ []))) }
     ensures count { result ≡ length (map (path_line pid) (take walks (first.now ∷ second.now ∷ []))) }
     ensures few { result ≤ 2 }
@@ -58,8 +58,8 @@ fn put_two_paths(out: &mut Sheet, pid: u32, first: &Text, second: &Text, walks: 
 
 // The lines of the walks that a call began.
 #[tactic(auto, unfolding(pv_model::specs::Trace::walked_paths))]
-fn put_path_lines(out: &mut Sheet, pid: u32, call: CallRef<'_>, walks: u8) -> u8
-    requires { length out.old.items + 2 * PATH_LINE_BYTES ≤ SHEET }
+fn put_path_lines(out: &mut LineBuffer, pid: u32, call: CallRef<'_>, walks: u8) -> u8
+    requires { length out.old.items + 2 * PATH_LINE_BYTES ≤ LINE_BUFFER }
     ensures text { out.new.items ≡ out.old.items ++ trace_bytes (path_lines_of pid (call_of call.entry) walks) }
     ensures count { result ≡ length (path_lines_of pid (call_of call.entry) walks) }
     ensures few { result ≤ 2 }
@@ -96,8 +96,8 @@ fn verdict_of(errno: Errno) -> PromiseVerdict
 }
 
 // The line of a promise that decided.
-fn put_promise_lines(out: &mut Sheet, pid: u32, call: CallRef<'_>, outcome: Outcome) -> u8
-    requires { length out.old.items + SHORT_LINE_BYTES ≤ SHEET }
+fn put_promise_lines(out: &mut LineBuffer, pid: u32, call: CallRef<'_>, outcome: Outcome) -> u8
+    requires { length out.old.items + SHORT_LINE_BYTES ≤ LINE_BUFFER }
     ensures text { out.new.items ≡ out.old.items ++ trace_bytes (promise_lines_of pid (call_of call.entry) outcome) }
     ensures count { result ≡ length (promise_lines_of pid (call_of call.entry) outcome) }
     ensures few { result ≤ 1 }
@@ -112,33 +112,33 @@ fn put_promise_lines(out: &mut Sheet, pid: u32, call: CallRef<'_>, outcome: Outc
     1
 }
 
-// The letters that a text asks for, or none.
-fn letters_of(text: &Text) -> Perms
-    ensures { result ≡ letters_or_none (read_letters text.now) }
+// The permissions that a text asks for, or none.
+fn permissions_of(text: &Text) -> Perms
+    ensures { result ≡ permissions_or_none (read_permissions text.now) }
 {
     Perms::read(text.as_slice()).unwrap_or(Perms::NONE)
 }
 
-// The letters that a call asks of the last place that it walked to.
-#[tactic(auto, unfolding(pv_model::specs::Trace::asked_letters))]
-fn asked_letters(call: CallRef<'_>, walks: u8) -> Perms
-    ensures { result ≡ letters_asked (call_of call.entry) walks }
+// The permissions that a call asks of the last place that it walked to.
+#[tactic(auto, unfolding(pv_model::specs::Trace::asked_permissions))]
+fn asked_permissions(call: CallRef<'_>, walks: u8) -> Perms
+    ensures { result ≡ permissions_asked (call_of call.entry) walks }
 {
     match walks {
-        1 => first_letters(call),
-        2 => second_letters(call),
+        1 => first_permissions(call),
+        2 => second_permissions(call),
         _ => Perms::NONE,
     }
 }
 
-// The letters that a call asks of the place of its first walk.
-fn first_letters(call: CallRef<'_>) -> Perms
+// The permissions that a call asks of the place of its first walk.
+fn first_permissions(call: CallRef<'_>) -> Perms
     ensures { result ≡ needed_by (walk_number (walks_of (call_of call.entry)) 1) }
 {
     match call {
-        CallRef::Unveil(Some(_), Some(text)) => letters_of(text),
+        CallRef::Unveil(Some(_), Some(text)) => permissions_of(text),
         CallRef::Execve(_) => Perms::X,
-        CallRef::Open(_, flags) | CallRef::OpenAt(_, _, flags) => flags.letters(),
+        CallRef::Open(_, flags) | CallRef::OpenAt(_, _, flags) => flags.permissions(),
         CallRef::Chdir(_)
         | CallRef::Stat(_)
         | CallRef::Lstat(_)
@@ -153,8 +153,8 @@ fn first_letters(call: CallRef<'_>) -> Perms
     }
 }
 
-// The letters that a call asks of the place of its second walk.
-fn second_letters(call: CallRef<'_>) -> Perms
+// The permissions that a call asks of the place of its second walk.
+fn second_permissions(call: CallRef<'_>) -> Perms
     ensures { result ≡ needed_by (walk_number (walks_of (call_of call.entry)) 2) }
 {
     match call {
@@ -164,8 +164,8 @@ fn second_letters(call: CallRef<'_>) -> Perms
 }
 
 // The line of an unveil table that decided.
-fn put_unveil_lines(out: &mut Sheet, pid: u32, call: CallRef<'_>, walks: u8, outcome: Outcome) -> u8
-    requires { length out.old.items + SHORT_LINE_BYTES ≤ SHEET }
+fn put_unveil_lines(out: &mut LineBuffer, pid: u32, call: CallRef<'_>, walks: u8, outcome: Outcome) -> u8
+    requires { length out.old.items + SHORT_LINE_BYTES ≤ LINE_BUFFER }
     ensures text { out.new.items ≡ out.old.items ++ trace_bytes (unveil_lines_of pid (call_of call.entry) walks outcome) }
     ensures count { result ≡ length (unveil_lines_of pid (call_of call.entry) walks outcome) }
     ensures few { result ≤ 1 }
@@ -173,10 +173,10 @@ fn put_unveil_lines(out: &mut Sheet, pid: u32, call: CallRef<'_>, walks: u8, out
 {
     let verdict = match outcome {
         Outcome::Failed(_, Cause::Unveil(None)) => {
-            UnveilVerdict::NoEntry(asked_letters(call, walks))
+            UnveilVerdict::NoEntry(asked_permissions(call, walks))
         }
         Outcome::Failed(_, Cause::Unveil(Some(entry))) => {
-            UnveilVerdict::EntryLacks(entry, asked_letters(call, walks))
+            UnveilVerdict::EntryLacks(entry, asked_permissions(call, walks))
         }
         Outcome::Failed(_, Cause::Locked) => UnveilVerdict::Locked,
         _ => return 0,
@@ -199,14 +199,14 @@ fn front_of(bytes: &[u8], count: usize) -> &[u8]
 
 // The line of the bytes that a call gave or took.
 fn put_moved_lines(
-    out: &mut Sheet,
+    out: &mut LineBuffer,
     pid: u32,
     front: &[u8],
     call: CallRef<'_>,
     outcome: Outcome,
 ) -> u8
     requires few { length front.now ≤ BUFFER }
-    requires room { length out.old.items + LINE_BYTES ≤ SHEET }
+    requires room { length out.old.items + LINE_BYTES ≤ LINE_BUFFER }
     ensures text { out.new.items ≡ out.old.items ++ trace_bytes (moved_lines_of pid front.now (call_of call.entry) outcome) }
     ensures count { result ≡ length (moved_lines_of pid front.now (call_of call.entry) outcome) }
     ensures few { result ≤ 1 }
@@ -228,8 +228,8 @@ fn put_moved_lines(
 }
 
 // The last line of a call.
-fn put_end_lines(out: &mut Sheet, pid: u32, call: CallRef<'_>, outcome: Outcome) -> u8
-    requires { length out.old.items + SHORT_LINE_BYTES ≤ SHEET }
+fn put_end_lines(out: &mut LineBuffer, pid: u32, call: CallRef<'_>, outcome: Outcome) -> u8
+    requires { length out.old.items + SHORT_LINE_BYTES ≤ LINE_BUFFER }
     ensures text { out.new.items ≡ out.old.items ++ trace_bytes (end_lines_of pid (call_of call.entry) outcome) }
     ensures count { result ≡ length (end_lines_of pid (call_of call.entry) outcome) }
     ensures few { result ≤ 1 }
@@ -246,10 +246,10 @@ fn put_end_lines(out: &mut Sheet, pid: u32, call: CallRef<'_>, outcome: Outcome)
     1
 }
 
-// Puts the lines of a call on a sheet, whatever that had.
+// Puts the lines of a call on a line buffer, whatever that had.
 #[tactic(auto, unfolding(crate::specs::Steps::lines_by), using(crate::proofs::Telling::text_joined))]
 fn put_lines(
-    out: &mut Sheet,
+    out: &mut LineBuffer,
     pid: u32,
     front: &[u8],
     call: CallRef<'_>,
@@ -270,17 +270,17 @@ fn put_lines(
     count + put_end_lines(out, pid, call, outcome)
 }
 
-/// Writes the lines of a call in one piece, and answers how many they are, at most seven. They are made on the sheet.
+/// Writes the lines of a call at once, and answers how many they are, at most seven. They are made on the line buffer.
 ///
 /// `front` has the bytes that the call gave or took at its front: the buffer of its process, at most 4,096
 /// bytes. `walks` is how many walks the call began.
 ///
 /// # Errors
 ///
-/// `Failed` where a write failed: the sink was told a beginning of the lines' text.
+/// `Failed` where a write failed: the sink was given a beginning of the lines' text.
 pub fn write_call_lines<W: Sink>(
     out: &mut W,
-    sheet: &mut Sheet,
+    line_buffer: &mut LineBuffer,
     pid: u32,
     front: &[u8],
     call: CallRef<'_>,
@@ -288,26 +288,26 @@ pub fn write_call_lines<W: Sink>(
     walks: u8,
 ) -> Result<u8, Failed>
     requires { length front.now ≤ BUFFER }
-    ensures whole { OnOk result (W.told out.new ≡ and_all (W.told out.old) (trace_bytes (lines_by pid front.now (call_of call.entry) outcome walks))) }
+    ensures whole { OnOk result (W.written out.new ≡ and_all (W.written out.old) (trace_bytes (lines_by pid front.now (call_of call.entry) outcome walks))) }
     ensures count { IfOk result (λ n. n ≡ length (lines_by pid front.now (call_of call.entry) outcome walks)) }
     ensures few { IfOk result (λ n. n ≤ 7) }
-    ensures beginning { OnErr result (TellsBeginning (trace_bytes (lines_by pid front.now (call_of call.entry) outcome walks)) (W.told out.old) (W.told out.new)) }
+    ensures beginning { OnErr result (TellsBeginning (trace_bytes (lines_by pid front.now (call_of call.entry) outcome walks)) (W.written out.old) (W.written out.new)) }
     ensures failed { OnErr result (Rose (W.failures out.old) (W.failures out.new)) }
     ensures quiet { OnOk result (W.failures out.new ≡ W.failures out.old) }
 {
-    let count = put_lines(sheet, pid, front, call, outcome, walks);
-    write_whole(out, sheet.as_slice())?;
+    let count = put_lines(line_buffer, pid, front, call, outcome, walks);
+    write_whole(out, line_buffer.as_slice())?;
     Ok(count)
 }
 
-/// Writes the one line of a step by a process that is not live, which is made on the sheet.
+/// Writes the one line of a step by a process that is not live, which is made on the line buffer.
 ///
 /// # Errors
 ///
-/// `Failed` where a write failed: the sink was told a beginning of the line.
-pub fn write_gone_line<W: Sink>(out: &mut W, sheet: &mut Sheet, pid: u32) -> Result<(), Failed>
-    ensures whole { OnOk result (W.told out.new ≡ and_all (W.told out.old) (trace_bytes (gone_lines pid))) }
-    ensures beginning { OnErr result (TellsBeginning (trace_bytes (gone_lines pid)) (W.told out.old) (W.told out.new)) }
+/// `Failed` where a write failed: the sink was given a beginning of the line.
+pub fn write_gone_line<W: Sink>(out: &mut W, line_buffer: &mut LineBuffer, pid: u32) -> Result<(), Failed>
+    ensures whole { OnOk result (W.written out.new ≡ and_all (W.written out.old) (trace_bytes (gone_lines pid))) }
+    ensures beginning { OnErr result (TellsBeginning (trace_bytes (gone_lines pid)) (W.written out.old) (W.written out.new)) }
     ensures failed { OnErr result (Rose (W.failures out.old) (W.failures out.new)) }
     ensures quiet { OnOk result (W.failures out.new ≡ W.failures out.old) }
 {
@@ -315,5 +315,5 @@ pub fn write_gone_line<W: Sink>(out: &mut W, sheet: &mut Sheet, pid: u32) -> Res
         pid,
         word: Word::Gone,
     };
-    write_line(out, sheet, &line)
+    write_line(out, line_buffer, &line)
 }

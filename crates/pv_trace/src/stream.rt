@@ -6,14 +6,14 @@ ghost use Rattle.pv_trace.specs.Streams.{and_all, TellsBeginning};
 use pv_model::{Failed, Sink};
 
 // Writes some of the bytes, at least one.
-#[tactic(auto, using(crate::proofs::Streaming::told_nothing))]
+#[tactic(auto, using(crate::proofs::Streaming::written_nothing))]
 pub(crate) fn write_some<W: Sink>(sink: &mut W, bytes: &[u8]) -> Result<usize, Failed>
     requires { 0 < length bytes.now }
     ensures some { IfOk result (λ n. 0 < n) }
     ensures bound { IfOk result (λ n. n ≤ length bytes.now) }
-    ensures told { IfOk result (λ n. W.told sink.new ≡ and_front (W.told sink.old) n bytes.now) }
+    ensures written { IfOk result (λ n. W.written sink.new ≡ and_front (W.written sink.old) n bytes.now) }
     ensures quiet { OnOk result (W.failures sink.new ≡ W.failures sink.old) }
-    ensures kept { OnErr result (W.told sink.new ≡ W.told sink.old) }
+    ensures kept { OnErr result (W.written sink.new ≡ W.written sink.old) }
     ensures failed { OnErr result (Rose (W.failures sink.old) (W.failures sink.new)) }
 {
     match sink.write(bytes)? {
@@ -26,11 +26,11 @@ pub(crate) fn write_some<W: Sink>(sink: &mut W, bytes: &[u8]) -> Result<usize, F
 ///
 /// # Errors
 ///
-/// `Failed` where a write failed: the sink was told a beginning of the bytes.
-#[tactic(auto, using(crate::proofs::Streaming::told_more, crate::proofs::Streaming::tells_beginning))]
+/// `Failed` where a write failed: the sink was given a beginning of the bytes.
+#[tactic(auto, using(crate::proofs::Streaming::written_more, crate::proofs::Streaming::tells_beginning))]
 pub fn write_whole<W: Sink>(sink: &mut W, bytes: &[u8]) -> Result<(), Failed>
-    ensures whole { OnOk result (W.told sink.new ≡ and_all (W.told sink.old) bytes.now) }
-    ensures beginning { OnErr result (TellsBeginning bytes.now (W.told sink.old) (W.told sink.new)) }
+    ensures whole { OnOk result (W.written sink.new ≡ and_all (W.written sink.old) bytes.now) }
+    ensures beginning { OnErr result (TellsBeginning bytes.now (W.written sink.old) (W.written sink.new)) }
     ensures failed { OnErr result (Rose (W.failures sink.old) (W.failures sink.new)) }
     ensures quiet { OnOk result (W.failures sink.new ≡ W.failures sink.old) }
 {
@@ -45,12 +45,12 @@ pub fn write_whole<W: Sink>(sink: &mut W, bytes: &[u8]) -> Result<(), Failed>
 ///
 /// # Errors
 ///
-/// `Failed` where a write or the handing on failed: the sink was told a beginning of the bytes.
+/// `Failed` where a write or the handing on failed: the sink was given a beginning of the bytes.
 #[tactic(auto, using(crate::proofs::Streaming::begins_whole))]
 pub fn write_through<W: Sink>(sink: &mut W, bytes: &[u8]) -> Result<(), Failed>
-    ensures whole { OnOk result (W.told sink.new ≡ and_all (W.told sink.old) bytes.now) }
-    ensures empty { OnOk result (W.waits sink.new ≡ 0) }
-    ensures beginning { OnErr result (TellsBeginning bytes.now (W.told sink.old) (W.told sink.new)) }
+    ensures whole { OnOk result (W.written sink.new ≡ and_all (W.written sink.old) bytes.now) }
+    ensures empty { OnOk result (W.buffered sink.new ≡ 0) }
+    ensures beginning { OnErr result (TellsBeginning bytes.now (W.written sink.old) (W.written sink.new)) }
     ensures failed { OnErr result (Rose (W.failures sink.old) (W.failures sink.new)) }
     ensures quiet { OnOk result (W.failures sink.new ≡ W.failures sink.old) }
 {

@@ -1,17 +1,17 @@
-//! The lines of each word, with the text behind it.
+//! The lines of each word, with the text after it.
 ghost use Rattle.std.specs.Prelude.{◌≡◌, ◌++◌, ◌+◌, ◌*◌, ◌≤◌, length, codes, decimal, None, Some};
 ghost use Rattle.pv_model.specs.declared.limits.TheConstants.{BUFFER};
 ghost use Rattle.pv_model.specs.CallRef.{call_of};
 ghost use Rattle.pv_model.specs.Errno.{errno_name};
 ghost use Rattle.pv_model.specs.Promise.{promise_name};
 ghost use Rattle.pv_model.specs.Trace.{line, line_bytes, call_word, nami_word, pldg_word, unvl_word, gio_word, ret_word, psig_word, wait_word, gone_word, value_of, error_of, promise_text, promise_verdict_text, unveil_verdict_text, way_text, bytes_text};
-ghost use Rattle.pv_trace.specs.declared.sheet.TheConstants.{LINE_BYTES, PATH_LINE_BYTES, SHORT_LINE_BYTES, SHEET};
-ghost use Rattle.pv_trace.specs.Words.{promise_verdict_of, unveil_verdict_of, way_of, letters_bytes, needed_text, errno_text};
+ghost use Rattle.pv_trace.specs.declared.line_buffer.TheConstants.{LINE_BYTES, PATH_LINE_BYTES, SHORT_LINE_BYTES, LINE_BUFFER};
+ghost use Rattle.pv_trace.specs.Words.{promise_verdict_of, unveil_verdict_of, way_of, permissions_bytes, needed_text, errno_text};
 
 use crate::calls::{put_call, put_name};
 use crate::line::{PromiseVerdict, UnveilVerdict, Way};
-use crate::sheet::{
-    Sheet, put, put_decimal, put_front, put_hex, put_letters, put_quoted, put_quoted_all,
+use crate::line_buffer::{
+    LineBuffer, put, put_decimal, put_front, put_hex, put_permissions, put_quoted, put_quoted_all,
 };
 use pv_model::{CallRef, Errno, Perms, Promise, Text};
 
@@ -35,8 +35,8 @@ fn promise_bytes(promise: Promise) -> &'static [u8]
 }
 
 // What a trace says of a promise.
-fn put_promise(out: &mut Sheet, call: CallRef<'_>, promise: Promise, verdict: PromiseVerdict)
-    requires { length out.old.items + 64 ≤ SHEET }
+fn put_promise(out: &mut LineBuffer, call: CallRef<'_>, promise: Promise, verdict: PromiseVerdict)
+    requires { length out.old.items + 64 ≤ LINE_BUFFER }
     ensures text { out.new.items ≡ out.old.items ++ promise_text (call_of call.entry) promise (promise_verdict_text (promise_verdict_of verdict)) }
     ensures growth { length out.new.items ≤ length out.old.items + 64 }
 {
@@ -47,8 +47,8 @@ fn put_promise(out: &mut Sheet, call: CallRef<'_>, promise: Promise, verdict: Pr
     put(out, promise_verdict_name(verdict));
 }
 
-fn put_entry(out: &mut Sheet, number: u8)
-    requires { length out.old.items + 46 ≤ SHEET }
+fn put_entry(out: &mut LineBuffer, number: u8)
+    requires { length out.old.items + 46 ≤ LINE_BUFFER }
     ensures text { out.new.items ≡ out.old.items ++ (codes "entry " ++ decimal number) }
     ensures growth { length out.new.items ≤ length out.old.items + 46 }
 {
@@ -56,42 +56,42 @@ fn put_entry(out: &mut Sheet, number: u8)
     put_decimal(out, u32::from(number));
 }
 
-fn put_lacking(out: &mut Sheet, number: u8, letters: Perms)
-    requires { length out.old.items + 58 ≤ SHEET }
-    ensures text { out.new.items ≡ out.old.items ++ needed_text (Some number) letters }
+fn put_lacking(out: &mut LineBuffer, number: u8, permissions: Perms)
+    requires { length out.old.items + 58 ≤ LINE_BUFFER }
+    ensures text { out.new.items ≡ out.old.items ++ needed_text (Some number) permissions }
     ensures growth { length out.new.items ≤ length out.old.items + 58 }
 {
     put_entry(out, number);
     put(out, b", needs ");
-    put_letters(out, letters);
+    put_permissions(out, permissions);
 }
 
-fn put_hidden(out: &mut Sheet, letters: Perms)
-    requires { length out.old.items + 16 ≤ SHEET }
-    ensures text { out.new.items ≡ out.old.items ++ needed_text None letters }
+fn put_hidden(out: &mut LineBuffer, permissions: Perms)
+    requires { length out.old.items + 16 ≤ LINE_BUFFER }
+    ensures text { out.new.items ≡ out.old.items ++ needed_text None permissions }
     ensures growth { length out.new.items ≤ length out.old.items + 16 }
 {
     put(out, b"none, needs ");
-    put_letters(out, letters);
+    put_permissions(out, permissions);
 }
 
 // What a trace says of an unveil table that decided.
-#[tactic(auto, unfolding(crate::specs::Words::letters_bytes))]
-fn put_unveil(out: &mut Sheet, verdict: UnveilVerdict)
-    requires { length out.old.items + 58 ≤ SHEET }
+#[tactic(auto, unfolding(crate::specs::Words::permissions_bytes))]
+fn put_unveil(out: &mut LineBuffer, verdict: UnveilVerdict)
+    requires { length out.old.items + 58 ≤ LINE_BUFFER }
     ensures text { out.new.items ≡ out.old.items ++ unveil_verdict_text (unveil_verdict_of verdict) }
     ensures growth { length out.new.items ≤ length out.old.items + 58 }
 {
     match verdict {
-        UnveilVerdict::NoEntry(letters) => put_hidden(out, letters),
-        UnveilVerdict::EntryLacks(number, letters) => put_lacking(out, number, letters),
+        UnveilVerdict::NoEntry(permissions) => put_hidden(out, permissions),
+        UnveilVerdict::EntryLacks(number, permissions) => put_lacking(out, number, permissions),
         UnveilVerdict::Locked => put(out, b"locked"),
     }
 }
 
 // Which way bytes went.
-fn put_way(out: &mut Sheet, way: Way)
-    requires { length out.old.items + 5 ≤ SHEET }
+fn put_way(out: &mut LineBuffer, way: Way)
+    requires { length out.old.items + 5 ≤ LINE_BUFFER }
     ensures text { out.new.items ≡ out.old.items ++ way_text (way_of way) }
     ensures growth { length out.new.items ≤ length out.old.items + 5 }
 {
@@ -102,9 +102,9 @@ fn put_way(out: &mut Sheet, way: Way)
 }
 
 // What a trace says of bytes that were moved.
-fn put_moved(out: &mut Sheet, way: Way, bytes: &[u8])
+fn put_moved(out: &mut LineBuffer, way: Way, bytes: &[u8])
     requires few { length bytes.now ≤ BUFFER }
-    requires room { length out.old.items + 2 * BUFFER + 47 ≤ SHEET }
+    requires room { length out.old.items + 2 * BUFFER + 47 ≤ LINE_BUFFER }
     ensures text { out.new.items ≡ out.old.items ++ bytes_text (way_text (way_of way)) bytes.now }
     ensures growth { length out.new.items ≤ length out.old.items + 2 * BUFFER + 47 }
 {
@@ -129,8 +129,8 @@ fn errno_bytes(errno: Errno) -> &'static [u8]
 
 // What a trace says of an error.
 #[tactic(auto, unfolding(crate::specs::Words::errno_text))]
-fn put_errno(out: &mut Sheet, errno: Errno)
-    requires { length out.old.items + 62 ≤ SHEET }
+fn put_errno(out: &mut LineBuffer, errno: Errno)
+    requires { length out.old.items + 62 ≤ LINE_BUFFER }
     ensures text { out.new.items ≡ out.old.items ++ errno_text errno }
     ensures growth { length out.new.items ≤ length out.old.items + 62 }
 {
@@ -142,8 +142,8 @@ fn put_errno(out: &mut Sheet, errno: Errno)
 
 /// CALL: a call, with its arguments.
 #[tactic(auto, unfolding(pv_model::specs::Trace::text_line))]
-pub(crate) fn put_call_line(out: &mut Sheet, pid: u32, call: CallRef<'_>)
-    requires room { length out.old.items + LINE_BYTES ≤ SHEET }
+pub(crate) fn put_call_line(out: &mut LineBuffer, pid: u32, call: CallRef<'_>)
+    requires room { length out.old.items + LINE_BYTES ≤ LINE_BUFFER }
     ensures text { out.new.items ≡ out.old.items ++ line_bytes (line pid (call_word (call_of call.entry))) }
     ensures growth { length out.new.items ≤ length out.old.items + LINE_BYTES }
 {
@@ -154,8 +154,8 @@ pub(crate) fn put_call_line(out: &mut Sheet, pid: u32, call: CallRef<'_>)
 
 /// NAMI: a path that a call walks.
 #[tactic(auto, unfolding(pv_model::specs::Trace::text_line))]
-pub(crate) fn put_path_line(out: &mut Sheet, pid: u32, path: &Text)
-    requires room { length out.old.items + PATH_LINE_BYTES ≤ SHEET }
+pub(crate) fn put_path_line(out: &mut LineBuffer, pid: u32, path: &Text)
+    requires room { length out.old.items + PATH_LINE_BYTES ≤ LINE_BUFFER }
     ensures text { out.new.items ≡ out.old.items ++ line_bytes (line pid (nami_word path.now)) }
     ensures growth { length out.new.items ≤ length out.old.items + PATH_LINE_BYTES }
 {
@@ -167,13 +167,13 @@ pub(crate) fn put_path_line(out: &mut Sheet, pid: u32, path: &Text)
 /// PLDG: a promise that decided a call.
 #[tactic(auto, unfolding(pv_model::specs::Trace::text_line))]
 pub(crate) fn put_promise_line(
-    out: &mut Sheet,
+    out: &mut LineBuffer,
     pid: u32,
     call: CallRef<'_>,
     promise: Promise,
     verdict: PromiseVerdict,
 )
-    requires room { length out.old.items + SHORT_LINE_BYTES ≤ SHEET }
+    requires room { length out.old.items + SHORT_LINE_BYTES ≤ LINE_BUFFER }
     ensures text { out.new.items ≡ out.old.items ++ line_bytes (line pid (pldg_word (call_of call.entry) promise (promise_verdict_of verdict))) }
     ensures growth { length out.new.items ≤ length out.old.items + SHORT_LINE_BYTES }
 {
@@ -184,8 +184,8 @@ pub(crate) fn put_promise_line(
 
 /// UNVL: an unveil table that decided.
 #[tactic(auto, unfolding(pv_model::specs::Trace::text_line))]
-pub(crate) fn put_unveil_line(out: &mut Sheet, pid: u32, verdict: UnveilVerdict)
-    requires room { length out.old.items + SHORT_LINE_BYTES ≤ SHEET }
+pub(crate) fn put_unveil_line(out: &mut LineBuffer, pid: u32, verdict: UnveilVerdict)
+    requires room { length out.old.items + SHORT_LINE_BYTES ≤ LINE_BUFFER }
     ensures text { out.new.items ≡ out.old.items ++ line_bytes (line pid (unvl_word (unveil_verdict_of verdict))) }
     ensures growth { length out.new.items ≤ length out.old.items + SHORT_LINE_BYTES }
 {
@@ -196,9 +196,9 @@ pub(crate) fn put_unveil_line(out: &mut Sheet, pid: u32, verdict: UnveilVerdict)
 
 /// GIO: bytes that were given or taken.
 #[tactic(auto, unfolding(pv_model::specs::Trace::text_line))]
-pub(crate) fn put_moved_line(out: &mut Sheet, pid: u32, way: Way, bytes: &[u8])
+pub(crate) fn put_moved_line(out: &mut LineBuffer, pid: u32, way: Way, bytes: &[u8])
     requires few { length bytes.now ≤ BUFFER }
-    requires room { length out.old.items + LINE_BYTES ≤ SHEET }
+    requires room { length out.old.items + LINE_BYTES ≤ LINE_BUFFER }
     ensures text { out.new.items ≡ out.old.items ++ line_bytes (line pid (gio_word (way_of way) bytes.now)) }
     ensures growth { length out.new.items ≤ length out.old.items + LINE_BYTES }
 {
@@ -209,8 +209,8 @@ pub(crate) fn put_moved_line(out: &mut Sheet, pid: u32, way: Way, bytes: &[u8])
 
 /// RET: a call answered a value.
 #[tactic(auto, unfolding(pv_model::specs::Trace::text_line))]
-pub(crate) fn put_value_line(out: &mut Sheet, pid: u32, call: CallRef<'_>, value: u32)
-    requires room { length out.old.items + SHORT_LINE_BYTES ≤ SHEET }
+pub(crate) fn put_value_line(out: &mut LineBuffer, pid: u32, call: CallRef<'_>, value: u32)
+    requires room { length out.old.items + SHORT_LINE_BYTES ≤ LINE_BUFFER }
     ensures text { out.new.items ≡ out.old.items ++ line_bytes (line pid (ret_word (call_of call.entry) (value_of value))) }
     ensures growth { length out.new.items ≤ length out.old.items + SHORT_LINE_BYTES }
 {
@@ -223,8 +223,8 @@ pub(crate) fn put_value_line(out: &mut Sheet, pid: u32, call: CallRef<'_>, value
 
 /// RET: a call failed.
 #[tactic(auto, unfolding(pv_model::specs::Trace::text_line, crate::specs::Words::errno_text))]
-pub(crate) fn put_error_line(out: &mut Sheet, pid: u32, call: CallRef<'_>, errno: Errno)
-    requires room { length out.old.items + SHORT_LINE_BYTES ≤ SHEET }
+pub(crate) fn put_error_line(out: &mut LineBuffer, pid: u32, call: CallRef<'_>, errno: Errno)
+    requires room { length out.old.items + SHORT_LINE_BYTES ≤ LINE_BUFFER }
     ensures text { out.new.items ≡ out.old.items ++ line_bytes (line pid (ret_word (call_of call.entry) (error_of errno))) }
     ensures growth { length out.new.items ≤ length out.old.items + SHORT_LINE_BYTES }
 {
@@ -237,8 +237,8 @@ pub(crate) fn put_error_line(out: &mut Sheet, pid: u32, call: CallRef<'_>, errno
 
 /// PSIG: the process was killed.
 #[tactic(auto, unfolding(pv_model::specs::Trace::text_line))]
-pub(crate) fn put_killed_line(out: &mut Sheet, pid: u32)
-    requires room { length out.old.items + SHORT_LINE_BYTES ≤ SHEET }
+pub(crate) fn put_killed_line(out: &mut LineBuffer, pid: u32)
+    requires room { length out.old.items + SHORT_LINE_BYTES ≤ LINE_BUFFER }
     ensures text { out.new.items ≡ out.old.items ++ line_bytes (line pid psig_word) }
     ensures growth { length out.new.items ≤ length out.old.items + SHORT_LINE_BYTES }
 {
@@ -248,8 +248,8 @@ pub(crate) fn put_killed_line(out: &mut Sheet, pid: u32)
 
 /// WAIT: the call waits.
 #[tactic(auto, unfolding(pv_model::specs::Trace::text_line))]
-pub(crate) fn put_wait_line(out: &mut Sheet, pid: u32)
-    requires room { length out.old.items + SHORT_LINE_BYTES ≤ SHEET }
+pub(crate) fn put_wait_line(out: &mut LineBuffer, pid: u32)
+    requires room { length out.old.items + SHORT_LINE_BYTES ≤ LINE_BUFFER }
     ensures text { out.new.items ≡ out.old.items ++ line_bytes (line pid wait_word) }
     ensures growth { length out.new.items ≤ length out.old.items + SHORT_LINE_BYTES }
 {
@@ -259,8 +259,8 @@ pub(crate) fn put_wait_line(out: &mut Sheet, pid: u32)
 
 /// GONE: the process is not live.
 #[tactic(auto, unfolding(pv_model::specs::Trace::text_line))]
-pub(crate) fn put_gone_line(out: &mut Sheet, pid: u32)
-    requires room { length out.old.items + SHORT_LINE_BYTES ≤ SHEET }
+pub(crate) fn put_gone_line(out: &mut LineBuffer, pid: u32)
+    requires room { length out.old.items + SHORT_LINE_BYTES ≤ LINE_BUFFER }
     ensures text { out.new.items ≡ out.old.items ++ line_bytes (line pid gone_word) }
     ensures growth { length out.new.items ≤ length out.old.items + SHORT_LINE_BYTES }
 {

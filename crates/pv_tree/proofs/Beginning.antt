@@ -9,11 +9,11 @@ use Rattle.pv_model.specs.Bytes.{Bytes}
 use Rattle.pv_model.specs.Numbered.{Numbered, with_number}
 use Rattle.pv_model.specs.Room.{need, is_too_long, fits}
 use Rattle.pv_model.specs.Tree.{Node, directory_node, Tree, root, node_at, find_entry, names_of, parent, with_node, new_number, is_node}
-use Rattle.pv_tree_laws.specs.Spelled.{has_bytes}
-use Rattle.pv_tree_laws.proofs.Empty.{free-at, only-root, no-entries, none-present, none-numbered, length-free}
-use Rattle.pv_tree_laws.specs.Tree.{IsSound}
-use Rattle.pv_tree_laws.proofs.Entries.{by_name}
-use Rattle.pv_tree_laws.proofs.Trees.{well_formed, parent-root}
+use Rattle.pv_laws_trees.specs.Spelled.{has_bytes}
+use Rattle.pv_laws_trees.proofs.Empty.{free-at, only-root, no-entries, none-present, none-numbered, length-free}
+use Rattle.pv_laws_trees.specs.Tree.{IsSound}
+use Rattle.pv_laws_trees.proofs.Entries.{by_name}
+use Rattle.pv_laws_trees.proofs.Trees.{well_formed, parent-root}
 use Rattle.pv_tree.specs.Changes.{root_alone}
 use Rattle.pv_tree.specs.Standing.{stored, IsTied}
 use Rattle.pv_tree.proofs.Counting.{directory-some}

@@ -2,9 +2,9 @@
 use Rattle.std.proofs.Common.{◌≡◌, ℕ, ◌+◌, ◌-◌, ◌<◌, ◌≤◌, true, List, ◌++◌, length, take, drop, replicate, None, is_some, refl, sym, ◌∙◌}
 use Rattle.std.specs.Prelude.{slice_index}
 use Rattle.pv_model.specs.Tree.{Tree, node_at, is_directory_at, names_of, parent}
-use Rattle.pv_tree_laws.specs.Spelled.{AllBytes}
-use Rattle.pv_tree_laws.specs.Tree.{IsSound}
-use Rattle.pv_tree_laws.proofs.Trees.{well_formed}
+use Rattle.pv_laws_trees.specs.Spelled.{AllBytes}
+use Rattle.pv_laws_trees.specs.Tree.{IsSound}
+use Rattle.pv_laws_trees.proofs.Trees.{well_formed}
 use Rattle.pv_tree.specs.Rooms.{refusal}
 use Rattle.pv_tree.specs.Standing.{stored, IsCounted}
 use Rattle.pv_tree.proofs.Rooms.{refusal-none}

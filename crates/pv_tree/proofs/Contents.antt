@@ -13,15 +13,15 @@ use Rattle.pv_model.specs.Room.{node_length, greatest_length, is_too_long}
 use Rattle.pv_model.specs.Sealed.{is_file}
 use Rattle.pv_model.specs.Tree.{Node, directory_node, file_node, link_node, Tree, node_at, entries_of, entries_at, is_directory, find_entry, with_node}
 use Rattle.pv_dirs.specs.Trees.{written, cut, replaced, total_need, LacksRoom, bytes_of as content_of}
-use Rattle.pv_tree_laws.specs.Spelled.{are_bytes}
-use Rattle.pv_tree_laws.specs.Tree.{IsSound}
-use Rattle.pv_tree_laws.proofs.Changes.{node_at-same, node_at-other}
-use Rattle.pv_tree_laws.proofs.Edits.{sound-content}
-use Rattle.pv_tree_laws.proofs.Entries.{by_name}
-use Rattle.pv_tree_laws.proofs.Spelled.{bytes-with_node, bytes-overwrite, bytes-resize}
-use Rattle.pv_tree_laws.proofs.Numbered.{at_number-below, length-with_number}
-use Rattle.pv_tree_laws.proofs.Rooms.{too_long-at, length-within}
-use Rattle.pv_tree_laws.proofs.Trees.{sound, well_formed}
+use Rattle.pv_laws_trees.specs.Spelled.{are_bytes}
+use Rattle.pv_laws_trees.specs.Tree.{IsSound}
+use Rattle.pv_laws_trees.proofs.Changes.{node_at-same, node_at-other}
+use Rattle.pv_laws_trees.proofs.Edits.{sound-content}
+use Rattle.pv_laws_trees.proofs.Entries.{by_name}
+use Rattle.pv_laws_trees.proofs.Spelled.{bytes-with_node, bytes-overwrite, bytes-resize}
+use Rattle.pv_laws_trees.proofs.Numbered.{at_number-below, length-with_number}
+use Rattle.pv_laws_trees.proofs.Rooms.{too_long-at, length-within}
+use Rattle.pv_laws_trees.proofs.Trees.{sound, well_formed}
 use Rattle.pv_tree.specs.Changes.{overwritten, resized}
 use Rattle.pv_tree.specs.Rooms.{refusal}
 use Rattle.pv_tree.specs.Standing.{stored, IsCounted, IsTied}

@@ -7,17 +7,17 @@ use Rattle.std.proofs.lemmas.List.{get_or-set_same, get_or-set_other, length-set
 use Rattle.pv_model.specs.Held.{among}
 use Rattle.pv_model.specs.Tree.{Node, Tree, root, node_at, is_directory, is_directory_at, find_entry, entries_of, parent}
 use Rattle.pv_dirs.specs.Trees.{without_node}
-use Rattle.pv_tree_laws.specs.Kept.{wanted, kept}
-use Rattle.pv_tree_laws.specs.Tree.{IsSound}
-use Rattle.pv_tree_laws.proofs.Changes.{some-below}
-use Rattle.pv_tree_laws.proofs.Entries.{by_name}
-use Rattle.pv_tree_laws.proofs.Numbered.{keep-some, keep-passes, length-keep}
-use Rattle.pv_tree_laws.proofs.Trees.{ordered, sound, among-entry, parent-entry, parent-root}
-use Rattle.pv_tree_laws.proofs.Keeping.{only-sound, entries-only, find-only, wanted-covers, kept_in_turn}
+use Rattle.pv_laws_trees.specs.Kept.{wanted, kept}
+use Rattle.pv_laws_trees.specs.Tree.{IsSound}
+use Rattle.pv_laws_trees.proofs.Changes.{some-below}
+use Rattle.pv_laws_trees.proofs.Entries.{by_name}
+use Rattle.pv_laws_trees.proofs.Numbered.{keep-some, keep-passes, length-keep}
+use Rattle.pv_laws_trees.proofs.Trees.{ordered, sound, among-entry, parent-entry, parent-root}
+use Rattle.pv_laws_trees.proofs.Keeping.{only-sound, entries-only, find-only, wanted-covers, kept_in_turn}
 use Rattle.pv_tree.specs.Changes.{settled}
 use Rattle.pv_tree.specs.Holding.{held_numbers, held_more, held_less, trimmed}
 use Rattle.pv_tree.specs.Standing.{stored, IsCounted, IsTied}
-use Rattle.pv_tree_laws.proofs.Spelled.{bytes-kept}
+use Rattle.pv_laws_trees.proofs.Spelled.{bytes-kept}
 use Rattle.pv_tree.proofs.Carrying.{carried}
 use Rattle.pv_tree.proofs.Keeping.{is_kept, wanted-counted, trimmed-all, trimmed-one, all-kept}
 use Rattle.pv_tree.proofs.Names.{name_count, named-is, names-same, is_positive, positive-is, is-positive, none-positive}

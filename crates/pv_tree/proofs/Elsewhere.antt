@@ -2,12 +2,12 @@
 use Rattle.std.proofs.Common.{◌≡◌, ℕ, ◌<◌, true, [], ◌∷◌, List, length, None, Result, Ok, Err, refl, ap, ◌∙◌, arith}
 use Rattle.std.specs.Prelude.{OnOk, OnErr}
 use Rattle.pv_inodes.specs.declared.space.Space.{Space}
-use Rattle.pv_model.specs.declared.sort.Kind.{Kind}
+use Rattle.pv_model.specs.declared.sort.NewNode.{NewNode}
 use Rattle.pv_model.specs.Bytes.{Bytes}
 use Rattle.pv_model.specs.Effect.{bytes_of, overwrite, resize}
 use Rattle.pv_model.specs.Tree.{Tree, node_at, is_directory_at, find_entry, with_entry, without_entry, new_number, with_new_node, IsWellFormed}
-use Rattle.pv_tree_laws.specs.Found.{Alike, AlikeBut, AlikeButTwo}
-use Rattle.pv_tree_laws.proofs.Found.{alike-then, alike-without, alike-new, alike-moved, alike-kept, alike-content}
+use Rattle.pv_laws_trees.specs.Found.{Alike, AlikeBut, AlikeButTwo}
+use Rattle.pv_laws_trees.proofs.Found.{alike-then, alike-without, alike-new, alike-moved, alike-kept, alike-content}
 use Rattle.pv_tree.specs.Changes.{new_node, overwritten, resized}
 use Rattle.pv_tree.specs.Holding.{held_numbers, trimmed}
 use Rattle.pv_tree.proofs.Making.{new-entries}
@@ -34,7 +34,7 @@ alike-refused d name e new t u same = (find_entry u, λ x q other. refl, λ x q 
 -- ---- names
 
 -- a new node
-pub alike-made : (t : Tree) (d : ℕ) (name : Bytes) (k : Kind) → is_directory_at t d ≡ true → find_entry t d name ≡ None → new_number t < length t.nodes
+pub alike-made : (t : Tree) (d : ℕ) (name : Bytes) (k : NewNode) → is_directory_at t d ≡ true → find_entry t d name ≡ None → new_number t < length t.nodes
     → AlikeBut d name (find_entry t) (find_entry (with_new_node t d name (new_node k)))
 alike-made t d name k is free within = alike-new t d name (new_node k) is free (new-entries k) (omega arith)
 

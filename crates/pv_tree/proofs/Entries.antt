@@ -7,8 +7,8 @@ use Rattle.pv_model.specs.Bytes.{Bytes}
 use Rattle.pv_model.specs.Tree.{Entries}
 pub use Rattle.pv_dirs.specs.Counts.{count_in}
 pub use Rattle.pv_dirs.proofs.Counts.{one_if, count-cons, count-put, count-most}
-use Rattle.pv_tree_laws.proofs.Changes.{cases_name}
-use Rattle.pv_tree_laws.proofs.Entries.{by_name, is_other, tied-same, find-put_same, find-put_other, find-without_same, find-without_other, told, tell}
+use Rattle.pv_laws_trees.proofs.Changes.{cases_name}
+use Rattle.pv_laws_trees.proofs.Entries.{by_name, is_other, tied-same, find-put_same, find-put_other, find-without_same, find-without_other, told, tell}
 
 -- entries in order that find the same are the same
 pub same_found : (es fs : Entries) → is_sorted by_name es ≡ true → is_sorted by_name fs ≡ true → ((q : Bytes) → find by_name q es ≡ find by_name q fs) → es ≡ fs

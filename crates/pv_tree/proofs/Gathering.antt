@@ -11,11 +11,11 @@ use Rattle.pv_model.specs.Tree.{Entries, Node, directory_node, file_node, link_n
 use Rattle.pv_dirs.specs.Counts.{count_in}
 use Rattle.pv_dirs.specs.Trees.{total_need}
 use Rattle.pv_dirs.proofs.Counts.{count-cons, one_if}
-use Rattle.pv_tree_laws.specs.Kept.{EachIsNamed}
-use Rattle.pv_tree_laws.specs.Spelled.{AllBytes}
-use Rattle.pv_tree_laws.proofs.Entries.{by_name, names_node-find}
-use Rattle.pv_tree_laws.proofs.Keeping.{kept_all}
-use Rattle.pv_tree_laws.proofs.Trees.{sound, ordered, entry-among, entry-parent, parent-unnamed, parent-root}
+use Rattle.pv_laws_trees.specs.Kept.{EachIsNamed}
+use Rattle.pv_laws_trees.specs.Spelled.{AllBytes}
+use Rattle.pv_laws_trees.proofs.Entries.{by_name, names_node-find}
+use Rattle.pv_laws_trees.proofs.Keeping.{kept_all}
+use Rattle.pv_laws_trees.proofs.Trees.{sound, ordered, entry-among, entry-parent, parent-unnamed, parent-root}
 use Rattle.pv_tree.specs.Holding.{held_numbers}
 use Rattle.pv_tree.specs.Standing.{stored, IsTied}
 use Rattle.pv_tree.proofs.Beginning.{zeros-at}
@@ -141,7 +141,7 @@ module _ (bytes : Bytes) (t : Tree) (is : IsImageOf bytes t) where
   -- a number of a node is that of an inode
   node_number : (n : ℕ) (node : Node) → node_at t n ≡ Some node → (1 ≤ n) × (n ≤ t.inodes)
   node_number zero node at = let nothing : Some node ≡ None = sym at ∙ is.well_formed.no_zero in cc
-  node_number (suc n) node at = (omega arith, omega (arith, Rattle.pv_tree_laws.proofs.Changes.some-below t (suc n) (ap is_some at), is.well_formed.numbers))
+  node_number (suc n) node at = (omega arith, omega (arith, Rattle.pv_laws_trees.proofs.Changes.some-below t (suc n) (ap is_some at), is.well_formed.numbers))
 
   pub node_inode : (n : ℕ) (node : Node) → node_at t n ≡ Some node → Holds t.version bytes t n node
   node_inode n node at = let number = node_number n node at in subst (HoldsAny t.version bytes t n) at (is.each_inode n number.0 number.1)

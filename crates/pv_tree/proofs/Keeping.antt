@@ -6,9 +6,9 @@ use Rattle.pv_model.specs.Held.{among}
 use Rattle.pv_model.specs.Numbered.{Numbered, at_number, without_number, keep, keep_if}
 use Rattle.pv_model.specs.Tree.{Node, Tree, root, node_at}
 use Rattle.pv_dirs.specs.Trees.{without_node}
-use Rattle.pv_tree_laws.specs.Kept.{EachIsNamed, wanted}
-use Rattle.pv_tree_laws.proofs.Numbered.{same_numbered, at_number-keep, keep-some, keep-passes, keep-fails, length-keep, length-without_number, without_number-same, without_number-other}
-use Rattle.pv_tree_laws.proofs.Keeping.{only_nodes_all, wanted-is}
+use Rattle.pv_laws_trees.specs.Kept.{EachIsNamed, wanted}
+use Rattle.pv_laws_trees.proofs.Numbered.{same_numbered, at_number-keep, keep-some, keep-passes, keep-fails, length-keep, length-without_number, without_number-same, without_number-other}
+use Rattle.pv_laws_trees.proofs.Keeping.{only_nodes_all, wanted-is}
 use Rattle.pv_tree.specs.Holding.{held_from, held_numbers, IsUnheld, trimmed}
 use Rattle.pv_tree.proofs.Names.{name_count, named-is, is_positive}
 

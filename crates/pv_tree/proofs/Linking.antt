@@ -6,14 +6,14 @@ use Rattle.std.proofs.lemmas.List.{length-set}
 use Rattle.pv_model.specs.Bytes.{Bytes}
 use Rattle.pv_model.specs.Calls.Paths.{entries_there}
 use Rattle.pv_model.specs.Tree.{Tree, root, node_at, entries_at, is_directory_at, find_entry, parent, with_entry, without_entry, is_name}
-use Rattle.pv_tree_laws.specs.Spelled.{are_bytes}
-use Rattle.pv_tree_laws.specs.Tree.{IsSound, Stands}
-use Rattle.pv_tree_laws.proofs.Above.{stands-reached}
-use Rattle.pv_tree_laws.proofs.Changes.{SameShape, shape-with_entry, shape-without_entry, has_entry-directory, with_entry-cases, with_entry-stays, without_entry-was, without_entry-stays}
-use Rattle.pv_tree_laws.proofs.Edits.{sound-with_entry, sound-without_entry}
-use Rattle.pv_tree_laws.proofs.Rooms.{no_larger-without}
-use Rattle.pv_tree_laws.proofs.Spelled.{bytes-with_entry, bytes-without_entry}
-use Rattle.pv_tree_laws.proofs.Trees.{ordered, sound, parent-unnamed}
+use Rattle.pv_laws_trees.specs.Spelled.{are_bytes}
+use Rattle.pv_laws_trees.specs.Tree.{IsSound, Stands}
+use Rattle.pv_laws_trees.proofs.Above.{stands-reached}
+use Rattle.pv_laws_trees.proofs.Changes.{SameShape, shape-with_entry, shape-without_entry, has_entry-directory, with_entry-cases, with_entry-stays, without_entry-was, without_entry-stays}
+use Rattle.pv_laws_trees.proofs.Edits.{sound-with_entry, sound-without_entry}
+use Rattle.pv_laws_trees.proofs.Rooms.{no_larger-without}
+use Rattle.pv_laws_trees.proofs.Spelled.{bytes-with_entry, bytes-without_entry}
+use Rattle.pv_laws_trees.proofs.Trees.{ordered, sound, parent-unnamed}
 use Rattle.pv_tree.specs.Changes.{settled}
 use Rattle.pv_tree.specs.Holding.{trimmed}
 use Rattle.pv_tree.specs.Rooms.{refusal}

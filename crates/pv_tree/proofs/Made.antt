@@ -4,18 +4,18 @@ use Rattle.std.specs.Prelude.{slice_index, slice_set}
 use Rattle.std.specs.FinMap.Entries.{find, put}
 use Rattle.std.proofs.lemmas.Bool.{cases_eq}
 use Rattle.std.proofs.lemmas.List.{length-set}
-use Rattle.pv_model.specs.declared.sort.Kind.{Kind}
+use Rattle.pv_model.specs.declared.sort.NewNode.{NewNode}
 use Rattle.pv_model.specs.Bytes.{Bytes}
 use Rattle.pv_model.specs.Tree.{Node, directory_node, Tree, node_at, entries_at, is_directory, is_directory_at, find_entry, parent, with_node, with_entry, new_number, is_name, is_node}
-use Rattle.pv_tree_laws.specs.Spelled.{are_bytes, has_bytes}
-use Rattle.pv_tree_laws.specs.Tree.{IsSound, Stands}
-use Rattle.pv_tree_laws.proofs.Above.{stands-reached}
-use Rattle.pv_tree_laws.proofs.Changes.{directory-below, node_at-other, with_entry-cases, with_entry-stays, found-with, still-there}
-use Rattle.pv_tree_laws.proofs.Edits.{new_number-free, sound-with_new_node}
-use Rattle.pv_tree_laws.proofs.Entries.{by_name}
-use Rattle.pv_tree_laws.proofs.Spelled.{bytes-with_node, bytes-with_entry}
-use Rattle.pv_tree_laws.proofs.Numbered.{length-with_number}
-use Rattle.pv_tree_laws.proofs.Trees.{sound, entry-parent}
+use Rattle.pv_laws_trees.specs.Spelled.{are_bytes, has_bytes}
+use Rattle.pv_laws_trees.specs.Tree.{IsSound, Stands}
+use Rattle.pv_laws_trees.proofs.Above.{stands-reached}
+use Rattle.pv_laws_trees.proofs.Changes.{directory-below, node_at-other, with_entry-cases, with_entry-stays, found-with, still-there}
+use Rattle.pv_laws_trees.proofs.Edits.{new_number-free, sound-with_new_node}
+use Rattle.pv_laws_trees.proofs.Entries.{by_name}
+use Rattle.pv_laws_trees.proofs.Spelled.{bytes-with_node, bytes-with_entry}
+use Rattle.pv_laws_trees.proofs.Numbered.{length-with_number}
+use Rattle.pv_laws_trees.proofs.Trees.{sound, entry-parent}
 use Rattle.pv_tree.specs.Changes.{new_node}
 use Rattle.pv_tree.specs.Rooms.{refusal}
 use Rattle.pv_tree.specs.Standing.{stored, IsCounted, IsTied}
@@ -27,7 +27,7 @@ use Rattle.pv_tree.proofs.Making.{new-entries, entries-one, directory-one, absen
 use Rattle.pv_tree.proofs.Names.{name_count, names-with_entry, names-same}
 use Rattle.pv_tree.proofs.Parents.{parent-same}
 
-module _ (t : Tree) (parents names holds : List ℕ) (tied : IsTied t parents names holds) (d : ℕ) (name : Bytes) (k : Kind)
+module _ (t : Tree) (parents names holds : List ℕ) (tied : IsTied t parents names holds) (d : ℕ) (name : Bytes) (k : NewNode)
     (stands : Stands t d) (free : find_entry t d name ≡ None) (good : is_name t.version name ≡ true) (fine : is_node t.version (new_node k) ≡ true)
     (spelled : are_bytes name ≡ true) (filled : has_bytes (new_node k) ≡ true) (below : new_number t < length t.nodes) where
   c : IsCounted t parents names holds

@@ -7,8 +7,8 @@ use Rattle.std.proofs.lemmas.Bool.{and_parts, leb-true, cases_eq, cases_lt, case
 use Rattle.pv_inodes.specs.declared.space.Space.{Space}
 use Rattle.pv_inodes.specs.declared.space.Space.TheVariants.{Full, TooBig}
 use Rattle.pv_inodes.proofs.Numbers.{with_number-itself, without_number-with_number}
-use Rattle.pv_model.specs.declared.sort.Kind.{Kind}
-use Rattle.pv_model.specs.declared.sort.Kind.TheVariants.{Directory, File, Executable, Symlink}
+use Rattle.pv_model.specs.declared.sort.NewNode.{NewNode}
+use Rattle.pv_model.specs.declared.sort.NewNode.TheVariants.{Directory, File, Executable, Symlink}
 use Rattle.pv_model.specs.declared.version.Version.{Version}
 use Rattle.pv_model.specs.Bytes.{Bytes, is_empty}
 use Rattle.pv_model.specs.Effect.{overwrite, size_of}
@@ -16,12 +16,12 @@ use Rattle.pv_model.specs.Numbered.{Numbered, at_number, with_number, without_nu
 use Rattle.pv_model.specs.Room.{node_length, greatest_entries, greatest_length, is_too_long, fits}
 use Rattle.pv_model.specs.Tree.{Node, directory_node, file_node, link_node, Tree, node_at, entries_of, entries_at, is_directory, is_directory_at, find_entry, with_node, with_entry, with_new_node, new_number, is_node, is_link_text, IsWellFormed}
 use Rattle.pv_dirs.specs.Trees.{new_node as empty_node, written, replaced, bytes_of, without_node, LacksRoom}
-use Rattle.pv_tree_laws.specs.Spelled.{has_bytes}
-use Rattle.pv_tree_laws.proofs.Changes.{directory-below, node_at-same, still-there}
-use Rattle.pv_tree_laws.proofs.Edits.{new_number-free}
-use Rattle.pv_tree_laws.proofs.Entries.{by_name}
-use Rattle.pv_tree_laws.proofs.Numbered.{at_number-below, at_number-drop, length-with_number, with_number-other, with_number-same_within, with_number-other_within, without_number-same, without_number-other, length-without_number, length-drop_one, least_free-within, least_free-below, present-all, present-drop, same_numbered}
-use Rattle.pv_tree_laws.proofs.Trees.{ordered}
+use Rattle.pv_laws_trees.specs.Spelled.{has_bytes}
+use Rattle.pv_laws_trees.proofs.Changes.{directory-below, node_at-same, still-there}
+use Rattle.pv_laws_trees.proofs.Edits.{new_number-free}
+use Rattle.pv_laws_trees.proofs.Entries.{by_name}
+use Rattle.pv_laws_trees.proofs.Numbered.{at_number-below, at_number-drop, length-with_number, with_number-other, with_number-same_within, with_number-other_within, without_number-same, without_number-other, length-without_number, length-drop_one, least_free-within, least_free-below, present-all, present-drop, same_numbered}
+use Rattle.pv_laws_trees.proofs.Trees.{ordered}
 use Rattle.pv_tree.specs.Changes.{new_node, sort_of}
 use Rattle.pv_tree.specs.Rooms.{refusal}
 use Rattle.pv_tree.specs.Standing.{IsShaped}
@@ -70,13 +70,13 @@ lacks-link t n text at good r too_big full = by r refl
     by (Err TooBig) is = let short = link-length text good in let long = (too_big.0 is).1 in absurd (omega (arith, text_allowed t.version))
     by (Err Full) is = subst LacksRoom (wrote-link t n text at) (full.0 is).2
 
-pub same-empty : (k : Kind) → ((x : _) → k ≡ Symlink x → ⊥) → new_node k ≡ empty_node (sort_of k)
+pub same-empty : (k : NewNode) → ((x : _) → k ≡ Symlink x → ⊥) → new_node k ≡ empty_node (sort_of k)
 same-empty Directory other = refl
 same-empty File other = refl
 same-empty Executable other = refl
 same-empty (Symlink text) other = absurd (other text refl)
 
-pub bytes-other : (k : Kind) → ((x : _) → k ≡ Symlink x → ⊥) → has_bytes (new_node k) ≡ true
+pub bytes-other : (k : NewNode) → ((x : _) → k ≡ Symlink x → ⊥) → has_bytes (new_node k) ≡ true
 bytes-other Directory other = refl
 bytes-other File other = refl
 bytes-other Executable other = refl
@@ -111,13 +111,13 @@ taken_away t n node free below =
     (λ other. without_number-other (with_number t.nodes n node) n m other ∙ with_number-other t.nodes n node m below other)
     (cases_eq m n)))
 
-pub new-entries : (k : Kind) → entries_of (Some (new_node k)) ≡ []
+pub new-entries : (k : NewNode) → entries_of (Some (new_node k)) ≡ []
 new-entries Directory = refl
 new-entries File = refl
 new-entries Executable = refl
 new-entries (Symlink text) = refl
 
-new-length : (v : Version) (k : Kind) → is_node v (new_node k) ≡ true → node_length v (new_node k) ≤ 1023
+new-length : (v : Version) (k : NewNode) → is_node v (new_node k) ≡ true → node_length v (new_node k) ≤ 1023
 new-length v Directory good = omega arith
 new-length v File good = omega arith
 new-length v Executable good = omega arith
@@ -132,7 +132,7 @@ size-entries t d k is size = by (node_at t d) refl is size
     by (Some (file_node executable bytes)) at is size = cc
     by (Some (link_node text)) at is size = cc
 
-module _ (t : Tree) (w : IsWellFormed t) (short : is_too_long t ≡ false) (d : ℕ) (name : Bytes) (k : Kind)
+module _ (t : Tree) (w : IsWellFormed t) (short : is_too_long t ≡ false) (d : ℕ) (name : Bytes) (k : NewNode)
     (is : is_directory_at t d ≡ true) (free : find_entry t d name ≡ None) (good : is_node t.version (new_node k) ≡ true) where
   abbrev m : ℕ
   m = new_number t
@@ -217,7 +217,7 @@ module _ (t : Tree) (w : IsWellFormed t) (short : is_too_long t ≡ false) (d : 
 
 -- ---- the steps of a making
 
-module _ (t v : Tree) (n : ℕ) (k : Kind) (sort : Rattle.pv_model.specs.declared.sort.Sort.Sort) (taken : v ≡ with_node t n (empty_node sort)) (kind : sort ≡ sort_of k)
+module _ (t v : Tree) (n : ℕ) (k : NewNode) (sort : Rattle.pv_model.specs.declared.sort.Kind.Kind) (taken : v ≡ with_node t n (empty_node sort)) (kind : sort ≡ sort_of k)
     (below : n < length t.nodes) (least : n ≡ new_number t) where
   pub fresh-is : v ≡ with_node t n (empty_node (sort_of k))
   fresh-is = taken ∙ ap (λ s. with_node t n (empty_node s)) kind

@@ -10,16 +10,16 @@ use Rattle.pv_model.specs.Bytes.{Bytes}
 use Rattle.pv_model.specs.Calls.Paths.{contains_directory, entries_there}
 use Rattle.pv_model.specs.Room.{entry_length, fits}
 use Rattle.pv_model.specs.Tree.{Entries, Node, directory_node, file_node, link_node, Tree, node_at, entries_of, entries_at, is_directory, is_directory_at, find_entry, parent, with_node, with_entry, without_entry, is_name, is_node, IsWellFormed}
-use Rattle.pv_tree_laws.specs.Room.{IsNoLonger, IsNoLarger}
-use Rattle.pv_tree_laws.specs.Spelled.{are_bytes, AllBytes}
-use Rattle.pv_tree_laws.specs.Tree.{IsSound, Stands}
-use Rattle.pv_tree_laws.proofs.Above.{not_contained}
-use Rattle.pv_tree_laws.proofs.Changes.{SameShape, shape-along, shape-with_entry, shape-without_entry, directory-below, node_at-same, node_at-other, has_entry-directory, entries-with_node, entries-good, found-with, found-without, with_entry-cases, with_entry-stays, without_entry-was, without_entry-stays}
-use Rattle.pv_tree_laws.proofs.Edits.{sound-moved}
-use Rattle.pv_tree_laws.proofs.Entries.{by_name, is_other, find-list_all, tell}
-use Rattle.pv_tree_laws.proofs.Rooms.{no_larger-without}
-use Rattle.pv_tree_laws.proofs.Spelled.{bytes-with_entry, bytes-without_entry}
-use Rattle.pv_tree_laws.proofs.Trees.{ordered, sound, entry-parent, parent-unnamed}
+use Rattle.pv_laws_trees.specs.Room.{IsNoLonger, IsNoLarger}
+use Rattle.pv_laws_trees.specs.Spelled.{are_bytes, AllBytes}
+use Rattle.pv_laws_trees.specs.Tree.{IsSound, Stands}
+use Rattle.pv_laws_trees.proofs.Above.{not_contained}
+use Rattle.pv_laws_trees.proofs.Changes.{SameShape, shape-along, shape-with_entry, shape-without_entry, directory-below, node_at-same, node_at-other, has_entry-directory, entries-with_node, entries-good, found-with, found-without, with_entry-cases, with_entry-stays, without_entry-was, without_entry-stays}
+use Rattle.pv_laws_trees.proofs.Edits.{sound-moved}
+use Rattle.pv_laws_trees.proofs.Entries.{by_name, is_other, find-list_all, tell}
+use Rattle.pv_laws_trees.proofs.Rooms.{no_larger-without}
+use Rattle.pv_laws_trees.proofs.Spelled.{bytes-with_entry, bytes-without_entry}
+use Rattle.pv_laws_trees.proofs.Trees.{ordered, sound, entry-parent, parent-unnamed}
 use Rattle.pv_tree.specs.Changes.{moved, moved_node, settled}
 use Rattle.pv_tree.specs.Holding.{trimmed}
 use Rattle.pv_tree.specs.Rooms.{refusal}

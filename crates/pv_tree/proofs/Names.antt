@@ -9,10 +9,10 @@ use Rattle.pv_model.specs.Held.{among}
 use Rattle.pv_model.specs.Numbered.{Numbered, at_number, with_number, numbered_from}
 use Rattle.pv_model.specs.Room.{is_too_long}
 use Rattle.pv_model.specs.Tree.{Entries, Node, directory_node, file_node, link_node, Tree, node_at, entries_of, entries_at, is_directory_at, find_entry, names_in, names_of, named_numbers, with_node, with_entry, without_entry}
-use Rattle.pv_tree_laws.proofs.Changes.{directory-below}
-use Rattle.pv_tree_laws.proofs.Entries.{by_name, is_other}
-use Rattle.pv_tree_laws.proofs.Rooms.{length-within}
-use Rattle.pv_tree_laws.proofs.Trees.{IsOrdered}
+use Rattle.pv_laws_trees.proofs.Changes.{directory-below}
+use Rattle.pv_laws_trees.proofs.Entries.{by_name, is_other}
+use Rattle.pv_laws_trees.proofs.Rooms.{length-within}
+use Rattle.pv_laws_trees.proofs.Trees.{IsOrdered}
 use Rattle.pv_tree.proofs.Limits.{entries_few}
 use Rattle.pv_tree.proofs.Entries.{count_in, one_if, count-put, count-without, count-most}
 
@@ -25,7 +25,7 @@ names_from n k xs = flat_map (λ d. names_in n (entries_of (Some d.1)) d.0) (num
 length-names_in : (n : ℕ) (es : Entries) (d : ℕ) → length (names_in n es d) ≡ count_in n es
 length-names_in n es d = length-map {B = ℕ × Bytes} (filter (λ e. e.1 == n) es) (λ e. (d, e.0))
 
--- a node's names stand in the first place, or behind it
+-- a node's names stand in the first place, or after it
 pub names-cons : (n k : ℕ) (o : Option Node) (xs : Numbered Node) → length (names_from n k (o ∷ xs)) ≡ count_in n (entries_of o) + length (names_from n (suc k) xs)
 names-cons n k None xs = omega arith
 names-cons n k (Some node) xs =

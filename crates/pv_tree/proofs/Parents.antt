@@ -4,11 +4,11 @@ use Rattle.std.specs.Prelude.{option_to_list}
 use Rattle.std.specs.List.{list_any}
 use Rattle.std.proofs.lemmas.Bool.{cases_eq, eq-eqb, ne_eqb, or_left}
 use Rattle.pv_model.specs.Calls.Paths.{contains_directory}
-use Rattle.pv_tree_laws.proofs.Changes.{has_entry-directory}
+use Rattle.pv_laws_trees.proofs.Changes.{has_entry-directory}
 use Rattle.pv_model.specs.Bytes.{Bytes}
 use Rattle.pv_model.specs.Tree.{Tree, root, is_directory_at, find_entry, parent, ancestors_within, ancestors, IsWellFormed}
-use Rattle.pv_tree_laws.specs.Tree.{IsSound}
-use Rattle.pv_tree_laws.proofs.Trees.{ordered, parent-entry, parent-none_named, parent-unnamed, parent-root, entry-parent}
+use Rattle.pv_laws_trees.specs.Tree.{IsSound}
+use Rattle.pv_laws_trees.proofs.Trees.{ordered, parent-entry, parent-none_named, parent-unnamed, parent-root, entry-parent}
 
 -- where a directory's entry stays, so does its parent
 pub parent-same : (t u : Tree) → IsSound t → IsSound u → (n : ℕ) → is_directory_at u n ≡ true

@@ -12,13 +12,13 @@ use Rattle.pv_model.specs.Numbered.{Numbered, with_number, present}
 use Rattle.pv_model.specs.Room.{entry_length, node_length, greatest_entries, greatest_length, is_too_long, fits}
 use Rattle.pv_model.specs.Tree.{Entries, Node, directory_node, file_node, link_node, Tree, node_at, entries_of, entries_at, is_directory, is_directory_at, find_entry, with_node, with_entry, IsWellFormed}
 use Rattle.pv_dirs.specs.Trees.{total_need, LacksRoom, grown_length}
-use Rattle.pv_tree_laws.proofs.Changes.{directory-below, node_at-same, node_at-other}
-use Rattle.pv_tree_laws.proofs.Entries.{by_name}
-use Rattle.pv_tree_laws.proofs.Rooms.{too_long-at, smaller-fits, smaller-not_too_long}
-use Rattle.pv_tree_laws.proofs.Rooms.{kept-no_larger}
+use Rattle.pv_laws_trees.proofs.Changes.{directory-below, node_at-same, node_at-other}
+use Rattle.pv_laws_trees.proofs.Entries.{by_name}
+use Rattle.pv_laws_trees.proofs.Rooms.{too_long-at, smaller-fits, smaller-not_too_long}
+use Rattle.pv_laws_trees.proofs.Rooms.{kept-no_larger}
 use Rattle.pv_tree.specs.Holding.{held_numbers, trimmed}
-use Rattle.pv_tree_laws.specs.Room.{IsNoLonger, IsNoLarger}
-use Rattle.pv_tree_laws.proofs.Trees.{ordered}
+use Rattle.pv_laws_trees.specs.Room.{IsNoLonger, IsNoLarger}
+use Rattle.pv_laws_trees.proofs.Trees.{ordered}
 use Rattle.pv_tree.specs.Rooms.{refusal}
 use Rattle.pv_tree.specs.Standing.{IsShaped, IsCounted}
 use Rattle.pv_tree.proofs.Entries.{length_more}
@@ -174,12 +174,12 @@ module _ (t : Tree) (s : IsShaped t) (d : ℕ) (name : Bytes) (n : ℕ) (is : is
   not_too_long within = short-more t d (s.ordered d) name n is none s.short within
 
   numbers : length u.nodes ≡ suc u.inodes
-  numbers = Rattle.pv_tree_laws.proofs.Numbered.length-with_number t.nodes d (directory_node entered) below ∙ s.numbers
+  numbers = Rattle.pv_laws_trees.proofs.Numbered.length-with_number t.nodes d (directory_node entered) below ∙ s.numbers
 
   no_zero : node_at u 0 ≡ None
   no_zero = ⊎_elim
       (λ here. let gone : is_directory_at t d ≡ false = ap (is_directory_at t) (sym here) ∙ ap Rattle.pv_model.specs.Tree.is_directory s.no_zero in cc)
-      (λ away. Rattle.pv_tree_laws.proofs.Changes.node_at-other t d (directory_node entered) 0 below away ∙ s.no_zero)
+      (λ away. Rattle.pv_laws_trees.proofs.Changes.node_at-other t d (directory_node entered) 0 below away ∙ s.no_zero)
       (Rattle.std.proofs.lemmas.Bool.cases_eq 0 d)
 
   -- where there is no room without the entry, there is none with it

@@ -12,8 +12,8 @@ use Rattle.pv_model.specs.declared.version.Version.{Version}
 use Rattle.pv_model.specs.Bytes.{Bytes}
 use Rattle.pv_model.specs.Image.{block, size, content, used_content, IsSlot, AreSlots, no_slot, one_more, HasContent, IsImageOf}
 use Rattle.pv_model.specs.Tree.{Entries, Node, directory_node, file_node, link_node, Tree}
-use Rattle.pv_tree_laws.specs.Spelled.{is_byte, are_bytes, has_bytes, AllBytes}
-use Rattle.pv_tree_laws.proofs.Spelled.{bytes-all}
+use Rattle.pv_laws_trees.specs.Spelled.{is_byte, are_bytes, has_bytes, AllBytes}
+use Rattle.pv_laws_trees.proofs.Spelled.{bytes-all}
 use Rattle.pv_tree.proofs.Gathering.{node_inode}
 
 -- the bytes of a program are bytes
@@ -52,8 +52,8 @@ bytes_slot : (v : Version) (slot name : Bytes) (n : ℕ) → IsSlot v slot name 
 bytes_slot v slot name n s all =
     let whole : are_bytes (s.number ++ length name ∷ s.unread ∷ name ++ s.left) ≡ true = ap are_bytes (sym s.is_spelled) ∙ all in
     let front = append_parts (s.number ++ length name ∷ s.unread ∷ name) s.left whole in
-    let behind = append_parts s.number (length name ∷ s.unread ∷ name) front.0 in
-    let first = and_parts (is_byte (length name)) (is_byte s.unread && are_bytes name) behind.1 in
+    let following = append_parts s.number (length name ∷ s.unread ∷ name) front.0 in
+    let first = and_parts (is_byte (length name)) (is_byte s.unread && are_bytes name) following.1 in
     (and_parts (is_byte s.unread) (are_bytes name) first.1).1
 
 bytes_slots : (v : Version) (bytes : Bytes) (es : Entries) → AreSlots v bytes es → are_bytes bytes ≡ true → list_all (λ e. are_bytes e.0) es ≡ true

@@ -1,9 +1,9 @@
 -- How calls change a tree.
 use Rattle.std.specs.Prelude.{ℕ, false, true, [], ◌∷◌, ◌||◌, ◌==◌, if◌then◌else◌, nat_lt, Option, None, Some}
+use Rattle.pv_model.specs.declared.sort.NewNode.{NewNode}
+use Rattle.pv_model.specs.declared.sort.NewNode.TheVariants.{Directory, File, Executable, Symlink}
 use Rattle.pv_model.specs.declared.sort.Kind.{Kind}
-use Rattle.pv_model.specs.declared.sort.Kind.TheVariants.{Directory, File, Executable, Symlink}
-use Rattle.pv_model.specs.declared.sort.Sort.{Sort}
-use Rattle.pv_model.specs.declared.sort.Sort.TheVariants.{Directory as SortDirectory, File as SortFile, Executable as SortExecutable, Symlink as SortSymlink}
+use Rattle.pv_model.specs.declared.sort.Kind.TheVariants.{Directory as KindDirectory, File as KindFile, Executable as KindExecutable, Symlink as KindSymlink}
 use Rattle.pv_model.specs.declared.version.Version.{Version}
 use Rattle.pv_model.specs.Bytes.{Bytes}
 use Rattle.pv_model.specs.Calls.Descriptors.{with_content}
@@ -17,18 +17,18 @@ abbrev pub root_alone : Version → ℕ → ℕ → Tree
 root_alone v blocks inodes = record (empty_tree blocks inodes) { version = v }
 
 -- a new node
-abbrev pub new_node : Kind → Node
+abbrev pub new_node : NewNode → Node
 new_node Directory = directory_node []
 new_node File = file_node false []
 new_node Executable = file_node true []
 new_node (Symlink text) = link_node text.now
 
 -- what a node of a kind is
-abbrev pub sort_of : Kind → Sort
-sort_of Directory = SortDirectory
-sort_of File = SortFile
-sort_of Executable = SortExecutable
-sort_of (Symlink text) = SortSymlink
+abbrev pub sort_of : NewNode → Kind
+sort_of Directory = KindDirectory
+sort_of File = KindFile
+sort_of Executable = KindExecutable
+sort_of (Symlink text) = KindSymlink
 
 abbrev pub moved_node : Tree → ℕ → Bytes → ℕ → Bytes → Option ℕ → Tree
 moved_node t d name e other None = t

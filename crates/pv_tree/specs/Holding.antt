@@ -1,7 +1,7 @@
 -- A tree, and how often each of its nodes is held.
 use Rattle.std.specs.Prelude.{◌≡◌, ℕ, zero, suc, ◌+◌, ◌-◌, List, [], ◌∷◌, slice_index, slice_set}
 use Rattle.pv_model.specs.Tree.{Tree}
-use Rattle.pv_tree_laws.specs.Kept.{kept}
+use Rattle.pv_laws_trees.specs.Kept.{kept}
 
 -- a tree, and how often each number is held
 pub record HeldTree : Type 0 where

@@ -7,8 +7,8 @@ use Rattle.pv_model.specs.declared.limits.TheConstants.{INODES}
 use Rattle.pv_model.specs.Image.{inode_blocks, greatest_blocks}
 use Rattle.pv_model.specs.Room.{is_too_long, fits}
 use Rattle.pv_model.specs.Tree.{Tree, node_at, entries_at, is_directory_at, names_of, parent, IsWellFormed}
-use Rattle.pv_tree_laws.specs.Kept.{EachIsNamed}
-use Rattle.pv_tree_laws.specs.Spelled.{AllBytes}
+use Rattle.pv_laws_trees.specs.Kept.{EachIsNamed}
+use Rattle.pv_laws_trees.specs.Spelled.{AllBytes}
 use Rattle.pv_tree.specs.Holding.{HeldTree, holds_at, trimmed}
 
 -- what is true of every tree with its holds

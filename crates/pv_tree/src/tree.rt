@@ -23,7 +23,7 @@ mod names;
 
 use pv_dirs::Directories;
 use pv_model::limits::{INODES, ROOT};
-use pv_model::{Name, Sort, Version};
+use pv_model::{Name, Kind, Version};
 use std::alloc::{AllocError, Global};
 use std::marker::Model;
 
@@ -111,7 +111,7 @@ impl Tree {
         ensures holds { IfOk result (λ tree. tree.holds ≡ replicate NUMBERS 0) }
     {
         let mut directories = Directories::empty(alloc, zeros, blocks, inodes, version)?;
-        let Some(_root) = directories.fresh(Sort::Directory) else {
+        let Some(_root) = directories.fresh(Kind::Directory) else {
             unreachable!()
         };
         Ok(Tree {
@@ -151,7 +151,7 @@ impl Tree {
     }
 
     /// What a node is.
-    pub fn kind(&self, node: u16) -> Sort
+    pub fn kind(&self, node: u16) -> Kind
         requires { IsSome (node_at self.now.tree node) }
         ensures { option_map sort_of (node_at self.now.tree node) ≡ Some result }
     {
@@ -222,8 +222,8 @@ impl Tree {
         self.directories.find(directory, name)
     }
 
-    /// The least name of a directory, in byte order, that comes behind the last one; without a last one
-    /// the least of all. None where no name comes behind it.
+    /// The least name of a directory, in byte order, that comes after the last one; without a last one
+    /// the least of all. None where no name comes after it.
     pub fn next_after(&self, directory: u16, last: Option<&[u8]>) -> Option<Name>
         requires { IsTrue (is_directory_at self.now.tree directory) }
         ensures value { result ≡ next_name (option_copied last.entry) (entries_at self.now.tree directory) }
@@ -232,8 +232,8 @@ impl Tree {
         self.directories.next_after(directory, last)
     }
 
-    /// The least name of a directory, in byte order, that comes behind the last one, and the number of its node; without
-    /// a last one the least of all. None where no name comes behind it. `before` is a guess of how many names come before
+    /// The least name of a directory, in byte order, that comes after the last one, and the number of its node; without
+    /// a last one the least of all. None where no name comes after it. `before` is a guess of how many names come before
     /// the answer: it is the same with any, and found at once where the guess is right and the names ascend from slot to slot.
     pub fn next_entry(
         &self,
@@ -249,8 +249,8 @@ impl Tree {
         self.directories.next_entry(directory, last, before)
     }
 
-    /// The least name of a directory, in byte order, that names a node and comes behind the last one; without a last one
-    /// the least of all that do. None where no such name comes behind it.
+    /// The least name of a directory, in byte order, that names a node and comes after the last one; without a last one
+    /// the least of all that do. None where no such name comes after it.
     pub fn next_name_of(&self, directory: u16, node: u16, last: Option<&[u8]>) -> Option<Name>
         requires { IsTrue (is_directory_at self.now.tree directory) }
         ensures { IsNextNameOf self.now.tree directory node (option_copied last.entry) result }

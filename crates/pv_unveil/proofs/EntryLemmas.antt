@@ -1,4 +1,4 @@
--- An entry's number and its letters, after another takes its place and after one comes.
+-- An entry's number and its permissions, after another takes its place and after one comes.
 use Rattle.std.proofs.Common.{◌≡◌, ℕ, ◌+◌, ◌<◌, ◌≤◌, Bool, true, false, cond, not, nat_lt, bytes_eq, List, [], ◌∷◌, ◌++◌, length, slice_set, None, Some, ◌∙◌, sym, ap, refl, arith}
 use Rattle.std.proofs.lemmas.Bool.{eq-eqb, ltb-false, lt-ltb}
 use Rattle.std.proofs.lemmas.List.{get_or_push, get_or-set_same, length-set, length_push}
@@ -12,7 +12,7 @@ use Rattle.std.specs.Prelude.{position}
 use Rattle.pv_model.specs.declared.perms.Perms.{Perms}
 use Rattle.pv_model.specs.declared.target.Target.{Target}
 use Rattle.pv_model.specs.declared.target.Target.TheVariants.{Directory, Name}
-use Rattle.pv_model.specs.Unveil.{Table, same_target, entry_for, letters_at, letters_of}
+use Rattle.pv_model.specs.Unveil.{Table, same_target, entry_for, permissions_at, permissions_of}
 
 not_within : (b : Bool) (n : ℕ) → cond b (Some n) None ≡ None → b ≡ false
 not_within true n none = cc
@@ -41,21 +41,21 @@ same_target-same : (target : Target) → same_target target target ≡ true
 same_target-same (Directory d) = eq-eqb d d refl
 same_target-same (Name d name) = rw (eq-eqb d d refl, bytes_eq-same name) refl
 
-module _ (table : Table) (target : Target) (letters : Perms) where
+module _ (table : Table) (target : Target) (permissions : Perms) where
   -- an entry for the target in the place of the one that is there
-  pub entry_for-set : (k : ℕ) → entry_for table target ≡ Some k → entry_for (slice_set table k (target, letters)) target ≡ Some k
-  entry_for-set k found = position-set (λ e. same_target e.0 target) table (target, letters) (same_target-same target) k found
+  pub entry_for-set : (k : ℕ) → entry_for table target ≡ Some k → entry_for (slice_set table k (target, permissions)) target ≡ Some k
+  entry_for-set k found = position-set (λ e. same_target e.0 target) table (target, permissions) (same_target-same target) k found
 
-  pub letters_at-set : (k : ℕ) → k < length table → letters_at (slice_set table k (target, letters)) k ≡ letters
-  letters_at-set k within =
-      let within' : k < length (slice_set table k (target, letters)) = rw length-set within in
-      ap letters_of (slice_get_read (slice_set table k (target, letters)) _ k (target, letters) refl within' (sym (get_or-set_same table k (target, letters) (target, letters) within)))
+  pub permissions_at-set : (k : ℕ) → k < length table → permissions_at (slice_set table k (target, permissions)) k ≡ permissions
+  permissions_at-set k within =
+      let within' : k < length (slice_set table k (target, permissions)) = rw length-set within in
+      ap permissions_of (slice_get_read (slice_set table k (target, permissions)) _ k (target, permissions) refl within' (sym (get_or-set_same table k (target, permissions) (target, permissions) within)))
 
   -- a new entry
-  pub entry_for-push : entry_for table target ≡ None → entry_for (table ++ (target, letters) ∷ []) target ≡ Some (length table)
-  entry_for-push none = position-push (λ e. same_target e.0 target) table (target, letters) (same_target-same target) none
+  pub entry_for-push : entry_for table target ≡ None → entry_for (table ++ (target, permissions) ∷ []) target ≡ Some (length table)
+  entry_for-push none = position-push (λ e. same_target e.0 target) table (target, permissions) (same_target-same target) none
 
-  pub letters_at-push : letters_at (table ++ (target, letters) ∷ []) (length table) ≡ letters
-  letters_at-push =
-      let within : length table < length (table ++ (target, letters) ∷ []) = rw length_push (omega arith) in
-      ap letters_of (slice_get_read (table ++ (target, letters) ∷ []) _ (length table) (target, letters) refl within (sym (get_or_push table (target, letters) (target, letters) (length table) refl)))
+  pub permissions_at-push : permissions_at (table ++ (target, permissions) ∷ []) (length table) ≡ permissions
+  permissions_at-push =
+      let within : length table < length (table ++ (target, permissions) ∷ []) = rw length_push (omega arith) in
+      ap permissions_of (slice_get_read (table ++ (target, permissions) ∷ []) _ (length table) (target, permissions) refl within (sym (get_or_push table (target, permissions) (target, permissions) (length table) refl)))

@@ -10,7 +10,7 @@ use Rattle.pv_model.specs.declared.target.Target.{Target}
 use Rattle.pv_model.specs.declared.target.Target.TheVariants.{Directory, Name}
 use Rattle.pv_model.specs.Perms.{covers}
 use Rattle.pv_model.specs.Tree.{Tree, is_directory_at}
-use Rattle.pv_model.specs.Unveil.{Table, entry_for, letters_at, target_of, directory_rights, governing_entry, judge_entry, judgement}
+use Rattle.pv_model.specs.Unveil.{Table, entry_for, permissions_at, target_of, directory_rights, governing_entry, judge_entry, judgement}
 use Rattle.pv_unveil.specs.Judged.{GovernsTarget, IsJudged}
 
 module _ (t : Tree) (table : Table) where
@@ -43,14 +43,14 @@ module _ (t : Tree) (table : Table) where
   found-GovernsTarget (Name d name) k (inl own) = rw own refl
   found-GovernsTarget (Name d name) k (inr above) = let none = above.0 in rw none (directory_rights-Governs t table d k above.1)
 
-  by_letters : (place : Place) (needed : Perms) (k : ℕ) → GovernsTarget t table (target_of t place) k → (b : Bool) → covers (letters_at table k) needed ≡ b
+  by_permissions : (place : Place) (needed : Perms) (k : ℕ) → GovernsTarget t table (target_of t place) k → (b : Bool) → covers (permissions_at table k) needed ≡ b
       → IsJudged t (Some table) place needed (cond b Allowed (Denied k))
-  by_letters place needed k g true is = (k, g, is)
-  by_letters place needed k g false is = (g, is)
+  by_permissions place needed k g true is = (k, g, is)
+  by_permissions place needed k g false is = (g, is)
 
   by_entry : (place : Place) (needed : Perms) (found : Option ℕ) → target_entry (target_of t place) ≡ found → IsJudged t (Some table) place needed (judge_entry table needed found)
   by_entry place needed None is = λ k g. let h = found-GovernsTarget (target_of t place) k g in cc
-  by_entry place needed (Some k) is = by_letters place needed k (GovernsTarget-found (target_of t place) k is) (covers (letters_at table k) needed) refl
+  by_entry place needed (Some k) is = by_permissions place needed k (GovernsTarget-found (target_of t place) k is) (covers (permissions_at table k) needed) refl
 
 pub IsJudged-judgement : (t : Tree) (table : Option Table) (place : Place) (needed : Perms) → IsJudged t table place needed (judgement t table place needed)
 unfolding judgement

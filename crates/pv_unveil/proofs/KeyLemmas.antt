@@ -27,8 +27,8 @@ module _ {X Y : Type 0} (f : X → Y) (q : Y → Bool) (p : X → Bool) (same : 
   position-map xs = ap₂ (λ i n. cond (nat_lt i n) (Some i) None) (position_or_len-map xs) (length-map xs f)
 
 own-same : (d : ℕ) (e : Target × Perms) → is_own d (key_of e.0) ≡ same_target e.0 (Directory d)
-own-same d (Directory n, letters) = refl
-own-same d (Name n name, letters) = refl
+own-same d (Directory n, permissions) = refl
+own-same d (Name n name, permissions) = refl
 
 -- the key of a directory's own entry stands where the entry does
 pub own-entry : (table : Table) (keys : List Key) (d : ℕ) → keys ≡ keys_of table → position (λ key. is_own d key) keys ≡ entry_for table (Directory d)
@@ -87,24 +87,24 @@ unmarked-entry table keys marks capacity target is unmarked =
     let past : nat_lt (length table) (length table) ≡ false = le-ltb (length table) (length table) (omega arith) in
     ap (λ n. cond (nat_lt n (length table)) (Some n) None) (no-entry marks table target unmarked is.marked) ∙ ap (λ b. cond b (Some (length table)) None) past
 
-module _ (table : Table) (keys : List Key) (old new : Marks) (capacity : ℕ) (target : Target) (letters : Perms)
+module _ (table : Table) (keys : List Key) (old new : Marks) (capacity : ℕ) (target : Target) (permissions : Perms)
     (is : IsKeyed table keys old capacity) (keeps : Keeps old new) (own : has_mark new target ≡ true) where
   -- another entry in the place of one, and its key
-  pub keyed-set : (k : ℕ) → IsKeyed (slice_set table k (target, letters)) (slice_set keys k (key_of target)) new capacity
+  pub keyed-set : (k : ℕ) → IsKeyed (slice_set table k (target, permissions)) (slice_set keys k (key_of target)) new capacity
   keyed-set k = record {
-    keys = ap (λ ks. slice_set ks k (key_of target)) is.keys ∙ sym (map-set (λ e. key_of e.0) table k (target, letters));
-    few = omega (arith, is.few, length-set table k (target, letters));
-    marked = all-set new table k (target, letters) (all-marked old new table keeps is.marked) own;
+    keys = ap (λ ks. slice_set ks k (key_of target)) is.keys ∙ sym (map-set (λ e. key_of e.0) table k (target, permissions));
+    few = omega (arith, is.few, length-set table k (target, permissions));
+    marked = all-set new table k (target, permissions) (all-marked old new table keeps is.marked) own;
     room = is.room;
   }
 
-  -- another entry behind them, and its key
-  pub keyed-push : length table < UNVEILS → IsKeyed (table ++ (target, letters) ∷ []) (keys ++ key_of target ∷ []) new capacity
+  -- another entry after them, and its key
+  pub keyed-push : length table < UNVEILS → IsKeyed (table ++ (target, permissions) ∷ []) (keys ++ key_of target ∷ []) new capacity
   keyed-push less = record {
-    keys = ap (λ ks. ks ++ key_of target ∷ []) is.keys ∙ sym (map_push (λ e. key_of e.0) table (target, letters));
-    few = omega (arith, less, length_push table (target, letters));
+    keys = ap (λ ks. ks ++ key_of target ∷ []) is.keys ∙ sym (map_push (λ e. key_of e.0) table (target, permissions));
+    few = omega (arith, less, length_push table (target, permissions));
     marked =
-        list_all-append (λ (e : Target × Perms). has_mark new e.0) table ((target, letters) ∷ [])
+        list_all-append (λ (e : Target × Perms). has_mark new e.0) table ((target, permissions) ∷ [])
         ∙ and_from _ _ (all-marked old new table keeps is.marked) (and_from _ _ own refl);
     room = is.room;
   }
@@ -125,8 +125,8 @@ found-one : (table : Table) (target : Target) (k : ℕ) (e : Target × Perms) �
 found-one table target k e within = ap (position_from (λ f. same_target f.0 target) k) (drop_more table k e within)
 
 named-same : (d : ℕ) (name : List ℕ) (e : Target × Perms) → is_name_in d (key_of e.0) && is_target_named name e.0 ≡ same_target e.0 (Name d name)
-named-same d name (Directory n, letters) = refl
-named-same d name (Name n other, letters) = refl
+named-same d name (Directory n, permissions) = refl
+named-same d name (Name n other, permissions) = refl
 
 -- the key of the entry and the name in it tell whether it is this one
 module _ (table : Table) (keys : List Key) (d : ℕ) (name : List ℕ) (k : ℕ) (key : Key) (e : Target × Perms) (is : keys ≡ keys_of table) (within : k < length keys) where

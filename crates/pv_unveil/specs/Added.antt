@@ -17,10 +17,10 @@ refusal Locked = refused 0 EPERM ByLock
 refusal (Increase k) = refused 0 EPERM (ByUnveil (Some k))
 refusal Many = refuse E2BIG
 
--- an entry that is there may only lose letters, and a new one is the next
+-- an entry that is there may only lose permissions, and a new one is the next
 abbrev pub put_in : Table → Target → Perms → Attempt Table
-put_in table target letters = add_entry table target letters (entry_for table target)
+put_in table target permissions = add_entry table target permissions (entry_for table target)
 
 -- the same, refused under the lock
 abbrev pub add_to : Unveiled → Target → Perms → Attempt Table
-add_to unveiled target letters = refuse_if_locked unveiled.locked >> put_in (entries_of_table unveiled.table) target letters
+add_to unveiled target permissions = refuse_if_locked unveiled.locked >> put_in (entries_of_table unveiled.table) target permissions

@@ -8,7 +8,7 @@ use Rattle.pv_model.specs.declared.target.Target.{Target}
 use Rattle.pv_model.specs.declared.target.Target.TheVariants.{Directory, Name}
 use Rattle.pv_model.specs.Perms.{covers}
 use Rattle.pv_model.specs.Tree.{Tree}
-use Rattle.pv_model.specs.Unveil.{Table, entry_for, letters_at, target_of, Governs}
+use Rattle.pv_model.specs.Unveil.{Table, entry_for, permissions_at, target_of, Governs}
 
 -- an entry governs a target: a directory's flows down to it, and a name's is its own, or else the one that
 -- governs its directory
@@ -17,12 +17,12 @@ GovernsTarget t table (Directory d) k = Governs t table d k
 GovernsTarget t table (Name d name) k =
     (entry_for table (Name d name) ≡ Some k) ⊎ ((entry_for table (Name d name) ≡ None) × Governs t table d k)
 
--- no table hides nothing; else a place is allowed by an entry that governs it and has the letters, hidden
--- where none governs it, and denied by one that lacks a letter
+-- no table hides nothing; else a place is allowed by an entry that governs it and has the permissions, hidden
+-- where none governs it, and denied by one that lacks a permission
 abbrev pub IsJudged : Tree → Option Table → Place → Perms → Judgement → Type 0
 IsJudged t None place needed judged = judged ≡ Allowed
 IsJudged t (Some table) place needed Allowed =
-    (k : ℕ) × GovernsTarget t table (target_of t place) k × IsTrue (covers (letters_at table k) needed)
+    (k : ℕ) × GovernsTarget t table (target_of t place) k × IsTrue (covers (permissions_at table k) needed)
 IsJudged t (Some table) place needed Hidden = (k : ℕ) → ¬ (GovernsTarget t table (target_of t place) k)
 IsJudged t (Some table) place needed (Denied k) =
-    GovernsTarget t table (target_of t place) k × (covers (letters_at table k) needed ≡ false)
+    GovernsTarget t table (target_of t place) k × (covers (permissions_at table k) needed ≡ false)

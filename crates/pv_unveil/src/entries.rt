@@ -31,7 +31,7 @@ fn index_of_directory(keys: &[Key], directory: u16) -> Option<usize>
 }
 
 // The index of a name's entry: names are compared only of entries for names in the directory. It stands apart, so that
-// most calls of `for_name` end behind the test of a mark.
+// most calls of `for_name` end after the test of a mark.
 #[inline(never)]
 fn index_of_name(
     keys: &[Key],
@@ -92,7 +92,7 @@ impl Model for Entries {
 
 impl Entries {
     ghost use Rattle.std.specs.Prelude.{◌≤◌, ◌↔◌, [], ◌∷◌, ◌++◌, IfOk, IsTrue, Some, option_map, slice_get};
-    ghost use Rattle.pv_model.specs.Unveil.{letters_at};
+    ghost use Rattle.pv_model.specs.Unveil.{permissions_at};
 
     /// No entries, with room for 64.
     ///
@@ -132,9 +132,9 @@ impl Entries {
         &self.entries.as_slice()[k as usize].0
     }
 
-    /// The letters of entry `k`.
-    pub(crate) fn letters_at(&self, k: u8) -> Perms
-        ensures { result ≡ letters_at self.now k }
+    /// The permissions of entry `k`.
+    pub(crate) fn permissions_at(&self, k: u8) -> Perms
+        ensures { result ≡ permissions_at self.now k }
     {
         match self.entries.as_slice().get(k as usize) {
             Some(entry) => entry.1,
@@ -180,26 +180,26 @@ impl Entries {
         }
     }
 
-    /// Adds an entry behind the others.
-    pub(crate) fn push(&mut self, target: Target, letters: Perms)
+    /// Adds an entry after the others.
+    pub(crate) fn push(&mut self, target: Target, permissions: Perms)
         requires { length self.old < UNVEILS }
-        ensures { self.new ≡ self.old ++ (target, letters) ∷ [] }
+        ensures { self.new ≡ self.old ++ (target, permissions) ∷ [] }
     {
         let key = Key::of(&target);
         self.marks.set(&target);
         self.keys.push(key);
-        self.entries.push_reserved((target, letters));
+        self.entries.push_reserved((target, permissions));
     }
 
     /// Puts another entry in place of entry `k`.
-    pub(crate) fn replace(&mut self, k: u8, target: Target, letters: Perms)
+    pub(crate) fn replace(&mut self, k: u8, target: Target, permissions: Perms)
         requires { k < length self.old }
-        ensures { self.new ≡ slice_set self.old k (target, letters) }
+        ensures { self.new ≡ slice_set self.old k (target, permissions) }
     {
         let key = Key::of(&target);
         self.marks.set(&target);
         replace_key(&mut self.keys, k, key);
-        self.entries[k as usize] = (target, letters);
+        self.entries[k as usize] = (target, permissions);
     }
 
     /// Removes all.
@@ -216,8 +216,8 @@ impl Entries {
         ensures { self.new ≡ other.now }
     {
         self.clear();
-        for (target, letters) in other.entries.as_slice() {
-            self.push(target.copy(), *letters);
+        for (target, permissions) in other.entries.as_slice() {
+            self.push(target.copy(), *permissions);
         }
     }
 }

@@ -86,7 +86,7 @@ pub(crate) fn judge_entry(entries: &Entries, governing: Option<u8>, needed: Perm
     match governing {
         None => Judgement::Hidden,
         Some(k) => {
-            if entries.letters_at(k).covers(needed) {
+            if entries.permissions_at(k).covers(needed) {
                 Judgement::Allowed
             } else {
                 Judgement::Denied(k)
@@ -95,7 +95,7 @@ pub(crate) fn judge_entry(entries: &Entries, governing: Option<u8>, needed: Perm
     }
 }
 
-/// What the entries say of a place, for the letters that are needed: without entries each is allowed.
+/// What the entries say of a place, for the permissions that are needed: without entries each is allowed.
 #[tactic(auto, unfolding(pv_model::specs::Unveil::judgement))]
 pub(crate) fn judge_in(
     entries: &Entries,

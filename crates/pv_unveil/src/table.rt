@@ -1,7 +1,7 @@
 //! What a process has unveiled.
 ghost use Rattle.std.specs.Prelude.{◌≡◌, ◌<◌, ◌≤◌, length, OnOk, OnErr, IfOk, IfErr, None, Some, true, false, ◌↔◌, IsTrue, if◌then◌else◌, ◌&&◌, option_map, slice_get, slice_set, IfSome};
 ghost use Rattle.pv_model.specs.Attempt.{give};
-ghost use Rattle.pv_model.specs.Unveil.{directory_rights, entry_for, letters_at};
+ghost use Rattle.pv_model.specs.Unveil.{directory_rights, entry_for, permissions_at};
 ghost use Rattle.pv_unveil.specs.Added.{refusal, put_in};
 
 use crate::entries::Entries;
@@ -17,7 +17,7 @@ use std::marker::Model;
 pub enum AddFault {
     /// The table is locked: EPERM.
     Locked,
-    /// This entry is for the target, and lacks a letter that is asked for: EPERM.
+    /// This entry is for the target, and lacks a permission that is asked for: EPERM.
     Increase(u8),
     /// The target is new, and there are 64 entries: E2BIG.
     Many,
@@ -40,20 +40,20 @@ impl Model for Table {
     ghost view = { λ t. record { table = in_force t.entries; locked = t.locked } };
 }
 
-// Adds an entry, or puts fewer letters in the one for the target.
-fn put(entries: &mut Entries, target: Target, letters: Perms) -> Result<u8, AddFault>
-    ensures added { OnOk result (put_in entries.old target letters ≡ give entries.new) }
+// Adds an entry, or puts fewer permissions in the one for the target.
+fn put(entries: &mut Entries, target: Target, permissions: Perms) -> Result<u8, AddFault>
+    ensures added { OnOk result (put_in entries.old target permissions ≡ give entries.new) }
     ensures number { IfOk result (λ k. entry_for entries.new target ≡ Some k) }
-    ensures letters { IfOk result (λ k. letters_at entries.new k ≡ letters) }
-    ensures refused { IfErr result (λ fault. put_in entries.old target letters ≡ refusal fault) }
+    ensures permissions { IfOk result (λ k. permissions_at entries.new k ≡ permissions) }
+    ensures refused { IfErr result (λ fault. put_in entries.old target permissions ≡ refusal fault) }
     ensures unchanged { OnErr result (entries.new ≡ entries.old) }
 {
     match entries.for_target(&target) {
         Some(k) => {
-            if !entries.letters_at(k).covers(letters) {
+            if !entries.permissions_at(k).covers(permissions) {
                 return Err(AddFault::Increase(k));
             }
-            entries.replace(k, target, letters);
+            entries.replace(k, target, permissions);
             Ok(k)
         }
         None => {
@@ -61,7 +61,7 @@ fn put(entries: &mut Entries, target: Target, letters: Perms) -> Result<u8, AddF
             if count >= UNVEILS {
                 return Err(AddFault::Many);
             }
-            entries.push(target, letters);
+            entries.push(target, permissions);
             Ok(count as u8)
         }
     }
@@ -129,12 +129,12 @@ impl Table {
         self.entries.target(k)
     }
 
-    /// The letters of entry `k`.
-    pub fn letters(&self, k: u8) -> Perms
+    /// The permissions of entry `k`.
+    pub fn permissions(&self, k: u8) -> Perms
         requires { k < length (entries_of_table self.now.table) }
-        ensures { result ≡ letters_at (entries_of_table self.now.table) k }
+        ensures { result ≡ permissions_at (entries_of_table self.now.table) k }
     {
-        self.entries.letters_at(k)
+        self.entries.permissions_at(k)
     }
 
     /// The entry for a directory itself, if there is one.
@@ -155,27 +155,27 @@ impl Table {
         name_rights(&self.entries, tree, directory, name)
     }
 
-    /// Adds an entry for a target, or leaves the one for it with these letters, which must be among its own.
+    /// Adds an entry for a target, or leaves the one for it with these permissions, which must be among its own.
     ///
     /// The answer is the number of the entry: the entries have theirs by arrival, from 0. A fault leaves the
     /// table as it was. The first entry brings the table into force.
-    pub fn add(&mut self, target: Target, letters: Perms) -> Result<u8, AddFault>
+    pub fn add(&mut self, target: Target, permissions: Perms) -> Result<u8, AddFault>
         ensures added { OnOk result
-            (IsSomeAnd self.new.table (λ table. add_to self.old target letters ≡ give table)) }
+            (IsSomeAnd self.new.table (λ table. add_to self.old target permissions ≡ give table)) }
         ensures number { IfOk result
             (λ k. entry_for (entries_of_table self.new.table) target ≡ Some k) }
-        ensures letters { IfOk result
-            (λ k. letters_at (entries_of_table self.new.table) k ≡ letters) }
+        ensures permissions { IfOk result
+            (λ k. permissions_at (entries_of_table self.new.table) k ≡ permissions) }
         ensures lock_stays { self.new.locked ≡ self.old.locked }
 
         // The first that applies, in the order of `AddFault`.
-        ensures refused { IfErr result (λ fault. add_to self.old target letters ≡ refusal fault) }
+        ensures refused { IfErr result (λ fault. add_to self.old target permissions ≡ refusal fault) }
         ensures unchanged { OnErr result (self.new ≡ self.old) }
     {
         if self.locked {
             return Err(AddFault::Locked);
         }
-        put(&mut self.entries, target, letters)
+        put(&mut self.entries, target, permissions)
     }
 
     /// Becomes as another: the same entries and lock, as fork(2) gives the child. Only the entries that are there are
@@ -198,10 +198,10 @@ impl Table {
         }
     }
 
-    /// What the table says of a place, for the letters that a call needs, unveil(2).
+    /// What the table says of a place, for the permissions that a call needs, unveil(2).
     ///
     /// Where there is no entry, each place is allowed. Else it is judged by the entry that governs it: a place
-    /// that none governs is hidden, and one whose entry lacks a letter is denied. The place's name stands in a
+    /// that none governs is hidden, and one whose entry lacks a permission is denied. The place's name stands in a
     /// directory of the tree, or its node is one: so it is with each place that a path leads to.
     pub fn judge(&self, tree: &Tree, place: &PlaceRef<'_>, needed: Perms) -> Judgement
         requires { IsTrue (is_directory_at tree.now.tree (directory_of place.now)) }

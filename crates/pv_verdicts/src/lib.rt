@@ -1,6 +1,6 @@
 //! What an audit finds, as text.
 //!
-//! `line` makes the line of a verdict on a sheet, and writes it.
+//! `line` makes the line of a verdict on a line buffer, and writes it.
 #![tactic(auto)]
 
 mod line;

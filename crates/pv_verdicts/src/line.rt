@@ -2,15 +2,15 @@
 ghost use Rattle.std.specs.Prelude.{◌≡◌, ◌++◌, ◌+◌, ◌≤◌, length, codes, decimal, OnOk, OnErr};
 ghost use Rattle.pv_model.specs.Sealed.{verdict_line, verdict_text, why_text};
 ghost use Rattle.pv_model.specs.Stream.{Rose};
-ghost use Rattle.pv_trace.specs.declared.sheet.TheConstants.{SHEET};
+ghost use Rattle.pv_trace.specs.declared.line_buffer.TheConstants.{LINE_BUFFER};
 ghost use Rattle.pv_trace.specs.Streams.{and_all, TellsBeginning};
 
 use pv_model::{Failed, Leak, Sink, Verdict, Why};
-use pv_trace::{Sheet, put, put_decimal, write_whole};
+use pv_trace::{LineBuffer, put, put_decimal, write_whole};
 
 // An entry of a table, and what it does.
-fn put_entry(out: &mut Sheet, number: u8, does: &[u8])
-    requires { length out.old.items + 46 + length does.now ≤ SHEET }
+fn put_entry(out: &mut LineBuffer, number: u8, does: &[u8])
+    requires { length out.old.items + 46 + length does.now ≤ LINE_BUFFER }
     ensures text { out.new.items ≡ out.old.items ++ (codes "entry " ++ decimal number ++ does.now) }
     ensures growth { length out.new.items ≤ length out.old.items + 46 + length does.now }
 {
@@ -20,8 +20,8 @@ fn put_entry(out: &mut Sheet, number: u8, does: &[u8])
 }
 
 // A descriptor that reads the file.
-fn put_descriptor(out: &mut Sheet, number: u8)
-    requires { length out.old.items + 57 ≤ SHEET }
+fn put_descriptor(out: &mut LineBuffer, number: u8)
+    requires { length out.old.items + 57 ≤ LINE_BUFFER }
     ensures text { out.new.items ≡ out.old.items ++ (codes "reads descriptor " ++ decimal number) }
     ensures growth { length out.new.items ≤ length out.old.items + 57 }
 {
@@ -30,8 +30,8 @@ fn put_descriptor(out: &mut Sheet, number: u8)
 }
 
 // Why a process is not closed to the file.
-fn put_why(out: &mut Sheet, why: Why)
-    requires { length out.old.items + 57 ≤ SHEET }
+fn put_why(out: &mut LineBuffer, why: Why)
+    requires { length out.old.items + 57 ≤ LINE_BUFFER }
     ensures text { out.new.items ≡ out.old.items ++ why_text why }
     ensures growth { length out.new.items ≤ length out.old.items + 57 }
 {
@@ -46,8 +46,8 @@ fn put_why(out: &mut Sheet, why: Why)
 }
 
 // A process that is not closed to the file, and why.
-fn put_leak(out: &mut Sheet, leak: Leak)
-    requires { length out.old.items + 118 ≤ SHEET }
+fn put_leak(out: &mut LineBuffer, leak: Leak)
+    requires { length out.old.items + 118 ≤ LINE_BUFFER }
     ensures text { out.new.items ≡ out.old.items ++ (codes "exposed: process " ++ decimal leak.pid ++ codes ", " ++ why_text leak.why) }
     ensures growth { length out.new.items ≤ length out.old.items + 118 }
 {
@@ -59,8 +59,8 @@ fn put_leak(out: &mut Sheet, leak: Leak)
 
 // What is found, in words.
 #[tactic(auto, unfolding(pv_model::specs::Sealed::verdict_text))]
-fn put_found(out: &mut Sheet, verdict: &Verdict)
-    requires { length out.old.items + 118 ≤ SHEET }
+fn put_found(out: &mut LineBuffer, verdict: &Verdict)
+    requires { length out.old.items + 118 ≤ LINE_BUFFER }
     ensures text { out.new.items ≡ out.old.items ++ verdict_text verdict.now }
     ensures growth { length out.new.items ≤ length out.old.items + 118 }
 {
@@ -73,8 +73,8 @@ fn put_found(out: &mut Sheet, verdict: &Verdict)
 
 // The line of what is found, with the end of the line.
 #[tactic(auto, unfolding(pv_model::specs::Sealed::verdict_line))]
-pub(crate) fn put_line(out: &mut Sheet, verdict: &Verdict)
-    requires { length out.old.items + 119 ≤ SHEET }
+pub(crate) fn put_line(out: &mut LineBuffer, verdict: &Verdict)
+    requires { length out.old.items + 119 ≤ LINE_BUFFER }
     ensures text { out.new.items ≡ out.old.items ++ verdict_line verdict.now }
     ensures growth { length out.new.items ≤ length out.old.items + 119 }
 {
@@ -87,14 +87,14 @@ pub(crate) fn put_line(out: &mut Sheet, verdict: &Verdict)
 ///
 /// # Errors
 ///
-/// `Failed` where a write failed: the sink was told a beginning of the line.
+/// `Failed` where a write failed: the sink was given a beginning of the line.
 pub fn write_verdict<W: Sink>(out: &mut W, verdict: &Verdict) -> Result<(), Failed>
-    ensures whole { OnOk result (W.told out.new ≡ and_all (W.told out.old) (verdict_line verdict.now)) }
-    ensures beginning { OnErr result (TellsBeginning (verdict_line verdict.now) (W.told out.old) (W.told out.new)) }
+    ensures whole { OnOk result (W.written out.new ≡ and_all (W.written out.old) (verdict_line verdict.now)) }
+    ensures beginning { OnErr result (TellsBeginning (verdict_line verdict.now) (W.written out.old) (W.written out.new)) }
     ensures failed { OnErr result (Rose (W.failures out.old) (W.failures out.new)) }
     ensures quiet { OnOk result (W.failures out.new ≡ W.failures out.old) }
 {
-    let mut sheet = Sheet::new();
-    put_line(&mut sheet, verdict);
-    write_whole(out, sheet.as_slice())
+    let mut line_buffer = LineBuffer::new();
+    put_line(&mut line_buffer, verdict);
+    write_whole(out, line_buffer.as_slice())
 }

@@ -7,7 +7,7 @@ use Rattle.pv_model.specs.Grammar.Manifests.{path_of}
 use Rattle.pv_model.specs.Manifest.{Entry, make, further_name}
 use Rattle.pv_model.specs.Room.{is_too_long, fits}
 use Rattle.pv_model.specs.Tree.{Tree, root, is_directory_at, find_entry, with_entry, with_new_node}
-use Rattle.pv_model.specs.Walk.{pieces}
+use Rattle.pv_model.specs.Walk.{components}
 
 -- names lead down from a directory, all but the last from a directory to one in it: to the last name, and the directory that is to contain it
 pub data LeadsTo (t : Tree) : ℕ → List Bytes → ℕ → Bytes → Type 0 where
@@ -19,7 +19,7 @@ pub data LeadsTo (t : Tree) : ℕ → List Bytes → ℕ → Bytes → Type 0 wh
 pub record NamesFile (t : Tree) (path : Bytes) (n : ℕ) : Type 0 where
   pub container : ℕ
   pub name : Bytes
-  pub leads : LeadsTo t root (pieces path) container name
+  pub leads : LeadsTo t root (components path) container name
   pub stands : find_entry t container name ≡ Some n
   pub kind : IsFalse (is_directory_at t n)
 
@@ -30,7 +30,7 @@ MakesAt t (further_name path source) d name after = (n : ℕ) × NamesFile t sou
 
 -- the place of an entry: a directory, and a name that is new in it
 pub record IsPlaceOf (t : Tree) (e : Entry) (d : ℕ) (name : Bytes) : Type 0 where
-  pub leads : LeadsTo t root (pieces (path_of e)) d name
+  pub leads : LeadsTo t root (components (path_of e)) d name
   pub free : find_entry t d name ≡ None
 
 pub record Makes (t : Tree) (e : Entry) (after : Tree) : Type 0 where
@@ -53,8 +53,8 @@ LacksSource t (further_name path source) = (n : ℕ) → NamesFile t source n �
 
 -- why the entry of a line can't be applied
 abbrev pub IsRefused : Tree → ℕ → Entry → ManifestFault → Type 0
-IsRefused t line e (Parent n) = (n ≡ line) × ((d : ℕ) (name : Bytes) → LeadsTo t root (pieces (path_of e)) d name → ⊥)
-IsRefused t line e (Exists n) = (n ≡ line) × (d : ℕ) × (name : Bytes) × (there : ℕ) × LeadsTo t root (pieces (path_of e)) d name × (find_entry t d name ≡ Some there)
+IsRefused t line e (Parent n) = (n ≡ line) × ((d : ℕ) (name : Bytes) → LeadsTo t root (components (path_of e)) d name → ⊥)
+IsRefused t line e (Exists n) = (n ≡ line) × (d : ℕ) × (name : Bytes) × (there : ℕ) × LeadsTo t root (components (path_of e)) d name × (find_entry t d name ≡ Some there)
 IsRefused t line e (Source n) = (n ≡ line) × (d : ℕ) × (name : Bytes) × IsPlaceOf t e d name × LacksSource t e
 IsRefused t line e (Room n) = (n ≡ line) × (after : Tree) × Makes t e after × ¬ (HasRoom after)
 IsRefused t line e _ = ⊥
@@ -64,7 +64,7 @@ abbrev pub AppliesAll : Tree → List (ℕ × Entry) → Tree → Type 0
 AppliesAll t [] after = after ≡ t
 AppliesAll t (e ∷ es) after = (next : Tree) × Applies t e.1 next × AppliesAll next es after
 
--- the least entry that can't be applied behind those before it
+-- the least entry that can't be applied after those before it
 abbrev pub IsFirstRefused : Tree → List (ℕ × Entry) → ManifestFault → Type 0
 IsFirstRefused t entries fault =
     (front : List (ℕ × Entry)) × (line : ℕ) × (e : Entry) × (rest : List (ℕ × Entry)) × (before : Tree) × (entries ≡ front ++ (line, e) ∷ rest)

@@ -11,7 +11,7 @@ use Rattle.pv_model.specs.declared.open_flags.Mode.{Mode}
 use Rattle.pv_model.specs.declared.open_flags.Mode.TheVariants.{Read, Write, ReadWrite}
 use Rattle.pv_model.specs.declared.open_flags.OpenFlags.{OpenFlags}
 use Rattle.pv_model.specs.Bytes.{Bytes, is_empty}
-use Rattle.pv_model.specs.Grammar.Lines.{word_of, behind_word, behind_space, decimal_of}
+use Rattle.pv_model.specs.Grammar.Lines.{word_of, after_word, after_space, decimal_of}
 use Rattle.pv_model.specs.Trace.{is_plain}
 
 -- an argument and what follows it
@@ -21,9 +21,9 @@ Parsed A = Option (A × Bytes)
 -- where a text stands that is being read: outside of an escape, or in one
 pub data Escape : Type 0 where
   outside : Escape
-  behind_backslash : Escape
-  behind_x : Escape
-  behind_digit : (high : ℕ) → Escape
+  after_backslash : Escape
+  after_x : Escape
+  after_digit : (high : ℕ) → Escape
 
 -- the value of a lower-case hexadecimal digit
 abbrev pub hex_value : ℕ → Option ℕ
@@ -42,13 +42,13 @@ Onward = Escape → Parsed Bytes
 abbrev pub text_outside : ℕ → Bytes → Onward → Parsed Bytes
 text_outside b bs onward =
     if b == 34 then Some ([], bs)
-    else if b == 92 then onward behind_backslash
+    else if b == 92 then onward after_backslash
     else if is_plain b then onto_text b (onward outside)
     else None
 
 abbrev pub first_digit : Onward → Option ℕ → Parsed Bytes
 first_digit onward None = None
-first_digit onward (Some high) = onward (behind_digit high)
+first_digit onward (Some high) = onward (after_digit high)
 
 abbrev pub second_digit : Onward → ℕ → Option ℕ → Parsed Bytes
 second_digit onward high None = None
@@ -57,9 +57,9 @@ second_digit onward high (Some low) = if 16 * high + low == 0 then None else ont
 -- at a byte of a text
 abbrev pub text_step : ℕ → Bytes → Onward → Escape → Parsed Bytes
 text_step b bs onward outside = text_outside b bs onward
-text_step b bs onward behind_backslash = if b == 120 then onward behind_x else None
-text_step b bs onward behind_x = first_digit onward (hex_value b)
-text_step b bs onward (behind_digit high) = second_digit onward high (hex_value b)
+text_step b bs onward after_backslash = if b == 120 then onward after_x else None
+text_step b bs onward after_x = first_digit onward (hex_value b)
+text_step b bs onward (after_digit high) = second_digit onward high (hex_value b)
 
 -- the rest of a text, up to the quotation mark that ends it
 abbrev pub text_rest : Bytes → Onward
@@ -81,7 +81,7 @@ with_rest rest None = None
 with_rest rest (Some a) = Some (a, rest)
 
 abbrev pub word_at : {A : Type 0} → (Bytes → Option A) → Bytes → Parsed A
-word_at of bytes = with_rest (behind_word bytes) (of (word_of bytes))
+word_at of bytes = with_rest (after_word bytes) (of (word_of bytes))
 
 abbrev pub some_text : Parsed Bytes → Parsed (Option Bytes)
 some_text None = None
@@ -98,7 +98,7 @@ null_of word = if bytes_eq word (codes "null") then Some None else None
 abbrev pub text_or_null_at : Bytes → Parsed (Option Bytes)
 text_or_null_at bytes = if begins_text bytes then some_text (text_at bytes) else word_at null_of bytes
 
--- a number of 32 bits, behind its sign
+-- a number of 32 bits, after its sign
 abbrev pub in_range : ℕ → Option ℕ → Option ℕ
 in_range limit None = None
 in_range limit (Some n) = if nat_le n limit then Some n else None
@@ -141,7 +141,7 @@ whence_of word =
 abbrev pub origin_of : Bytes → Option Origin
 origin_of word = if bytes_eq word (codes "cwd") then Some WorkingDirectory else option_map Descriptor (operand_of word)
 
--- what stands behind a front
+-- what stands after a front
 abbrev pub without_front : Bytes → Bytes → Option Bytes
 without_front [] bs = Some bs
 without_front (a ∷ front) [] = None
@@ -156,14 +156,14 @@ abbrev pub flag_at : Bytes → Bytes → Bool × Bytes
 flag_at name word = flag_or_none word (without_front (43 ∷ name) word)
 
 -- the mode that a word begins with, and what follows it
-abbrev pub mode_behind_r : Bytes → Parsed Mode
-mode_behind_r [] = Some (Read, [])
-mode_behind_r (b ∷ bs) = if b == 119 then Some (ReadWrite, bs) else Some (Read, b ∷ bs)
+abbrev pub mode_after_r : Bytes → Parsed Mode
+mode_after_r [] = Some (Read, [])
+mode_after_r (b ∷ bs) = if b == 119 then Some (ReadWrite, bs) else Some (Read, b ∷ bs)
 
 abbrev pub mode_at : Bytes → Parsed Mode
 mode_at [] = None
 mode_at (b ∷ bs) =
-    if b == 114 then mode_behind_r bs
+    if b == 114 then mode_after_r bs
     else if b == 119 then Some (Write, bs)
     else None
 
@@ -171,9 +171,9 @@ abbrev pub if_nothing_left : Bytes → OpenFlags → Option OpenFlags
 if_nothing_left [] flags = Some flags
 if_nothing_left (b ∷ bs) flags = None
 
--- the flags behind a mode, in their order
-abbrev pub flags_behind : Mode → Bytes → Option OpenFlags
-flags_behind mode word =
+-- the flags after a mode, in their order
+abbrev pub flags_after : Mode → Bytes → Option OpenFlags
+flags_after mode word =
     let append = flag_at (codes "append") word in
     let create = flag_at (codes "create") append.1 in
     let truncate = flag_at (codes "trunc") create.1 in
@@ -194,7 +194,7 @@ flags_behind mode word =
 
 abbrev pub flags_of_mode : Parsed Mode → Option OpenFlags
 flags_of_mode None = None
-flags_of_mode (Some p) = flags_behind p.0 p.1
+flags_of_mode (Some p) = flags_after p.0 p.1
 
 -- the flags of an open
 unfoldable pub flags_of : Bytes → Option OpenFlags
@@ -218,9 +218,9 @@ origin_at bytes = word_at origin_of bytes
 abbrev pub flags_at : Bytes → Parsed OpenFlags
 flags_at bytes = word_at flags_of bytes
 
--- an argument stands behind a space
+-- an argument stands after a space
 abbrev pub argument : {A : Type 0} → (Bytes → Parsed A) → Bytes → Parsed A
-argument at bytes = option_and_then at (behind_space bytes)
+argument at bytes = option_and_then at (after_space bytes)
 
 abbrev pub if_last : {A : Type 0} → Parsed A → Option A
 if_last None = None

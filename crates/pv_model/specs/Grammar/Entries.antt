@@ -22,7 +22,7 @@ IsEntryPath path = (names : List Bytes) × (names ≢ []) × AllByRecursion (λ 
 abbrev pub SpellsPath : Bytes → Bytes → Type 0
 SpellsPath path word = IsEntryPath path × SpellsText path word
 
--- a line spells an entry, to which the lines of `body` belong, that stand behind it
+-- a line spells an entry, to which the lines of `body` belong, that stand after it
 pub data SpellsEntry : Bytes → List Bytes → Entry → Type 0 where
   of_directory : (path word : Bytes) → SpellsPath path word → SpellsEntry (codes "dir " ++ word) [] (make path (directory_node []))
   of_file : (path word contents other : Bytes) → SpellsPath path word → SpellsText contents other
@@ -36,10 +36,10 @@ pub data SpellsEntry : Bytes → List Bytes → Entry → Type 0 where
 
 -- the lines from line n on list entries, each with the number of its line: to the end, or in a bundle to the first line `schedule` that belongs to no entry
 pub data Lists (in_bundle : Bool) : ℕ → List Bytes → Listed → Type 0 where
-  at_end : (n : ℕ) → in_bundle ≡ false → Lists in_bundle n [] (record { entries = []; behind = [] })
-  at_schedule : (n : ℕ) (rest : List Bytes) → in_bundle ≡ true → Lists in_bundle n (codes "schedule" ∷ rest) (record { entries = []; behind = rest })
+  at_end : (n : ℕ) → in_bundle ≡ false → Lists in_bundle n [] (record { entries = []; following = [] })
+  at_schedule : (n : ℕ) (rest : List Bytes) → in_bundle ≡ true → Lists in_bundle n (codes "schedule" ∷ rest) (record { entries = []; following = rest })
   entry : (n : ℕ) (line : Bytes) (body rest : List Bytes) (e : Entry) (others : Listed) → SpellsEntry line body e → Lists in_bundle (n + 1 + length body) rest others
-      → Lists in_bundle n (line ∷ body ++ rest) (record { entries = (n, e) ∷ others.entries; behind = others.behind })
+      → Lists in_bundle n (line ∷ body ++ rest) (record { entries = (n, e) ∷ others.entries; following = others.following })
 
 -- the first line: the image's blocks and inodes
 abbrev pub SpellsSizes : Bytes → ℕ → ℕ → Type 0
@@ -56,11 +56,11 @@ HasForm in_bundle bytes m = (first : Bytes) × (rest : List Bytes) × HasLines b
 abbrev pub SpellsManifest : Bool → Bytes → Manifest → Type 0
 SpellsManifest in_bundle bytes m = HasForm in_bundle bytes m × AreSizes m.blocks m.inodes
 
--- among the lines from line n on, a line has no form: it is no entry, whatever stands behind it, nor a bundle's line `schedule`, which is missed behind the last
+-- among the lines from line n on, a line has no form: it is no entry, whatever stands after it, nor a bundle's line `schedule`, which is missed after the last
 pub data HasNoForm (in_bundle : Bool) : ℕ → List Bytes → ℕ → Type 0 where
   no_schedule : (n : ℕ) → in_bundle ≡ true → HasNoForm in_bundle n [] n
   no_entry : (n : ℕ) (line : Bytes) (rest : List Bytes) → (in_bundle ≡ true → line ≢ codes "schedule")
-      → ((body behind : List Bytes) (e : Entry) → rest ≡ body ++ behind → SpellsEntry line body e → ⊥) → HasNoForm in_bundle n (line ∷ rest) n
+      → ((body following : List Bytes) (e : Entry) → rest ≡ body ++ following → SpellsEntry line body e → ⊥) → HasNoForm in_bundle n (line ∷ rest) n
   further : (n m : ℕ) (line : Bytes) (body rest : List Bytes) (e : Entry) → SpellsEntry line body e → HasNoForm in_bundle (n + 1 + length body) rest m
       → HasNoForm in_bundle n (line ∷ body ++ rest) m
 

@@ -57,7 +57,7 @@ form_of (Write d n) = (codes "write", operand d ∷ operand n ∷ [])
 form_of (Ftruncate d n) = (codes "ftruncate", operand d ∷ operand n ∷ [])
 form_of (Lseek d by from) = (codes "lseek", operand d ∷ operand by ∷ whence from ∷ [])
 form_of (Pledge promises execpromises) = (codes "pledge", text_or_null promises ∷ text_or_null execpromises ∷ [])
-form_of (Unveil path letters) = (codes "unveil", text_or_null path ∷ text_or_null letters ∷ [])
+form_of (Unveil path permissions) = (codes "unveil", text_or_null path ∷ text_or_null permissions ∷ [])
 form_of (Execve path) = (codes "execve", text path ∷ [])
 form_of (Chdir path) = (codes "chdir", text path ∷ [])
 form_of (Stat path) = (codes "stat", text path ∷ [])
@@ -85,7 +85,7 @@ Spells lines (flags value) word = SpellsFlags value word
 Spells lines (whence value) word = SpellsWhence value word
 Spells lines (origin value) word = SpellsOrigin value word
 
--- the spelling of arguments: each stands behind one space
+-- the spelling of arguments: each stands after one space
 abbrev pub SpellsArguments : ℕ → List Argument → Bytes → Type 0
 SpellsArguments lines [] bytes = bytes ≡ []
 SpellsArguments lines (a ∷ others) bytes = (word rest : Bytes) × Spells lines a word × SpellsArguments lines others rest × (bytes ≡ 32 ∷ word ++ rest)
@@ -98,14 +98,14 @@ SpellsForm lines form bytes = (rest : Bytes) × SpellsArguments lines form.1 res
 abbrev pub SpellsLine : ℕ → Bytes → Instruction → Type 0
 SpellsLine lines bytes i = SpellsForm lines (form_of i) bytes
 
--- what may stand behind a word: nothing, or a space and more
-abbrev pub IsBehindWord : Bytes → Type 0
-IsBehindWord [] = Unit {0}
-IsBehindWord (b ∷ bs) = b ≡ 32
+-- what may stand after a word: nothing, or a space and more
+abbrev pub IsAfterWord : Bytes → Type 0
+IsAfterWord [] = Unit {0}
+IsAfterWord (b ∷ bs) = b ≡ 32
 
 -- the first word of a line
 abbrev pub BeginsWith : Bytes → Bytes → Type 0
-BeginsWith word bytes = (rest : Bytes) × IsBehindWord rest × (bytes ≡ word ++ rest)
+BeginsWith word bytes = (rest : Bytes) × IsAfterWord rest × (bytes ≡ word ++ rest)
 
 -- the form of a jump, with any number in the place of its line
 pub data Jumping : Type 0 where

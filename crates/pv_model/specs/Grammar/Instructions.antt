@@ -6,7 +6,7 @@ use Rattle.pv_model.specs.declared.instruction.Instruction.{Instruction}
 use Rattle.pv_model.specs.declared.instruction.Instruction.TheVariants.{Set, Add, Put, Peek, Jump, JumpIfZero, JumpIfNotZero, JumpIfNegative, Exit, GetPid, GetPpid, Fork, Wait, Pledge, Unveil, Execve, Open, OpenAt, Close, Dup, Dup2, Read, Write, Lseek, Fstat, Ftruncate, Getdents, Fchdir, Chdir, Stat, Lstat, Readlink, Mkdir, Symlink, Link, Unlink, Rmdir, Rename}
 use Rattle.pv_model.specs.declared.limits.TheConstants.{BUFFER}
 use Rattle.pv_model.specs.Bytes.{Bytes}
-use Rattle.pv_model.specs.Grammar.Lines.{word_of, behind_word}
+use Rattle.pv_model.specs.Grammar.Lines.{word_of, after_word}
 use Rattle.pv_model.specs.Grammar.Arguments.{text_at, text_or_null_at, operand_at, register_at, number_at, whence_at, origin_at, flags_at, no_argument, one_argument, two_arguments, three_arguments}
 
 -- what a line of arguments gives
@@ -99,10 +99,10 @@ on_paths word rest other =
     else if bytes_eq word (codes "symlink") then or_argument (option_map (λ p. Symlink p.0 p.1) (two_arguments text_at text_at rest))
     else other
 
--- the instruction that a word and what stands behind it spell, in a program of so many lines
+-- the instruction that a word and what stands after it spell, in a program of so many lines
 unfoldable pub instruction_by : ℕ → Bytes → Bytes → Result Instruction What
 instruction_by lines word rest = on_registers lines word rest (on_processes word rest (on_descriptors word rest (on_paths word rest (Err Word))))
 
 -- the instruction that a line spells
 abbrev pub instruction_of : ℕ → Bytes → Result Instruction What
-instruction_of lines line = instruction_by lines (word_of line) (behind_word line)
+instruction_of lines line = instruction_by lines (word_of line) (after_word line)

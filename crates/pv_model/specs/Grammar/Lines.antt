@@ -14,14 +14,14 @@ word_of [] = []
 word_of (b ∷ bs) = if b == 32 then [] else b ∷ word_of bs
 
 -- what stands from the first space on
-abbrev pub behind_word : Bytes → Bytes
-behind_word [] = []
-behind_word (b ∷ bs) = if b == 32 then b ∷ bs else behind_word bs
+abbrev pub after_word : Bytes → Bytes
+after_word [] = []
+after_word (b ∷ bs) = if b == 32 then b ∷ bs else after_word bs
 
--- what stands behind a space
-abbrev pub behind_space : Bytes → Option Bytes
-behind_space [] = None
-behind_space (b ∷ bs) = if b == 32 then Some bs else None
+-- what stands after a space
+abbrev pub after_space : Bytes → Option Bytes
+after_space [] = None
+after_space (b ∷ bs) = if b == 32 then Some bs else None
 
 abbrev pub is_digit : ℕ → Bool
 is_digit b = nat_le 48 b && nat_le b 57
@@ -36,7 +36,7 @@ has_leading_zero (b ∷ c ∷ bs) = b == 48
 abbrev pub is_decimal : Bytes → Bool
 is_decimal bs = not (is_empty bs) && list_all is_digit bs && not (has_leading_zero bs)
 
--- the number that digits spell behind those that spell `front`
+-- the number that digits spell after those that spell `front`
 abbrev pub value_from : ℕ → Bytes → ℕ
 value_from front [] = front
 value_from front (b ∷ bs) = value_from (10 * front + (b - 48)) bs

@@ -7,11 +7,11 @@ use Rattle.pv_model.specs.declared.limits.TheConstants.{PROGRAM_LINES, INODES, B
 use Rattle.pv_model.specs.declared.version.Version.TheVariants.{V1}
 use Rattle.pv_model.specs.Bytes.{Bytes}
 use Rattle.pv_model.specs.Grammar.Arguments.{word_at, text_at, one_argument, two_arguments}
-use Rattle.pv_model.specs.Grammar.Lines.{lines_of, word_of, behind_word, decimal_of}
+use Rattle.pv_model.specs.Grammar.Lines.{lines_of, word_of, after_word, decimal_of}
 use Rattle.pv_model.specs.Manifest.{Entry, make, further_name, empty_tree}
 use Rattle.pv_model.specs.Room.{rounded_up, is_too_long, fits}
 use Rattle.pv_model.specs.Tree.{directory_node, file_node, link_node, Tree, root, is_name, is_link_text, is_directory_at, find_entry, with_entry, with_new_node}
-use Rattle.pv_model.specs.Walk.{pieces, split_slashes}
+use Rattle.pv_model.specs.Walk.{components, split_slashes}
 
 -- a path of a manifest: a slash, and one or more names joined by single slashes
 abbrev pub is_manifest_path : Bytes → Bool
@@ -22,7 +22,7 @@ abbrev pub if_path : Option Bytes → Option Bytes
 if_path None = None
 if_path (Some path) = if is_manifest_path path then Some path else None
 
--- an entry of a manifest, and how many of the lines behind its own belong to it
+-- an entry of a manifest, and how many of the lines after its own belong to it
 abbrev pub Taking : Type 0
 Taking = Entry × ℕ
 
@@ -53,7 +53,7 @@ abbrev pub name_line : Option (Bytes × Bytes) → Option Taking
 name_line None = None
 name_line (Some p) = if is_manifest_path p.0 && is_manifest_path p.1 then Some (further_name p.0 p.1, 0) else None
 
--- the entry that a word and what stands behind it spell, with the lines that follow
+-- the entry that a word and what stands after it spell, with the lines that follow
 unfoldable pub entry_by : Bytes → Bytes → List Bytes → Option Taking
 entry_by word rest lines =
     if bytes_eq word (codes "dir") then directory_line (one_argument text_at rest)
@@ -65,12 +65,12 @@ entry_by word rest lines =
 
 -- the entry that a line spells, with the lines that follow
 abbrev pub entry_of : Bytes → List Bytes → Option Taking
-entry_of line lines = entry_by (word_of line) (behind_word line) lines
+entry_of line lines = entry_by (word_of line) (after_word line) lines
 
--- the entries of a manifest, each with the number of its line, and the lines behind the manifest
+-- the entries of a manifest, each with the number of its line, and the lines after the manifest
 pub record Listed : Type 0 where
   pub entries : List (ℕ × Entry)
-  pub behind : List Bytes
+  pub following : List Bytes
 
 abbrev pub onto_listed : ℕ → Entry → Result Listed ManifestFault → Result Listed ManifestFault
 onto_listed n entry (Ok rest) = Ok (record rest { entries = (n, entry) ∷ rest.entries })
@@ -87,12 +87,12 @@ is_schedule_line line = bytes_eq line (codes "schedule")
 -- where a manifest ends: a bundle's at its line `schedule`, and one that stands alone at the end
 abbrev pub at_end : Bool → ℕ → Result Listed ManifestFault
 at_end true n = Err (Form n)
-at_end false n = Ok (record { entries = []; behind = [] })
+at_end false n = Ok (record { entries = []; following = [] })
 
 module _ (in_bundle : Bool) (read : Bytes → List Bytes → Option Taking) where
   abbrev pub at_line : Bytes → List Bytes → ℕ → (ℕ → ℕ → Result Listed ManifestFault) → Result Listed ManifestFault
   at_line line lines n onward =
-      if in_bundle && is_schedule_line line then Ok (record { entries = []; behind = lines })
+      if in_bundle && is_schedule_line line then Ok (record { entries = []; following = lines })
       else or_form n (read line lines) (onward (suc n))
 
   -- the entries of the lines from line n on, the first so many of which belong to the entry before
@@ -101,7 +101,7 @@ module _ (in_bundle : Bool) (read : Bytes → List Bytes → Option Taking) wher
   entries_from (line ∷ lines) n (suc skipped) = entries_from lines (suc n) skipped
   entries_from (line ∷ lines) n zero = at_line line lines n (entries_from lines)
 
--- a manifest: the image's blocks and inodes, its entries, and the lines behind it
+-- a manifest: the image's blocks and inodes, its entries, and the lines after it
 pub record Manifest : Type 0 where
   pub blocks : ℕ
   pub inodes : ℕ
@@ -112,7 +112,7 @@ sizes_by word rest = if bytes_eq word (codes "image") then two_arguments (word_a
 
 -- the image's blocks and inodes, as the first line tells them
 abbrev pub sizes_of : Bytes → Option (ℕ × ℕ)
-sizes_of line = sizes_by (word_of line) (behind_word line)
+sizes_of line = sizes_by (word_of line) (after_word line)
 
 -- the blocks that hold so many inodes
 abbrev pub inode_table_blocks : ℕ → ℕ
@@ -130,20 +130,20 @@ abbrev pub with_entries : (ℕ × ℕ) → Result Listed ManifestFault → Resul
 with_entries sizes (Err fault) = Err fault
 with_entries sizes (Ok listed) = if_sizes sizes.0 sizes.1 listed
 
-abbrev pub behind_sizes : Option (ℕ × ℕ) → Result Listed ManifestFault → Result Manifest ManifestFault
-behind_sizes None entries = Err (Form 1)
-behind_sizes (Some sizes) entries = with_entries sizes entries
+abbrev pub after_sizes : Option (ℕ × ℕ) → Result Listed ManifestFault → Result Manifest ManifestFault
+after_sizes None entries = Err (Form 1)
+after_sizes (Some sizes) entries = with_entries sizes entries
 
 -- the manifest that lines spell, as each entry is read: the form of all lines comes before the sizes
 abbrev pub manifest_by : Bool → (Bytes → List Bytes → Option Taking) → List Bytes → Result Manifest ManifestFault
 manifest_by in_bundle read [] = Err (Form 1)
-manifest_by in_bundle read (line ∷ lines) = behind_sizes (sizes_of line) (entries_from in_bundle read lines 2 0)
+manifest_by in_bundle read (line ∷ lines) = after_sizes (sizes_of line) (entries_from in_bundle read lines 2 0)
 
 -- the manifest that bytes spell, or the first fault
 unfoldable pub read_manifest : Bytes → Result Manifest ManifestFault
 read_manifest bytes = manifest_by false entry_of (lines_of bytes)
 
--- the manifest of a bundle; behind it stand the lines of a schedule
+-- the manifest of a bundle; after it stand the lines of a schedule
 unfoldable pub read_bundle : Bytes → Result Manifest ManifestFault
 read_bundle bytes = manifest_by true entry_of (lines_of bytes)
 
@@ -169,7 +169,7 @@ under_container t (Some p) = if_not_directory t (find_entry t p.0 p.1)
 
 -- the file or link that a path of a manifest names
 abbrev pub source_of : Tree → Bytes → Option ℕ
-source_of t path = under_container t (container t (pieces path) root)
+source_of t path = under_container t (container t (components path) root)
 
 abbrev pub if_room : ℕ → Tree → Result Tree ManifestFault
 if_room line t = if is_too_long t || not (fits t) then Err (Room line) else Ok t
@@ -192,7 +192,7 @@ entry_at line t entry (Some p) = if is_some (find_entry t p.0 p.1) then Err (Exi
 
 -- the tree with the entry of a line added, or why it can't be
 unfoldable pub add_entry : ℕ → Tree → Entry → Result Tree ManifestFault
-add_entry line t entry = entry_at line t entry (container t (pieces (path_of entry)) root)
+add_entry line t entry = entry_at line t entry (container t (components (path_of entry)) root)
 
 abbrev pub and_entries : Result Tree ManifestFault → (Tree → Result Tree ManifestFault) → Result Tree ManifestFault
 and_entries (Err fault) onward = Err fault

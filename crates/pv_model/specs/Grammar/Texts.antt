@@ -38,7 +38,7 @@ SpellLines count (line ∷ lines) [] = ⊥
 abbrev pub SpellsProgram : Bytes → Program → Type 0
 SpellsProgram bytes program = (lines : List Bytes) × HasLines bytes lines × (length lines ≤ LINES) × SpellLines (length lines) lines program
 
--- a line of a text, with the lines before it and behind it
+-- a line of a text, with the lines before it and after it
 abbrev pub LineOfText : Bytes → List Bytes → Bytes → List Bytes → Type 0
 LineOfText bytes front line rest = HasLines bytes (front ++ line ∷ rest)
 

@@ -2,7 +2,7 @@
 ghost use Rattle.std.specs.Prelude.{◌≡◌, IsTrue, None, Some, IfErr, OnOk, OnErr};
 ghost use Rattle.pv_model.specs.Sealed.{is_file};
 ghost use Rattle.pv_model.specs.Tree.{node_at, find_entry};
-ghost use Rattle.pv_tree_laws.specs.Found.{Alike};
+ghost use Rattle.pv_laws_trees.specs.Found.{Alike};
 ghost use Rattle.pv_tree.specs.Changes.{overwritten, resized};
 ghost use Rattle.pv_tree.specs.Holding.{with_tree};
 ghost use Rattle.pv_tree.specs.Rooms.{refusal};

@@ -1,7 +1,7 @@
 //! Who holds what.
 ghost use Rattle.std.specs.Prelude.{◌≡◌, ◌≢◌, ◌<◌, suc, ◌+◌, ◌-◌, ℕ, IsSome};
 ghost use Rattle.pv_model.specs.Tree.{node_at, find_entry};
-ghost use Rattle.pv_tree_laws.specs.Found.{Alike};
+ghost use Rattle.pv_laws_trees.specs.Found.{Alike};
 ghost use Rattle.pv_tree.specs.Changes.{settled};
 ghost use Rattle.pv_tree.specs.Holding.{HeldTree, holds_at, held_more, held_less, trimmed};
 

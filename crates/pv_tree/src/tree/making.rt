@@ -2,9 +2,9 @@
 ghost use Rattle.std.specs.Prelude.{◌≡◌, ◌<◌, length, IsTrue, false, None, Some, IfOk, IfErr, OnOk, OnErr};
 ghost use Rattle.pv_model.specs.Room.{greatest_entries, is_too_long};
 ghost use Rattle.pv_model.specs.Tree.{node_at, entries_at, find_entry, is_directory_at, is_name, is_node, with_node, with_entry, with_new_node, new_number, IsWellFormed};
-ghost use Rattle.pv_tree_laws.specs.Found.{AlikeBut};
-ghost use Rattle.pv_tree_laws.specs.Spelled.{are_bytes, has_bytes};
-ghost use Rattle.pv_tree_laws.specs.Tree.{Stands};
+ghost use Rattle.pv_laws_trees.specs.Found.{AlikeBut};
+ghost use Rattle.pv_laws_trees.specs.Spelled.{are_bytes, has_bytes};
+ghost use Rattle.pv_laws_trees.specs.Tree.{Stands};
 ghost use Rattle.pv_dirs.specs.Trees.{new_node as empty_node, LacksRoom, without_node};
 ghost use Rattle.pv_tree.specs.Changes.{new_node, sort_of};
 ghost use Rattle.pv_tree.specs.Holding.{with_tree};
@@ -14,17 +14,17 @@ ghost use Rattle.pv_tree.specs.Standing.{IsShaped};
 use super::Tree;
 use pv_dirs::Directories;
 use pv_inodes::Space;
-use pv_model::{Kind, Sort};
+use pv_model::{NewNode, Kind};
 
 // What a node of a kind is.
-fn sort_of(kind: Kind) -> Sort
+fn sort_of(kind: NewNode) -> Kind
     ensures { result ≡ sort_of kind.entry }
 {
     match kind {
-        Kind::Directory => Sort::Directory,
-        Kind::File => Sort::File,
-        Kind::Executable => Sort::Executable,
-        Kind::Symlink(_) => Sort::Symlink,
+        NewNode::Directory => Kind::Directory,
+        NewNode::File => Kind::File,
+        NewNode::Executable => Kind::Executable,
+        NewNode::Symlink(_) => Kind::Symlink,
     }
 }
 
@@ -37,7 +37,7 @@ fn as_read(text: &[u8]) -> &[u8]
 }
 
 // Gives a new node its content. An `Err` says that data blocks are wanting, and then nothing has changed.
-fn fill(directories: &mut Directories, node: u16, kind: Kind) -> Result<(), Space>
+fn fill(directories: &mut Directories, node: u16, kind: NewNode) -> Result<(), Space>
     requires fresh { node_at directories.old node ≡ Some (empty_node (sort_of kind)) }
     requires text { IsTrue (is_node directories.old.version (new_node kind)) }
     ensures ok { OnOk result (directories.new ≡ with_node directories.old node (new_node kind.entry)) }
@@ -46,7 +46,7 @@ fn fill(directories: &mut Directories, node: u16, kind: Kind) -> Result<(), Spac
     ensures bytes { OnOk result (IsTrue (has_bytes (new_node kind.entry))) }
 {
     match kind {
-        Kind::Symlink(text) => directories.write_at(node, 0, as_read(text)),
+        NewNode::Symlink(text) => directories.write_at(node, 0, as_read(text)),
         _ => Ok(()),
     }
 }
@@ -76,7 +76,7 @@ fn furnish(
     directory: u16,
     name: &[u8],
     node: u16,
-    kind: Kind,
+    kind: NewNode,
 ) -> Result<(), Space>
     requires fresh { node_at directories.old node ≡ Some (empty_node (sort_of kind)) }
     requires text { IsTrue (is_node directories.old.version (new_node kind)) }
@@ -107,7 +107,7 @@ fn add_node(
     directories: &mut Directories,
     directory: u16,
     name: &[u8],
-    kind: Kind,
+    kind: NewNode,
 ) -> Result<u16, Space>
     requires well_formed { IsWellFormed directories.old }
     requires short { is_too_long directories.old ≡ false }
@@ -140,7 +140,7 @@ impl Tree {
     /// Puts a new node under a name that a directory has not, and answers its number, the least that is
     /// not in use. `TooBig` comes where the directory would be longer than any may be, else `Full` where
     /// the image has not the inode or the blocks for it; then nothing has changed.
-    pub fn make(&mut self, directory: u16, name: &[u8], kind: Kind) -> Result<u16, Space>
+    pub fn make(&mut self, directory: u16, name: &[u8], kind: NewNode) -> Result<u16, Space>
         requires directory { Stands self.old.tree directory }
         requires name { IsTrue (is_name self.old.tree.version name.now) }
         requires absent { find_entry self.old.tree directory name.now ≡ None }

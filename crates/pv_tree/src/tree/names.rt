@@ -3,8 +3,8 @@ ghost use Rattle.std.specs.Prelude.{◌≡◌, ◌≢◌, [], IsTrue, IsFalse, f
 ghost use Rattle.pv_model.specs.Calls.Paths.{contains_directory, entries_there};
 ghost use Rattle.pv_model.specs.Room.{fits};
 ghost use Rattle.pv_model.specs.Tree.{node_at, find_entry, is_directory_at, is_name, with_entry, without_entry, IsWellFormed};
-ghost use Rattle.pv_tree_laws.specs.Found.{AlikeBut, AlikeButTwo};
-ghost use Rattle.pv_tree_laws.specs.Tree.{Stands};
+ghost use Rattle.pv_laws_trees.specs.Found.{AlikeBut, AlikeButTwo};
+ghost use Rattle.pv_laws_trees.specs.Tree.{Stands};
 ghost use Rattle.pv_tree.specs.Changes.{moved};
 ghost use Rattle.pv_tree.specs.Holding.{with_tree, after, trimmed};
 ghost use Rattle.pv_tree.specs.Rooms.{refusal};

@@ -1,7 +1,7 @@
 use Rattle.std.proofs.Common.{Option, None, Some, sym, subst, arith, Bor}
 use Rattle.std.specs.Option.{option_copied}
 use Rattle.pv_model.specs.Bytes.{Bytes}
-use Rattle.pv_tree_laws.proofs.Trees.{ordered}
+use Rattle.pv_laws_trees.proofs.Trees.{ordered}
 use Rattle.pv_audit.specs.NextName.{last_of}
 use Rattle.pv_audit.proofs.Rising.{next-found}
 use Rattle.pv_audit.proofs.NextOnes.{IsFrom, from-of, from-higher, down-none, down-found, down-all}

@@ -1,7 +1,7 @@
 use Rattle.std.proofs.Common.{◌≡◌, ◌<◌, ℕ, true, Option, None, Some, length, ap, sym, subst, ◌∙◌}
 use Rattle.pv_model.specs.Bytes.{Bytes}
 use Rattle.pv_model.specs.Tree.{Tree, names_of, IsWellFormed}
-use Rattle.pv_tree_laws.proofs.Trees.{ordered}
+use Rattle.pv_laws_trees.proofs.Trees.{ordered}
 use Rattle.pv_audit.specs.NextName.{first_after, IsNextName}
 use Rattle.pv_audit.proofs.FoundOnes.{IsNotedTo, IsOfNode, noted-all, noted-first, noted-next, noted-fewer, of-next, of-directory}
 use Rattle.pv_audit.proofs.Rising.{Named, names_on, rises, names-rise}

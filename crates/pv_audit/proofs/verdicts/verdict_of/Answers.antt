@@ -1,7 +1,7 @@
 use Rattle.std.proofs.Common.{◌≢◌, true, false, [], map, length, ap, sym, ◌∙◌}
 use Rattle.pv_model.specs.Held.{live_processes}
 use Rattle.pv_model.specs.Tree.{Tree, names_of}
-use Rattle.pv_rights.proofs.Verdicts.{verdicts-exact}
+use Rattle.pv_laws_access.proofs.Verdicts.{verdicts-exact}
 use Rattle.pv_audit.specs.Findings.{are_live}
 use Rattle.pv_audit.proofs.AllVerdicts.{empty-of, some-of, verdict-exposed, verdict-kept}
 use Rattle.pv_audit.proofs.FoundOnes.{noted-live}

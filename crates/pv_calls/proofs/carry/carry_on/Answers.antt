@@ -17,4 +17,4 @@ returns-then-is_blocked-clause-carried g c = blocked-carried c.args.parts.now c.
 
 pub returns-clause-carried : goal.returns-clause-carried
 returns-clause-carried g c =
-    carried-on c.args.parts.now c.advance.new.self c.args.pid (call_of c.args.call) c.perform.new.parts c.perform.result c.advance.ensures c.perform.ensures.row
+    carried-on c.args.parts.now c.advance.new.self c.args.pid (call_of c.args.call) c.perform.new.parts c.perform.result c.advance.ensures c.perform.ensures.performed

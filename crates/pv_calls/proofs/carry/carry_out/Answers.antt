@@ -7,7 +7,7 @@ use Rattle.pv_model.specs.declared.outcome.Cause.TheVariants.{Promise as ByPromi
 use Rattle.pv_model.specs.Answer.{at_next_line}
 use Rattle.pv_model.specs.Attempt.{refused}
 use Rattle.pv_model.specs.State.{with_process}
-use Rattle.pv_laws.proofs.Processes.{update-is}
+use Rattle.pv_laws_states.proofs.Processes.{update-is}
 use Rattle.pv_calls.proofs.Carrying.{answer-gone, answer-allowed-if, answer-refused, killed-so, next-live, decided, find-end, told-tree, live-of, gone-of}
 use Rattle.pv_calls.proofs.carry.carry_out.Goals as goal
 

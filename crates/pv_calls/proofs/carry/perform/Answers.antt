@@ -10,7 +10,7 @@ use Rattle.pv_model.specs.Answer.{effect}
 use Rattle.pv_model.specs.Grammar.Programs.{program_of}
 use Rattle.pv_model.specs.State.{process_at}
 use Rattle.pv_model.specs.Tree.{find_entry}
-use Rattle.pv_parts.proofs.Alone.{some-at}
+use Rattle.pv_calls_state.proofs.Alone.{some-at}
 use Rattle.pv_calls.proofs.Living.{only-paths}
 use Rattle.pv_calls.proofs.Performing.{quiet-answer, quiet-descriptor, quiet-process}
 use Rattle.pv_calls.proofs.carry.perform.Goals as goal
@@ -29,7 +29,7 @@ returns-in-Close-clause-agrees g c =
     let mine = some-at (process_at s c.args.pid) c.requires.live in
     g.met.L.Lookup.same_answers c.args.lookup.now (find_entry s.tree) (find_entry c.on_descriptors.new.parts.tree) c.requires.agrees
     (quiet-answer s c.on_descriptors.new.parts c.args.pid mine.0 c.on_descriptors.result (effect program_of s c.args.pid mine.0 (call_of c.args.call))
-    (quiet-descriptor s c.args.pid mine.0 c.requires.whole mine.1 (call_of c.args.call) (any-descriptor c.args.call c.in-Close.is)) (c.on_descriptors.ensures.row s mine.0 mine.1))
+    (quiet-descriptor s c.args.pid mine.0 c.requires.whole mine.1 (call_of c.args.call) (any-descriptor c.args.call c.in-Close.is)) (c.on_descriptors.ensures.performed s mine.0 mine.1))
 
 pub returns-in-Exit-clause-agrees : goal.returns-in-Exit-clause-agrees
 returns-in-Exit-clause-agrees g c =
@@ -37,7 +37,7 @@ returns-in-Exit-clause-agrees g c =
     let mine = some-at (process_at s c.args.pid) c.requires.live in
     g.met.L.Lookup.same_answers c.args.lookup.now (find_entry s.tree) (find_entry c.on_processes.new.parts.tree) c.requires.agrees
     (quiet-answer s c.on_processes.new.parts c.args.pid mine.0 c.on_processes.result (effect program_of s c.args.pid mine.0 (call_of c.args.call))
-    (quiet-process s c.args.pid mine.0 c.requires.whole mine.1 (call_of c.args.call) (any-process c.args.call c.in-Exit.is)) (c.on_processes.ensures.row s mine.0 mine.1))
+    (quiet-process s c.args.pid mine.0 c.requires.whole mine.1 (call_of c.args.call) (any-process c.args.call c.in-Exit.is)) (c.on_processes.ensures.performed s mine.0 mine.1))
 
 pub on_paths-requires-clause-group : goal.on_paths-requires-clause-group
 on_paths-requires-clause-group g c =

@@ -1,18 +1,18 @@
 use Rattle.pv_model.specs.Answer.{effect}
 use Rattle.pv_calls.proofs.carry.process_row.Goals as goal
 
-pub returns-in-GetPid-clause-row : goal.returns-in-GetPid-clause-row
+pub returns-in-GetPid-clause-performed : goal.returns-in-GetPid-clause-performed
 unfolding effect
-returns-in-GetPid-clause-row c = λ me at. rw c.in-GetPid.is (c.getpid.ensures.row me at)
+returns-in-GetPid-clause-performed c = λ me at. rw c.in-GetPid.is (c.getpid.ensures.performed me at)
 
-pub returns-in-GetPpid-clause-row : goal.returns-in-GetPpid-clause-row
+pub returns-in-GetPpid-clause-performed : goal.returns-in-GetPpid-clause-performed
 unfolding effect
-returns-in-GetPpid-clause-row c = λ me at. rw c.in-GetPpid.is (c.getppid.ensures.row me at)
+returns-in-GetPpid-clause-performed c = λ me at. rw c.in-GetPpid.is (c.getppid.ensures.performed me at)
 
-pub returns-in-Fork-clause-row : goal.returns-in-Fork-clause-row
+pub returns-in-Fork-clause-performed : goal.returns-in-Fork-clause-performed
 unfolding effect
-returns-in-Fork-clause-row c = λ me at. rw c.in-Fork.is (c.fork.ensures.row me at)
+returns-in-Fork-clause-performed c = λ me at. rw c.in-Fork.is (c.fork.ensures.performed me at)
 
-pub returns-in-Pledge-clause-row : goal.returns-in-Pledge-clause-row
+pub returns-in-Pledge-clause-performed : goal.returns-in-Pledge-clause-performed
 unfolding effect
-returns-in-Pledge-clause-row c = λ me at. rw c.in-Pledge.is (c.pledge.ensures.row me at)
+returns-in-Pledge-clause-performed c = λ me at. rw c.in-Pledge.is (c.pledge.ensures.performed me at)

@@ -1,7 +1,7 @@
 use Rattle.std.proofs.Common.{◌≡◌, drop}
-use Rattle.pv_dirs.specs.Index.{sum_behind}
+use Rattle.pv_dirs.specs.Index.{sum_after}
 use Rattle.pv_dirs.proofs.index.place_of.Given as goal
 
--- the sum so far, and the bytes behind it, come to that of all
+-- the sum so far, and the bytes after it, come to that of all
 abbrev pub invariant-loop-byte : goal.invariant-loop-byte
-invariant-loop-byte l = sum_behind l.sum (drop l.byte-index l.name) ≡ sum_behind l.directory l.name
+invariant-loop-byte l = sum_after l.sum (drop l.byte-index l.name) ≡ sum_after l.directory l.name

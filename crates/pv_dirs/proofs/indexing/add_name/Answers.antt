@@ -15,5 +15,5 @@ returns-clause-led c =
         | inl here ↦ rw (here, sym c.requires.named) c.add.ensures.this
         | inr other ↦ c.add.ensures.others c.args.directory k (slot_name (slot_at v bytes k)) (c.requires.led.slots k (omega arith))
       ];
-      ordered = λ is. ascend_more v bytes c.args.k (subst (AscendTo v bytes c.args.k) c.requires.named (c.ascends_behind-ascends.ensures (c.add.ensures.ascends is)));
+      ordered = λ is. ascend_more v bytes c.args.k (subst (AscendTo v bytes c.args.k) c.requires.named (c.ascends_after-ascends.ensures (c.add.ensures.ascends is)));
     }

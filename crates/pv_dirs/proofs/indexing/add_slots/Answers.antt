@@ -6,7 +6,7 @@ use Rattle.pv_inodes.specs.Files.{bytes_at}
 use Rattle.pv_dirs.specs.Index.{AreLedUpTo}
 use Rattle.pv_dirs.specs.Slots.{slot_at, slot_count, slot_name}
 use Rattle.pv_dirs.proofs.Outcomes.{if_some_both}
-use Rattle.pv_dirs.proofs.Runs.{run_behind, run_name}
+use Rattle.pv_dirs.proofs.Runs.{run_after, run_name}
 use Rattle.pv_dirs.proofs.indexing.add_slots.Goals as goal
 use Rattle.pv_dirs.proofs.indexing.add_slots.Goals.{After-name_in_run-name}
 
@@ -44,7 +44,7 @@ loop-k-preserved c =
     let whole = c.layout-length.ensures.slot_length ∙ ap entry_length c.version.ensures in
     let here : c.loop-k.k ≡ c.loop-k.k + 1 - 1 = omega arith in
     record {
-      run = rw c.behind-left.ensures (run_behind v bytes c.run_at-run.result.now c.loop-k.k c.layout-length.result.slot_length whole c.run_at-run.ensures);
+      run = rw c.following-left.ensures (run_after v bytes c.run_at-run.result.now c.loop-k.k c.layout-length.result.slot_length whole c.run_at-run.ensures);
       some = IfSome_then c.name_in_run-name.result (named (goal.at.loop-k-preserved c).After-name_in_run-name) (λ name is. omega arith);
       last = subst (λ k. IfSome c.name_in_run-name.result (λ name. name.now ≡ slot_name (slot_at v bytes k))) here (named (goal.at.loop-k-preserved c).After-name_in_run-name);
       led = c.add_slot.ensures.led;

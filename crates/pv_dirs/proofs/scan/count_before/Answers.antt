@@ -12,7 +12,7 @@ loop-from-preserved-then-is_less c =
       within = l.within;
       few = l.few;
       before = before_until c.args.inodes.now.version (bytes_at c.args.inodes.now c.args.directory) c.requires.ascend c.args.name.now ((c.loop-from.from + c.loop-from.to) / 2) (omega arith) (less_from _ (sym c.is_less.ensures ∙ c.if-is_less.true));
-      behind = l.behind;
+      following = l.following;
     }
 
 pub loop-from-preserved : goal.loop-from-preserved
@@ -23,5 +23,5 @@ loop-from-preserved c =
       within = omega arith;
       few = omega arith;
       before = l.before;
-      behind = not_before_from c.args.inodes.now.version (bytes_at c.args.inodes.now c.args.directory) c.requires.ascend c.args.name.now ((c.loop-from.from + c.loop-from.to) / 2) (omega arith) (sym c.is_less.ensures ∙ c.if-is_less.false);
+      following = not_before_from c.args.inodes.now.version (bytes_at c.args.inodes.now c.args.directory) c.requires.ascend c.args.name.now ((c.loop-from.from + c.loop-from.to) / 2) (omega arith) (sym c.is_less.ensures ∙ c.if-is_less.false);
     }

@@ -12,7 +12,7 @@ invariant-loop-from l = record {
   within : l.to ≤ slot_count l.inodes.version (bytes_at l.inodes l.directory);
   few : l.to ≤ 2540;
   before : (k : ℕ) → k < l.from → by_name (slot_name (slot_at l.inodes.version (bytes_at l.inodes l.directory) k)) l.name ≡ Less;
-  behind : (k : ℕ) → l.to ≤ k → k < slot_count l.inodes.version (bytes_at l.inodes l.directory) → by_name (slot_name (slot_at l.inodes.version (bytes_at l.inodes l.directory) k)) l.name ≢ Less;
+  following : (k : ℕ) → l.to ≤ k → k < slot_count l.inodes.version (bytes_at l.inodes l.directory) → by_name (slot_name (slot_at l.inodes.version (bytes_at l.inodes l.directory) k)) l.name ≢ Less;
 }
 
 abbrev pub decreases-loop-from : goal.decreases-loop-from

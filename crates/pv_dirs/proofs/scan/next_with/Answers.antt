@@ -6,7 +6,7 @@ use Rattle.pv_inodes.specs.Files.{bytes_at}
 use Rattle.pv_dirs.specs.Listing.{IsNextOf}
 use Rattle.pv_dirs.specs.Slots.{IsInSlots}
 use Rattle.pv_dirs.proofs.Named.{next-skipped, next-taken}
-use Rattle.pv_dirs.proofs.Runs.{run_behind}
+use Rattle.pv_dirs.proofs.Runs.{run_after}
 use Rattle.pv_dirs.proofs.scan.next_with.Goals as goal
 use Rattle.pv_dirs.proofs.scan.next_with.Goals.{then-number_in-node, else-number_in-node}
 
@@ -26,5 +26,5 @@ loop-k-preserved c =
             subst is_next (sym w.best-is)
             (next-skipped v bytes c.args.node last c.loop-k.k c.loop-k.best c.loop-k.invariant.best (λ same. w.if-number_in-node.false (c.number_in.ensures ∙ same)))
       ];
-      run = rw c.behind-left.ensures (run_behind v bytes c.run_at-run.result.now c.loop-k.k c.layout-length.result.slot_length whole c.run_at-run.ensures);
+      run = rw c.following-left.ensures (run_after v bytes c.run_at-run.result.now c.loop-k.k c.layout-length.result.slot_length whole c.run_at-run.ensures);
     }

@@ -9,7 +9,7 @@ use Rattle.pv_inodes.specs.Files.{bytes_at}
 use Rattle.pv_dirs.specs.Listing.{better_of}
 use Rattle.pv_dirs.specs.Slots.{slot_at, slot_count, slot_name, slot_entries, in_order}
 use Rattle.pv_dirs.proofs.Passes.{lesser, lesser-None, next_name-slot, next_name-start}
-use Rattle.pv_dirs.proofs.Runs.{run_slot, run_behind}
+use Rattle.pv_dirs.proofs.Runs.{run_slot, run_after}
 use Rattle.pv_dirs.proofs.SlotBytes.{length-slot_entries}
 use Rattle.pv_dirs.proofs.scan.pass.Goals as goal
 use Rattle.pv_dirs.proofs.scan.pass.Goals.{then-first-count, else-first-count, then-run-length, else-run-length}
@@ -47,7 +47,7 @@ loop-k-preserved c =
       ];
       run = elim c.if-run-length.branch [
         | then-run-length w ↦ rw w.left-is refl
-        | else-run-length w ↦ rw (w.left-is, w.split_at.ensures.back) (run_behind v bytes c.run_at-run.result.now c.loop-k.k c.layout-length.result.slot_length whole c.run_at-run.ensures)
+        | else-run-length w ↦ rw (w.left-is, w.split_at.ensures.back) (run_after v bytes c.run_at-run.result.now c.loop-k.k c.layout-length.result.slot_length whole c.run_at-run.ensures)
       ];
     }
 

@@ -5,7 +5,7 @@ use Rattle.pv_model.specs.Room.{entry_length}
 use Rattle.pv_inodes.specs.Files.{bytes_at}
 use Rattle.pv_dirs.specs.Slots.{slot_at, slot_name, slot_entries}
 use Rattle.pv_dirs.proofs.Entries.{absent_from}
-use Rattle.pv_dirs.proofs.Runs.{run_behind}
+use Rattle.pv_dirs.proofs.Runs.{run_after}
 use Rattle.pv_dirs.proofs.SlotBytes.{length-slot_entries, get_or-slot_entries}
 use Rattle.pv_dirs.proofs.scan.place.Goals as goal
 
@@ -20,7 +20,7 @@ loop-k-preserved c =
         | inl here ↦ λ same. this (ap (λ i. slot_name (slot_at v bytes i)) (sym here) ∙ same)
         | inr there ↦ c.loop-k.invariant.others j (omega arith)
       ];
-      run = rw c.behind-left.ensures (run_behind v bytes c.run_at-run.result.now c.loop-k.k c.layout-length.result.slot_length whole c.run_at-run.ensures);
+      run = rw c.following-left.ensures (run_after v bytes c.run_at-run.result.now c.loop-k.k c.layout-length.result.slot_length whole c.run_at-run.ensures);
     }
 
 pub returns-clause-absent : goal.returns-clause-absent

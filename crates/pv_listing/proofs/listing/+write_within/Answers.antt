@@ -2,10 +2,10 @@ use Rattle.std.proofs.Common.{◌≡◌, ◌++◌, ◌-◌, ◌∙◌, ap, sym, 
 use Rattle.std.proofs.lemmas.List.{take_all, drop_all}
 use Rattle.pv_model.specs.Tree.{entries_at}
 use Rattle.pv_trace.proofs.Telling.{begins_first, on_err}
-use Rattle.pv_listing.specs.Lines.{entries_behind, last_name, IsNextChild}
-use Rattle.pv_listing.proofs.Children.{behind-none, last-is, front-is, length-path}
+use Rattle.pv_listing.specs.Lines.{entries_after, last_name, IsNextChild}
+use Rattle.pv_listing.proofs.Children.{past-none, last-is, front-is, length-path}
 use Rattle.pv_listing.proofs.Entries.{no-entries, lines-are, node_left, entry_first}
-use Rattle.pv_listing.proofs.Rests.{rest_behind, rest_begins, told_text, told_begins}
+use Rattle.pv_listing.proofs.Rests.{rest_after, rest_begins, written_text, written_begins}
 use Rattle.pv_listing.proofs.listing.+write_within.Goals as goal
 
 pub returns-in_err-write-clause-beginning : goal.returns-in_err-write-clause-beginning
@@ -20,7 +20,7 @@ pub returns-then-not-is_directory-clause-whole : goal.returns-then-not-is_direct
 returns-then-not-is_directory-clause-whole g t c =
     let tree = c.args.tree.now.tree in
     let line = g.R.Remarks.line c.args.remarks.now in
-    told_text _ _ _
+    written_text _ _ _
     (node_left tree line c.args.depth c.args.path.now.items c.args.node _ _ _ (omega arith)
     (no-entries tree c.args.node (sym c.is_directory.ensures ∙ c.if-not-is_directory.true)) (rw c.as_slice.ensures.value at c.in_ok-write.ensures.whole))
 
@@ -31,8 +31,8 @@ loop-child-init g t c =
     let path = c.args.path.now.items in
     let es = entries_at tree c.args.node in
     let long : length path ≡ c.len-base.result = omega (arith, c.as_slice.ensures.len, ap length c.as_slice.ensures.value, c.len-base.ensures) in
-    let all : entries_behind (last_name (drop c.len-base.result path)) es ≡ es =
-    ap (λ bs. entries_behind (last_name bs) es) (drop_all c.len-base.result path (omega arith)) ∙ behind-none es in
+    let all : entries_after (last_name (drop c.len-base.result path)) es ≡ es =
+    ap (λ bs. entries_after (last_name bs) es) (drop_all c.len-base.result path (omega arith)) ∙ past-none es in
     record {
       within = omega (arith, c.len-base.ensures);
       front = take_all c.len-base.result path (omega arith);
@@ -41,7 +41,7 @@ loop-child-init g t c =
     }
 
 pub returns-in_err-child-clause-beginning : goal.returns-in_err-child-clause-beginning
-returns-in_err-child-clause-beginning g t c = on_err c.from_residual-in_err-child.result (told_begins _ _ _ _ c.loop-child.invariant.left)
+returns-in_err-child-clause-beginning g t c = on_err c.from_residual-in_err-child.result (written_begins _ _ _ _ c.loop-child.invariant.left)
 
 pub loop-child-preserved : goal.loop-child-preserved
 loop-child-preserved g t c =
@@ -61,7 +61,7 @@ loop-child-preserved g t c =
       front = front-is path name c.write_within.new.path.items base long after;
       left =
           rw (last-is path name c.write_within.new.path.items base long after)
-          (rest_behind _ _ _ _ _ _ _ c.loop-child.invariant.left
+          (rest_after _ _ _ _ _ _ _ c.loop-child.invariant.left
           (entry_first tree line (c.args.depth - 1) path c.next_child.new.path.items name es last c.in-Some.child next.1 at) c.in_ok-write_within.ensures.whole);
       quiet = c.in_ok-write_within.ensures.quiet ∙ c.loop-child.invariant.quiet;
     }

@@ -4,7 +4,7 @@ use Rattle.std.specs.Slice.{IsGetRangeResult}
 use Rattle.pv_model.specs.Bytes.{Bytes}
 use Rattle.pv_model.specs.Calls.Descriptors.{next_name}
 use Rattle.pv_model.specs.Tree.{entries_at}
-use Rattle.pv_tree_laws.proofs.Trees.{ordered}
+use Rattle.pv_laws_trees.proofs.Trees.{ordered}
 use Rattle.pv_listing.specs.Lines.{last_name}
 use Rattle.pv_listing.proofs.Children.{child-none, child-some, last-got}
 use Rattle.pv_listing.proofs.listing.next_child.Goals as goal

@@ -3,14 +3,14 @@ use Rattle.std.proofs.lemmas.List.{append-nil, length-take-le}
 use Rattle.pv_model.specs.Bytes.{Bytes}
 use Rattle.pv_model.specs.Trace.{quote_byte}
 use Rattle.pv_trace.proofs.Telling.{on_err}
-use Rattle.pv_listing.proofs.Rests.{rest_behind, rest_begins, pieces-split}
+use Rattle.pv_listing.proofs.Rests.{rest_after, rest_begins, components-split}
 use Rattle.pv_listing.proofs.path.write_bytes.Goals as goal
 
 -- bytes that stand for themselves, and then the others
-plain-split : (text front behind : Bytes) (n : ℕ) → front ≡ take n text → behind ≡ drop n text → flat_map quote_byte (take n text) ≡ take n text
-    → flat_map quote_byte text ≡ front ++ flat_map quote_byte behind
-plain-split text front behind n first then same =
-    pieces-split quote_byte text front behind front n first then (first ∙ sym same ∙ ap (flat_map quote_byte) (sym first))
+plain-split : (text front following : Bytes) (n : ℕ) → front ≡ take n text → following ≡ drop n text → flat_map quote_byte (take n text) ≡ take n text
+    → flat_map quote_byte text ≡ front ++ flat_map quote_byte following
+plain-split text front following n first then same =
+    components-split quote_byte text front following front n first then (first ∙ sym same ∙ ap (flat_map quote_byte) (sym first))
 
 one-byte : (xs : Bytes) → length xs ≡ 1 → quote_byte (get_or xs 0 0) ≡ flat_map quote_byte xs
 one-byte [] one = absurd (omega arith)
@@ -18,10 +18,10 @@ one-byte (x ∷ []) one = sym (append-nil (quote_byte x))
 one-byte (x ∷ y ∷ xs) one = absurd (omega arith)
 
 -- one byte, and then the others
-byte-split : (text front behind written : Bytes) → 0 < length text → front ≡ take 1 text → behind ≡ drop 1 text → written ≡ quote_byte (get_or front 0 0)
-    → flat_map quote_byte text ≡ written ++ flat_map quote_byte behind
-byte-split text front behind written some first then is =
-    pieces-split quote_byte text front behind written 1 first then (is ∙ one-byte front (ap length first ∙ length-take-le 1 text (omega arith)))
+byte-split : (text front following as_written : Bytes) → 0 < length text → front ≡ take 1 text → following ≡ drop 1 text → as_written ≡ quote_byte (get_or front 0 0)
+    → flat_map quote_byte text ≡ as_written ++ flat_map quote_byte following
+byte-split text front following as_written some first then is =
+    components-split quote_byte text front following as_written 1 first then (is ∙ one-byte front (ap length first ∙ length-take-le 1 text (omega arith)))
 
 pub returns-in_err-write_whole-clause-beginning : goal.returns-in_err-write_whole-clause-beginning
 returns-in_err-write_whole-clause-beginning g c =
@@ -34,23 +34,23 @@ loop-rest-preserved-then-plain-gt0 g c =
     let is = plain-split c.loop-rest.rest.now c.split_at.result.0.now c.split_at.result.1.now c.plain_count-plain.result
     c.split_at.ensures.front c.split_at.ensures.back c.plain_count-plain.ensures.same in
     record {
-      left = rest_behind _ c.split_at.result.0.now _ _ _ _ _ c.loop-rest.invariant.left is c.in_ok-write_whole.ensures.whole;
+      left = rest_after _ c.split_at.result.0.now _ _ _ _ _ c.loop-rest.invariant.left is c.in_ok-write_whole.ensures.whole;
       quiet = c.in_ok-write_whole.ensures.quiet ∙ c.loop-rest.invariant.quiet;
     }
 
 pub returns-in_err-write_whole-2-clause-beginning : goal.returns-in_err-write_whole-2-clause-beginning
 returns-in_err-write_whole-2-clause-beginning g c =
-    let written = c.as_slice.result.now in
-    let is = byte-split c.loop-rest.rest.now c.split_at-else-plain-gt0.result.0.now c.split_at-else-plain-gt0.result.1.now written (omega arith)
+    let as_written = c.as_slice.result.now in
+    let is = byte-split c.loop-rest.rest.now c.split_at-else-plain-gt0.result.0.now c.split_at-else-plain-gt0.result.1.now as_written (omega arith)
     c.split_at-else-plain-gt0.ensures.front c.split_at-else-plain-gt0.ensures.back (c.as_slice.ensures.value ∙ c.quoted.ensures) in
-    on_err c.from_residual-in_err-write_whole-2.result (rest_begins _ written _ _ _ _ _ c.loop-rest.invariant.left is c.in_err-write_whole-2.ensures.beginning)
+    on_err c.from_residual-in_err-write_whole-2.result (rest_begins _ as_written _ _ _ _ _ c.loop-rest.invariant.left is c.in_err-write_whole-2.ensures.beginning)
 
 pub loop-rest-preserved : goal.loop-rest-preserved
 loop-rest-preserved g c =
-    let written = c.as_slice.result.now in
-    let is = byte-split c.loop-rest.rest.now c.split_at-else-plain-gt0.result.0.now c.split_at-else-plain-gt0.result.1.now written (omega arith)
+    let as_written = c.as_slice.result.now in
+    let is = byte-split c.loop-rest.rest.now c.split_at-else-plain-gt0.result.0.now c.split_at-else-plain-gt0.result.1.now as_written (omega arith)
     c.split_at-else-plain-gt0.ensures.front c.split_at-else-plain-gt0.ensures.back (c.as_slice.ensures.value ∙ c.quoted.ensures) in
     record {
-      left = rest_behind _ written _ _ _ _ _ c.loop-rest.invariant.left is c.in_ok-write_whole-2.ensures.whole;
+      left = rest_after _ as_written _ _ _ _ _ c.loop-rest.invariant.left is c.in_ok-write_whole-2.ensures.whole;
       quiet = c.in_ok-write_whole-2.ensures.quiet ∙ c.loop-rest.invariant.quiet;
     }

@@ -5,7 +5,7 @@ use Rattle.pv_listing.proofs.path.write_bytes.Given as goal
 
 abbrev pub invariant-loop-rest : goal.invariant-loop-rest
 invariant-loop-rest g l = record {
-  left : LeavesRest (flat_map quote_byte l.rest) (flat_map quote_byte l.text) (g.W.Sink.told l.initial.out) (g.W.Sink.told l.out);
+  left : LeavesRest (flat_map quote_byte l.rest) (flat_map quote_byte l.text) (g.W.Sink.written l.initial.out) (g.W.Sink.written l.out);
   quiet : g.W.Sink.failures l.out ≡ g.W.Sink.failures l.initial.out;
 }
 

@@ -31,7 +31,7 @@ returns-in-End-clause-place g c =
 
 pub returns-in-Link-clause-place : goal.returns-in-Link-clause-place
 returns-in-Link-clause-place g c =
-    c.place_behind.ensures.place
+    c.place_after.ensures.place
     ∙ sym
     (resolve-remaining c.args.tree.now.tree c.args.follow c.args.start c.args.path.now (sym c.is_empty.ensures ∙ c.if-is_empty.false) c.if-path-gt-PATH.false c.new-walk.result c.new-rest.result c.new-walk.ensures
     c.new-rest.ensures

@@ -6,5 +6,5 @@ abbrev unused : Shared
 unused = record { program = []; users = 0 }
 
 -- the first program, and so many places with none
-abbrev pub invariant-loop-place : goal.invariant-loop-place
-invariant-loop-place l = l.programs.items ≡ (record { program = l.fn.program; users = 1 }) ∷ replicate l._place unused
+abbrev pub invariant-loop-slot : goal.invariant-loop-slot
+invariant-loop-slot l = l.programs.items ≡ (record { program = l.fn.program; users = 1 }) ∷ replicate l._slot unused

@@ -4,7 +4,7 @@ use Rattle.pv_model.specs.Bytes.{Bytes}
 use Rattle.pv_model.specs.Listing.{listed_path}
 use Rattle.pv_model.specs.Sealed.{verdict_line}
 use Rattle.pv_model.specs.Trace.{quote}
-use Rattle.pv_trace.proofs.Telling.{begins_first, begins_then, told_both, on_err}
+use Rattle.pv_trace.proofs.Telling.{begins_first, begins_then, written_both, on_err}
 use Rattle.pv_reports.proofs.report.write_found.Goals as goal
 
 abbrev space : Bytes
@@ -25,5 +25,5 @@ pub returns-clause-beginning : goal.returns-clause-beginning
 returns-clause-beginning g c =
     let path = quote (listed_path c.args.path.now) in
     on_err_weaker c.write_verdict.result
-    (begins_then (path ++ space) (verdict_line c.args.found.now) _ _ _ (told_both path space _ _ _ c.in_ok-write_path.ensures.whole c.in_ok-write_whole.ensures.whole))
+    (begins_then (path ++ space) (verdict_line c.args.found.now) _ _ _ (written_both path space _ _ _ c.in_ok-write_path.ensures.whole c.in_ok-write_whole.ensures.whole))
     c.write_verdict.ensures.beginning

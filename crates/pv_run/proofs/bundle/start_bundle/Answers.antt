@@ -1,6 +1,6 @@
 use Rattle.std.proofs.Common.{◌≡◌, drop, subst, Result, Ok, IfOk, IfErr}
 use Rattle.std.proofs.lemmas.Result.{err_from_is_err_and}
-use Rattle.pv_image.specs.Reading.{manifest_before}
+use Rattle.pv_image_manifest.specs.Reading.{manifest_before}
 use Rattle.pv_model.specs.Grammar.Lines.{lines_of}
 use Rattle.pv_model.specs.declared.run_fault.RunFault.{RunFault}
 use Rattle.pv_model.specs.Start.{Started}

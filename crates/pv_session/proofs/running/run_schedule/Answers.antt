@@ -1,8 +1,8 @@
 use Rattle.std.proofs.Common.{◌∙◌, ap, sym, subst, length, get_or, drop, arith, ◌+◌}
 use Rattle.pv_model.specs.Step.{Run}
 use Rattle.pv_trace.proofs.Telling.{on_err}
-use Rattle.pv_session.specs.Running.{BeginsLines, ToldLines, turn, run_of, run_of_first}
-use Rattle.pv_session.proofs.Turns.{begun_before, begun_behind, schedule_more, schedule_rest, told_behind, lines_behind}
+use Rattle.pv_session.specs.Running.{BeginsLines, WrittenLines, turn, run_of, run_of_first}
+use Rattle.pv_session.proofs.Turns.{begun_before, begun_after, schedule_more, schedule_rest, written_after, lines_after}
 use Rattle.pv_session.proofs.running.run_schedule.Goals as goal
 
 pub loop-turn-preserved : goal.loop-turn-preserved
@@ -13,9 +13,9 @@ loop-turn-preserved g c =
     let more = schedule_more c.args.session.now c.loop-turn.session c.args.schedule.now c.loop-turn.turn-index c.loop-turn-test.true c.loop-turn.invariant.after in
     record {
       after = c.in_ok-lines.ensures.after ∙ sym (ap (λ r. r.final) more);
-      told = subst (λ (r : Run). ToldLines r.lines (g.W.Sink.told c.args.trace.now) (g.W.Sink.told c.run_turn.new.trace)) (sym more)
-          (told_behind first next _ _ _ c.loop-turn.invariant.told c.in_ok-lines.ensures.whole);
-      lines = lines_behind first next _ _ c.loop-turn.invariant.lines c.in_ok-lines.ensures.lines ∙ sym (ap (λ r. length r.lines) more);
+      written = subst (λ (r : Run). WrittenLines r.lines (g.W.Sink.written c.args.trace.now) (g.W.Sink.written c.run_turn.new.trace)) (sym more)
+          (written_after first next _ _ _ c.loop-turn.invariant.written c.in_ok-lines.ensures.whole);
+      lines = lines_after first next _ _ c.loop-turn.invariant.lines c.in_ok-lines.ensures.lines ∙ sym (ap (λ r. length r.lines) more);
       few = omega (arith, c.in_ok-lines.ensures.few, c.loop-turn.invariant.few);
       quiet = c.in_ok-lines.ensures.quiet ∙ c.loop-turn.invariant.quiet;
     }
@@ -29,7 +29,7 @@ returns-in_err-lines-clause-beginning g c =
     let more = schedule_more s c.loop-turn.session schedule n c.loop-turn-test.true c.loop-turn.invariant.after in
     let rest = schedule_rest s schedule (n + 1) in
     on_err c.from_residual.result
-    (subst (λ (r : Run). BeginsLines r.lines (g.W.Sink.told c.args.trace.now) (g.W.Sink.told c.run_turn.new.trace)) (sym rest)
+    (subst (λ (r : Run). BeginsLines r.lines (g.W.Sink.written c.args.trace.now) (g.W.Sink.written c.run_turn.new.trace)) (sym rest)
     (begun_before (run_of_first s (n + 1) schedule) (run_of (run_of_first s (n + 1) schedule).final (drop (n + 1) schedule)) _ _
-    (subst (λ (r : Run). BeginsLines r.lines (g.W.Sink.told c.args.trace.now) (g.W.Sink.told c.run_turn.new.trace)) (sym more)
-    (begun_behind (run_of_first s n schedule) (turn c.loop-turn.session entry.0 entry.1) _ _ _ c.loop-turn.invariant.told c.in_err-lines.ensures.beginning))))
+    (subst (λ (r : Run). BeginsLines r.lines (g.W.Sink.written c.args.trace.now) (g.W.Sink.written c.run_turn.new.trace)) (sym more)
+    (begun_after (run_of_first s n schedule) (turn c.loop-turn.session entry.0 entry.1) _ _ _ c.loop-turn.invariant.written c.in_err-lines.ensures.beginning))))

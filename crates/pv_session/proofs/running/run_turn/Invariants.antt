@@ -1,12 +1,12 @@
 use Rattle.std.proofs.Common.{◌≡◌, ◌≤◌, ◌*◌, ◌-◌, length}
-use Rattle.pv_session.specs.Running.{ToldLines, turn}
+use Rattle.pv_session.specs.Running.{WrittenLines, turn}
 use Rattle.pv_session.proofs.running.run_turn.Given as goal
 
 abbrev pub invariant-loop-made : goal.invariant-loop-made
 invariant-loop-made g l = record {
   within : l.made ≤ l.count;
   after : l.session ≡ (turn l.initial.session l.pid l.made).final;
-  told : ToldLines (turn l.initial.session l.pid l.made).lines (g.W.Sink.told l.initial.trace) (g.W.Sink.told l.trace);
+  written : WrittenLines (turn l.initial.session l.pid l.made).lines (g.W.Sink.written l.initial.trace) (g.W.Sink.written l.trace);
   lines : l.lines ≡ length (turn l.initial.session l.pid l.made).lines;
   few : l.lines ≤ 7 * l.made;
   quiet : g.W.Sink.failures l.trace ≡ g.W.Sink.failures l.initial.trace;

@@ -5,7 +5,7 @@ use Rattle.pv_trace.proofs.stream.write_whole.Given as goal
 abbrev pub invariant-loop-at : goal.invariant-loop-at
 invariant-loop-at g l = record {
   within : l.at ≤ length l.bytes;
-  told : g.W.Sink.told l.sink ≡ and_front (g.W.Sink.told l.initial.sink) l.at l.bytes;
+  written : g.W.Sink.written l.sink ≡ and_front (g.W.Sink.written l.initial.sink) l.at l.bytes;
   quiet : g.W.Sink.failures l.sink ≡ g.W.Sink.failures l.initial.sink;
 }
 

@@ -1,7 +1,7 @@
 use Rattle.std.proofs.Common.{◌∙◌, sym, ap, length, arith}
 use Rattle.std.proofs.lemmas.List.{length-map}
 use Rattle.pv_model.specs.declared.target.Target.TheVariants.{Directory, Name}
-use Rattle.pv_model.specs.Perms.{no_letters}
+use Rattle.pv_model.specs.Perms.{no_permissions}
 use Rattle.pv_unveil.specs.Keys.{key_of}
 use Rattle.pv_unveil.proofs.KeyLemmas.{found-first, found-end, found-here, other-key, other-name}
 use Rattle.pv_unveil.proofs.entries.index_of_name.Goals as goal
@@ -22,7 +22,7 @@ loop-k-preserved c =
           sym (other-name c.args.entries.now c.args.keys.now c.args.directory c.args.name.now c.loop-k.k _ w.index-entries-k.result c.requires c.loop-k-test.true (sym c.is_name_in.ensures ∙ w.if-is_name_in.true) (sym w.has_name.ensures ∙ w.if-has_name.false))
           ∙ c.loop-k.invariant
       | else-is_name_in-via-else-is_name_in w ↦
-          sym (other-key c.args.entries.now c.args.keys.now c.args.directory c.args.name.now c.loop-k.k _ (Directory 0, no_letters) c.requires c.loop-k-test.true (sym c.is_name_in.ensures ∙ w.if-is_name_in.false))
+          sym (other-key c.args.entries.now c.args.keys.now c.args.directory c.args.name.now c.loop-k.k _ (Directory 0, no_permissions) c.requires c.loop-k-test.true (sym c.is_name_in.ensures ∙ w.if-is_name_in.false))
           ∙ c.loop-k.invariant
     ]
 

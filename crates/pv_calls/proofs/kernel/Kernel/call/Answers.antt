@@ -1,10 +1,10 @@
 use Rattle.std.proofs.Common.{ap, subst}
-use Rattle.pv_laws.specs.States.{IsWhole}
-use Rattle.pv_laws.proofs.BySteps.{call-keeps_whole}
+use Rattle.pv_laws_states.specs.States.{IsWhole}
+use Rattle.pv_laws_states.proofs.BySteps.{call-keeps_whole}
 use Rattle.pv_model.specs.CallRef.{call_of}
 use Rattle.pv_model.specs.Answer.{Answered}
 use Rattle.pv_model.specs.Grammar.Programs.{program_of}
-use Rattle.pv_runs.proofs.Ranges.{program_of-spells}
+use Rattle.pv_laws_runs.proofs.Ranges.{program_of-spells}
 use Rattle.pv_calls.proofs.kernel.Kernel.call.Goals as goal
 
 pub invariant_of-self-2 : goal.invariant_of-self-2

@@ -1,6 +1,6 @@
 use Rattle.std.proofs.Common.{set, get_or, refl, sym, ap, ◌∙◌, inl, inr, arith, List}
-use Rattle.pv_dirs.specs.declared.index.Place.{Place}
-use Rattle.pv_dirs.specs.declared.index.Place.TheVariants.{Empty}
+use Rattle.pv_dirs.specs.declared.index.Bucket.{Bucket}
+use Rattle.pv_dirs.specs.declared.index.Bucket.TheVariants.{Empty}
 use Rattle.pv_dirs.proofs.Leading.{said-here, said-at, leads-empty, leads-others, known-same}
 use Rattle.pv_dirs.proofs.index.Index.add.Goals as goal
 use Rattle.pv_dirs.proofs.index.Index.add.Goals.{in-Empty, in_default}
@@ -15,10 +15,10 @@ returns-clause-this c =
 
 pub returns-clause-others : goal.returns-clause-others
 returns-clause-others c = λ d k other leads.
-    let set_is = ap (λ (ps : List Place). set ps c.place_of-at.result c.match-self-at.self) c.know.ensures.places in
+    let set_is = ap (λ (ps : List Bucket). set ps c.place_of-at.result c.match-self-at.self) c.know.ensures.places in
     leads-others c.args.self.now _ c.place_of-at.result c.match-self-at.self (omega (arith, c.place_of-at.ensures.within)) set_is d other k
     (λ same before. elim c.match-self-at.branch [
-      | in-Empty w ↦ absurd (leads-empty c.args.self.now d other k (said-at c.args.self.now d other c.place_of-at.result Empty same (ap (λ (ps : List Place). get_or ps c.place_of-at.result Empty) (sym c.know.ensures.places) ∙ w.in-Empty.is)) before)
+      | in-Empty w ↦ absurd (leads-empty c.args.self.now d other k (said-at c.args.self.now d other c.place_of-at.result Empty same (ap (λ (ps : List Bucket). get_or ps c.place_of-at.result Empty) (sym c.know.ensures.places) ∙ w.in-Empty.is)) before)
       | in_default w ↦ inr (said-here c.args.self.now _ c.place_of-at.result c.match-self-at.self (omega (arith, c.place_of-at.ensures.within)) set_is d other same ∙ w.self-is)
     ]) leads
 

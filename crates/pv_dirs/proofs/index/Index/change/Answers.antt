@@ -1,15 +1,15 @@
 use Rattle.std.proofs.Common.{◌≡◌, ◌==◌, ℕ, true, get_or, set, refl, sym, ap, ◌∙◌, inl, inr, arith, List}
 use Rattle.std.proofs.lemmas.Bool.{cases_eq, eqb-true, false≢true}
 use Rattle.pv_dirs.specs.Index.{known}
-use Rattle.pv_dirs.specs.declared.index.Place.{Place}
-use Rattle.pv_dirs.specs.declared.index.Place.TheVariants.{Empty, Slot}
+use Rattle.pv_dirs.specs.declared.index.Bucket.{Bucket}
+use Rattle.pv_dirs.specs.declared.index.Bucket.TheVariants.{Empty, Slot}
 use Rattle.pv_dirs.proofs.Leading.{said-is, said-at, said-here, leads-slot, leads-others, leads-same, known-same}
 use Rattle.pv_dirs.proofs.index.Index.change.Goals as goal
 use Rattle.pv_dirs.proofs.index.Index.change.Goals.{After-is_slot, then-from-to, else-from-to}
 
 -- a place says what it said
 kept : (c : After-is_slot) → get_or c.know.new.self.places c.place_of-at.result Empty ≡ get_or c.args.self.now.places c.place_of-at.result Empty
-kept c = ap (λ (ps : List Place). get_or ps c.place_of-at.result Empty) c.know.ensures.places
+kept c = ap (λ (ps : List Bucket). get_or ps c.place_of-at.result Empty) c.know.ensures.places
 
 pub returns-then-is_slot-clause-this : goal.returns-then-is_slot-clause-this
 returns-then-is_slot-clause-this c = λ before.
@@ -18,7 +18,7 @@ returns-then-is_slot-clause-this c = λ before.
 pub returns-then-is_slot-clause-others : goal.returns-then-is_slot-clause-others
 returns-then-is_slot-clause-others c = λ d k other apart leads.
     leads-others c.args.self.now _ c.place_of-at.result (Slot c.args.directory c.args.to) (omega (arith, c.place_of-at.ensures.within))
-    (ap (λ (ps : List Place). set ps c.place_of-at.result (Slot c.args.directory c.args.to)) c.know.ensures.places) d other k
+    (ap (λ (ps : List Bucket). set ps c.place_of-at.result (Slot c.args.directory c.args.to)) c.know.ensures.places) d other k
     (λ same before.
     let here = said-at c.args.self.now d other c.place_of-at.result (Slot c.args.directory c.args.from) same (sym (kept (goal.at.returns-then-is_slot-clause-others c).After-is_slot) ∙ c.is_slot.ensures.0 c.if-is_slot.true) in
     let both = leads-slot c.args.self.now d other k c.args.directory c.args.from here before in absurd (apart both.0 both.1)) leads

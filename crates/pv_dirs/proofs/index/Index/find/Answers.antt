@@ -1,5 +1,5 @@
 use Rattle.std.proofs.Common.{get_or, sym, ap, ◌∙◌}
-use Rattle.pv_dirs.specs.declared.index.Place.TheVariants.{Empty}
+use Rattle.pv_dirs.specs.declared.index.Bucket.TheVariants.{Empty}
 use Rattle.pv_dirs.proofs.Leading.{said-is}
 use Rattle.pv_dirs.proofs.index.Index.find.Goals as goal
 

@@ -1,5 +1,5 @@
 use Rattle.std.proofs.Common.{refl, arith}
-use Rattle.pv_dirs.specs.declared.index.Place.TheVariants.{Empty, Slot}
+use Rattle.pv_dirs.specs.declared.index.Bucket.TheVariants.{Empty, Slot}
 use Rattle.pv_dirs.proofs.Leading.{said-at, leads-slot, leads-others, known-same}
 use Rattle.pv_dirs.proofs.index.Index.remove.Goals as goal
 

@@ -1,12 +1,12 @@
 use Rattle.std.proofs.Common.{◌<◌, length, false, ap, ◌∙◌, arith}
 use Rattle.pv_model.specs.Numbered.{with_number}
 use Rattle.pv_model.specs.State.{Descriptor}
-use Rattle.pv_files.specs.DescriptorPlaces.{descriptor_of}
+use Rattle.pv_files.specs.DescriptorSlots.{descriptor_of}
 use Rattle.pv_files.proofs.Seen.{seen-set_some}
 use Rattle.pv_files.proofs.descriptors.Descriptors.set.Goals as goal
 
 pub returns : goal.returns
 returns c =
-    let within : c.args.d < length c.self.inside.places = omega (arith, c.self.invariant, c.requires) in
+    let within : c.args.d < length c.self.inside.slots = omega (arith, c.self.invariant, c.requires) in
     let given : Descriptor = record { file = c.args.file; close_on_exec = false } in
-    seen-set_some descriptor_of c.self.inside.places c.args.d _ within ∙ ap (λ ds. with_number ds c.args.d given) c.self.view_is
+    seen-set_some descriptor_of c.self.inside.slots c.args.d _ within ∙ ap (λ ds. with_number ds c.args.d given) c.self.view_is

@@ -2,8 +2,8 @@ use Rattle.std.proofs.Common.{ap, sym, ◌∙◌, option_map, slice_index}
 use Rattle.std.specs.Option.{option_copied}
 use Rattle.pv_model.specs.Numbered.{at_number}
 use Rattle.pv_files.specs.Counted.{Counted}
-use Rattle.pv_files.specs.Places.{file_of}
-use Rattle.pv_files.proofs.Keys.{place_under, nothing_past}
+use Rattle.pv_files.specs.Slots.{file_of}
+use Rattle.pv_files.proofs.Keys.{slot_under, nothing_past}
 use Rattle.pv_files.proofs.open_files.OpenFiles.lookup.Goals as goal
 
 pub returns-in_err-get-clause-file : goal.returns-in_err-get-clause-file
@@ -15,11 +15,11 @@ returns-in_err-get-clause-file c =
 pub returns-clause-file : goal.returns-clause-file
 returns-clause-file c =
     let found = c.in_ok-get.ensures.lookup in
-    let place = place_under c.self.inside.records c.self.inside.keys c.args.file c.in_ok-get.field-0.now (option_copied c.opened_at.result) found.0 found.1 c.opened_at.ensures in
-    sym place.file ∙ ap (λ (v : Counted). at_number v.files c.args.file) c.self.view_is
+    let slot = slot_under c.self.inside.records c.self.inside.keys c.args.file c.in_ok-get.field-0.now (option_copied c.opened_at.result) found.0 found.1 c.opened_at.ensures in
+    sym slot.file ∙ ap (λ (v : Counted). at_number v.files c.args.file) c.self.view_is
 
 pub returns-clause-users : goal.returns-clause-users
 returns-clause-users c =
     let found = c.in_ok-get.ensures.lookup in
-    let place = place_under c.self.inside.records c.self.inside.keys c.args.file c.in_ok-get.field-0.now (option_copied c.opened_at.result) found.0 found.1 c.opened_at.ensures in
-    sym place.users ∙ ap (λ (v : Counted). slice_index v.users c.args.file) c.self.view_is
+    let slot = slot_under c.self.inside.records c.self.inside.keys c.args.file c.in_ok-get.field-0.now (option_copied c.opened_at.result) found.0 found.1 c.opened_at.ensures in
+    sym slot.users ∙ ap (λ (v : Counted). slice_index v.users c.args.file) c.self.view_is

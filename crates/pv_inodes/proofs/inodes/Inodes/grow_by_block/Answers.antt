@@ -43,11 +43,11 @@ push_block-block-requires-clause-owned c =
 
 -- an index block before the block is owned already
 pub push_block-block-requires-clause-index : goal.push_block-block-requires-clause-index
-push_block-block-requires-clause-index c behind =
+push_block-block-requires-clause-index c following =
     let k = known (goal.at.push_block-block-requires-clause-index c).After-slot-slot in
     let owned = owned_is (goal.at.push_block-block-requires-clause-index c).After-room-owned in
     let counts : owned_count c.self.inside.version c.self.inside.blocks.blocks c.slot-slot.result ≡ c.room-owned.result = k.count ∙ ap wanted k.size ∙ sym owned in
-    k.next_within c.room-owned.result (sym counts) behind
+    k.next_within c.room-owned.result (sym counts) following
 
 pub set_size-requires : goal.set_size-requires
 set_size-requires c =

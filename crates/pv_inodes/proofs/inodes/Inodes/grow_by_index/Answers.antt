@@ -56,10 +56,10 @@ push_block-index-requires-clause-owned c = omega (arith, within_row (goal.at.pus
 
 -- an index block before that is owned already
 pub push_block-index-requires-clause-index : goal.push_block-index-requires-clause-index
-push_block-index-requires-clause-index c behind =
+push_block-index-requires-clause-index c following =
     let k = known (goal.at.push_block-index-requires-clause-index c).After-slot-slot in
     let owned = owned_is (goal.at.push_block-index-requires-clause-index c).After-room-owned in
-    k.next_within c.room-owned.result (owned ∙ ap wanted (sym k.size) ∙ sym k.count) behind
+    k.next_within c.room-owned.result (owned ∙ ap wanted (sym k.size) ∙ sym k.count) following
 
 pub overflow_add-owned : goal.overflow_add-owned
 overflow_add-owned c = omega (arith, within_row (goal.at.overflow_add-owned c).After-room-owned, index_pointers-few c.self.inside.version)
@@ -81,9 +81,9 @@ pub push_block-block-requires-clause-owned : goal.push_block-block-requires-clau
 push_block-block-requires-clause-owned c = omega (arith, within_row (goal.at.push_block-block-requires-clause-owned c).After-room-owned)
 
 pub push_block-block-requires-clause-index : goal.push_block-block-requires-clause-index
-push_block-block-requires-clause-index c behind =
+push_block-block-requires-clause-index c following =
     let next : c.room-owned.result + 1 ≡ suc c.room-owned.result = omega arith in
-    rw next ((index (goal.at.push_block-block-requires-clause-index c).After-push_block-index).index_within (rw next at behind))
+    rw next ((index (goal.at.push_block-block-requires-clause-index c).After-push_block-index).index_within (rw next at following))
 
 pub set_size-requires : goal.set_size-requires
 set_size-requires c =

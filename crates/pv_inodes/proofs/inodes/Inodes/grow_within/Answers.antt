@@ -38,7 +38,7 @@ content_block-last-requires-clause-owned c =
     omega (arith, in_range (goal.at.content_block-last-requires-clause-owned c).After-size_of-old, k.few)
 
 pub content_block-last-requires-clause-index : goal.content_block-last-requires-clause-index
-content_block-last-requires-clause-index c behind =
+content_block-last-requires-clause-index c following =
     let k = known (goal.at.content_block-last-requires-clause-index c).After-slot-slot in
     k.index_within (place_of (c.size_of-old.result / 512)) (in_range (goal.at.content_block-last-requires-clause-index c).After-size_of-old)
 

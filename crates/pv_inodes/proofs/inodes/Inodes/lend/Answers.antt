@@ -35,7 +35,7 @@ content_block-block-requires-clause-owned c =
     omega (arith, in_range before, (known before).few)
 
 pub content_block-block-requires-clause-index : goal.content_block-block-requires-clause-index
-content_block-block-requires-clause-index c behind =
+content_block-block-requires-clause-index c following =
     let before = (goal.at.content_block-block-requires-clause-index c).After-self in
     (known before).index_within (place_of (c.args.at / 512)) (in_range before)
 

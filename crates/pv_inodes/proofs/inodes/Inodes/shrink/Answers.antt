@@ -63,7 +63,7 @@ pub owned_by-block-requires-clause-owned : goal.owned_by-block-requires-clause-o
 owned_by-block-requires-clause-owned c = rw c.loop-owned.invariant.version (omega (arith, c.loop-owned.invariant.most))
 
 pub owned_by-block-requires-clause-index : goal.owned_by-block-requires-clause-index
-owned_by-block-requires-clause-index c behind =
+owned_by-block-requires-clause-index c following =
     let k = known (goal.at.owned_by-block-requires-clause-index c).After-slot-slot in
     rw c.loop-owned.invariant.version (reduced-index c.self.inside.version _ _ _ _ _ _ k.below c.loop-owned.invariant.reduced (omega arith))
 

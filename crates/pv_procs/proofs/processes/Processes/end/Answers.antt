@@ -1,11 +1,11 @@
 use Rattle.std.proofs.Common.{◌≡◌, ◌∙◌, List, length, sym, ap, ap₂, subst, arith}
 use Rattle.std.proofs.lemmas.List.{with_items_is}
 use Rattle.pv_model.specs.Calls.Processes.{end_process}
-use Rattle.pv_procs.specs.declared.place.Place.{Place}
+use Rattle.pv_procs.specs.declared.slot.ProcessSlot.{ProcessSlot}
 use Rattle.pv_procs.specs.declared.shared.Shared.{Shared}
-use Rattle.pv_procs.specs.Places.{IsKept, table_of, ascends, program_at}
+use Rattle.pv_procs.specs.Slots.{IsKept, table_of, ascends, program_at}
 use Rattle.pv_procs.specs.ProcessTable.{ProcessTable, state_with}
-use Rattle.pv_procs.proofs.Finding.{found-at, live-place, status-at, process-at}
+use Rattle.pv_procs.proofs.Finding.{found-at, live-slot, status-at, process-at}
 use Rattle.pv_procs.proofs.Keeping.{ascends-set}
 use Rattle.pv_procs.proofs.Ends.{has-users, kept-gone, kept-claimed, end-is, parent-is}
 use Rattle.pv_procs.proofs.processes.Processes.end.Goals as goal
@@ -16,46 +16,46 @@ live_index-k-requires-clause-ascends c = rw c.deref.ensures.value c.self.invaria
 pub live_index-k-requires-clause-there : goal.live_index-k-requires-clause-there
 live_index-k-requires-clause-there c =
     let i = c.self.inside in
-    rw c.deref.ensures.value (live-place i.places.items i.programs.items i.last c.args.self.now c.self.view_is c.args.pid c.requires)
+    rw c.deref.ensures.value (live-slot i.slots.items i.programs.items i.last c.args.self.now c.self.view_is c.args.pid c.requires)
 
 pub let_go-requires-clause-used : goal.let_go-requires-clause-used
 let_go-requires-clause-used c =
     let i = c.self.inside in
     let k = c.live_index-k.result in
-    let place = c.index_mut-place.result.now in
+    let slot = c.index_mut-slot.result.now in
     let found = rw c.deref.ensures.value at c.live_index-k.ensures in
-    let at = found-at i.places.items c.args.pid k place found c.index_mut-place.ensures.value in
-    let lives = status-at i.places.items i.programs.items i.last c.args.self.now c.self.view_is c.args.pid c.self.invariant.0.ascending k place at c.requires in
-    rw c.deref_mut.ensures.value (has-users i.places.items i.programs.items i.last c.self.invariant.0 c.args.pid k place at lives)
+    let at = found-at i.slots.items c.args.pid k slot found c.index_mut-slot.ensures.value in
+    let lives = status-at i.slots.items i.programs.items i.last c.args.self.now c.self.view_is c.args.pid c.self.invariant.0.ascending k slot at c.requires in
+    rw c.deref_mut.ensures.value (has-users i.slots.items i.programs.items i.last c.self.invariant.0 c.args.pid k slot at lives)
 
 pub adopter-heir-requires : goal.adopter-heir-requires
 adopter-heir-requires c =
     let i = c.self.inside in
     let k = c.live_index-k.result in
-    let place = c.index_mut-place.result.now in
+    let slot = c.index_mut-slot.result.now in
     let found = rw c.deref.ensures.value at c.live_index-k.ensures in
-    let at = found-at i.places.items c.args.pid k place found c.index_mut-place.ensures.value in
-    ap ascends c.deref-2.ensures.value ∙ ascends-set i.places.items c.args.pid k place _ c.self.invariant.0.ascending at at.number
+    let at = found-at i.slots.items c.args.pid k slot found c.index_mut-slot.ensures.value in
+    ap ascends c.deref-2.ensures.value ∙ ascends-set i.slots.items c.args.pid k slot _ c.self.invariant.0.ascending at at.number
 
 pub invariant_of-self : goal.invariant_of-self
 invariant_of-self c =
     let i = c.self.inside in
     let k = c.live_index-k.result in
-    let place = c.index_mut-place.result.now in
+    let slot = c.index_mut-slot.result.now in
     let other = c.let_go.new.programs in
     let found = rw c.deref.ensures.value at c.live_index-k.ensures in
-    let at = found-at i.places.items c.args.pid k place found c.index_mut-place.ensures.value in
-    let lives = status-at i.places.items i.programs.items i.last c.args.self.now c.self.view_is c.args.pid c.self.invariant.0.ascending k place at c.requires in
+    let at = found-at i.slots.items c.args.pid k slot found c.index_mut-slot.ensures.value in
+    let lives = status-at i.slots.items i.programs.items i.last c.args.self.now c.self.view_is c.args.pid c.self.invariant.0.ascending k slot at c.requires in
     let long : length other ≡ length i.programs.items = c.let_go.auto.programs ∙ ap length c.deref_mut.ensures.value in
     let fewer = rw c.deref_mut.ensures.value at c.let_go.ensures.users in
     let rest = rw c.deref_mut.ensures.value at c.let_go.ensures.other_users in
-    let gone = kept-gone i.places.items i.programs.items i.last c.self.invariant.0 c.args.pid k place at lives other long fewer rest c.args.status in
+    let gone = kept-gone i.slots.items i.programs.items i.last c.self.invariant.0 c.args.pid k slot at lives other long fewer rest c.args.status in
     let kept = kept-claimed _ other i.last c.args.pid c.adopter-heir.result gone in
     let same = with_items_is i.programs other (omega (arith, long, i.programs.ok.0)) in (
-      subst (λ (gs : List Shared). IsKept c.settle.new.places.items gs i.last) (sym same)
-          (subst (λ (ps : List Place). IsKept ps other i.last) (sym c.settle.ensures.places) kept),
+      subst (λ (gs : List Shared). IsKept c.settle.new.slots.items gs i.last) (sym same)
+          (subst (λ (ps : List ProcessSlot). IsKept ps other i.last) (sym c.settle.ensures.slots) kept),
       record {
-        full = omega (arith, c.self.invariant.1.full, c.settle.ensures.all, c.settle.new.places.ok.0, c.settle.new.spare.ok.0, i.places.ok.0, i.spare.ok.0);
+        full = omega (arith, c.self.invariant.1.full, c.settle.ensures.all, c.settle.new.slots.ok.0, c.settle.new.spare.ok.0, i.slots.ok.0, i.spare.ok.0);
         room = omega (arith, c.self.invariant.1.room, c.settle.ensures.room);
         spare_room = omega (arith, c.self.invariant.1.spare_room, c.settle.ensures.spare_room);
       },
@@ -65,19 +65,19 @@ pub returns : goal.returns
 returns c = λ t files me is.
     let i = c.self.inside in
     let k = c.live_index-k.result in
-    let place = c.index_mut-place.result.now in
+    let slot = c.index_mut-slot.result.now in
     let other = c.let_go.new.programs in
     let found = rw c.deref.ensures.value at c.live_index-k.ensures in
-    let at = found-at i.places.items c.args.pid k place found c.index_mut-place.ensures.value in
-    let lives = status-at i.places.items i.programs.items i.last c.args.self.now c.self.view_is c.args.pid c.self.invariant.0.ascending k place at c.requires in
-    let process = process-at i.places.items i.programs.items i.last c.args.self.now c.self.view_is c.args.pid c.self.invariant.0.ascending k place at c.requires in
+    let at = found-at i.slots.items c.args.pid k slot found c.index_mut-slot.ensures.value in
+    let lives = status-at i.slots.items i.programs.items i.last c.args.self.now c.self.view_is c.args.pid c.self.invariant.0.ascending k slot at c.requires in
+    let process = process-at i.slots.items i.programs.items i.last c.args.self.now c.self.view_is c.args.pid c.self.invariant.0.ascending k slot at c.requires in
     let long : length other ≡ length i.programs.items = c.let_go.auto.programs ∙ ap length c.deref_mut.ensures.value in
     let fewer = rw c.deref_mut.ensures.value at c.let_go.ensures.users in
     let rest = rw c.deref_mut.ensures.value at c.let_go.ensures.other_users in
     let programs = rw c.deref_mut.ensures.value at c.let_go.ensures.programs in
     let same = with_items_is i.programs other (omega (arith, long, i.programs.ok.0)) in
     let heir = rw c.deref-2.ensures.value at (c.adopter-heir.ensures other) in
-    let parent = parent-is c.args.self.now c.args.pid (program_at i.programs.items place.program) place me process is in
-    ap₂ (λ (ps : List Place) (gs : List Shared). state_with t files (table_of ps gs i.last)) c.settle.ensures.places same
-    ∙ end-is i.places.items i.programs.items i.last c.self.invariant.0 c.args.pid k place at lives other long fewer rest c.args.status programs c.adopter-heir.result t files me parent heir
+    let parent = parent-is c.args.self.now c.args.pid (program_at i.programs.items slot.program) slot me process is in
+    ap₂ (λ (ps : List ProcessSlot) (gs : List Shared). state_with t files (table_of ps gs i.last)) c.settle.ensures.slots same
+    ∙ end-is i.slots.items i.programs.items i.last c.self.invariant.0 c.args.pid k slot at lives other long fewer rest c.args.status programs c.adopter-heir.result t files me parent heir
     ∙ ap (λ (v : ProcessTable). end_process (state_with t files v) c.args.pid me c.args.status) c.self.view_is

@@ -6,4 +6,4 @@ use Rattle.pv_procs.proofs.processes.Processes.facts.Goals as goal
 pub returns : goal.returns
 returns c =
     let i = c.self.inside in
-    subst IsProcessTable c.self.view_is (told i.places.items i.spare.items i.programs.items i.last _ _ c.self.invariant.0 c.self.invariant.1)
+    subst IsProcessTable c.self.view_is (told i.slots.items i.spare.items i.programs.items i.last _ _ c.self.invariant.0 c.self.invariant.1)

@@ -2,12 +2,12 @@ use Rattle.std.proofs.Common.{◌≡◌, ◌≢◌, ◌+◌, ◌<◌, ◌∙◌,
 use Rattle.std.proofs.lemmas.List.{with_items_is}
 use Rattle.pv_model.specs.Calls.Processes.{fork}
 use Rattle.pv_model.specs.Effect.{answers}
-use Rattle.pv_procs.specs.declared.place.Place.{Place}
+use Rattle.pv_procs.specs.declared.slot.ProcessSlot.{ProcessSlot}
 use Rattle.pv_procs.specs.declared.shared.Shared.{Shared}
-use Rattle.pv_procs.specs.Children.{child_place}
-use Rattle.pv_procs.specs.Places.{IsKept, table_of, users_at, program_at}
+use Rattle.pv_procs.specs.Children.{child_slot}
+use Rattle.pv_procs.specs.Slots.{IsKept, table_of, users_at, program_at}
 use Rattle.pv_procs.specs.ProcessTable.{ProcessTable, state_with}
-use Rattle.pv_procs.proofs.Finding.{found-at, live-place, process-at}
+use Rattle.pv_procs.proofs.Finding.{found-at, live-slot, process-at}
 use Rattle.pv_procs.proofs.Forks.{kept-new, fork-is, mine-is}
 use Rattle.pv_procs.proofs.processes.Processes.fork.Goals as goal
 
@@ -17,32 +17,32 @@ live_index-k-requires-clause-ascends c = rw c.deref.ensures.value c.self.invaria
 pub live_index-k-requires-clause-there : goal.live_index-k-requires-clause-there
 live_index-k-requires-clause-there c =
     let i = c.self.inside in
-    rw c.deref.ensures.value (live-place i.places.items i.programs.items i.last c.args.self.now c.self.view_is c.args.pid c.requires)
+    rw c.deref.ensures.value (live-slot i.slots.items i.programs.items i.last c.args.self.now c.self.view_is c.args.pid c.requires)
 
 pub invariant_of-self-2 : goal.invariant_of-self-2
 invariant_of-self-2 c =
     let i = c.self.inside in
     let k = c.live_index-k.result in
-    let place = c.index.result.now in
+    let slot = c.index.result.now in
     let other = c.take_up.new.programs in
     let kept = c.self.invariant.0 in
     let found = rw c.deref.ensures.value at c.live_index-k.ensures in
-    let at = found-at i.places.items c.args.pid k place found c.index.ensures in
-    let new_is : c.make_child.new.place ≡ child_place (suc i.last) place = c.make_child.ensures ∙ ap (λ n. child_place n place) (add-one i.last) in
-    let program : c.make_child.new.place.program ≡ place.program = ap (λ (p : Place). p.program) new_is in
+    let at = found-at i.slots.items c.args.pid k slot found c.index.ensures in
+    let new_is : c.make_child.new.slot ≡ child_slot (suc i.last) slot = c.make_child.ensures ∙ ap (λ n. child_slot n slot) (add-one i.last) in
+    let program : c.make_child.new.slot.program ≡ slot.program = ap (λ (p : ProcessSlot). p.program) new_is in
     let listed = c.deref_mut.ensures.value in
     let long : length other ≡ length i.programs.items = c.take_up.auto.programs ∙ ap length listed in
-    let more : users_at other place.program ≡ users_at i.programs.items place.program + 1 =
+    let more : users_at other slot.program ≡ users_at i.programs.items slot.program + 1 =
     ap (users_at other) (sym program) ∙ c.take_up.ensures.users ∙ ap₂ (λ (gs : List Shared) (n : ℕ). users_at gs n + 1) listed program in
-    let rest : (j : ℕ) → j ≢ place.program → users_at other j ≡ users_at i.programs.items j = λ j different. c.take_up.ensures.other_users j (λ same. different (same ∙ program)) ∙ ap (λ (gs : List Shared). users_at gs j) listed in
+    let rest : (j : ℕ) → j ≢ slot.program → users_at other j ≡ users_at i.programs.items j = λ j different. c.take_up.ensures.other_users j (λ same. different (same ∙ program)) ∙ ap (λ (gs : List Shared). users_at gs j) listed in
     let same = with_items_is i.programs other (omega (arith, long, i.programs.ok.0)) in
-    let items = c.push_reserved.ensures.items ∙ ap (λ (p : Place). i.places.items ++ p ∷ []) new_is in
+    let items = c.push_reserved.ensures.items ∙ ap (λ (p : ProcessSlot). i.slots.items ++ p ∷ []) new_is in
     let low : i.last < 99999 = omega (arith, kept.last, c.if-self-eq-LAST_PROCESS.false) in (
       subst (λ (gs : List Shared). IsKept c.push_reserved.new.self.items gs (i.last + 1)) (sym same)
           (subst (λ (n : ℕ). IsKept c.push_reserved.new.self.items other n) (sym (add-one i.last))
-          (subst (λ (ps : List Place). IsKept ps other (suc i.last)) (sym items) (kept-new i.places.items i.programs.items i.last kept c.args.pid k place at other long more rest low))),
+          (subst (λ (ps : List ProcessSlot). IsKept ps other (suc i.last)) (sym items) (kept-new i.slots.items i.programs.items i.last kept c.args.pid k slot at other long more rest low))),
       record {
-        full = omega (arith, c.self.invariant.1.full, c.push_reserved.ensures.len, c.in-Some.ensures.cases, c.push_reserved.new.self.ok.0, c.pop.new.self.ok.0, i.places.ok.0, i.spare.ok.0);
+        full = omega (arith, c.self.invariant.1.full, c.push_reserved.ensures.len, c.in-Some.ensures.cases, c.push_reserved.new.self.ok.0, c.pop.new.self.ok.0, i.slots.ok.0, i.spare.ok.0);
         room = omega (arith, c.self.invariant.1.room, c.push_reserved.ensures.capacity);
         spare_room = omega (arith, c.self.invariant.1.spare_room, c.in-Some.ensures.capacity);
       },
@@ -52,26 +52,26 @@ pub returns-clause-forked : goal.returns-clause-forked
 returns-clause-forked c = λ t files me is.
     let i = c.self.inside in
     let k = c.live_index-k.result in
-    let place = c.index.result.now in
+    let slot = c.index.result.now in
     let other = c.take_up.new.programs in
     let kept = c.self.invariant.0 in
     let found = rw c.deref.ensures.value at c.live_index-k.ensures in
-    let at = found-at i.places.items c.args.pid k place found c.index.ensures in
-    let new_is : c.make_child.new.place ≡ child_place (suc i.last) place = c.make_child.ensures ∙ ap (λ n. child_place n place) (add-one i.last) in
-    let program : c.make_child.new.place.program ≡ place.program = ap (λ (p : Place). p.program) new_is in
+    let at = found-at i.slots.items c.args.pid k slot found c.index.ensures in
+    let new_is : c.make_child.new.slot ≡ child_slot (suc i.last) slot = c.make_child.ensures ∙ ap (λ n. child_slot n slot) (add-one i.last) in
+    let program : c.make_child.new.slot.program ≡ slot.program = ap (λ (p : ProcessSlot). p.program) new_is in
     let listed = c.deref_mut.ensures.value in
     let long : length other ≡ length i.programs.items = c.take_up.auto.programs ∙ ap length listed in
-    let more : users_at other place.program ≡ users_at i.programs.items place.program + 1 =
+    let more : users_at other slot.program ≡ users_at i.programs.items slot.program + 1 =
     ap (users_at other) (sym program) ∙ c.take_up.ensures.users ∙ ap₂ (λ (gs : List Shared) (n : ℕ). users_at gs n + 1) listed program in
-    let rest : (j : ℕ) → j ≢ place.program → users_at other j ≡ users_at i.programs.items j = λ j different. c.take_up.ensures.other_users j (λ same. different (same ∙ program)) ∙ ap (λ (gs : List Shared). users_at gs j) listed in
+    let rest : (j : ℕ) → j ≢ slot.program → users_at other j ≡ users_at i.programs.items j = λ j different. c.take_up.ensures.other_users j (λ same. different (same ∙ program)) ∙ ap (λ (gs : List Shared). users_at gs j) listed in
     let same = with_items_is i.programs other (omega (arith, long, i.programs.ok.0)) in
-    let items = c.push_reserved.ensures.items ∙ ap (λ (p : Place). i.places.items ++ p ∷ []) new_is in
+    let items = c.push_reserved.ensures.items ∙ ap (λ (p : ProcessSlot). i.slots.items ++ p ∷ []) new_is in
     let low : i.last < 99999 = omega (arith, kept.last, c.if-self-eq-LAST_PROCESS.false) in
     let programs : (j : ℕ) → program_at other j ≡ program_at i.programs.items j = λ j. c.take_up.ensures.programs j ∙ ap (λ (gs : List Shared). program_at gs j) listed in
-    let process = process-at i.places.items i.programs.items i.last c.args.self.now c.self.view_is c.args.pid kept.ascending k place at c.requires in
+    let process = process-at i.slots.items i.programs.items i.last c.args.self.now c.self.view_is c.args.pid kept.ascending k slot at c.requires in
     let mine = mine-is c.args.self.now c.args.pid _ me process is in
-    let few : length i.places.items < 32 = omega (arith, c.self.invariant.1.full, c.in-Some.ensures.cases, i.spare.ok.0) in
+    let few : length i.slots.items < 32 = omega (arith, c.self.invariant.1.full, c.in-Some.ensures.cases, i.spare.ok.0) in
     ap (λ (v : ProcessTable). fork (state_with t files v) c.args.pid me) (sym c.self.view_is)
-    ∙ fork-is i.places.items i.programs.items i.last kept c.args.pid k place at other long more rest programs t files me mine few low
-    ∙ ap (λ (n : ℕ). answers (state_with t files (table_of (i.places.items ++ child_place (suc i.last) place ∷ []) other n)) n) (sym (add-one i.last))
-    ∙ ap₂ (λ (ps : List Place) (gs : List Shared). answers (state_with t files (table_of ps gs (i.last + 1))) (i.last + 1)) (sym items) (sym same)
+    ∙ fork-is i.slots.items i.programs.items i.last kept c.args.pid k slot at other long more rest programs t files me mine few low
+    ∙ ap (λ (n : ℕ). answers (state_with t files (table_of (i.slots.items ++ child_slot (suc i.last) slot ∷ []) other n)) n) (sym (add-one i.last))
+    ∙ ap₂ (λ (ps : List ProcessSlot) (gs : List Shared). answers (state_with t files (table_of ps gs (i.last + 1))) (i.last + 1)) (sym items) (sym same)

@@ -1,6 +1,6 @@
 use Rattle.std.proofs.Common.{◌∙◌, sym, ap, is_some}
 use Rattle.pv_model.specs.State.{live_process}
-use Rattle.pv_procs.specs.Places.{program_at}
+use Rattle.pv_procs.specs.Slots.{program_at}
 use Rattle.pv_procs.proofs.Finding.{found-at, seen-none, seen-at, live_test}
 use Rattle.pv_procs.proofs.processes.Processes.live.Goals as goal
 
@@ -8,13 +8,13 @@ pub returns-in-Some : goal.returns-in-Some
 returns-in-Some c =
     let i = c.self.inside in
     let found = rw c.deref.ensures.value at (sym c.index_of.ensures ∙ c.in-Some.is) in
-    let place = c.index.result.now in
-    let at = found-at i.places.items c.args.pid c.in-Some.k place found c.index.ensures in
-    live_test place (program_at i.programs.items place.program) place.status c.is_none.result c.is_none.ensures
-    ∙ sym (ap (λ o. is_some (live_process o)) (seen-at i.places.items i.programs.items i.last c.args.self.now c.self.view_is c.args.pid c.self.invariant.0.ascending c.in-Some.k place at))
+    let slot = c.index.result.now in
+    let at = found-at i.slots.items c.args.pid c.in-Some.k slot found c.index.ensures in
+    live_test slot (program_at i.programs.items slot.program) slot.status c.is_none.result c.is_none.ensures
+    ∙ sym (ap (λ o. is_some (live_process o)) (seen-at i.slots.items i.programs.items i.last c.args.self.now c.self.view_is c.args.pid c.self.invariant.0.ascending c.in-Some.k slot at))
 
 pub returns-in-None : goal.returns-in-None
 returns-in-None c =
     let i = c.self.inside in
     let none = rw c.deref.ensures.value at (sym c.index_of.ensures ∙ c.in-None.is) in
-    sym (ap (λ o. is_some (live_process o)) (seen-none i.places.items i.programs.items i.last c.args.self.now c.self.view_is c.args.pid none))
+    sym (ap (λ o. is_some (live_process o)) (seen-none i.slots.items i.programs.items i.last c.args.self.now c.self.view_is c.args.pid none))

@@ -10,13 +10,13 @@ pub returns-in-Some : goal.returns-in-Some
 returns-in-Some c =
     let i = c.self.inside in
     let k = c.in-Some.k in
-    let place = c.index.result.now in
-    let at = found-at i.places.items c.args.pid k place (rw c.deref.ensures.value at c.in-Some.ensures.place) c.index.ensures in
-    let none = ap (λ p. p.status) at.is ∙ (rw c.deref.ensures.value at c.in-Some.ensures.live) place in
-    rw c.get.ensures (ap (option_map record_of) (living i.places.items i.programs.items i.last c.args.self.now c.self.view_is c.args.pid c.self.invariant.0.ascending k place at none))
+    let slot = c.index.result.now in
+    let at = found-at i.slots.items c.args.pid k slot (rw c.deref.ensures.value at c.in-Some.ensures.slot) c.index.ensures in
+    let none = ap (λ p. p.status) at.is ∙ (rw c.deref.ensures.value at c.in-Some.ensures.live) slot in
+    rw c.get.ensures (ap (option_map record_of) (living i.slots.items i.programs.items i.last c.args.self.now c.self.view_is c.args.pid c.self.invariant.0.ascending k slot at none))
 
 pub returns-in-None : goal.returns-in-None
 returns-in-None c =
     let i = c.self.inside in
     let none = rw c.deref.ensures.value at (c.index_of_live.ensures.none c.in-None.is) in
-    ap (option_map record_of) (gone-in i.places.items i.programs.items i.last c.args.self.now c.self.view_is c.args.pid (none i.programs.items))
+    ap (option_map record_of) (gone-in i.slots.items i.programs.items i.last c.args.self.now c.self.view_is c.args.pid (none i.programs.items))

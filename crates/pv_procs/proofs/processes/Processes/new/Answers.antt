@@ -1,18 +1,18 @@
 use Rattle.std.proofs.Common.{◌∙◌, List, [], ◌∷◌, ◌++◌, sym, ap₂, subst, arith}
-use Rattle.pv_procs.specs.declared.place.Place.{Place}
+use Rattle.pv_procs.specs.declared.slot.ProcessSlot.{ProcessSlot}
 use Rattle.pv_procs.specs.declared.shared.Shared.{Shared}
-use Rattle.pv_procs.specs.Places.{IsKept}
+use Rattle.pv_procs.specs.Slots.{IsKept}
 use Rattle.pv_procs.proofs.Loads.{first-kept}
 use Rattle.pv_procs.proofs.processes.Processes.new.Goals as goal
 
 pub invariant_of-result : goal.invariant_of-result
 invariant_of-result c =
-    let places = c.push_reserved.ensures.items ∙ ap₂ (λ (ps : List Place) (p : Place). ps ++ p ∷ []) c.in_ok-places.ensures.items c.in_ok-blank.ensures in (
-      subst (λ (ps : List Place). IsKept ps c.in_ok-programs.programs.items 1) (sym places)
+    let slots = c.push_reserved.ensures.items ∙ ap₂ (λ (ps : List ProcessSlot) (p : ProcessSlot). ps ++ p ∷ []) c.in_ok-slots.ensures.items c.in_ok-blank.ensures in (
+      subst (λ (ps : List ProcessSlot). IsKept ps c.in_ok-programs.programs.items 1) (sym slots)
           (subst (λ (gs : List Shared). IsKept _ gs 1) (sym c.in_ok-programs.ensures) (first-kept c.args.program)),
       record {
-        full = omega (arith, c.push_reserved.ensures.len, c.in_ok-places.ensures.len, c.in_ok-spare.ensures.count, c.push_reserved.new.self.ok.0, c.in_ok-spare.spare.ok.0);
-        room = omega (arith, c.push_reserved.ensures.capacity, c.in_ok-places.ensures.exact);
+        full = omega (arith, c.push_reserved.ensures.len, c.in_ok-slots.ensures.len, c.in_ok-spare.ensures.count, c.push_reserved.new.self.ok.0, c.in_ok-spare.spare.ok.0);
+        room = omega (arith, c.push_reserved.ensures.capacity, c.in_ok-slots.ensures.exact);
         spare_room = omega (arith, c.in_ok-spare.ensures.room);
       },
     )

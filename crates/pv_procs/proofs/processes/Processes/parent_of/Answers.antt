@@ -1,6 +1,6 @@
 use Rattle.std.proofs.Common.{◌∙◌, sym, ap, Some, option_map}
 use Rattle.pv_model.specs.Calls.Processes.{parent_of}
-use Rattle.pv_procs.specs.Places.{program_at}
+use Rattle.pv_procs.specs.Slots.{program_at}
 use Rattle.pv_procs.proofs.Finding.{found-at, seen-none, seen-at, parent-entry}
 use Rattle.pv_procs.proofs.processes.Processes.parent_of.Goals as goal
 
@@ -8,13 +8,13 @@ pub returns-in-Some : goal.returns-in-Some
 returns-in-Some c =
     let i = c.self.inside in
     let found = rw c.deref.ensures.value at (sym c.index_of.ensures ∙ c.in-Some.is) in
-    let place = c.index.result.now in
-    let at = found-at i.places.items c.args.pid c.in-Some.k place found c.index.ensures in
-    sym (ap (option_map parent_of) (seen-at i.places.items i.programs.items i.last c.args.self.now c.self.view_is c.args.pid c.self.invariant.0.ascending c.in-Some.k place at)
-    ∙ ap Some (parent-entry place (program_at i.programs.items place.program) place.status))
+    let slot = c.index.result.now in
+    let at = found-at i.slots.items c.args.pid c.in-Some.k slot found c.index.ensures in
+    sym (ap (option_map parent_of) (seen-at i.slots.items i.programs.items i.last c.args.self.now c.self.view_is c.args.pid c.self.invariant.0.ascending c.in-Some.k slot at)
+    ∙ ap Some (parent-entry slot (program_at i.programs.items slot.program) slot.status))
 
 pub returns-in-None : goal.returns-in-None
 returns-in-None c =
     let i = c.self.inside in
     let none = rw c.deref.ensures.value at (sym c.index_of.ensures ∙ c.in-None.is) in
-    sym (ap (option_map parent_of) (seen-none i.places.items i.programs.items i.last c.args.self.now c.self.view_is c.args.pid none))
+    sym (ap (option_map parent_of) (seen-none i.slots.items i.programs.items i.last c.args.self.now c.self.view_is c.args.pid none))

@@ -1,6 +1,6 @@
 use Rattle.std.proofs.Common.{◌∙◌, ap, Some, option_map, arith}
 use Rattle.pv_model.specs.State.{Process}
-use Rattle.pv_procs.proofs.Finding.{found-at, live-place, process-at, status-at}
+use Rattle.pv_procs.proofs.Finding.{found-at, live-slot, process-at, status-at}
 use Rattle.pv_procs.proofs.Ends.{program-within}
 use Rattle.pv_procs.proofs.Turning.{program-read}
 use Rattle.pv_procs.proofs.processes.Processes.program.Goals as goal
@@ -11,18 +11,18 @@ live_index-k-requires-clause-ascends c = rw c.deref.ensures.value c.self.invaria
 pub live_index-k-requires-clause-there : goal.live_index-k-requires-clause-there
 live_index-k-requires-clause-there c =
     let i = c.self.inside in
-    rw c.deref.ensures.value (live-place i.places.items i.programs.items i.last c.args.self.now c.self.view_is c.args.pid c.requires)
+    rw c.deref.ensures.value (live-slot i.slots.items i.programs.items i.last c.args.self.now c.self.view_is c.args.pid c.requires)
 
 pub returns : goal.returns
 returns c =
     let i = c.self.inside in
     let k = c.live_index-k.result in
-    let place = c.index-place.result.now in
+    let slot = c.index-slot.result.now in
     let found = rw c.deref.ensures.value at c.live_index-k.ensures in
-    let at = found-at i.places.items c.args.pid k place found c.index-place.ensures in
-    let lives = status-at i.places.items i.programs.items i.last c.args.self.now c.self.view_is c.args.pid c.self.invariant.0.ascending k place at c.requires in
+    let at = found-at i.slots.items c.args.pid k slot found c.index-slot.ensures in
+    let lives = status-at i.slots.items i.programs.items i.last c.args.self.now c.self.view_is c.args.pid c.self.invariant.0.ascending k slot at c.requires in
     let table = c.self.invariant.0.table in
-    let below = program-within i.places.items i.programs.items i.last c.self.invariant.0 c.args.pid k place at lives in
-    let program = program-read i.programs.items place.program c.index.result.now (omega (arith, below, table)) c.index.ensures in
-    let process = process-at i.places.items i.programs.items i.last c.args.self.now c.self.view_is c.args.pid c.self.invariant.0.ascending k place at c.requires in
+    let below = program-within i.slots.items i.programs.items i.last c.self.invariant.0 c.args.pid k slot at lives in
+    let program = program-read i.programs.items slot.program c.index.result.now (omega (arith, below, table)) c.index.ensures in
+    let process = process-at i.slots.items i.programs.items i.last c.args.self.now c.self.view_is c.args.pid c.self.invariant.0.ascending k slot at c.requires in
     ap (option_map (λ (me : Process). me.program)) process ∙ ap Some program

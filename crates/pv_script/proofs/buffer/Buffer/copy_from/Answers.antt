@@ -1,7 +1,7 @@
 use Rattle.std.proofs.Common.{◌∙◌, ◌++◌, ap₂, drop, length, subst, sym, take}
 use Rattle.std.proofs.lemmas.List.{take_at}
 use Rattle.pv_model.specs.Bytes.{Bytes}
-use Rattle.pv_script.specs.Written.{IsZeroBehind}
+use Rattle.pv_script.specs.Written.{IsZeroAfter}
 use Rattle.pv_script.proofs.Buffers.{copied}
 use Rattle.pv_script.proofs.buffer.Buffer.copy_from.Goals as goal
 
@@ -14,4 +14,4 @@ returns c =
     ∙ c.other.view_is
 
 pub invariant_of-self : goal.invariant_of-self
-invariant_of-self c = subst (λ bytes. IsZeroBehind bytes c.other.inside.used) (sym (returns c ∙ sym c.other.view_is)) c.other.invariant
+invariant_of-self c = subst (λ bytes. IsZeroAfter bytes c.other.inside.used) (sym (returns c ∙ sym c.other.view_is)) c.other.invariant

@@ -1,5 +1,5 @@
 use Rattle.std.proofs.Common.{Result, Some, sym, ap, subst, ◌∙◌}
-use Rattle.pv_laws.specs.States.{IsWhole}
+use Rattle.pv_laws_states.specs.States.{IsWhole}
 use Rattle.pv_model.specs.declared.verdict.AuditFault.{AuditFault}
 use Rattle.pv_model.specs.declared.verdict.Verdict.{Verdict}
 use Rattle.pv_model.specs.Sealed.{audit_node}

@@ -12,9 +12,9 @@ use Rattle.pv_session.proofs.session.Session.step.Goals.{in-Gone, in-Register, i
 pub returns-clause-after : goal.returns-clause-after
 returns-clause-after c =
     let old = c.deref_mut-kernel.result.now.state in
-    let s = c.ahead.new.self.state in
+    let s = c.step_or_fetch.new.self.state in
     let seen = ap (λ (k : Running). k.state) c.deref_mut-kernel.ensures.value ∙ c.self.view_is in
-    elim c.match-ahead.branch [
+    elim c.match-step_or_fetch.branch [
       | in-Gone w ↦
           let gone = w.in-Gone.ensures.state in
           rw (w.result-is, w.self-inside-is) (gone.1 ∙ sym (ap (λ (x : Stepped). x.after) (step-gone old c.args.pid gone.0)) ∙ ap (λ t. (stepped t c.args.pid).after) seen)
@@ -31,9 +31,9 @@ returns-clause-after c =
 pub returns-clause-outcome : goal.returns-clause-outcome
 returns-clause-outcome c =
     let old = c.deref_mut-kernel.result.now.state in
-    let s = c.ahead.new.self.state in
+    let s = c.step_or_fetch.new.self.state in
     let seen = ap (λ (k : Running). k.state) c.deref_mut-kernel.ensures.value ∙ c.self.view_is in
-    elim c.match-ahead.branch [
+    elim c.match-step_or_fetch.branch [
       | in-Gone w ↦
           rw w.result-is (sym (ap (λ (x : Stepped). x.outcome) (step-gone old c.args.pid w.in-Gone.ensures.state.0)) ∙ ap (λ t. (stepped t c.args.pid).outcome) seen)
       | in-Register w ↦

@@ -2,8 +2,8 @@ use Rattle.std.proofs.Common.{ap, sym, ◌∙◌, subst, length, List}
 use Rattle.pv_model.specs.Step.{Stepped}
 use Rattle.pv_model.specs.Trace.{Line}
 use Rattle.pv_trace.proofs.Telling.{on_err}
-use Rattle.pv_session.specs.Running.{BeginsLines, ToldLines, stepped}
-use Rattle.pv_session.proofs.Stepping.{step-gone, gone-lines, inside-is, inside-after, told-none}
+use Rattle.pv_session.specs.Running.{BeginsLines, WrittenLines, stepped}
+use Rattle.pv_session.proofs.Stepping.{step-gone, gone-lines, inside-is, inside-after, written-none}
 use Rattle.pv_calls.specs.Kernel.{Running}
 use Rattle.pv_session.proofs.session.Session.trace_step.Goals as goal
 
@@ -11,7 +11,7 @@ pub returns-in_err-write_gone_line-in-Gone-clause-beginning : goal.returns-in_er
 returns-in_err-write_gone_line-in-Gone-clause-beginning g c =
     let is = gone-lines c.deref_mut-kernel.result.now.state c.args.self.now c.args.pid (ap (λ (k : Running). k.state) c.deref_mut-kernel.ensures.value ∙ c.self.view_is) c.in-Gone.ensures.state.0 in
     on_err c.from_residual.result
-    (subst (λ (ls : List Line). BeginsLines ls (g.W.Sink.told c.args.trace.now) (g.W.Sink.told c.write_gone_line.new.out)) (sym is) c.in_err-write_gone_line-in-Gone.ensures.beginning)
+    (subst (λ (ls : List Line). BeginsLines ls (g.W.Sink.written c.args.trace.now) (g.W.Sink.written c.write_gone_line.new.out)) (sym is) c.in_err-write_gone_line-in-Gone.ensures.beginning)
 
 pub returns-in_ok-write_gone_line-in-Gone-clause-after : goal.returns-in_ok-write_gone_line-in-Gone-clause-after
 returns-in_ok-write_gone_line-in-Gone-clause-after g c =
@@ -21,7 +21,7 @@ returns-in_ok-write_gone_line-in-Gone-clause-after g c =
 pub returns-in_ok-write_gone_line-in-Gone-clause-whole : goal.returns-in_ok-write_gone_line-in-Gone-clause-whole
 returns-in_ok-write_gone_line-in-Gone-clause-whole g c =
     let is = gone-lines c.deref_mut-kernel.result.now.state c.args.self.now c.args.pid (ap (λ (k : Running). k.state) c.deref_mut-kernel.ensures.value ∙ c.self.view_is) c.in-Gone.ensures.state.0 in
-    subst (λ (ls : List Line). ToldLines ls (g.W.Sink.told c.args.trace.now) (g.W.Sink.told c.write_gone_line.new.out)) (sym is) c.in_ok-write_gone_line-in-Gone.ensures.whole
+    subst (λ (ls : List Line). WrittenLines ls (g.W.Sink.written c.args.trace.now) (g.W.Sink.written c.write_gone_line.new.out)) (sym is) c.in_ok-write_gone_line-in-Gone.ensures.whole
 
 pub returns-in_ok-write_gone_line-in-Gone-clause-lines : goal.returns-in_ok-write_gone_line-in-Gone-clause-lines
 returns-in_ok-write_gone_line-in-Gone-clause-lines g c =
@@ -29,15 +29,15 @@ returns-in_ok-write_gone_line-in-Gone-clause-lines g c =
 
 pub returns-in-Register-clause-after : goal.returns-in-Register-clause-after
 returns-in-Register-clause-after g c =
-    inside-after c.deref_mut-kernel.result.now.state c.args.pid c.ahead.new.self.state c.in-Register.ensures.state ∙ ap (λ s. (stepped s c.args.pid).after) (ap (λ (k : Running). k.state) c.deref_mut-kernel.ensures.value ∙ c.self.view_is)
+    inside-after c.deref_mut-kernel.result.now.state c.args.pid c.step_or_fetch.new.self.state c.in-Register.ensures.state ∙ ap (λ s. (stepped s c.args.pid).after) (ap (λ (k : Running). k.state) c.deref_mut-kernel.ensures.value ∙ c.self.view_is)
 
 pub returns-in-Register-clause-whole : goal.returns-in-Register-clause-whole
 returns-in-Register-clause-whole g c =
-    let is = sym (ap (λ (x : Stepped). x.lines) (inside-is c.deref_mut-kernel.result.now.state c.args.pid c.ahead.new.self.state c.in-Register.ensures.state))
+    let is = sym (ap (λ (x : Stepped). x.lines) (inside-is c.deref_mut-kernel.result.now.state c.args.pid c.step_or_fetch.new.self.state c.in-Register.ensures.state))
     ∙ ap (λ s. (stepped s c.args.pid).lines) (ap (λ (k : Running). k.state) c.deref_mut-kernel.ensures.value ∙ c.self.view_is) in
-    subst (λ (ls : List Line). ToldLines ls (g.W.Sink.told c.args.trace.now) (g.W.Sink.told c.args.trace.now)) is (told-none (g.W.Sink.told c.args.trace.now))
+    subst (λ (ls : List Line). WrittenLines ls (g.W.Sink.written c.args.trace.now) (g.W.Sink.written c.args.trace.now)) is (written-none (g.W.Sink.written c.args.trace.now))
 
 pub returns-in-Register-clause-lines : goal.returns-in-Register-clause-lines
 returns-in-Register-clause-lines g c =
-    ap length (sym (ap (λ (x : Stepped). x.lines) (inside-is c.deref_mut-kernel.result.now.state c.args.pid c.ahead.new.self.state c.in-Register.ensures.state))
+    ap length (sym (ap (λ (x : Stepped). x.lines) (inside-is c.deref_mut-kernel.result.now.state c.args.pid c.step_or_fetch.new.self.state c.in-Register.ensures.state))
     ∙ ap (λ s. (stepped s c.args.pid).lines) (ap (λ (k : Running). k.state) c.deref_mut-kernel.ensures.value ∙ c.self.view_is))

@@ -6,7 +6,7 @@ abbrev pub invariant-loop-at : goal.invariant-loop-at
 invariant-loop-at g l = record {
   within : l.at ≤ length l.initial.self.waiting.items;
   waiting : l.self.waiting ≡ l.initial.self.waiting;
-  told : g.W.Sink.told l.self.sink ≡ and_front (g.W.Sink.told l.initial.self.sink) l.at l.initial.self.waiting.items;
+  written : g.W.Sink.written l.self.sink ≡ and_front (g.W.Sink.written l.initial.self.sink) l.at l.initial.self.waiting.items;
   quiet : g.W.Sink.failures l.self.sink ≡ g.W.Sink.failures l.initial.self.sink;
 }
 

@@ -4,7 +4,7 @@ use Rattle.pv_model.specs.Tree.{Tree}
 use Rattle.pv_tree.specs.Holding.{held_less, held_numbers, trimmed}
 use Rattle.pv_tree.specs.Standing.{IsTied}
 use Rattle.pv_tree.proofs.Counting.{settled-less, counted-less, trimmed-tied}
-use Rattle.pv_tree_laws.proofs.Found.{alike-kept}
+use Rattle.pv_laws_trees.proofs.Found.{alike-kept}
 use Rattle.pv_tree.proofs.Elsewhere.{alike-along}
 use Rattle.pv_tree.proofs.tree.Tree.let_go.Goals as goal
 use Rattle.pv_tree.proofs.tree.Tree.let_go.Goals.{After-settle}

@@ -1,10 +1,10 @@
 use Rattle.std.proofs.Common.{◌≡◌, ◌<◌, length, ap, subst, sym, ◌∙◌}
 use Rattle.std.specs.Prelude.{slice_set}
 use Rattle.pv_model.specs.Tree.{Tree, find_entry, is_directory_at, is_name, is_node, new_number, with_new_node}
-use Rattle.pv_tree_laws.specs.Tree.{Stands}
+use Rattle.pv_laws_trees.specs.Tree.{Stands}
 use Rattle.pv_tree.specs.Changes.{new_node}
 use Rattle.pv_tree.specs.Standing.{IsTied}
-use Rattle.pv_tree_laws.proofs.Spelled.{bytes-all}
+use Rattle.pv_laws_trees.proofs.Spelled.{bytes-all}
 use Rattle.pv_tree.proofs.Elsewhere.{but-along, alike-made}
 use Rattle.pv_tree.proofs.Made.{made-tied}
 use Rattle.pv_tree.proofs.tree.Tree.make.Goals as goal

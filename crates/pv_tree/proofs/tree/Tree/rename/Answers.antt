@@ -6,8 +6,8 @@ use Rattle.pv_tree.specs.Changes.{moved, settled}
 use Rattle.pv_tree.specs.Holding.{trimmed}
 use Rattle.pv_tree.specs.Rooms.{refusal}
 use Rattle.pv_tree.specs.Standing.{IsTied}
-use Rattle.pv_tree_laws.proofs.Found.{alike-moved}
-use Rattle.pv_tree_laws.proofs.Spelled.{bytes-all}
+use Rattle.pv_laws_trees.proofs.Found.{alike-moved}
+use Rattle.pv_laws_trees.proofs.Spelled.{bytes-all}
 use Rattle.pv_tree.proofs.Counting.{trimmed-tied}
 use Rattle.pv_tree.proofs.Elsewhere.{two-along, alike-refused, alike-renamed}
 use Rattle.pv_tree.proofs.Linking.{found-place}

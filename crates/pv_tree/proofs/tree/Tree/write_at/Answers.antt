@@ -4,7 +4,7 @@ use Rattle.pv_model.specs.Sealed.{is_file}
 use Rattle.pv_model.specs.Tree.{Tree, node_at}
 use Rattle.pv_tree.specs.Changes.{overwritten}
 use Rattle.pv_tree.specs.Rooms.{refusal}
-use Rattle.pv_tree_laws.proofs.Spelled.{bytes-all}
+use Rattle.pv_laws_trees.proofs.Spelled.{bytes-all}
 use Rattle.pv_tree.proofs.Contents.{IsAnswer, file-of, write-answer}
 use Rattle.pv_tree.proofs.Elsewhere.{alike-along, alike-answered, alike-overwritten}
 use Rattle.pv_tree.proofs.tree.Tree.write_at.Goals as goal

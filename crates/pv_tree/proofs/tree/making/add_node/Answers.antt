@@ -2,7 +2,7 @@ use Rattle.std.proofs.Common.{◌<◌, is_some, length, ap, sym, subst, ◌∙�
 use Rattle.pv_model.specs.Room.{greatest_entries}
 use Rattle.pv_model.specs.Tree.{Tree, node_at, entries_at, is_directory_at, find_entry}
 use Rattle.pv_dirs.specs.Trees.{new_node as empty_node, without_node}
-use Rattle.pv_tree_laws.proofs.Changes.{node_at-same}
+use Rattle.pv_laws_trees.proofs.Changes.{node_at-same}
 use Rattle.pv_tree.specs.Changes.{sort_of}
 use Rattle.pv_tree.specs.Rooms.{refusal}
 use Rattle.pv_tree.specs.Standing.{IsShaped}

@@ -1,0 +1,119 @@
+-- Rows of calls that change names, where the tree has no room, and what directories have after them.
+use Rattle.std.proofs.lemmas.Bool.{and_from, and_parts, le-leb}
+use Rattle.std.proofs.Common.{◌≤◌, List, ◌==◌, ◌≡◌, ◌∙◌, ℕ, Bool, true, false, not, nat_lt, [], ◌∷◌, length, Option, None, Some, is_some, refl, sym, ap, arith}
+use Rattle.pv_calls_plain.specs.Space.{space_errno}
+use Rattle.pv_calls_plain.specs.declared.answer.Refused.{Refused}
+use Rattle.pv_calls_path.specs.Reached.{IsMissed, IsReached}
+use Rattle.pv_calls_state.proofs.Attempts.{passed}
+use Rattle.pv_calls_plain.proofs.Room.{crowded}
+use Rattle.pv_calls_path.proofs.Reaching.{reached_then}
+use Rattle.pv_calls_path.proofs.Naming.{but_trim}
+use Rattle.pv_inodes.specs.declared.space.Space.{Space}
+use Rattle.pv_laws_states.specs.States.{IsWhole, IsFinePlace, is_text, is_text_byte, is_byte}
+use Rattle.pv_laws_states.proofs.ByTree.{FineName, named-place}
+use Rattle.pv_laws_states.proofs.Grown.{new-below}
+use Rattle.pv_laws_states.proofs.Standing.{text-bytes}
+use Rattle.pv_laws_trees.proofs.Places.{list_all-weaker, not_zero}
+use Rattle.pv_laws_states.proofs.Trim.{held_after, tree-trim}
+use Rattle.pv_model.specs.declared.follow.Follow.{Follow}
+use Rattle.pv_model.specs.declared.follow.Follow.TheVariants.{Last, Keep}
+use Rattle.pv_model.specs.declared.outcome.Cause.TheVariants.{Plain}
+use Rattle.pv_model.specs.declared.place.Place.{Place}
+use Rattle.pv_model.specs.Attempt.{refused, refuse_if}
+use Rattle.pv_model.specs.declared.errno.Errno.TheVariants.{ENOENT, EINVAL, ENAMETOOLONG, ENOTEMPTY}
+use Rattle.pv_model.specs.Bytes.{Bytes, is_empty}
+use Rattle.pv_model.specs.Calls.Paths.{make, link, symlink, rmdir, ends_in_dot}
+use Rattle.pv_model.specs.Effect.{node_of, name_of}
+use Rattle.pv_model.specs.Held.{trim}
+use Rattle.pv_model.specs.Perms.{permission_r, permission_c}
+use Rattle.pv_model.specs.Room.{fits}
+use Rattle.pv_model.specs.State.{Process, State, with_tree}
+use Rattle.pv_model.specs.Tree.{Node, directory_node, file_node, link_node, node_at, entries_of, entries_at, is_directory, is_directory_at, find_entry, is_node, is_link_text, with_entry, without_entry, with_new_node}
+use Rattle.pv_model.specs.Walks.{from_here}
+use Rattle.pv_tree.specs.Rooms.{refusal}
+use Rattle.pv_laws_trees.specs.Found.{AlikeBut}
+use Rattle.pv_laws_trees.proofs.Edits.{stays-new_node, stays-with_entry, stays-without_entry}
+use Rattle.pv_laws_trees.proofs.Found.{alike-new, alike-with, alike-without}
+
+no_node : (o : Option ℕ) → is_some o ≡ false → o ≡ None
+no_node None is = refl
+no_node (Some n) is = cc
+
+pub no_entries : (o : Option Node) → is_directory o ≡ false → entries_of o ≡ []
+no_entries None plain = refl
+no_entries (Some (directory_node es)) plain = cc
+no_entries (Some (file_node executable bytes)) plain = refl
+no_entries (Some (link_node text)) plain = refl
+
+pub some_left : {X : Type 0} (xs : List X) (r : Bool) → (xs ≡ [] → r ≡ true) → r ≡ false → is_empty xs ≡ false
+some_left [] r says is = let yes = says refl in cc
+some_left (x ∷ xs) r says is = refl
+
+pub empty_by_length : (text : Bytes) → (length text == 0) ≡ false → is_empty text ≡ false
+empty_by_length [] is = cc
+empty_by_length (b ∷ bs) is = refl
+
+-- a text of a program that is neither empty nor too long may be a link's
+pub link_text_good : (text : Bytes) → is_text text ≡ true → is_empty text ≡ false → length text ≤ 1023 → is_link_text text ≡ true
+link_text_good text is filled short =
+    and_from _ _ (and_from _ _ (ap not filled) (le-leb (length text) 1023 short))
+    (list_all-weaker is_text_byte not_zero (λ b good. (and_parts (not_zero b) (is_byte b) good).0) text (text-bytes text is))
+
+module _ (s : State) (pid : ℕ) (me : Process) where
+  pub symlink_makes : (text path : Bytes) → is_empty text ≡ false → nat_lt 1023 (length text) ≡ false → symlink s pid me text path ≡ make s pid me (from_here Keep path permission_c) (link_node text)
+  symlink_makes text path filled short =
+      passed (refuse_if ENOENT (is_empty text)) tt _ (ap (refuse_if ENOENT) filled)
+      ∙ passed (refuse_if ENAMETOOLONG (nat_lt 1023 (length text))) tt (make s pid me (from_here Keep path permission_c) (link_node text)) (ap (refuse_if ENAMETOOLONG) short)
+
+  pub rmdir_missed : (path : Bytes) → ends_in_dot path ≡ false → (r : Refused) → IsMissed s me me.directory Keep path permission_c r → rmdir s pid me path ≡ refused r.walks r.errno r.cause
+  rmdir_missed path fine r missed = passed (refuse_if EINVAL (ends_in_dot path)) tt _ (ap (refuse_if EINVAL) fine) ∙ missed _
+
+  pub rmdir_full : (path : Bytes) → ends_in_dot path ≡ false → (place : Place) → IsReached s me me.directory Keep path permission_c place → (n : ℕ) → node_of place ≡ Some n
+      → is_directory_at s.tree n ≡ true → (d : ℕ) (name : Bytes) → name_of place ≡ Some (d, name) → is_empty (entries_at s.tree n) ≡ false → rmdir s pid me path ≡ refused 1 ENOTEMPTY Plain
+  rmdir_full path fine place reached n there directory d name named full = rw (fine, reached.walked, reached.judged, there, directory, named, full) refl
+
+  pub make_crowded : (follow : Follow) (path : Bytes) (node : Node) (place : Place) → IsReached s me me.directory follow path permission_c place
+      → is_some (node_of place) ≡ false → (d : ℕ) (name : Bytes) → name_of place ≡ Some (d, name) → (why : Space)
+      → refusal (trim (with_tree s (with_new_node s.tree d name node))).tree ≡ Some why → make s pid me (from_here follow path permission_c) node ≡ refused 1 (space_errno why) Plain
+  make_crowded follow path node place reached free d name named why is =
+      reached_then s me me.directory follow path permission_c place reached _ ∙ rw (free, named, crowded (with_tree s (with_new_node s.tree d name node)) why is) refl
+
+  pub link_crowded : (path new : Bytes) (place other : Place) → IsReached s me me.directory Last path permission_r place → IsReached s me me.directory Keep new permission_c other
+      → (n : ℕ) → node_of place ≡ Some n → is_directory_at s.tree n ≡ false → is_some (node_of other) ≡ false → (d : ℕ) (name : Bytes) → name_of other ≡ Some (d, name) → (why : Space)
+      → refusal (trim (with_tree s (with_entry s.tree d name n))).tree ≡ Some why → link s pid me path new ≡ refused 2 (space_errno why) Plain
+  link_crowded path new place other first second n there plain free d name named why is =
+      rw (first.walked, first.judged, second.walked, second.judged, there, plain, free, named, crowded (with_tree s (with_entry s.tree d name n)) why is) refl
+
+module _ (s : State) (whole : IsWhole s) (place : Place) (fine : IsFinePlace s.tree place) (d : ℕ) (name : Bytes) (named : name_of place ≡ Some (d, name)) where
+  -- the name of a place
+  pub fine_name : FineName s.tree (d, name) (node_of place)
+  fine_name = named-place s.tree place (d, name) fine named
+
+  free_name : is_some (node_of place) ≡ false → find_entry s.tree d name ≡ None
+  free_name free = fine_name.found ∙ no_node (node_of place) free
+
+  -- a new node
+  pub names_made : is_some (node_of place) ≡ false → (node : Node) → is_node s.tree.version node ≡ true → entries_of (Some node) ≡ [] → (new : State)
+      → new ≡ trim (with_tree s (with_new_node s.tree d name node)) → fits new.tree ≡ true → AlikeBut d name (find_entry s.tree) (find_entry new.tree)
+  names_made free node good bare new is fit =
+      let u : State = with_tree s (with_new_node s.tree d name node) in
+      let below = new-below s whole d name node (held_after u) fine_name.directory (free_name free) bare (λ n is. is) (ap fits (sym (tree-trim u)) ∙ ap (λ (x : State). fits x.tree) (sym is) ∙ fit) in
+      but_trim d name s u new is
+      (stays-new_node s.tree whole.tree.well_formed d name node (fine_name.directory, fine_name.stands) (free_name free) fine_name.name good bare (omega (arith, whole.tree.well_formed.numbers)))
+      (alike-new s.tree d name node fine_name.directory (free_name free) bare (omega arith))
+
+  -- a further name
+  pub names_linked : is_some (node_of place) ≡ false → (n : ℕ) → is_some (node_at s.tree n) ≡ true → is_directory_at s.tree n ≡ false → (new : State)
+      → new ≡ trim (with_tree s (with_entry s.tree d name n)) → AlikeBut d name (find_entry s.tree) (find_entry new.tree)
+  names_linked free n there plain new is =
+      but_trim d name s (with_tree s (with_entry s.tree d name n)) new is
+      (stays-with_entry s.tree whole.tree.well_formed d name n (fine_name.directory, fine_name.stands) (free_name free) fine_name.name there plain)
+      (alike-with s.tree d name n fine_name.directory)
+
+  -- a name less
+  pub names_left : (n : ℕ) → node_of place ≡ Some n → entries_at s.tree n ≡ [] → (new : State)
+      → new ≡ trim (with_tree s (without_entry s.tree d name)) → AlikeBut d name (find_entry s.tree) (find_entry new.tree)
+  names_left n there bare new is =
+      but_trim d name s (with_tree s (without_entry s.tree d name)) new is
+      (stays-without_entry s.tree whole.tree.well_formed d name n (fine_name.found ∙ there) bare)
+      (alike-without s.tree d name fine_name.directory)

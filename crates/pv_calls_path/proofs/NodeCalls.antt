@@ -1,0 +1,86 @@
+-- Rows that go on with the node at the end of a walk: chdir(2) and execve(2).
+use Rattle.std.proofs.Common.{◌≡◌, ◌∙◌, ℕ, Bool, true, false, not, Option, None, Some, Result, Err, option_map, refl, ap, subst}
+use Rattle.pv_calls_path.specs.Reached.{IsFound}
+use Rattle.pv_dirs.specs.Trees.{sort_of}
+use Rattle.pv_model.specs.declared.errno.Errno.TheVariants.{EACCES, ENOEXEC, ENOTDIR}
+use Rattle.pv_model.specs.declared.fault.ParseFault.{ParseFault}
+use Rattle.pv_model.specs.declared.fault.ParseFault.TheVariants.{Line}
+use Rattle.pv_model.specs.declared.fault.What.{What}
+use Rattle.pv_model.specs.declared.follow.Follow.TheVariants.{Last}
+use Rattle.pv_model.specs.declared.outcome.Cause.TheVariants.{Plain}
+use Rattle.pv_model.specs.declared.sort.Kind.{Kind}
+use Rattle.pv_model.specs.declared.sort.Kind.TheVariants.{Executable}
+use Rattle.pv_model.specs.Attempt.{Attempt, done, refused, after_walks, demand, refuse_if, ◌>>=◌, ◌>>◌}
+use Rattle.pv_model.specs.Bytes.{Bytes}
+use Rattle.pv_model.specs.Calls.Paths.{chdir}
+use Rattle.pv_model.specs.Calls.Processes.{execve, executable_bytes, with_program}
+use Rattle.pv_model.specs.Effect.{Effect, answers, bytes_of, returns}
+use Rattle.pv_model.specs.Grammar.Programs.{program_of}
+use Rattle.pv_model.specs.Perms.{permission_r, permission_x}
+use Rattle.pv_model.specs.State.{Process, Program, State, with_process}
+use Rattle.pv_model.specs.Tree.{Node, directory_node, file_node, link_node, is_directory_at, node_at}
+use Rattle.pv_calls_state.specs.Changes.{with_directory}
+use Rattle.pv_script.specs.Reading.{RefusesProgram}
+use Rattle.pv_calls_state.proofs.Attempts.{given, passed, refused_before, refused_first}
+
+module _ (s : State) (pid : ℕ) (me : Process) (path : Bytes) (n : ℕ) (found : IsFound s me me.directory Last path permission_r n) where
+  -- what chdir does with the node that it finds
+  chdir_rest : ℕ → Attempt Effect
+  chdir_rest n = refuse_if ENOTDIR (not (is_directory_at s.tree n)) >> answers (with_process s pid (with_directory n me)) 0
+
+  pub chdir_refused : is_directory_at s.tree n ≡ false → chdir s pid me path ≡ refused 1 ENOTDIR Plain
+  unfolding chdir_rest
+  chdir_refused other =
+      found chdir_rest
+      ∙ ap (after_walks 1)
+      (refused_before (refuse_if ENOTDIR (not (is_directory_at s.tree n))) (answers (with_process s pid (with_directory n me)) 0) 0 ENOTDIR Plain (ap (λ b. refuse_if ENOTDIR (not b)) other))
+
+  pub chdir_goes : is_directory_at s.tree n ≡ true → chdir s pid me path ≡ done 1 (with_process s pid (with_directory n me), returns 0)
+  unfolding chdir_rest
+  chdir_goes directory =
+      found chdir_rest
+      ∙ ap (after_walks 1) (passed (refuse_if ENOTDIR (not (is_directory_at s.tree n))) tt (answers (with_process s pid (with_directory n me)) 0) (ap (λ b. refuse_if ENOTDIR (not b)) directory))
+
+-- what is no executable file has no bytes to execute, and one has its own
+pub no_bytes : (o : Option Node) (k : Kind) (differs : Bool) → option_map sort_of o ≡ Some k → (k ≡ Executable → differs ≡ false) → differs ≡ true → executable_bytes o ≡ None
+no_bytes None k differs is same told = refl
+no_bytes (Some (directory_node entries)) k differs is same told = refl
+no_bytes (Some (file_node false bytes)) k differs is same told = refl
+no_bytes (Some (file_node true bytes)) k differs is same told = let executable : k ≡ Executable = cc in let no = same executable in cc
+no_bytes (Some (link_node text)) k differs is same told = refl
+
+pub own_bytes : (o : Option Node) (k : Kind) → option_map sort_of o ≡ Some k → k ≡ Executable → executable_bytes o ≡ Some (bytes_of o)
+own_bytes None k is executable = cc
+own_bytes (Some (directory_node entries)) k is executable = cc
+own_bytes (Some (file_node false bytes)) k is executable = cc
+own_bytes (Some (file_node true bytes)) k is executable = refl
+own_bytes (Some (link_node text)) k is executable = cc
+
+-- a fault of a line is a program's, so there is none
+pub unspelled : (fault : ParseFault) (line : ℕ) (what : What) (read : Result Program ParseFault) → fault ≡ Line line what → RefusesProgram fault read → read ≡ Err (Line line what)
+unspelled fault line what read is refuses = subst (λ (f : ParseFault). RefusesProgram f read) is refuses
+
+module _ (s : State) (pid : ℕ) (me : Process) (path : Bytes) (n : ℕ) (found : IsFound s me me.directory Last path permission_x n) where
+  -- what execve does with the bytes of an executable file, and with the node that it finds
+  load_rest : Bytes → Attempt Effect
+  load_rest bytes = demand ENOEXEC (program_of bytes) >>= (λ program. answers (with_process s pid (with_program s pid me program)) 0)
+
+  execve_rest : ℕ → Attempt Effect
+  execve_rest n = demand EACCES (executable_bytes (node_at s.tree n)) >>= load_rest
+
+  pub execve_refused : executable_bytes (node_at s.tree n) ≡ None → execve s pid me program_of path ≡ refused 1 EACCES Plain
+  unfolding execve_rest load_rest
+  execve_refused other = found execve_rest ∙ ap (after_walks 1) (refused_first (demand EACCES (executable_bytes (node_at s.tree n))) load_rest 0 EACCES Plain (ap (demand EACCES) other))
+
+  module _ (bytes : Bytes) (has : executable_bytes (node_at s.tree n) ≡ Some bytes) where
+    loads : execve s pid me program_of path ≡ after_walks 1 (load_rest bytes)
+    unfolding execve_rest load_rest
+    loads = found execve_rest ∙ ap (after_walks 1) (given (demand EACCES (executable_bytes (node_at s.tree n))) bytes load_rest (ap (demand EACCES) has))
+
+    pub execve_unspelled : program_of bytes ≡ None → execve s pid me program_of path ≡ refused 1 ENOEXEC Plain
+    unfolding load_rest
+    execve_unspelled none = loads ∙ ap (after_walks 1) (refused_first (demand ENOEXEC (program_of bytes)) _ 0 ENOEXEC Plain (ap (demand ENOEXEC) none))
+
+    pub execve_goes : (program : Program) → program_of bytes ≡ Some program → execve s pid me program_of path ≡ done 1 (with_process s pid (with_program s pid me program), returns 0)
+    unfolding load_rest
+    execve_goes program spelled = loads ∙ ap (after_walks 1) (given (demand ENOEXEC (program_of bytes)) program _ (ap (demand ENOEXEC) spelled))

@@ -1,0 +1,75 @@
+-- A walk with its judgement, as the parts make it.
+use Rattle.std.proofs.Common.{◌≡◌, ◌∙◌, ℕ, true, if◌then◌else◌, nat_le, nat_lt, [], ◌∷◌, length, Option, Some, Ok, Err, option_map, refl, sym, ap, arith}
+use Rattle.std.proofs.lemmas.Bool.Decides.{nat_tests}
+use Rattle.pv_calls_path.specs.Reached.{IsReached, IsStopped}
+use Rattle.pv_laws_states.specs.States.{IsWhole, is_text, IsFinePlace}
+use Rattle.pv_laws_states.proofs.Standing.{resolve-fine}
+use Rattle.pv_model.specs.declared.errno.Errno.{Errno}
+use Rattle.pv_model.specs.declared.errno.Errno.TheVariants.{ENAMETOOLONG}
+use Rattle.pv_model.specs.declared.follow.Follow.{Follow}
+use Rattle.pv_model.specs.declared.judgement.Judgement.{Judgement}
+use Rattle.pv_model.specs.declared.outcome.Cause.{Cause}
+use Rattle.pv_model.specs.declared.outcome.Cause.TheVariants.{Plain}
+use Rattle.pv_model.specs.declared.perms.Perms.{Perms}
+use Rattle.pv_model.specs.declared.place.Place.{Place}
+use Rattle.pv_model.specs.declared.place.Place.TheVariants.{At, Node as Unnamed}
+use Rattle.pv_model.specs.Attempt.{Attempt, done, refused, after_walks, ◌>>=◌, ◌>>◌}
+use Rattle.pv_model.specs.Bytes.{Bytes}
+use Rattle.pv_model.specs.Effect.{Effect, walk_from, judge_for, judgement_or_refusal}
+use Rattle.pv_model.specs.State.{Process, State, process_at}
+use Rattle.pv_model.specs.Tree.{Tree, is_directory_at}
+use Rattle.pv_model.specs.Unveil.{judgement}
+use Rattle.pv_model.specs.Walk.{Walked, resolve, begins_walk}
+use Rattle.pv_procs.specs.declared.record.ProcessRecord.{ProcessRecord}
+use Rattle.pv_procs.specs.Parts.{record_of}
+use Rattle.pv_calls_state.proofs.Attempts.{after_none}
+use Rattle.pv_unveil.specs.Up.{directory_of}
+
+short : (n : ℕ) (rest : Walked) (place : Place) → (if nat_lt 1023 n then Err ENAMETOOLONG else rest) ≡ Ok place → nat_le n 1023 ≡ true
+short n rest place = grind (arith, nat_tests)
+
+-- a walk that leads somewhere was begun
+pub begun : (t : Tree) (follow : Follow) (start : ℕ) (path : Bytes) (place : Place) → resolve t follow start path ≡ Ok place → begins_walk path ≡ true
+unfolding resolve
+begun t follow start [] place found = cc
+begun t follow start (b ∷ bs) place found = short (length (b ∷ bs)) _ place found
+
+-- what a live process owns is of that process
+pub recorded : (o : Option Process) (me : Process) (r : ProcessRecord) → o ≡ Some me → option_map record_of o ≡ Some r → record_of me ≡ r
+recorded o me r at is = let e = rw at at is in cc
+
+-- what its table says
+pub judged_as : (s : State) (pid : ℕ) (me : Process) → process_at s pid ≡ Some me → (r : ProcessRecord) → option_map record_of (process_at s pid) ≡ Some r
+    → (t : Tree) → t ≡ s.tree → (place : Place) (needed : Perms) (j : Judgement) → j ≡ judgement t r.unveiled.table place needed → judgement s.tree me.table place needed ≡ j
+judged_as s pid me at r is t same place needed j said =
+    ap (λ table. judgement s.tree table place needed) (ap (λ x. x.unveiled.table) (recorded (process_at s pid) me r at is))
+    ∙ ap (λ u. judgement u r.unveiled.table place needed) (sym same) ∙ sym said
+
+pub fine_directory : (t : Tree) (place : Place) → IsFinePlace t place → is_directory_at t (directory_of place) ≡ true
+fine_directory t (Unnamed n) is = is
+fine_directory t (At d name n) is = is.0
+
+module _ (s : State) (start : ℕ) (follow : Follow) (path : Bytes) where
+  pub walk_found : (place : Place) → resolve s.tree follow start path ≡ Ok place → walk_from s start follow path ≡ done 1 place
+  walk_found place found = rw (begun s.tree follow start path place found, found) refl
+
+  -- an error of the walk
+  pub walk_refused : (walks : ℕ) (e : Errno) → walks ≡ (if begins_walk path then 1 else 0) → resolve s.tree follow start path ≡ Err e
+      → (next : Place → Attempt Effect) → (walk_from s start follow path >>= next) ≡ refused walks e Plain
+  walk_refused walks e begins found next = rw (found, sym begins) refl
+
+  -- the place is good
+  pub found_fine : IsWhole s → is_directory_at s.tree start ≡ true → is_text path ≡ true → (place : Place) → resolve s.tree follow start path ≡ Ok place → IsFinePlace s.tree place
+  found_fine whole directory text place found = resolve-fine s.tree whole.tree follow start path place directory text found
+
+  -- the table refuses the place
+  pub judged_stop : (me : Process) (needed : Perms) (place : Place) (j : Judgement) (e : Errno) (cause : Cause)
+      → walk_from s start follow path ≡ done 1 place → judgement s.tree me.table place needed ≡ j
+      → judgement_or_refusal j ≡ refused 0 e cause → IsStopped s me start follow path needed (record { walks = 1; errno = e; cause = cause })
+  judged_stop me needed place j e cause walked judged refuses rest = rw (walked, judged, refuses) refl
+
+-- after a walk that leads somewhere there is the rest, one walk later
+pub reached_then : (s : State) (me : Process) (start : ℕ) (follow : Follow) (path : Bytes) (needed : Perms) (place : Place)
+    → IsReached s me start follow path needed place → (rest : Place → Attempt Effect)
+    → (walk_from s start follow path >>= (λ place. judge_for s me place needed >> rest place)) ≡ after_walks 1 (rest place)
+reached_then s me start follow path needed place is rest = rw (is.walked, is.judged) (ap (after_walks 1) (after_none (rest place)))

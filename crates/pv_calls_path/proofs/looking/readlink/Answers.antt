@@ -1,0 +1,68 @@
+use Rattle.std.proofs.Common.{◌≡◌, ◌∙◌, ◌≤◌, true, false, length, refl, ap, ap₂, sym, subst}
+use Rattle.pv_dirs.specs.Trees.{bytes_at}
+use Rattle.pv_model.specs.declared.errno.Errno.TheVariants.{EINVAL}
+use Rattle.pv_model.specs.declared.outcome.Cause.TheVariants.{Plain}
+use Rattle.pv_model.specs.Answer.{answer_by_attempt}
+use Rattle.pv_model.specs.Attempt.{done, refused}
+use Rattle.pv_model.specs.Calls.Descriptors.{is_link}
+use Rattle.pv_model.specs.Effect.{returns_bytes}
+use Rattle.pv_model.specs.State.{process_at}
+use Rattle.pv_model.specs.Tree.{find_entry, node_at}
+use Rattle.pv_calls_state.proofs.Alone.{some-at}
+use Rattle.pv_calls_path.proofs.LookCalls.{link_rest, names-refused, names-told, readlink-is, readlink-not, text-short, whole-text}
+use Rattle.pv_calls_path.proofs.looking.readlink.Goals as goal
+
+pub returns-in-Err-clause-performed : goal.returns-in-Err-clause-performed
+returns-in-Err-clause-performed g c = λ before me at.
+    let s = c.args.parts.now in
+    let r = c.in-Err.refused in
+    ap (answer_by_attempt before s c.args.pid me) (c.in-Err.ensures.missed me at (λ _. link_rest s))
+    ∙ c.tell.ensures.told before s me (refused r.walks r.errno r.cause) refl refl
+
+pub returns-in-Err-clause-agrees : goal.returns-in-Err-clause-agrees
+returns-in-Err-clause-agrees g c =
+    let s = c.args.parts.now in
+    let r = c.in-Err.refused in
+    let new = c.tell.new.parts in
+    let me = some-at (process_at s c.args.pid) c.requires.live in
+    g.met.L.Lookup.same_answers c.reach_node.new.lookup (find_entry s.tree) (find_entry new.tree) c.in-Err.ensures.agrees
+    (names-refused s c.args.pid me.0 r new c.tell.result (c.tell.ensures.told s s me.0 (refused r.walks r.errno r.cause) refl refl))
+
+pub returns-then-not-is_link-clause-performed : goal.returns-then-not-is_link-clause-performed
+returns-then-not-is_link-clause-performed g c = λ before me at.
+    let s = c.args.parts.now in
+    let n = c.in-Ok.node in
+    let other : is_link (node_at s.tree n) ≡ false = ap (λ t. is_link (node_at t n)) (sym c.tree.ensures) ∙ sym c.is_link.ensures ∙ c.if-not-is_link.true in
+    ap (answer_by_attempt before s c.args.pid me) (readlink-not s c.args.pid me c.args.path.now n (c.in-Ok.ensures.found me at) other)
+    ∙ c.tell-then-not-is_link.ensures.told before s me (refused 1 EINVAL Plain) (rw c.refusal.ensures refl) refl
+
+pub returns-then-not-is_link-clause-agrees : goal.returns-then-not-is_link-clause-agrees
+returns-then-not-is_link-clause-agrees g c =
+    let s = c.args.parts.now in
+    let r = c.refusal.result in
+    let new = c.tell-then-not-is_link.new.parts in
+    let me = some-at (process_at s c.args.pid) c.requires.live in
+    g.met.L.Lookup.same_answers c.reach_node.new.lookup (find_entry s.tree) (find_entry new.tree) c.in-Ok.ensures.agrees
+    (names-refused s c.args.pid me.0 r new c.tell-then-not-is_link.result
+    (c.tell-then-not-is_link.ensures.told s s me.0 (refused r.walks r.errno r.cause) refl refl))
+
+pub returns-clause-performed : goal.returns-clause-performed
+returns-clause-performed g c = λ before me at.
+    let s = c.args.parts.now in
+    let n = c.in-Ok.node in
+    let link : is_link (node_at s.tree n) ≡ true = ap (λ t. is_link (node_at t n)) (sym c.tree.ensures) ∙ sym c.is_link.ensures ∙ c.if-not-is_link.false in
+    let short = subst (λ t. length (bytes_at t n) ≤ 1023) (sym c.tree-2.ensures) (text-short s c.requires.whole n link) in
+    let read = whole-text c.read_at-length.result (bytes_at c.tree-2.result.now.tree n) _ c.read_at-length.new.buffer short refl c.read_at-length.ensures.count c.read_at-length.ensures.bytes in
+    let same = ap (λ t. bytes_at t n) c.tree-2.ensures in
+    ap (answer_by_attempt before s c.args.pid me)
+    (readlink-is s c.args.pid me c.args.path.now n (c.in-Ok.ensures.found me at) link
+    ∙ ap₂ (λ k bs. done 1 (s, returns_bytes k bs)) (ap length (sym same) ∙ sym read.0) (sym same ∙ sym read.1))
+    ∙ c.tell_bytes.ensures before s s me c.facts.ensures.trimmed
+
+pub returns-clause-agrees : goal.returns-clause-agrees
+returns-clause-agrees g c =
+    let s = c.args.parts.now in
+    let new = c.tell_bytes.new.parts in
+    let me = some-at (process_at s c.args.pid) c.requires.live in
+    g.met.L.Lookup.same_answers c.reach_node.new.lookup (find_entry s.tree) (find_entry new.tree) c.in-Ok.ensures.agrees
+    (names-told s c.requires.whole c.args.pid me.0 1 _ _ new c.tell_bytes.result (c.tell_bytes.ensures s s s me.0 c.facts.ensures.trimmed))

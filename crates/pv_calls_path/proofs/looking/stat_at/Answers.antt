@@ -1,0 +1,41 @@
+use Rattle.std.proofs.Common.{◌∙◌, refl, ap, sym}
+use Rattle.pv_model.specs.Answer.{answer_by_attempt}
+use Rattle.pv_model.specs.Attempt.{done, refused}
+use Rattle.pv_model.specs.Effect.{answers_bytes, returns_bytes, status}
+use Rattle.pv_model.specs.State.{process_at}
+use Rattle.pv_model.specs.Tree.{find_entry}
+use Rattle.pv_calls_state.proofs.Alone.{some-at}
+use Rattle.pv_calls_path.proofs.LookCalls.{names-refused, names-told}
+use Rattle.pv_calls_path.proofs.looking.stat_at.Goals as goal
+
+pub returns-in-Ok-clause-performed : goal.returns-in-Ok-clause-performed
+returns-in-Ok-clause-performed g c = λ before me at.
+    let s = c.args.parts.now in
+    let bytes = c.status-bytes.ensures ∙ ap (λ t. status t c.in-Ok.node) c.tree.ensures in
+    ap (answer_by_attempt before s c.args.pid me)
+    (c.in-Ok.ensures.found me at (λ n. answers_bytes s 0 (status s.tree n)) ∙ ap (λ bs. done 1 (s, returns_bytes 0 bs)) (sym bytes))
+    ∙ c.tell_bytes.ensures before s s me c.facts.ensures.trimmed
+
+pub returns-in-Ok-clause-agrees : goal.returns-in-Ok-clause-agrees
+returns-in-Ok-clause-agrees g c =
+    let s = c.args.parts.now in
+    let new = c.tell_bytes.new.parts in
+    let me = some-at (process_at s c.args.pid) c.requires.live in
+    g.met.L.Lookup.same_answers c.reach_node.new.lookup (find_entry s.tree) (find_entry new.tree) c.in-Ok.ensures.agrees
+    (names-told s c.requires.whole c.args.pid me.0 1 0 c.status-bytes.result new c.tell_bytes.result (c.tell_bytes.ensures s s s me.0 c.facts.ensures.trimmed))
+
+pub returns-in-Err-clause-performed : goal.returns-in-Err-clause-performed
+returns-in-Err-clause-performed g c = λ before me at.
+    let s = c.args.parts.now in
+    let r = c.in-Err.refused in
+    ap (answer_by_attempt before s c.args.pid me) (c.in-Err.ensures.missed me at (λ _ n. answers_bytes s 0 (status s.tree n)))
+    ∙ c.tell.ensures.told before s me (refused r.walks r.errno r.cause) refl refl
+
+pub returns-in-Err-clause-agrees : goal.returns-in-Err-clause-agrees
+returns-in-Err-clause-agrees g c =
+    let s = c.args.parts.now in
+    let r = c.in-Err.refused in
+    let new = c.tell.new.parts in
+    let me = some-at (process_at s c.args.pid) c.requires.live in
+    g.met.L.Lookup.same_answers c.reach_node.new.lookup (find_entry s.tree) (find_entry new.tree) c.in-Err.ensures.agrees
+    (names-refused s c.args.pid me.0 r new c.tell.result (c.tell.ensures.told s s me.0 (refused r.walks r.errno r.cause) refl refl))

@@ -1,0 +1,31 @@
+use Rattle.std.proofs.Common.{◌≡◌, ◌∙◌, ap, sym, true, false, is_some}
+use Rattle.std.proofs.lemmas.Result.{err_from_is_err_and}
+use Rattle.pv_calls_state.specs.Attempts.{trimmed}
+use Rattle.pv_model.specs.Effect.{node_of}
+use Rattle.pv_model.specs.Tree.{find_entry}
+use Rattle.pv_model.specs.Room.{fits}
+use Rattle.pv_calls_path.proofs.NameCalls.{make_crowded, names_made}
+use Rattle.pv_tree.proofs.Making.{new-entries}
+use Rattle.pv_tree.specs.Changes.{new_node}
+use Rattle.pv_calls_path.proofs.names.make.Goals as goal
+
+pub returns-in_err-place-clause-performed : goal.returns-in_err-place-clause-performed
+returns-in_err-place-clause-performed g c =
+    let p = err_from_is_err_and c.from_residual.result c.from_residual.ensures.1 in
+    λ me at. rw (p.1, p.2) (ap trimmed (c.in_err-place.ensures.stopped me at _))
+
+pub returns-in-Err-clause-performed : goal.returns-in-Err-clause-performed
+returns-in-Err-clause-performed g c =
+    let free : is_some (node_of c.in_ok-place.place) ≡ false = ap is_some c.in_ok-directory.ensures.free in
+    λ me at. rw (c.refusal.ensures, c.space_errno.ensures)
+    (ap trimmed (make_crowded c.args.parts.now c.args.pid me c.args.follow c.args.path.now (new_node c.args.kind) c.in_ok-place.place (c.in_ok-place.ensures.reached me at) free
+    c.in_ok-directory.directory c.in_ok-directory.name.now c.in_ok-directory.ensures.name c.in-Err.space c.in-Err.ensures.refused))
+
+pub returns-clause-agrees : goal.returns-clause-agrees
+returns-clause-agrees g c =
+    let s = c.args.parts.now in
+    let free : is_some (node_of c.in_ok-place.place) ≡ false = ap is_some c.in_ok-directory.ensures.free in
+    let fit : fits c.make.new.self.tree ≡ true = ap fits (sym c.tree.ensures) ∙ c.sizes.ensures.standing.fits in
+    c.changed.ensures (find_entry s.tree) (find_entry c.make.new.self.tree) c.reach.ensures.agrees
+    (names_made s c.requires.whole c.in_ok-place.place c.in_ok-place.ensures.fine c.in_ok-directory.directory c.in_ok-directory.name.now c.in_ok-directory.ensures.name free
+    (new_node c.args.kind) c.requires.node (new-entries c.args.kind) c.make.new.self c.in_default.ensures.made fit)

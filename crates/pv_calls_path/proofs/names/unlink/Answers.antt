@@ -1,0 +1,19 @@
+use Rattle.std.proofs.Common.{◌≡◌, ◌∙◌, ap, sym, false}
+use Rattle.std.proofs.lemmas.Result.{err_from_is_err_and}
+use Rattle.pv_calls_state.specs.Attempts.{trimmed}
+use Rattle.pv_model.specs.Tree.{find_entry, is_directory_at, node_at}
+use Rattle.pv_calls_path.proofs.NameCalls.{no_entries, names_left}
+use Rattle.pv_calls_path.proofs.names.unlink.Goals as goal
+
+pub returns-in_err-found-clause-performed : goal.returns-in_err-found-clause-performed
+returns-in_err-found-clause-performed g c =
+    let p = err_from_is_err_and c.from_residual.result c.from_residual.ensures.1 in
+    λ me at. rw (p.1, p.2) (ap trimmed (c.in_err-found.ensures.missed me at _))
+
+pub returns-clause-agrees : goal.returns-clause-agrees
+returns-clause-agrees g c =
+    let s = c.args.parts.now in
+    let plain : is_directory_at s.tree c.in_ok-found.found.node ≡ false = ap (λ t. is_directory_at t c.in_ok-found.found.node) (sym c.tree.ensures) ∙ sym c.is_directory.ensures ∙ c.if-is_directory.false in
+    c.changed.ensures (find_entry s.tree) (find_entry c.unlink.new.self.tree) c.reach_found.ensures.agrees
+    (names_left s c.requires.whole c.in_ok-found.found.place c.in_ok-found.ensures.fine c.in-Some.directory c.in-Some.name.now c.in-Some.ensures
+    c.in_ok-found.found.node c.in_ok-found.ensures.there (no_entries (node_at s.tree c.in_ok-found.found.node) plain) c.unlink.new.self c.unlink.ensures)

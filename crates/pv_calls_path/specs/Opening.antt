@@ -1,0 +1,24 @@
+-- The parts of open(2).
+use Rattle.std.specs.Prelude.{ℕ, not, ◌&&◌, is_some, is_none, option_and_then}
+use Rattle.pv_model.specs.declared.errno.Errno.TheVariants.{EEXIST, ENOENT, ENOTDIR, EISDIR, ELOOP}
+use Rattle.pv_model.specs.declared.open_flags.OpenFlags.{OpenFlags}
+use Rattle.pv_model.specs.declared.place.Place.{Place}
+use Rattle.pv_model.specs.Attempt.{Attempt, ◌>>=◌, ◌>>◌, refuse_if}
+use Rattle.pv_model.specs.Calls.Descriptors.{is_link, open_node}
+use Rattle.pv_model.specs.Effect.{Effect, answers, with_room, node_of, name_of}
+use Rattle.pv_model.specs.Numbered.{least_free}
+use Rattle.pv_model.specs.State.{Process, State, writes}
+use Rattle.pv_model.specs.Tree.{node_at, is_directory}
+
+-- what is at a place, opened: after the walk and its judgement
+abbrev pub open_place : State → ℕ → Process → OpenFlags → Place → Attempt Effect
+open_place s pid me f place = do
+  let node = option_and_then (node_at s.tree) (node_of place)
+  refuse_if EEXIST (f.create && f.exclusive && is_some node)
+  refuse_if ENOENT (is_none node && not f.create)
+  refuse_if ELOOP (is_link node)
+  refuse_if ENOTDIR (f.directory && not (is_directory node))
+  refuse_if EISDIR (is_directory node && writes f.mode)
+  after ← open_node s pid me f (name_of place) (node_of place)
+  roomy ← with_room after
+  answers roomy (least_free me.descriptors)

@@ -1,0 +1,80 @@
+//! execve(2).
+ghost use Rattle.std.specs.Prelude.{◌≡◌, IsSome, IsTrue, OnErr, Some};
+ghost use Rattle.pv_laws_states.specs.States.{IsWhole, is_text};
+ghost use Rattle.pv_model.specs.declared.outcome.Cause.TheVariants.{Plain};
+ghost use Rattle.pv_model.specs.Calls.Processes.{execve};
+ghost use Rattle.pv_model.specs.Grammar.Programs.{program_of};
+ghost use Rattle.pv_model.specs.State.{Process, process_at};
+ghost use Rattle.pv_model.specs.Tree.{find_entry};
+ghost use Rattle.pv_calls_state.specs.Attempts.{trimmed};
+ghost use Rattle.pv_calls_path.specs.Execve.{Executes};
+
+use crate::links::LinkRoom;
+use crate::programs::read_program;
+use crate::reach::{Walk, reach_node};
+use pv_model::{Errno, Follow, ParseFault, Perms, Kind};
+use pv_namei::Lookup;
+use pv_calls_state::Parts;
+use pv_calls_plain::answer::{Done, Refused, refusal};
+use std::alloc::Global;
+
+/// Why a process has no other program.
+#[derive(Clone, Copy, Debug, PartialEq, Eq)]
+pub enum ExecveFault {
+    /// The call is refused.
+    Refused(Refused),
+    /// Memory was refused: the call has not been made.
+    Memory,
+}
+
+// A refusal after one walk.
+fn refused(errno: Errno) -> ExecveFault
+    ensures { result ≡ ExecveFault.Refused (record { walks = 1; errno = errno; cause = Plain }) }
+{
+    ExecveFault::Refused(refusal(1, errno))
+}
+
+/// Gives a live process the program that the bytes of an executable file spell, execve(2): the answer is 0.
+///
+/// # Errors
+///
+/// An error of the walk, then of its judgement; `ENOENT` where nothing is there, `EACCES` where no executable file is,
+/// and `ENOEXEC` where its bytes are no program. `Memory` where memory was refused for the program; nothing has then
+/// changed.
+pub fn execve<L: Lookup>(
+    alloc: Global,
+    parts: &mut Parts,
+    lookup: &mut L,
+    links: &mut LinkRoom,
+    pid: u32,
+    path: &[u8],
+) -> Result<Done, ExecveFault>
+    requires whole { IsWhole parts.old }
+    requires live { IsSome (process_at parts.old pid) }
+    requires text { IsTrue (is_text path.now) }
+    requires agrees { L.agrees lookup.old (find_entry parts.old.tree) }
+    ensures performed { (me : Process) → process_at parts.old pid ≡ Some me → Executes (trimmed (execve parts.old pid me program_of path.now)) parts.new result }
+    ensures unchanged { OnErr result (parts.new ≡ parts.old) }
+    ensures agrees { L.agrees lookup.new (find_entry parts.new.tree) }
+{
+    let walk = Walk {
+        follow: Follow::Last,
+        path,
+        needed: Perms::X,
+    };
+    let node = match reach_node(parts, lookup, pid, walk, &mut links.first) {
+        Ok(node) => node,
+        Err(why) => return Err(ExecveFault::Refused(why)),
+    };
+    if parts.tree().kind(node) != Kind::Executable {
+        return Err(refused(Errno::EACCES));
+    }
+    match read_program(alloc, parts.tree(), node) {
+        Ok(program) => {
+            parts.load(pid, program);
+            Ok(Done { walks: 1, value: 0 })
+        }
+        Err(ParseFault::Line(..)) => Err(refused(Errno::ENOEXEC)),
+        Err(ParseFault::Memory) => Err(ExecveFault::Memory),
+    }
+}

@@ -1,0 +1,132 @@
+//! Calls that tell what is at a path: stat(2), lstat(2), readlink(2).
+ghost use Rattle.std.specs.Prelude.{IsSome, IsTrue};
+ghost use Rattle.pv_laws_states.specs.States.{IsWhole, is_text};
+ghost use Rattle.pv_model.specs.Calls.Paths.{lstat, readlink, stat, stat_at};
+ghost use Rattle.pv_model.specs.Perms.{permission_r};
+ghost use Rattle.pv_model.specs.State.{process_at};
+ghost use Rattle.pv_model.specs.Tree.{find_entry};
+ghost use Rattle.pv_model.specs.Walks.{from_here};
+ghost use Rattle.pv_calls_plain.specs.Rows.{IsAnswered};
+
+use crate::links::LinkRoom;
+use crate::opening::is_link;
+use crate::reach::{Walk, reach_node};
+use pv_model::limits::LINK_TEXT;
+use pv_model::{Errno, Follow, Perms};
+use pv_namei::Lookup;
+use pv_calls_state::Parts;
+use pv_calls_plain::answer::{Answer, Done, refusal, tell, tell_bytes};
+use pv_calls_plain::status::status;
+
+// Tells what is at the end of a walk.
+fn stat_at<L: Lookup>(
+    parts: &mut Parts,
+    lookup: &mut L,
+    links: &mut LinkRoom,
+    pid: u32,
+    follow: Follow,
+    path: &[u8],
+) -> Answer
+    requires whole { IsWhole parts.old }
+    requires live { IsSome (process_at parts.old pid) }
+    requires text { IsTrue (is_text path.now) }
+    requires agrees { L.agrees lookup.old (find_entry parts.old.tree) }
+    ensures performed { IsAnswered (λ s me. stat_at s pid me (from_here follow path.now permission_r)) parts.old pid parts.new result }
+    ensures agrees { L.agrees lookup.new (find_entry parts.new.tree) }
+{
+    let walk = Walk {
+        follow,
+        path,
+        needed: Perms::R,
+    };
+    match reach_node(parts, lookup, pid, walk, &mut links.first) {
+        Ok(node) => {
+            parts.facts();
+            let bytes = status(parts.tree(), node);
+            tell_bytes(parts, pid, Done { walks: 1, value: 0 }, &bytes)
+        }
+        Err(refused) => tell(parts, pid, Err(refused)),
+    }
+}
+
+/// Tells eight bytes of what is at a path, after a final link, stat(2): they come to the front of the buffer, and the
+/// answer is 0.
+///
+/// An error of the walk refuses it, then one of its judgement, and `ENOENT` where nothing is there.
+pub fn stat<L: Lookup>(
+    parts: &mut Parts,
+    lookup: &mut L,
+    links: &mut LinkRoom,
+    pid: u32,
+    path: &[u8],
+) -> Answer
+    requires whole { IsWhole parts.old }
+    requires live { IsSome (process_at parts.old pid) }
+    requires text { IsTrue (is_text path.now) }
+    requires agrees { L.agrees lookup.old (find_entry parts.old.tree) }
+    ensures performed { IsAnswered (λ s me. stat s pid me path.now) parts.old pid parts.new result }
+    ensures agrees { L.agrees lookup.new (find_entry parts.new.tree) }
+{
+    stat_at(parts, lookup, links, pid, Follow::Last, path)
+}
+
+/// The same of a final link itself, lstat(2).
+///
+/// It is refused as `stat` is.
+pub fn lstat<L: Lookup>(
+    parts: &mut Parts,
+    lookup: &mut L,
+    links: &mut LinkRoom,
+    pid: u32,
+    path: &[u8],
+) -> Answer
+    requires whole { IsWhole parts.old }
+    requires live { IsSome (process_at parts.old pid) }
+    requires text { IsTrue (is_text path.now) }
+    requires agrees { L.agrees lookup.old (find_entry parts.old.tree) }
+    ensures performed { IsAnswered (λ s me. lstat s pid me path.now) parts.old pid parts.new result }
+    ensures agrees { L.agrees lookup.new (find_entry parts.new.tree) }
+{
+    stat_at(parts, lookup, links, pid, Follow::Keep, path)
+}
+
+/// Reads the text of a link, readlink(2): it comes to the front of the buffer, and the answer is its length.
+///
+/// An error of the walk refuses it, then one of its judgement, `ENOENT` where nothing is there, and `EINVAL` where no
+/// link is.
+#[inline(never)]
+pub fn readlink<L: Lookup>(
+    parts: &mut Parts,
+    lookup: &mut L,
+    links: &mut LinkRoom,
+    pid: u32,
+    path: &[u8],
+) -> Answer
+    requires whole { IsWhole parts.old }
+    requires live { IsSome (process_at parts.old pid) }
+    requires text { IsTrue (is_text path.now) }
+    requires agrees { L.agrees lookup.old (find_entry parts.old.tree) }
+    ensures performed { IsAnswered (λ s me. readlink s pid me path.now) parts.old pid parts.new result }
+    ensures agrees { L.agrees lookup.new (find_entry parts.new.tree) }
+{
+    let walk = Walk {
+        follow: Follow::Keep,
+        path,
+        needed: Perms::R,
+    };
+    let node = match reach_node(parts, lookup, pid, walk, &mut links.first) {
+        Ok(node) => node,
+        Err(refused) => return tell(parts, pid, Err(refused)),
+    };
+    if !is_link(parts.tree(), node) {
+        return tell(parts, pid, Err(refusal(1, Errno::EINVAL)));
+    }
+    let mut text = [0; LINK_TEXT];
+    let length = parts.tree().read_at(node, 0, &mut text);
+    parts.facts();
+    let told = Done {
+        walks: 1,
+        value: length as u32,
+    };
+    tell_bytes(parts, pid, told, &text[..length])
+}

@@ -1,0 +1,270 @@
+//! Calls that make, take away or change names: mkdir(2), symlink(2), link(2), unlink(2), rmdir(2).
+ghost use Rattle.std.specs.Prelude.{◌≡◌, ◌≤◌, IfErr, IfOk, IsSome, IsTrue, OnErr, None, Some};
+ghost use Rattle.pv_laws_states.specs.States.{IsWhole, is_text};
+ghost use Rattle.pv_model.specs.declared.limits.TheConstants.{NUMBER};
+ghost use Rattle.pv_model.specs.declared.outcome.Cause.TheVariants.{Plain};
+ghost use Rattle.pv_model.specs.Calls.Paths.{make, mkdir, symlink, link, unlink, rmdir};
+ghost use Rattle.pv_model.specs.Effect.{name_of, node_of};
+ghost use Rattle.pv_model.specs.Perms.{permission_c};
+ghost use Rattle.pv_model.specs.State.{Process, process_at};
+ghost use Rattle.pv_model.specs.Tree.{find_entry, is_node};
+ghost use Rattle.pv_model.specs.Walks.{from_here};
+ghost use Rattle.pv_calls_state.specs.Attempts.{trimmed};
+ghost use Rattle.pv_calls_path.specs.Reached.{IsTaken};
+ghost use Rattle.pv_calls_plain.specs.Rows.{attempt_of};
+ghost use Rattle.pv_tree.specs.Changes.{new_node};
+
+use crate::links::LinkRoom;
+use crate::reach::{Walk, reach, reach_both, reach_found};
+use pv_model::limits::LINK_TEXT;
+use pv_model::{Errno, Follow, NewNode, Perms};
+use pv_namei::{Lookup, ends_in_dot};
+use pv_calls_state::Parts;
+use pv_calls_plain::answer::{Done, Refused, answer_of, refusal, space_errno};
+use pv_tree::PlaceRef;
+
+// The directory and the name of a place at which nothing is, after so many walks: `EEXIST` where something is, or the
+// place has no name.
+fn free_name<'a>(place: &PlaceRef<'a>, walks: u8) -> Result<(u16, &'a [u8]), Refused>
+    ensures free { IfOk result (λ _. node_of place.now ≡ None) }
+    ensures name { IfOk result (λ p. name_of place.now ≡ Some (p.0, p.1.now)) }
+    ensures taken { IfErr result (λ _. IsTaken place.now) }
+    ensures refused { IfErr result (λ r. r ≡ record { walks = walks; errno = Errno.EEXIST; cause = Plain }) }
+{
+    match (place.node(), place.name()) {
+        (None, Some(name)) => Ok(name),
+        _ => Err(refusal(walks, Errno::EEXIST)),
+    }
+}
+
+// A new node at a place where there is none: the answer is 0.
+fn make<L: Lookup>(
+    parts: &mut Parts,
+    lookup: &mut L,
+    links: &mut LinkRoom,
+    pid: u32,
+    follow: Follow,
+    path: &[u8],
+    kind: NewNode,
+) -> Result<Done, Refused>
+    requires whole { IsWhole parts.old }
+    requires live { IsSome (process_at parts.old pid) }
+    requires text { IsTrue (is_text path.now) }
+    requires node { IsTrue (is_node parts.old.tree.version (new_node kind)) }
+    requires agrees { L.agrees lookup.old (find_entry parts.old.tree) }
+    ensures performed { (me : Process) → process_at parts.old pid ≡ Some me → trimmed (make parts.old pid me (from_here follow path.now permission_c) (new_node kind.entry)) ≡ attempt_of parts.new result }
+    ensures unchanged { OnErr result (parts.new ≡ parts.old) }
+    ensures small { IfOk result (λ d. d.value ≤ NUMBER) }
+    ensures agrees { L.agrees lookup.new (find_entry parts.new.tree) }
+{
+    let walk = Walk {
+        follow,
+        path,
+        needed: Perms::C,
+    };
+    let place = reach(parts, lookup, pid, walk, &mut links.first)?;
+    let (directory, name) = free_name(&place, 1)?;
+    if let Err(space) = parts.make(directory, name, kind) {
+        return Err(refusal(1, space_errno(space)));
+    }
+    // Its sizes tell with them that the tree has room.
+    let _ = parts.tree().sizes();
+    lookup.changed(directory, name);
+    answer_of(1, 0)
+}
+
+/// Makes a directory, mkdir(2): the answer is 0.
+///
+/// # Errors
+///
+/// An error of the walk, then of its judgement; `EEXIST` where something is there, or the path leads to no name; then
+/// `EFBIG` and `ENOSPC` for want of room.
+pub fn mkdir<L: Lookup>(
+    parts: &mut Parts,
+    lookup: &mut L,
+    links: &mut LinkRoom,
+    pid: u32,
+    path: &[u8],
+) -> Result<Done, Refused>
+    requires whole { IsWhole parts.old }
+    requires live { IsSome (process_at parts.old pid) }
+    requires text { IsTrue (is_text path.now) }
+    requires agrees { L.agrees lookup.old (find_entry parts.old.tree) }
+    ensures performed { (me : Process) → process_at parts.old pid ≡ Some me → trimmed (mkdir parts.old pid me path.now) ≡ attempt_of parts.new result }
+    ensures unchanged { OnErr result (parts.new ≡ parts.old) }
+    ensures small { IfOk result (λ d. d.value ≤ NUMBER) }
+    ensures agrees { L.agrees lookup.new (find_entry parts.new.tree) }
+{
+    let follow = Follow::KeepTrimmed;
+    make(parts, lookup, links, pid, follow, path, NewNode::Directory)
+}
+
+/// Makes a symbolic link with a text, symlink(2): the answer is 0.
+///
+/// # Errors
+///
+/// `ENOENT` where the text is empty, and `ENAMETOOLONG` where it has more than 1,023 bytes; else as `mkdir`.
+pub fn symlink<L: Lookup>(
+    parts: &mut Parts,
+    lookup: &mut L,
+    links: &mut LinkRoom,
+    pid: u32,
+    text: &[u8],
+    path: &[u8],
+) -> Result<Done, Refused>
+    requires whole { IsWhole parts.old }
+    requires live { IsSome (process_at parts.old pid) }
+    requires link { IsTrue (is_text text.now) }
+    requires text { IsTrue (is_text path.now) }
+    requires agrees { L.agrees lookup.old (find_entry parts.old.tree) }
+    ensures performed { (me : Process) → process_at parts.old pid ≡ Some me → trimmed (symlink parts.old pid me text.now path.now) ≡ attempt_of parts.new result }
+    ensures unchanged { OnErr result (parts.new ≡ parts.old) }
+    ensures small { IfOk result (λ d. d.value ≤ NUMBER) }
+    ensures agrees { L.agrees lookup.new (find_entry parts.new.tree) }
+{
+    if text.is_empty() {
+        return Err(refusal(0, Errno::ENOENT));
+    }
+    if text.len() > LINK_TEXT {
+        return Err(refusal(0, Errno::ENAMETOOLONG));
+    }
+    let kind = NewNode::Symlink(text);
+    make(parts, lookup, links, pid, Follow::Keep, path, kind)
+}
+
+/// Gives the node at a path, which is no directory, a further name, link(2): the answer is 0.
+///
+/// # Errors
+///
+/// An error of the first walk, then of its judgement, and the same of the second; `ENOENT` where nothing is at the
+/// first place, and `EPERM` where a directory is; `EEXIST` where something is at the second, or it is no name; then
+/// `EFBIG` and `ENOSPC` for want of room.
+pub fn link<L: Lookup>(
+    parts: &mut Parts,
+    lookup: &mut L,
+    links: &mut LinkRoom,
+    pid: u32,
+    path: &[u8],
+    new: &[u8],
+) -> Result<Done, Refused>
+    requires whole { IsWhole parts.old }
+    requires live { IsSome (process_at parts.old pid) }
+    requires text { IsTrue (is_text path.now) }
+    requires other { IsTrue (is_text new.now) }
+    requires agrees { L.agrees lookup.old (find_entry parts.old.tree) }
+    ensures performed { (me : Process) → process_at parts.old pid ≡ Some me → trimmed (link parts.old pid me path.now new.now) ≡ attempt_of parts.new result }
+    ensures unchanged { OnErr result (parts.new ≡ parts.old) }
+    ensures small { IfOk result (λ d. d.value ≤ NUMBER) }
+    ensures agrees { L.agrees lookup.new (find_entry parts.new.tree) }
+{
+    let old_walk = Walk {
+        follow: Follow::Last,
+        path,
+        needed: Perms::R,
+    };
+    let new_walk = Walk {
+        follow: Follow::Keep,
+        path: new,
+        needed: Perms::C,
+    };
+    let both = reach_both(parts, lookup, pid, old_walk, new_walk, links)?;
+    let node = both.node;
+    if parts.tree().is_directory(node) {
+        return Err(refusal(2, Errno::EPERM));
+    }
+    let (directory, name) = free_name(&both.second, 2)?;
+    if let Err(space) = parts.link(directory, name, node) {
+        return Err(refusal(2, space_errno(space)));
+    }
+    // Its sizes tell with them that the tree has room.
+    let _ = parts.tree().sizes();
+    lookup.changed(directory, name);
+    answer_of(2, 0)
+}
+
+/// Takes the name that a path leads to away from its node, which is no directory, unlink(2): the answer is 0.
+///
+/// # Errors
+///
+/// An error of the walk, then of its judgement; `ENOENT` where nothing is there, and `EPERM` where a directory is.
+pub fn unlink<L: Lookup>(
+    parts: &mut Parts,
+    lookup: &mut L,
+    links: &mut LinkRoom,
+    pid: u32,
+    path: &[u8],
+) -> Result<Done, Refused>
+    requires whole { IsWhole parts.old }
+    requires live { IsSome (process_at parts.old pid) }
+    requires text { IsTrue (is_text path.now) }
+    requires agrees { L.agrees lookup.old (find_entry parts.old.tree) }
+    ensures performed { (me : Process) → process_at parts.old pid ≡ Some me → trimmed (unlink parts.old pid me path.now) ≡ attempt_of parts.new result }
+    ensures unchanged { OnErr result (parts.new ≡ parts.old) }
+    ensures small { IfOk result (λ d. d.value ≤ NUMBER) }
+    ensures agrees { L.agrees lookup.new (find_entry parts.new.tree) }
+{
+    let walk = Walk {
+        follow: Follow::Keep,
+        path,
+        needed: Perms::C,
+    };
+    let found = reach_found(parts, lookup, pid, walk, &mut links.first)?;
+    let node = found.node;
+    if parts.tree().is_directory(node) {
+        return Err(refusal(1, Errno::EPERM));
+    }
+    let Some((directory, name)) = found.place.name() else {
+        return Err(refusal(1, Errno::EPERM));
+    };
+    parts.unlink(directory, name);
+    // What the lookup keeps of this name is no longer so.
+    lookup.changed(directory, name);
+    answer_of(1, 0)
+}
+
+/// Removes the directory at a path, which has no entries, rmdir(2): the answer is 0.
+///
+/// # Errors
+///
+/// `EINVAL` where the path ends in `.` or `..`; an error of the walk, then of its judgement; `ENOENT` where nothing is
+/// there, `ENOTDIR` where no directory is, `EBUSY` where the path leads to no name, and `ENOTEMPTY` where the directory
+/// has an entry.
+pub fn rmdir<L: Lookup>(
+    parts: &mut Parts,
+    lookup: &mut L,
+    links: &mut LinkRoom,
+    pid: u32,
+    path: &[u8],
+) -> Result<Done, Refused>
+    requires whole { IsWhole parts.old }
+    requires live { IsSome (process_at parts.old pid) }
+    requires text { IsTrue (is_text path.now) }
+    requires agrees { L.agrees lookup.old (find_entry parts.old.tree) }
+    ensures performed { (me : Process) → process_at parts.old pid ≡ Some me → trimmed (rmdir parts.old pid me path.now) ≡ attempt_of parts.new result }
+    ensures unchanged { OnErr result (parts.new ≡ parts.old) }
+    ensures small { IfOk result (λ d. d.value ≤ NUMBER) }
+    ensures agrees { L.agrees lookup.new (find_entry parts.new.tree) }
+{
+    if ends_in_dot(path) {
+        return Err(refusal(0, Errno::EINVAL));
+    }
+    let walk = Walk {
+        follow: Follow::Keep,
+        path,
+        needed: Perms::C,
+    };
+    let found = reach_found(parts, lookup, pid, walk, &mut links.first)?;
+    let node = found.node;
+    if !parts.tree().is_directory(node) {
+        return Err(refusal(1, Errno::ENOTDIR));
+    }
+    let Some((directory, name)) = found.place.name() else {
+        return Err(refusal(1, Errno::EBUSY));
+    };
+    if !parts.tree().is_empty(node) {
+        return Err(refusal(1, Errno::ENOTEMPTY));
+    }
+    parts.unlink(directory, name);
+    lookup.changed(directory, name);
+    answer_of(1, 0)
+}

@@ -1,0 +1,214 @@
+//! open(2) and openat(2).
+ghost use Rattle.std.specs.Prelude.{◌≡◌, ◌≤◌, ◌<◌, IfOk, IfErr, IsSome, IsTrue, OnErr, None, Some, false};
+ghost use Rattle.pv_laws_states.specs.States.{IsFinePlace, IsWhole, is_text};
+ghost use Rattle.pv_model.specs.declared.limits.TheConstants.{DESCRIPTORS, NUMBER, OPEN_FILES};
+ghost use Rattle.pv_model.specs.declared.outcome.Cause.TheVariants.{Plain};
+ghost use Rattle.pv_model.specs.declared.place.Place.{Place};
+ghost use Rattle.pv_model.specs.Attempt.{after_walks, give, refused};
+ghost use Rattle.pv_model.specs.Calls.Descriptors.{check_start, contradicts, directory_of, is_link, open_at};
+ghost use Rattle.pv_model.specs.Effect.{directory_of_file, node_of, open_file, start_directory};
+ghost use Rattle.pv_model.specs.Numbered.{least_free};
+ghost use Rattle.pv_model.specs.State.{Process, process_at, writes};
+ghost use Rattle.pv_model.specs.Tree.{find_entry, is_directory_at, node_at};
+ghost use Rattle.pv_model.specs.Walks.{follow_of};
+ghost use Rattle.pv_calls_state.specs.Attempts.{trimmed};
+ghost use Rattle.pv_calls_path.specs.Opening.{open_place};
+ghost use Rattle.pv_calls_plain.specs.Rows.{attempt_of};
+ghost use Rattle.pv_laws_trees.specs.Found.{Alike};
+
+use crate::links::LinkRoom;
+use crate::reach::{Walk, reach_from};
+use pv_model::{Errno, Follow, OpenFlags, Kind, Start};
+use pv_namei::{Lookup, is_absolute};
+use pv_calls_state::Parts;
+use pv_calls_plain::answer::{Done, Refused, answer_of, refusal, space_errno};
+use pv_calls_plain::descriptors::open_file;
+use pv_calls_plain::files::writes;
+use pv_tree::{PlaceRef, Tree};
+
+// Whether flags do not go together.
+fn contradicts(flags: OpenFlags) -> bool
+    ensures { result ≡ contradicts flags }
+{
+    (flags.truncate && !writes(flags.mode))
+        || (flags.exclusive && !flags.create)
+        || (flags.create && flags.directory)
+}
+
+// What is done with a final link.
+fn follow_of(flags: OpenFlags) -> Follow
+    ensures { result ≡ follow_of flags }
+{
+    if flags.no_follow || (flags.create && flags.exclusive) {
+        Follow::Keep
+    } else {
+        Follow::Last
+    }
+}
+
+/// Whether a node is a symbolic link.
+pub(crate) fn is_link(tree: &Tree, node: u16) -> bool
+    requires { IsSome (node_at tree.now.tree node) }
+    ensures { result ≡ is_link (node_at tree.now.tree node) }
+{
+    matches!(tree.kind(node), Kind::Symlink)
+}
+
+// The directory of a descriptor.
+fn directory_of(parts: &Parts, pid: u32, d: i32) -> Result<u16, Errno>
+    requires whole { IsWhole parts.now }
+    requires live { IsSome (process_at parts.now pid) }
+    ensures directory { IfOk result (λ n. IsTrue (is_directory_at parts.now.tree n)) }
+    ensures given { IfOk result (λ n. (me : Process) → process_at parts.now pid ≡ Some me → directory_of parts.now pid me d ≡ give n) }
+    ensures node { IfOk result (λ n. (me : Process) → process_at parts.now pid ≡ Some me → directory_of_file me (open_file parts.now me d) ≡ n) }
+    ensures refused { IfErr result (λ e. (me : Process) → process_at parts.now pid ≡ Some me → directory_of parts.now pid me d ≡ refused 0 e Plain) }
+{
+    let Some(file) = open_file(parts, pid, d) else {
+        return Err(Errno::EBADF);
+    };
+    let node = parts.files().node(file);
+    if !parts.tree().is_directory(node) {
+        return Err(Errno::ENOTDIR);
+    }
+    Ok(node)
+}
+
+// The directory from which a walk starts: a relative path asks its descriptor for one.
+fn start_of(parts: &Parts, pid: u32, start: Start, path: &[u8]) -> Result<u16, Errno>
+    requires whole { IsWhole parts.now }
+    requires live { IsSome (process_at parts.now pid) }
+    ensures directory { IfOk result (λ n. IsTrue (is_directory_at parts.now.tree n)) }
+    ensures checked { IfOk result (λ n. (me : Process) → process_at parts.now pid ≡ Some me → check_start parts.now pid me start path.now ≡ give tt) }
+    ensures start { IfOk result (λ n. (me : Process) → process_at parts.now pid ≡ Some me → start_directory parts.now me start path.now ≡ n) }
+    ensures refused { IfErr result (λ e. (me : Process) → process_at parts.now pid ≡ Some me → check_start parts.now pid me start path.now ≡ refused 0 e Plain) }
+{
+    match start {
+        Start::Descriptor(d) if !is_absolute(path) => directory_of(parts, pid, d),
+        _ => Ok(parts.record(pid).directory),
+    }
+}
+
+// What is there, opened, after its walk and judgement: EEXIST where it was to be made alone, ELOOP for a link, ENOTDIR
+// where a directory was asked for, EISDIR where one was to be written.
+fn open_there(parts: &mut Parts, pid: u32, node: u16, flags: OpenFlags) -> Result<Done, Refused>
+    requires whole { IsWhole parts.old }
+    requires live { IsSome (process_at parts.old pid) }
+    requires there { IsSome (node_at parts.old.tree node) }
+    requires flags { contradicts flags ≡ false }
+    requires descriptor { (me : Process) → process_at parts.old pid ≡ Some me → least_free me.descriptors < DESCRIPTORS }
+    requires file { least_free parts.old.files < OPEN_FILES }
+    ensures performed { (me : Process) (place : Place) → process_at parts.old pid ≡ Some me → node_of place ≡ Some node
+        → trimmed (after_walks 1 (open_place parts.old pid me flags place)) ≡ attempt_of parts.new result }
+    ensures unchanged { OnErr result (parts.new ≡ parts.old) }
+    ensures small { IfOk result (λ d. d.value ≤ NUMBER) }
+    ensures found { Alike (find_entry parts.old.tree) (find_entry parts.new.tree) }
+{
+    if flags.create && flags.exclusive {
+        return Err(refusal(1, Errno::EEXIST));
+    }
+    if is_link(parts.tree(), node) {
+        return Err(refusal(1, Errno::ELOOP));
+    }
+    let directory = parts.tree().is_directory(node);
+    if flags.directory && !directory {
+        return Err(refusal(1, Errno::ENOTDIR));
+    }
+    if directory && writes(flags.mode) {
+        return Err(refusal(1, Errno::EISDIR));
+    }
+    let d = parts.open(pid, node, flags);
+    // Its sizes tell with them that the tree has room.
+    let _ = parts.tree().sizes();
+    answer_of(1, u32::from(d))
+}
+
+// A file at a place where nothing is, made and opened, after its walk and judgement: ENOENT where it is not to be made,
+// then EFBIG and ENOSPC for want of room.
+fn create_there<L: Lookup>(
+    parts: &mut Parts,
+    lookup: &mut L,
+    pid: u32,
+    place: &PlaceRef<'_>,
+    flags: OpenFlags,
+) -> Result<Done, Refused>
+    requires whole { IsWhole parts.old }
+    requires live { IsSome (process_at parts.old pid) }
+    requires fine { IsFinePlace parts.old.tree place.now }
+    requires absent { node_of place.now ≡ None }
+    requires flags { contradicts flags ≡ false }
+    requires descriptor { (me : Process) → process_at parts.old pid ≡ Some me → least_free me.descriptors < DESCRIPTORS }
+    requires file { least_free parts.old.files < OPEN_FILES }
+    requires agrees { L.agrees lookup.old (find_entry parts.old.tree) }
+    ensures performed { (me : Process) → process_at parts.old pid ≡ Some me → trimmed (after_walks 1 (open_place parts.old pid me flags place.now)) ≡ attempt_of parts.new result }
+    ensures unchanged { OnErr result (parts.new ≡ parts.old) }
+    ensures small { IfOk result (λ d. d.value ≤ NUMBER) }
+    ensures agrees { L.agrees lookup.new (find_entry parts.new.tree) }
+{
+    if !flags.create {
+        return Err(refusal(1, Errno::ENOENT));
+    }
+    let Some((directory, name)) = place.name() else {
+        return Err(refusal(1, Errno::ENOENT));
+    };
+    match parts.create(pid, directory, name, flags) {
+        Ok(d) => {
+            // Its sizes tell with them that the tree has room.
+            let _ = parts.tree().sizes();
+            lookup.changed(directory, name);
+            answer_of(1, u32::from(d))
+        }
+        Err(space) => Err(refusal(1, space_errno(space))),
+    }
+}
+
+/// Opens what a path names under the least free descriptor, which is the answer; a file that is not there is made where
+/// the flags say so, open(2) and openat(2). A relative path starts at the directory that `start` says.
+///
+/// # Errors
+///
+/// `EINVAL` for flags that do not go together; `EBADF` and `ENOTDIR` where a relative path is to start at a descriptor
+/// that is not open, or on no directory; `EMFILE` where no descriptor is free, and `ENFILE` where no open file is; an
+/// error of the walk, then of its judgement; `EEXIST`, `ENOENT`, `ELOOP`, `ENOTDIR` and `EISDIR` by what is there; then
+/// `EFBIG` and `ENOSPC` for want of room.
+pub fn open_at<L: Lookup>(
+    parts: &mut Parts,
+    lookup: &mut L,
+    links: &mut LinkRoom,
+    pid: u32,
+    start: Start,
+    path: &[u8],
+    flags: OpenFlags,
+) -> Result<Done, Refused>
+    requires whole { IsWhole parts.old }
+    requires live { IsSome (process_at parts.old pid) }
+    requires text { IsTrue (is_text path.now) }
+    requires agrees { L.agrees lookup.old (find_entry parts.old.tree) }
+    ensures performed { (me : Process) → process_at parts.old pid ≡ Some me → trimmed (open_at parts.old pid me start path.now flags) ≡ attempt_of parts.new result }
+    ensures unchanged { OnErr result (parts.new ≡ parts.old) }
+    ensures small { IfOk result (λ d. d.value ≤ NUMBER) }
+    ensures agrees { L.agrees lookup.new (find_entry parts.new.tree) }
+{
+    if contradicts(flags) {
+        return Err(refusal(0, Errno::EINVAL));
+    }
+    let directory = match start_of(parts, pid, start, path) {
+        Ok(directory) => directory,
+        Err(errno) => return Err(refusal(0, errno)),
+    };
+    if !parts.record(pid).descriptors.has_room() {
+        return Err(refusal(0, Errno::EMFILE));
+    }
+    if !parts.files().has_room() {
+        return Err(refusal(0, Errno::ENFILE));
+    }
+    let walk = Walk {
+        follow: follow_of(flags),
+        path,
+        needed: flags.permissions(),
+    };
+    let place = reach_from(parts, lookup, pid, directory, walk, &mut links.first)?;
+    match place.node() {
+        Some(node) => open_there(parts, pid, node, flags),
+        None => create_there(parts, lookup, pid, &place, flags),
+    }
+}

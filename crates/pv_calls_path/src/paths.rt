@@ -1,0 +1,50 @@
+//! The call that walks to the working directory: chdir(2).
+ghost use Rattle.std.specs.Prelude.{◌≡◌, ◌≤◌, IfOk, IsSome, IsTrue, OnErr, Some};
+ghost use Rattle.pv_laws_states.specs.States.{IsWhole, is_text};
+ghost use Rattle.pv_model.specs.declared.limits.TheConstants.{NUMBER};
+ghost use Rattle.pv_model.specs.Calls.Paths.{chdir};
+ghost use Rattle.pv_model.specs.State.{Process, process_at};
+ghost use Rattle.pv_model.specs.Tree.{find_entry};
+ghost use Rattle.pv_calls_state.specs.Attempts.{trimmed};
+ghost use Rattle.pv_calls_plain.specs.Rows.{attempt_of};
+
+use crate::links::LinkRoom;
+use crate::reach::{Walk, reach_node};
+use pv_model::{Errno, Follow, Perms};
+use pv_namei::Lookup;
+use pv_calls_state::Parts;
+use pv_calls_plain::answer::{Done, Refused, answer_of, refusal};
+
+/// Makes the directory at a path the working directory of a live process, chdir(2): the answer is 0.
+///
+/// # Errors
+///
+/// An error of the walk, then of its judgement; `ENOENT` where nothing is there, and `ENOTDIR` where no directory is.
+pub fn chdir<L: Lookup>(
+    parts: &mut Parts,
+    lookup: &mut L,
+    links: &mut LinkRoom,
+    pid: u32,
+    path: &[u8],
+) -> Result<Done, Refused>
+    requires whole { IsWhole parts.old }
+    requires live { IsSome (process_at parts.old pid) }
+    requires text { IsTrue (is_text path.now) }
+    requires agrees { L.agrees lookup.old (find_entry parts.old.tree) }
+    ensures performed { (me : Process) → process_at parts.old pid ≡ Some me → trimmed (chdir parts.old pid me path.now) ≡ attempt_of parts.new result }
+    ensures unchanged { OnErr result (parts.new ≡ parts.old) }
+    ensures small { IfOk result (λ d. d.value ≤ NUMBER) }
+    ensures agrees { L.agrees lookup.new (find_entry parts.new.tree) }
+{
+    let walk = Walk {
+        follow: Follow::Last,
+        path,
+        needed: Perms::R,
+    };
+    let node = reach_node(parts, lookup, pid, walk, &mut links.first)?;
+    if !parts.tree().is_directory(node) {
+        return Err(refusal(1, Errno::ENOTDIR));
+    }
+    parts.set_directory(pid, node);
+    answer_of(1, 0)
+}

@@ -1,0 +1,59 @@
+//! Programs that stand in files.
+ghost use Rattle.std.specs.Prelude.{◌≡◌, ◌⊎◌, IfOk, IfErr, IsTrue, Ok, Err};
+ghost use Rattle.pv_model.specs.Effect.{bytes_of};
+ghost use Rattle.pv_model.specs.Grammar.Programs.{read_program as program_spelled};
+ghost use Rattle.pv_model.specs.RunFault.{of_init};
+ghost use Rattle.pv_model.specs.Sealed.{is_file};
+ghost use Rattle.pv_model.specs.Start.{init_of, program_in};
+ghost use Rattle.pv_model.specs.Tree.{node_at};
+ghost use Rattle.pv_script.specs.Reading.{GivesProgram};
+
+use pv_model::limits::ROOT;
+use pv_model::{BootFault, ParseFault, Kind};
+use pv_script::Program;
+use pv_tree::Tree;
+use std::alloc::Global;
+
+/// The program that a file's bytes spell: `Program::parse` of them.
+pub(crate) fn read_program(alloc: Global, tree: &Tree, node: u16) -> Result<Program, ParseFault>
+    requires { IsTrue (is_file (node_at tree.now.tree node)) }
+    ensures { GivesProgram result (program_spelled (bytes_of (node_at tree.now.tree node))) }
+{
+    let size = tree.size(node) as usize;
+    let mut bytes = vec![in alloc; 0; size]?;
+    let _read = tree.read_at(node, 0, &mut bytes);
+    Program::parse(alloc, &bytes)
+}
+
+// What a fault of the first program is.
+fn boot_fault(fault: ParseFault) -> BootFault
+    ensures { result ≡ of_init fault }
+{
+    match fault {
+        ParseFault::Line(line, _) => BootFault::Init(line),
+        ParseFault::Memory => BootFault::Memory,
+    }
+}
+
+/// The program of the file `init` in the root: that of no lines where no such name is there.
+///
+/// # Errors
+///
+/// `Init(0)` where it is no executable file, `Init(n)` where line n of its program is the least that is no
+/// instruction, `Memory` where memory was refused.
+pub fn init(alloc: Global, tree: &Tree) -> Result<Program, BootFault>
+    ensures program { IfOk result (λ program. program_in (init_of tree.now.tree) ≡ Ok program) }
+    ensures refused { IfErr result (λ fault. (fault ≡ BootFault.Memory) ⊎ (program_in (init_of tree.now.tree) ≡ Err fault)) }
+{
+    let _ = tree.sizes();
+    let Some(node) = tree.find(ROOT, b"init") else {
+        return Ok(Program::empty(alloc));
+    };
+    if tree.kind(node) != Kind::Executable {
+        return Err(BootFault::Init(0));
+    }
+    match read_program(alloc, tree, node) {
+        Ok(program) => Ok(program),
+        Err(fault) => Err(boot_fault(fault)),
+    }
+}

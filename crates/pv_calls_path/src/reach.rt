@@ -1,0 +1,268 @@
+//! Walks to places, judged at their end.
+ghost use Rattle.std.specs.Prelude.{◌≡◌, ◌≤◌, if◌then◌else◌, IfOk, IfErr, IsSome, IsTrue, Some};
+ghost use Rattle.pv_laws_states.specs.States.{IsWhole, IsFinePlace, is_text};
+ghost use Rattle.pv_model.specs.Attempt.{done};
+ghost use Rattle.pv_model.specs.Effect.{node_of, walk_from};
+ghost use Rattle.pv_model.specs.State.{Process, process_at};
+ghost use Rattle.pv_model.specs.Tree.{find_entry, is_directory_at, node_at};
+ghost use Rattle.pv_model.specs.Walk.{begins_walk};
+ghost use Rattle.pv_calls_path.specs.Reached.{IsFound, IsLost, IsMissed, IsMissedByBoth, IsReached, IsStopped, IsStoppedSecond};
+
+use crate::links::LinkRoom;
+use pv_model::limits::PATH;
+use pv_model::{Cause, Errno, Follow, Judgement, Perms, Place};
+use pv_namei::{Lookup, resolve_ref};
+use pv_calls_state::Parts;
+use pv_calls_plain::answer::{Refused, refusal};
+use pv_tree::PlaceRef;
+
+/// How many walks a path begins: none where it is empty or too long.
+pub(crate) fn walks_begun(path: &[u8]) -> u8
+    ensures { result ≡ (if begins_walk path.now then 1 else 0) }
+{
+    if path.is_empty() || path.len() > PATH {
+        0
+    } else {
+        1
+    }
+}
+
+/// What a call asks of a walk.
+#[derive(Clone, Copy)]
+pub(crate) struct Walk<'a> {
+    /// What is done with a final link.
+    pub(crate) follow: Follow,
+    /// The path that it goes along.
+    pub(crate) path: &'a [u8],
+    /// The permissions that the entry of the place at its end must have.
+    pub(crate) needed: Perms,
+}
+
+// `walk_to` and `reach_from` become parts of their callers, so that a place is not copied at each on its way up.
+
+/// The place at the end of a walk from a directory, which no table has judged. Its name stands in the path, or, where a
+/// link was followed, in `links`.
+///
+/// # Errors
+///
+/// An error of the walk.
+#[inline(always)]
+pub(crate) fn walk_to<'a, L: Lookup>(
+    parts: &Parts,
+    lookup: &mut L,
+    start: u16,
+    follow: Follow,
+    path: &'a [u8],
+    links: &'a mut Option<Place>,
+) -> Result<PlaceRef<'a>, Refused>
+    requires whole { IsWhole parts.now }
+    requires start { IsTrue (is_directory_at parts.now.tree start) }
+    requires text { IsTrue (is_text path.now) }
+    requires agrees { L.agrees lookup.old (find_entry parts.now.tree) }
+    ensures walked { IfOk result (λ place. walk_from parts.now start follow path.now ≡ done 1 place) }
+    ensures lost { IfErr result (IsLost parts.now start follow path.now) }
+    ensures fine { IfOk result (IsFinePlace parts.now.tree) }
+    ensures few { IfErr result (λ r. r.walks ≤ 1) }
+    ensures agrees { L.agrees lookup.new (find_entry parts.now.tree) }
+{
+    match resolve_ref(parts.tree(), lookup, start, path, follow, links) {
+        Ok(place) => Ok(place),
+        Err(errno) => Err(refusal(walks_begun(path), errno)),
+    }
+}
+
+/// The place at the end of a walk from a directory, which the process's table allows for the permissions that are needed. Its
+/// name stands in the path, or, where a link was followed, in `links`.
+///
+/// # Errors
+///
+/// An error of the walk; else `ENOENT` where no entry governs the place, and `EACCES` where the one that does lacks a
+/// permission: unveil(2).
+#[inline(always)]
+pub(crate) fn reach_from<'a, L: Lookup>(
+    parts: &Parts,
+    lookup: &mut L,
+    pid: u32,
+    start: u16,
+    walk: Walk<'a>,
+    links: &'a mut Option<Place>,
+) -> Result<PlaceRef<'a>, Refused>
+    requires whole { IsWhole parts.now }
+    requires live { IsSome (process_at parts.now pid) }
+    requires start { IsTrue (is_directory_at parts.now.tree start) }
+    requires text { IsTrue (is_text walk.path.now) }
+    requires agrees { L.agrees lookup.old (find_entry parts.now.tree) }
+    ensures reached { IfOk result (λ place. (me : Process) → process_at parts.now pid ≡ Some me → IsReached parts.now me start walk.entry.follow walk.entry.path.now walk.entry.needed place) }
+    ensures stopped { IfErr result (λ r. (me : Process) → process_at parts.now pid ≡ Some me → IsStopped parts.now me start walk.entry.follow walk.entry.path.now walk.entry.needed r) }
+    ensures fine { IfOk result (IsFinePlace parts.now.tree) }
+    ensures few { IfErr result (λ r. r.walks ≤ 1) }
+    ensures agrees { L.agrees lookup.new (find_entry parts.now.tree) }
+{
+    let place = walk_to(parts, lookup, start, walk.follow, walk.path, links)?;
+    let unveiled = &parts.record(pid).unveiled;
+    match unveiled.judge(parts.tree(), &place, walk.needed) {
+        Judgement::Allowed => Ok(place),
+        Judgement::Hidden => Err(Refused {
+            walks: 1,
+            errno: Errno::ENOENT,
+            cause: Cause::Unveil(None),
+        }),
+        Judgement::Denied(entry) => Err(Refused {
+            walks: 1,
+            errno: Errno::EACCES,
+            cause: Cause::Unveil(Some(entry)),
+        }),
+    }
+}
+
+/// The same from the working directory.
+pub(crate) fn reach<'a, L: Lookup>(
+    parts: &Parts,
+    lookup: &mut L,
+    pid: u32,
+    walk: Walk<'a>,
+    links: &'a mut Option<Place>,
+) -> Result<PlaceRef<'a>, Refused>
+    requires whole { IsWhole parts.now }
+    requires live { IsSome (process_at parts.now pid) }
+    requires text { IsTrue (is_text walk.path.now) }
+    requires agrees { L.agrees lookup.old (find_entry parts.now.tree) }
+    ensures reached { IfOk result (λ place. (me : Process) → process_at parts.now pid ≡ Some me → IsReached parts.now me me.directory walk.entry.follow walk.entry.path.now walk.entry.needed place) }
+    ensures stopped { IfErr result (λ r. (me : Process) → process_at parts.now pid ≡ Some me → IsStopped parts.now me me.directory walk.entry.follow walk.entry.path.now walk.entry.needed r) }
+    ensures fine { IfOk result (IsFinePlace parts.now.tree) }
+    ensures few { IfErr result (λ r. r.walks ≤ 1) }
+    ensures agrees { L.agrees lookup.new (find_entry parts.now.tree) }
+{
+    let start = parts.record(pid).directory;
+    reach_from(parts, lookup, pid, start, walk, links)
+}
+
+// The same of the second walk of a call: a refusal counts the first walk too.
+fn reach_second<'a, L: Lookup>(
+    parts: &Parts,
+    lookup: &mut L,
+    pid: u32,
+    walk: Walk<'a>,
+    links: &'a mut Option<Place>,
+) -> Result<PlaceRef<'a>, Refused>
+    requires whole { IsWhole parts.now }
+    requires live { IsSome (process_at parts.now pid) }
+    requires text { IsTrue (is_text walk.path.now) }
+    requires agrees { L.agrees lookup.old (find_entry parts.now.tree) }
+    ensures reached { IfOk result (λ place. (me : Process) → process_at parts.now pid ≡ Some me → IsReached parts.now me me.directory walk.entry.follow walk.entry.path.now walk.entry.needed place) }
+    ensures stopped { IfErr result (λ r. (me : Process) → process_at parts.now pid ≡ Some me → IsStoppedSecond parts.now me me.directory walk.entry.follow walk.entry.path.now walk.entry.needed r) }
+    ensures fine { IfOk result (IsFinePlace parts.now.tree) }
+    ensures agrees { L.agrees lookup.new (find_entry parts.now.tree) }
+{
+    match reach(parts, lookup, pid, walk, links) {
+        Ok(place) => Ok(place),
+        Err(refused) => Err(Refused {
+            walks: 1 + refused.walks,
+            errno: refused.errno,
+            cause: refused.cause,
+        }),
+    }
+}
+
+/// A node to which a walk leads, and its place.
+#[derive(Drop)]
+pub(crate) struct Found<'a> {
+    /// The node.
+    pub(crate) node: u16,
+    /// The place at which it stands.
+    pub(crate) place: PlaceRef<'a>,
+}
+
+/// The node at the end of a walk from the working directory, with its place: `ENOENT` where nothing is, after an error of
+/// the walk and of its judgement.
+pub(crate) fn reach_found<'a, L: Lookup>(
+    parts: &Parts,
+    lookup: &mut L,
+    pid: u32,
+    walk: Walk<'a>,
+    links: &'a mut Option<Place>,
+) -> Result<Found<'a>, Refused>
+    requires whole { IsWhole parts.now }
+    requires live { IsSome (process_at parts.now pid) }
+    requires text { IsTrue (is_text walk.path.now) }
+    requires agrees { L.agrees lookup.old (find_entry parts.now.tree) }
+    ensures reached { IfOk result (λ f. (me : Process) → process_at parts.now pid ≡ Some me → IsReached parts.now me me.directory walk.entry.follow walk.entry.path.now walk.entry.needed f.place) }
+    ensures there { IfOk result (λ f. node_of f.place ≡ Some f.node) }
+    ensures missed { IfErr result (λ r. (me : Process) → process_at parts.now pid ≡ Some me → IsMissed parts.now me me.directory walk.entry.follow walk.entry.path.now walk.entry.needed r) }
+    ensures fine { IfOk result (λ f. IsFinePlace parts.now.tree f.place) }
+    ensures agrees { L.agrees lookup.new (find_entry parts.now.tree) }
+{
+    let place = reach(parts, lookup, pid, walk, links)?;
+    match place.node() {
+        Some(node) => Ok(Found { node, place }),
+        None => Err(refusal(1, Errno::ENOENT)),
+    }
+}
+
+/// The same, without the place.
+pub(crate) fn reach_node<L: Lookup>(
+    parts: &Parts,
+    lookup: &mut L,
+    pid: u32,
+    walk: Walk<'_>,
+    links: &mut Option<Place>,
+) -> Result<u16, Refused>
+    requires whole { IsWhole parts.now }
+    requires live { IsSome (process_at parts.now pid) }
+    requires text { IsTrue (is_text walk.path.now) }
+    requires agrees { L.agrees lookup.old (find_entry parts.now.tree) }
+    ensures found { IfOk result (λ n. (me : Process) → process_at parts.now pid ≡ Some me → IsFound parts.now me me.directory walk.entry.follow walk.entry.path.now walk.entry.needed n) }
+    ensures missed { IfErr result (λ r. (me : Process) → process_at parts.now pid ≡ Some me → IsMissed parts.now me me.directory walk.entry.follow walk.entry.path.now walk.entry.needed r) }
+    ensures there { IfOk result (λ n. IsSome (node_at parts.now.tree n)) }
+    ensures agrees { L.agrees lookup.new (find_entry parts.now.tree) }
+{
+    let found = reach_found(parts, lookup, pid, walk, links)?;
+    Ok(found.node)
+}
+
+/// Where both walks of a call lead.
+#[derive(Drop)]
+pub(crate) struct Both<'a> {
+    /// The node at the end of the first.
+    pub(crate) node: u16,
+    /// The place at the end of the first.
+    pub(crate) first: PlaceRef<'a>,
+    /// The place at the end of the second.
+    pub(crate) second: PlaceRef<'a>,
+}
+
+/// The places at the ends of two walks from the working directory, with the node at the first: `ENOENT` where nothing is
+/// there, after an error of the first walk, then of its judgement, and the same of the second.
+pub(crate) fn reach_both<'a, L: Lookup>(
+    parts: &Parts,
+    lookup: &mut L,
+    pid: u32,
+    first: Walk<'a>,
+    second: Walk<'a>,
+    links: &'a mut LinkRoom,
+) -> Result<Both<'a>, Refused>
+    requires whole { IsWhole parts.now }
+    requires live { IsSome (process_at parts.now pid) }
+    requires text { IsTrue (is_text first.path.now) }
+    requires other { IsTrue (is_text second.path.now) }
+    requires agrees { L.agrees lookup.old (find_entry parts.now.tree) }
+    ensures first { IfOk result (λ b. (me : Process) → process_at parts.now pid ≡ Some me → IsReached parts.now me me.directory first.entry.follow first.entry.path.now first.entry.needed b.first) }
+    ensures second { IfOk result (λ b. (me : Process) → process_at parts.now pid ≡ Some me → IsReached parts.now me me.directory second.entry.follow second.entry.path.now second.entry.needed b.second) }
+    ensures there { IfOk result (λ b. node_of b.first ≡ Some b.node) }
+    ensures missed { IfErr result (λ r. (me : Process) → process_at parts.now pid ≡ Some me
+        → IsMissedByBoth parts.now me first.entry.follow first.entry.path.now first.entry.needed second.entry.follow second.entry.path.now second.entry.needed r) }
+    ensures fine { IfOk result (λ b. IsFinePlace parts.now.tree b.first) }
+    ensures second_fine { IfOk result (λ b. IsFinePlace parts.now.tree b.second) }
+    ensures agrees { L.agrees lookup.new (find_entry parts.now.tree) }
+{
+    let place = reach(parts, lookup, pid, first, &mut links.first)?;
+    let other = reach_second(parts, lookup, pid, second, &mut links.second)?;
+    match place.node() {
+        Some(node) => Ok(Both {
+            node,
+            first: place,
+            second: other,
+        }),
+        None => Err(refusal(2, Errno::ENOENT)),
+    }
+}

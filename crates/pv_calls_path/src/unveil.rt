@@ -1,0 +1,136 @@
+//! unveil(2).
+ghost use Rattle.std.specs.Prelude.{◌≡◌, ◌≤◌, IfOk, IsSome, IsTrue, OnErr, Some, option_copied};
+ghost use Rattle.pv_laws_states.specs.States.{IsWhole, is_text, is_text_or_none};
+ghost use Rattle.pv_model.specs.declared.limits.TheConstants.{NUMBER};
+ghost use Rattle.pv_model.specs.Attempt.{refused};
+ghost use Rattle.pv_model.specs.Calls.Restraints.{unveil};
+ghost use Rattle.pv_model.specs.State.{Process, process_at};
+ghost use Rattle.pv_model.specs.Tree.{find_entry};
+ghost use Rattle.pv_model.specs.Unveil.{target_of};
+ghost use Rattle.pv_calls_state.specs.Attempts.{trimmed};
+ghost use Rattle.pv_calls_plain.specs.Rows.{attempt_of};
+ghost use Rattle.pv_unveil.specs.Added.{refusal as refusal_of};
+
+use crate::links::LinkRoom;
+use crate::reach::walk_to;
+use pv_model::{Cause, Errno, Follow, Perms, Place, Target, Text};
+use pv_namei::Lookup;
+use pv_calls_state::Parts;
+use pv_calls_plain::answer::{Done, Refused, answer_of, refusal};
+use pv_tree::Tree;
+use pv_unveil::AddFault;
+
+// What an unveiled place is for: the directory that is there, or the name.
+fn target_of(tree: &Tree, place: Place) -> Target
+    ensures { result ≡ target_of tree.now.tree place }
+{
+    match place {
+        Place::Node(node) => Target::Directory(node),
+        Place::At { dir, name, node } => match node {
+            Some(node) if tree.is_directory(node) => Target::Directory(node),
+            _ => Target::Name { dir, name },
+        },
+    }
+}
+
+// The error and the cause that a fault answers, after so many walks.
+fn answer_to(walks: u8, fault: AddFault) -> Refused
+    ensures walks { result.walks ≡ walks }
+    ensures fault { refusal_of fault ≡ refused 0 result.errno result.cause }
+{
+    match fault {
+        AddFault::Locked => Refused {
+            walks,
+            errno: Errno::EPERM,
+            cause: Cause::Locked,
+        },
+        AddFault::Increase(entry) => Refused {
+            walks,
+            errno: Errno::EPERM,
+            cause: Cause::Unveil(Some(entry)),
+        },
+        AddFault::Many => refusal(walks, Errno::E2BIG),
+    }
+}
+
+// An entry for what a path leads to, with the permissions of a text: no table judges the place.
+fn unveil_path<L: Lookup>(
+    parts: &mut Parts,
+    lookup: &mut L,
+    links: &mut LinkRoom,
+    pid: u32,
+    path: &[u8],
+    permissions: &[u8],
+) -> Result<Done, Refused>
+    requires whole { IsWhole parts.old }
+    requires live { IsSome (process_at parts.old pid) }
+    requires text { IsTrue (is_text path.now) }
+    requires agrees { L.agrees lookup.old (find_entry parts.old.tree) }
+    ensures performed { (me : Process) → process_at parts.old pid ≡ Some me → trimmed (unveil parts.old pid me (Some path.now) (Some permissions.now)) ≡ attempt_of parts.new result }
+    ensures unchanged { OnErr result (parts.new ≡ parts.old) }
+    ensures small { IfOk result (λ d. d.value ≤ NUMBER) }
+    ensures agrees { L.agrees lookup.new (find_entry parts.new.tree) }
+{
+    let Some(permissions) = Perms::read(permissions) else {
+        return Err(refusal(0, Errno::EINVAL));
+    };
+    let record = parts.record(pid);
+    if record.unveiled.is_locked() {
+        return Err(answer_to(0, AddFault::Locked));
+    }
+    let start = record.directory;
+    let place = walk_to(parts, lookup, start, Follow::Last, path, &mut links.first)?;
+    let target = target_of(parts.tree(), place.to_place());
+    match parts.unveil(pid, target, permissions) {
+        Ok(()) => {
+            // Its facts tell with them that nothing is left to trim.
+            parts.facts();
+            answer_of(1, 0)
+        }
+        Err(fault) => Err(answer_to(1, fault)),
+    }
+}
+
+/// Adds an entry for what a path leads to, or takes permissions from the one that is there; two nulls lock the table,
+/// unveil(2). The answer is 0.
+///
+/// # Errors
+///
+/// `EINVAL` for one null beside a text, and for another permission; `EPERM` under the lock; an error of the walk; `EPERM`
+/// where the entry that is there lacks a permission; `E2BIG` where there are 64 entries, and it would be another.
+pub fn unveil<L: Lookup>(
+    parts: &mut Parts,
+    lookup: &mut L,
+    links: &mut LinkRoom,
+    pid: u32,
+    path: Option<&Text>,
+    permissions: Option<&Text>,
+) -> Result<Done, Refused>
+    requires whole { IsWhole parts.old }
+    requires live { IsSome (process_at parts.old pid) }
+    requires text { IsTrue (is_text_or_none (option_copied path)) }
+    requires agrees { L.agrees lookup.old (find_entry parts.old.tree) }
+    ensures performed { (me : Process) → process_at parts.old pid ≡ Some me → trimmed (unveil parts.old pid me (option_copied path.entry) (option_copied permissions.entry)) ≡ attempt_of parts.new result }
+    ensures unchanged { OnErr result (parts.new ≡ parts.old) }
+    ensures small { IfOk result (λ d. d.value ≤ NUMBER) }
+    ensures agrees { L.agrees lookup.new (find_entry parts.new.tree) }
+{
+    match (path, permissions) {
+        (None, None) => {
+            parts.lock(pid);
+            parts.facts();
+            answer_of(0, 0)
+        }
+        (Some(path), Some(permissions)) => {
+            unveil_path(
+                parts,
+                lookup,
+                links,
+                pid,
+                path.as_slice(),
+                permissions.as_slice(),
+            )
+        }
+        _ => Err(refusal(0, Errno::EINVAL)),
+    }
+}

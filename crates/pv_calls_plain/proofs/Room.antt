@@ -1,0 +1,30 @@
+-- What the room of a tree makes of an attempt.
+use Rattle.std.proofs.Common.{◌≡◌, Bool, true, false, not, if◌then◌else◌, Option, None, Some, refl, subst}
+use Rattle.pv_inodes.specs.declared.space.Space.{Space}
+use Rattle.pv_inodes.specs.declared.space.Space.TheVariants.{Full, TooBig}
+use Rattle.pv_model.specs.declared.errno.Errno.TheVariants.{EFBIG, ENOSPC}
+use Rattle.pv_model.specs.declared.outcome.Cause.TheVariants.{Plain}
+use Rattle.pv_model.specs.Attempt.{refused, ◌>>◌, give, refuse_if}
+use Rattle.pv_model.specs.Effect.{with_room}
+use Rattle.pv_model.specs.Held.{trim}
+use Rattle.pv_model.specs.Room.{is_too_long, fits}
+use Rattle.pv_model.specs.State.{State}
+use Rattle.pv_calls_plain.specs.Space.{space_errno}
+use Rattle.pv_tree.specs.Rooms.{refusal}
+
+abbrev room_by : (s : State) (long fit : Bool) → Option Space → Type 0
+room_by s long fit None = (refuse_if EFBIG long >> (refuse_if ENOSPC (not fit) >> give s)) ≡ give s
+room_by s long fit (Some why) = (refuse_if EFBIG long >> (refuse_if ENOSPC (not fit) >> give s)) ≡ refused 0 (space_errno why) Plain
+
+room_is : (s : State) (long fit : Bool) → room_by s long fit (if long then Some TooBig else (if fit then None else Some Full))
+room_is s true fit = refl
+room_is s false true = refl
+room_is s false false = refl
+
+-- a state whose tree has room goes on
+pub roomy : (s : State) → refusal (trim s).tree ≡ None → with_room s ≡ give s
+roomy s is = subst (room_by s (is_too_long (trim s).tree) (fits (trim s).tree)) is (room_is s (is_too_long (trim s).tree) (fits (trim s).tree))
+
+-- one whose tree has none is refused
+pub crowded : (s : State) (why : Space) → refusal (trim s).tree ≡ Some why → with_room s ≡ refused 0 (space_errno why) Plain
+crowded s why is = subst (room_by s (is_too_long (trim s).tree) (fits (trim s).tree)) is (room_is s (is_too_long (trim s).tree) (fits (trim s).tree))

@@ -1,0 +1,39 @@
+-- What a system call comes to in code, and how its process is told.
+use Rattle.std.specs.Prelude.{◌≡◌, ℕ, ℤ, length, Some, Result, Ok, Err}
+use Rattle.pv_model.specs.Answer.{Answered, answer_by_attempt, update, with_front}
+use Rattle.pv_model.specs.Attempt.{Attempt, done, refused}
+use Rattle.pv_model.specs.Bytes.{Bytes}
+use Rattle.pv_model.specs.Effect.{Effect, returns, returns_bytes, open_file}
+use Rattle.pv_model.specs.Numbered.{at_number}
+use Rattle.pv_model.specs.State.{OpenFile, Process, State, process_at}
+use Rattle.pv_calls_plain.specs.declared.answer.Answer.{Answer}
+use Rattle.pv_calls_plain.specs.declared.answer.Done.{Done}
+use Rattle.pv_calls_plain.specs.declared.answer.Refused.{Refused}
+
+-- the definitions' attempt, that left state s
+abbrev pub attempt_of : State → Result Done Refused → Attempt Effect
+attempt_of s (Ok d) = done d.walks (s, returns d.value)
+attempt_of s (Err r) = refused r.walks r.errno r.cause
+
+-- what a call answered, with the state that it left
+abbrev pub answered : State → Answer → Answered
+answered s a = record { after = s; outcome = a.outcome; walks = a.walks }
+
+-- a system call of a live process answered so, and left that state
+abbrev pub IsAnswered : (State → Process → Attempt Effect) → State → ℕ → State → Answer → Type 0
+IsAnswered performed old pid new answer =
+    (before : State) (me : Process) → process_at old pid ≡ Some me → answer_by_attempt before old pid me (performed old me) ≡ answered new answer
+
+-- a descriptor is on an open file
+pub record IsOn (s : State) (me : Process) (d : ℤ) (k : ℕ) : Type 0 where
+  pub file : OpenFile
+  pub opened : open_file s me d ≡ Some (k, file)
+  pub there : at_number s.files k ≡ Some file
+
+-- a system call gave so many bytes, and they stand at the front of the process's buffer already
+pub record GivesFront (performed : Attempt Effect) (pid count : ℕ) (new : State) : Type 0 where
+  pub after : State
+  pub bytes : Bytes
+  pub long : count ≡ length bytes
+  pub gives : performed ≡ done 0 (after, returns_bytes count bytes)
+  pub front : new ≡ update after pid (with_front bytes)

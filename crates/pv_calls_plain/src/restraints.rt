@@ -1,0 +1,67 @@
+//! What a process gives up: pledge(2).
+ghost use Rattle.std.specs.Prelude.{◌≡◌, ◌≤◌, IfOk, IsSome, MatchResult, OnErr, Some, option_copied};
+ghost use Rattle.pv_laws_states.specs.States.{IsWhole};
+ghost use Rattle.pv_model.specs.declared.limits.TheConstants.{NUMBER};
+ghost use Rattle.pv_model.specs.declared.outcome.Cause.TheVariants.{Plain};
+ghost use Rattle.pv_model.specs.Attempt.{give, refused};
+ghost use Rattle.pv_model.specs.Calls.Restraints.{asked_promises, pledge};
+ghost use Rattle.pv_model.specs.State.{Process, process_at};
+ghost use Rattle.pv_calls_state.specs.Attempts.{trimmed};
+ghost use Rattle.pv_promises.specs.Pledge.{bits_of};
+ghost use Rattle.pv_calls_plain.specs.Rows.{attempt_of};
+
+use crate::answer::{Done, Refused, answer_of, refusal};
+use pv_model::{Cause, Errno, Promises, Text};
+use pv_calls_state::Parts;
+use pv_promises::read_promises;
+
+// The set that is asked for, if one is.
+fn asked(text: Option<&Text>) -> Result<Option<Promises>, Errno>
+    ensures { MatchResult result (λ set. asked_promises (option_copied text.entry) ≡ give (bits_of set)) (λ e. asked_promises (option_copied text.entry) ≡ refused 0 e Plain) }
+{
+    match text {
+        None => Ok(None),
+        Some(text) => Ok(Some(read_promises(text.as_slice())?)),
+    }
+}
+
+/// Narrows the promises and the execpromises of a live process to what two texts ask for, pledge(2): the answer is 0.
+///
+/// # Errors
+///
+/// `EINVAL` where a text has an unknown keyword, the promises first. `EPERM`, with the promise as its cause, where one
+/// is not held, unless `error` is promised. Nothing has then changed.
+pub fn pledge(
+    parts: &mut Parts,
+    pid: u32,
+    promises: Option<&Text>,
+    execpromises: Option<&Text>,
+) -> Result<Done, Refused>
+    requires whole { IsWhole parts.old }
+    requires live { IsSome (process_at parts.old pid) }
+    ensures performed { (me : Process) → process_at parts.old pid ≡ Some me → trimmed (pledge parts.old pid me (option_copied promises.entry) (option_copied execpromises.entry)) ≡ attempt_of parts.new result }
+    ensures unchanged { OnErr result (parts.new ≡ parts.old) }
+    ensures small { IfOk result (λ d. d.value ≤ NUMBER) }
+{
+    let asked_now = match asked(promises) {
+        Ok(set) => set,
+        Err(errno) => return Err(refusal(0, errno)),
+    };
+    let asked_later = match asked(execpromises) {
+        Ok(set) => set,
+        Err(errno) => return Err(refusal(0, errno)),
+    };
+    let mut pledge = parts.record(pid).pledge;
+    match pledge.narrow(asked_now, asked_later) {
+        Ok(()) => {
+            parts.set_pledge(pid, pledge);
+            parts.facts();
+            answer_of(0, 0)
+        }
+        Err(promise) => Err(Refused {
+            walks: 0,
+            errno: Errno::EPERM,
+            cause: Cause::Promise(promise),
+        }),
+    }
+}

@@ -1,0 +1,174 @@
+-- A node that is opened, and its descriptor.
+use Rattle.std.proofs.Common.{◌≡◌, ◌≢◌, ℕ, zero, suc, ◌+◌, ◌-◌, ◌<◌, ◌≤◌, Bool, true, false, [], ◌++◌, length, take, replicate, Option, None, Some, is_some, refl, ap, sym, subst, ◌∙◌, ⊎_elim, arith}
+use Rattle.std.specs.Prelude.{slice_index, IsSome, IsTrue, if◌then◌else◌}
+use Rattle.std.proofs.lemmas.Bool.{cases_eq, cases_Bool}
+use Rattle.pv_files.specs.Counted.{Counted, IsCounted, with_opened}
+use Rattle.pv_inodes.specs.declared.space.Space.TheVariants.{Full, TooBig}
+use Rattle.pv_laws_states.specs.States.{IsTree, IsWhole}
+use Rattle.pv_laws_states.proofs.ByOpen.{held-more}
+use Rattle.pv_laws_states.proofs.Grown.{carries-content, there-wanted, new-below}
+use Rattle.pv_laws_states.proofs.Trim.{held_after, tree-trim}
+use Rattle.pv_model.specs.declared.open_flags.OpenFlags.{OpenFlags}
+use Rattle.pv_model.specs.Bytes.{Bytes}
+use Rattle.pv_model.specs.Calls.Descriptors.{new_open_file, with_content, with_content_of, with_open_file}
+use Rattle.pv_model.specs.Effect.{bytes_of, resize}
+use Rattle.pv_model.specs.Held.{held_by_process, trim}
+use Rattle.pv_model.specs.Numbered.{least_free}
+use Rattle.pv_model.specs.Sealed.{is_file}
+use Rattle.pv_model.specs.Room.{fits, is_too_long}
+use Rattle.pv_model.specs.State.{OpenFile, Process, State, process_at}
+use Rattle.pv_model.specs.Tree.{Node, directory_node, file_node, link_node, Tree, node_at, is_directory_at, find_entry, with_node, new_number, with_new_node}
+use Rattle.pv_procs.specs.ProcessTable.{ProcessTable, with_process, update, state_with}
+use Rattle.pv_tree.specs.Changes.{resized}
+use Rattle.pv_tree.specs.Holding.{HeldTree, holds_at, trimmed}
+use Rattle.pv_tree.specs.Rooms.{refusal}
+use Rattle.pv_tree.specs.Standing.{IsStanding}
+use Rattle.pv_tree.proofs.Counting.{read-same, read-other}
+use Rattle.pv_tree.proofs.Entries.{one_if}
+use Rattle.pv_tree.proofs.Rooms.{refusal-fits}
+use Rattle.pv_laws_trees.specs.Room.{IsNoLonger, IsNoLarger}
+use Rattle.pv_laws_trees.proofs.Changes.{node_at-same, node_at-other}
+use Rattle.pv_laws_trees.proofs.Numbered.{at_number-below, least_free-free}
+use Rattle.pv_laws_trees.specs.Kept.{kept}
+use Rattle.pv_laws_trees.proofs.NewNodes.{there-new, new-same}
+use Rattle.pv_laws_trees.proofs.Rooms.{smaller-fits, smaller-not_too_long, kept-no_larger}
+use Rattle.pv_calls_state.specs.Changes.{with_opened_descriptor, with_file_made}
+use Rattle.pv_calls_state.specs.Counts.{state_of, times, open_nodes, IsCountedUp}
+use Rattle.pv_calls_state.specs.Releasing.{files_on}
+use Rattle.pv_calls_state.proofs.Changing.{IsBefore, updated, few-holds, counted-changed, trimmed-changed}
+use Rattle.pv_calls_state.proofs.Counting.{one-apart, of_place, times-one, times-with_number}
+use Rattle.pv_calls_state.proofs.Descriptors.{times-given}
+use Rattle.pv_calls_state.proofs.Growing.{ordered-seen, wanted-more, new-kept}
+use Rattle.pv_calls_state.proofs.Releasing.{of_node}
+
+-- ---- a file that is cut
+
+file-some : (o : Option Node) → is_file o ≡ true → is_some o ≡ true
+file-some None is = cc
+file-some (Some node) is = refl
+
+-- a file that is cut is there
+pub cut-there : (t : Tree) → IsTree t → (n : ℕ) (cuts : Bool) → (IsTrue cuts → IsTrue (is_file (node_at t n))) → IsSome (node_at t n)
+    → IsSome (node_at (if cuts then with_content t n [] else t) n)
+cut-there t is n true file there = file-some (node_at (with_content t n []) n) ((carries-content t is n [] refl).file n there ∙ file refl)
+cut-there t is n false file there = there
+
+no_longer : (t : Tree) (o : Option Node) → IsNoLonger t.version o o
+no_longer t None = tt
+no_longer t (Some node) = omega arith
+
+-- no bytes have room
+pub cut-fits : (t : Tree) (n : ℕ) → is_file (node_at t n) ≡ true → is_too_long t ≡ false → fits t ≡ true → refusal (resized t n 0) ≡ None
+cut-fits t n file short room = by (node_at t n) refl file
+  where
+    by : (o : Option Node) → node_at t n ≡ o → is_file o ≡ true → refusal (resized t n 0) ≡ None
+    by None at is = cc
+    by (Some (directory_node es)) at is = cc
+    by (Some (link_node text)) at is = cc
+    by (Some (file_node x old)) at is =
+        let u : Tree = with_node t n (file_node x []) in
+        let below : n < length t.nodes = at_number-below t.nodes n (file_node x old) at in
+        let less : IsNoLarger u t = record {
+          blocks = refl;
+          inodes = refl;
+          version = refl;
+          nodes = λ m. ⊎_elim
+              (λ same. subst (λ j. IsNoLonger t.version (node_at u j) (node_at t j)) (sym same)
+              (subst (λ o. IsNoLonger t.version o (node_at t n)) (sym (node_at-same t n (file_node x []) below)) (subst (λ o. IsNoLonger t.version (Some (file_node x [])) o) (sym at) (omega arith))))
+              (λ other. subst (λ o. IsNoLonger t.version o (node_at t m)) (sym (node_at-other t n (file_node x []) m below other)) (no_longer t (node_at t m)))
+              (cases_eq m n);
+        } in
+        let nothing : 0 - length old ≡ 0 = omega arith in
+        let stays : is_too_long u ≡ false = ⊎_elim (λ long. let was = smaller-not_too_long t u less long in cc) (λ fine. fine) (cases_Bool (is_too_long u)) in
+        ap (λ o. refusal (with_content_of t n o (resize (bytes_of o) 0))) at
+        ∙ ap (λ k. refusal (with_node t n (file_node x (take 0 old ++ replicate k 0)))) nothing
+        ∙ refusal-fits u stays (smaller-fits t u less room)
+
+-- ---- a node that is made
+
+allowed-fits : (u : Tree) → refusal u ≡ None → fits u ≡ true
+allowed-fits u none = by (is_too_long u) (fits u) none
+  where
+    by : (a b : Bool) → (if a then Some TooBig else (if b then None else Some Full)) ≡ None → b ≡ true
+    by true b wrong = cc wrong
+    by false true is = refl
+    by false false wrong = cc wrong
+
+-- it is there under its number
+pub made-there : (s : State) → IsWhole s → (d : ℕ) (name : Bytes) → is_directory_at s.tree d ≡ true → find_entry s.tree d name ≡ None
+    → refusal (with_new_node s.tree d name (file_node false [])) ≡ None → IsSome (node_at (with_new_node s.tree d name (file_node false [])) (new_number s.tree))
+made-there s whole d name dir free allowed =
+    let u : Tree = with_new_node s.tree d name (file_node false []) in
+    let roomy = smaller-fits u (kept u (held_after s)) (kept-no_larger u (held_after s)) (allowed-fits u allowed) in
+    let below : new_number s.tree < length s.tree.nodes = new-below s whole d name (file_node false []) (held_after s) dir free refl (λ n is. is) roomy in
+    let within : new_number s.tree ≤ length s.tree.nodes = omega arith in
+    there-new s.tree d name (file_node false []) dir free refl within (new_number s.tree) (ap is_some (new-same s.tree d name (file_node false []) dir free refl within))
+
+-- the open file of it leaves each node
+pub made-tree : (s : State) (pid : ℕ) (me : Process) → IsWhole s → process_at s pid ≡ Some me → (f : OpenFlags) (d : ℕ) (name : Bytes) → is_directory_at s.tree d ≡ true → find_entry s.tree d name ≡ None
+    → least_free s.files < 128 → least_free me.descriptors < 16 → (trim (with_file_made s pid me f d name)).tree ≡ with_new_node s.tree d name (file_node false [])
+made-tree s pid me whole at f d name dir free room_file room_descriptor =
+    let made : State = with_file_made s pid me f d name in
+    let numbers : length s.tree.nodes ≡ s.tree.inodes + 1 = omega (arith, whole.tree.well_formed.numbers) in
+    let more = held-more s pid me whole at f (new_number s.tree) (with_new_node s.tree d name (file_node false []))
+    (omega (arith, room_file, whole.files.count)) (omega (arith, room_descriptor, (whole.processes.placed pid me at).descriptors)) in
+    tree-trim made
+    ∙ new-kept s.tree (held_after made) (ordered-seen s.tree whole.tree.well_formed)
+    (λ n is. wanted-more s.tree (held_after s) (held_after made) more n (there-wanted s whole n is)) numbers d name (file_node false []) dir free refl
+
+-- ---- the node that is opened
+
+module _ (t : HeldTree) (c : Counted) (ps : ProcessTable) (pid : ℕ) (me : Process) (is : IsBefore t c ps pid me) (node : ℕ) (flags : OpenFlags) (v : HeldTree) (same : v.holds ≡ t.holds) where
+  pub open-few : holds_at v node < 65535
+  open-few = omega (arith, few-holds t c ps pid me is node, ap (λ hs. slice_index hs node) same)
+
+  module _ (u : HeldTree) (d : Counted) (qs : ProcessTable) (more : holds_at u node ≡ holds_at v node + 1) (others : (n : ℕ) → n ≢ node → holds_at u n ≡ holds_at v n)
+      (room : least_free c.files < 128) (files : d ≡ with_opened c (least_free c.files) (new_open_file flags node))
+      (put : qs ≡ update ps pid (with_opened_descriptor (least_free c.files) flags.close_on_exec)) where
+    unused : slice_index c.users (least_free c.files) ≡ 0
+    unused = by (slice_index c.users (least_free c.files)) refl
+      where
+        by : (n : ℕ) → slice_index c.users (least_free c.files) ≡ n → slice_index c.users (least_free c.files) ≡ 0
+        by zero none = none
+        by (suc n) some =
+            let there = (is.counted.used (least_free c.files)).1 (omega (arith, some)) in
+            let none = least_free-free c.files in
+            let wrong : is_some {T = OpenFile} None ≡ true = ap is_some (sym none) ∙ there in cc wrong
+
+    one-user : (k : ℕ) → slice_index c.users k + one_if (least_free c.files) k ≡ slice_index d.users k
+    one-user = one-apart (slice_index c.users) (slice_index d.users) (least_free c.files)
+        (omega (arith, unused, ap (λ (x : Counted). slice_index x.users (least_free c.files)) files, read-same c.users (least_free c.files) 1 (omega (arith, is.counted.counts))))
+        (λ k other. sym (ap (λ (x : Counted). slice_index x.users k) files ∙ read-other c.users (least_free c.files) k 1 other))
+
+    users : (k : ℕ) → slice_index d.users k + times k (files_on me.descriptors)
+        ≡ slice_index c.users k + times k (files_on (with_opened_descriptor (least_free c.files) flags.close_on_exec me).descriptors)
+    users k = omega (arith, one-user k, times-given k me.descriptors (record { file = least_free c.files; close_on_exec = flags.close_on_exec }))
+
+    opened-nodes : (n : ℕ) → times n (open_nodes d.files) ≡ times n (open_nodes c.files) + one_if node n
+    opened-nodes n =
+        omega (
+          arith,
+          ap (λ (x : Counted). times n (open_nodes x.files)) files,
+          times-with_number of_node n c.files (least_free c.files) (new_open_file flags node),
+          ap (λ o. times n (of_place of_node o)) (least_free-free c.files),
+          times-one n node,
+        )
+
+    holds : (n : ℕ) → (holds_at u n + times n (held_by_process me)) + times n (open_nodes c.files)
+        ≡ (holds_at t n + times n (held_by_process (with_opened_descriptor (least_free c.files) flags.close_on_exec me))) + times n (open_nodes d.files)
+    holds n =
+        omega (arith, opened-nodes n, one-apart (holds_at v) (holds_at u) node (sym more) (λ m other. sym (others m other)) n, ap (λ hs. slice_index hs n) same)
+
+    put' : qs ≡ with_process ps pid (with_opened_descriptor (least_free c.files) flags.close_on_exec me)
+    put' = put ∙ updated t c ps pid me is (with_opened_descriptor (least_free c.files) flags.close_on_exec)
+
+    pub opened-up : IsCountedUp u d qs
+    opened-up = counted-changed t c ps pid me is u d qs (with_opened_descriptor (least_free c.files) flags.close_on_exec me) put' users holds
+
+    pub opened-state : (s : State) → state_of t c ps ≡ s → (tree : Tree) → u.tree ≡ tree → IsStanding u → IsCounted d
+        → state_of u d qs ≡ trim (with_open_file s pid me flags node tree)
+    opened-state s view tree nodes standing counted =
+        trimmed-changed t c ps pid me is u d qs (with_opened_descriptor (least_free c.files) flags.close_on_exec me) put' users holds tree d.files counted counted.places
+        (sym standing.is_trimmed ∙ ap (λ x. trimmed x u.holds) nodes) (λ k used. refl)
+        ∙ ap (λ fs. trim (state_with tree fs (with_process ps pid (with_opened_descriptor (least_free c.files) flags.close_on_exec me)))) (ap (λ (x : Counted). x.files) files)
+        ∙ ap (λ x. trim (with_open_file x pid me flags node tree)) view

@@ -1,0 +1,55 @@
+-- The new node is held, and the open file has one user.
+use Rattle.std.proofs.Common.{ap, sym, subst, ◌∙◌, arith, rules}
+use Rattle.std.specs.Prelude.{IsSome}
+use Rattle.std.proofs.lemmas.Result.{IfErr-weaker}
+use Rattle.pv_model.specs.Numbered.{least_free}
+use Rattle.pv_model.specs.State.{State}
+use Rattle.pv_model.specs.Tree.{Tree, node_at, new_number, with_new_node}
+use Rattle.pv_calls_state.proofs.Changing.{before, started}
+use Rattle.pv_model.specs.declared.sort.NewNode.TheVariants.{File}
+use Rattle.pv_model.specs.Calls.Descriptors.{with_open_file}
+use Rattle.pv_model.specs.Held.{trim}
+use Rattle.pv_tree.specs.Changes.{new_node}
+use Rattle.pv_tree.specs.Holding.{HeldTree}
+use Rattle.pv_tree.specs.Rooms.{refusal}
+use Rattle.pv_calls_state.proofs.Opening.{made-there, made-tree, open-few, opened-up, opened-state}
+use Rattle.pv_calls_state.proofs.parts.Parts.create.Goals as goal
+
+pub open_node-number-requires-clause-there : goal.open_node-number-requires-clause-there
+open_node-number-requires-clause-there c =
+    let new : State → Tree = λ x. with_new_node x.tree c.args.directory c.args.name.now (new_node File) in
+    let there = made-there c.args.self.now c.requires.whole c.args.directory c.args.name.now c.requires.directory.0 c.requires.absent
+    (ap (λ x. refusal (new x)) (sym c.self.view_is) ∙ c.in_ok-node.ensures.allowed) in
+    subst (λ u. IsSome (node_at u c.in_ok-node.node)) (sym (ap (λ (x : HeldTree). x.tree) c.in_ok-node.ensures.ok ∙ ap new c.self.view_is))
+    (subst (λ m. IsSome (node_at (new c.args.self.now) m)) (sym (c.in_ok-node.ensures.number ∙ ap (λ (x : State). new_number x.tree) c.self.view_is)) there)
+
+pub open_node-number-requires-clause-few : goal.open_node-number-requires-clause-few
+open_node-number-requires-clause-few c =
+    let p = started c.args.self.now c.self.inside.tree c.self.inside.files c.self.inside.processes c.args.pid c.self.view_is c.requires.whole c.self.invariant c.sizes.ensures.standing c.facts.ensures c.requires.live in
+    open-few c.self.inside.tree c.self.inside.files c.self.inside.processes c.args.pid p.0 p.1 c.in_ok-node.node c.args.flags c.make.new.self (ap (λ (x : HeldTree). x.holds) c.in_ok-node.ensures.ok)
+
+pub invariant_of-self-2 : goal.invariant_of-self-2
+invariant_of-self-2 c =
+    let p = started c.args.self.now c.self.inside.tree c.self.inside.files c.self.inside.processes c.args.pid c.self.view_is c.requires.whole c.self.invariant c.sizes.ensures.standing c.facts.ensures c.requires.live in
+    opened-up c.self.inside.tree c.self.inside.files c.self.inside.processes c.args.pid p.0 p.1 c.in_ok-node.node c.args.flags c.make.new.self (ap (λ (x : HeldTree). x.holds) c.in_ok-node.ensures.ok) c.open_node-number.new.tree c.open_node-number.new.files c.open_node-number.new.processes c.open_node-number.ensures.more c.open_node-number.ensures.others
+    (omega (arith, c.requires.file, ap (λ (x : State). least_free x.files) c.self.view_is)) c.open_node-number.ensures.files c.open_node-number.ensures.processes
+
+pub returns-clause-opened : goal.returns-clause-opened
+returns-clause-opened c me at =
+    let is = before c.args.self.now c.self.inside.tree c.self.inside.files c.self.inside.processes c.args.pid me c.self.view_is c.requires.whole c.self.invariant c.sizes.ensures.standing c.facts.ensures at in
+    let new : State → Tree = λ x. with_new_node x.tree c.args.directory c.args.name.now (new_node File) in
+    opened-state c.self.inside.tree c.self.inside.files c.self.inside.processes c.args.pid me is c.in_ok-node.node c.args.flags c.make.new.self (ap (λ (x : HeldTree). x.holds) c.in_ok-node.ensures.ok) c.open_node-number.new.tree c.open_node-number.new.files c.open_node-number.new.processes c.open_node-number.ensures.more c.open_node-number.ensures.others
+    (omega (arith, c.requires.file, ap (λ (x : State). least_free x.files) c.self.view_is)) c.open_node-number.ensures.files c.open_node-number.ensures.processes
+    c.args.self.now c.self.view_is (new c.args.self.now)
+    (c.open_node-number.ensures.tree ∙ ap (λ (x : HeldTree). x.tree) c.in_ok-node.ensures.ok ∙ ap new c.self.view_is)
+    c.sizes-2.ensures.standing c.facts-2.ensures
+    ∙ ap (λ n. trim (with_open_file c.args.self.now c.args.pid me c.args.flags n (new c.args.self.now))) (c.in_ok-node.ensures.number ∙ ap (λ (x : State). new_number x.tree) c.self.view_is)
+
+pub returns-in_err-node-clause-refused : goal.returns-in_err-node-clause-refused
+returns-in_err-node-clause-refused c =
+    let s = c.args.self.now in
+    IfErr-weaker c.from_residual.result _ _
+    (λ why no_room me at.
+    ap refusal (made-tree s c.args.pid me c.requires.whole at c.args.flags c.args.directory c.args.name.now c.requires.directory.0 c.requires.absent c.requires.file (c.requires.descriptor me at))
+    ∙ ap (λ (x : State). refusal (with_new_node x.tree c.args.directory c.args.name.now (new_node File))) (sym c.self.view_is) ∙ no_room)
+    (search rules)

@@ -1,0 +1,100 @@
+-- What the parts come to.
+use Rattle.std.specs.Prelude.{◌≡◌, ℕ, ℤ, zero, suc, if◌then◌else◌, [], length, nat_lt, take, drop, Bool, false, None, Some}
+use Rattle.pv_model.specs.declared.open_flags.OpenFlags.{OpenFlags}
+use Rattle.pv_model.specs.declared.perms.Perms.{Perms}
+use Rattle.pv_model.specs.declared.target.Target.{Target}
+use Rattle.pv_model.specs.Attempt.{give}
+use Rattle.pv_model.specs.Bytes.{Bytes}
+use Rattle.pv_model.specs.Calls.Descriptors.{with_content, with_open_file, without_descriptor}
+use Rattle.pv_model.specs.Calls.Restraints.{entries_of_table}
+use Rattle.pv_model.specs.Effect.{bytes_of}
+use Rattle.pv_model.specs.Program.{inside, next}
+use Rattle.pv_model.specs.Numbered.{Numbered, with_number, least_free}
+use Rattle.pv_model.specs.State.{Descriptor, Process, State, process_at, with_process}
+use Rattle.pv_model.specs.Tree.{Tree, file_node, new_number, node_at, with_new_node}
+use Rattle.pv_model.specs.Unveil.{Table}
+use Rattle.pv_procs.specs.declared.processes.Fetched.{Fetched}
+use Rattle.pv_procs.specs.declared.processes.Fetched.TheVariants.{Gone, Register, Call}
+use Rattle.pv_procs.specs.ProcessTable.{ProcessTable, with_process as process_put}
+use Rattle.pv_procs.specs.Turns.{CallsNext}
+use Rattle.pv_script.specs.Passing.{Passes}
+use Rattle.pv_unveil.specs.Added.{add_to}
+use Rattle.pv_unveil.specs.Unveiled.{Unveiled}
+
+-- a live process alone changed, to one that stands to it in this relation
+pub record MovesInside (by : Process → Process → Type 0) (s : State) (pid : ℕ) (new : State) : Type 0 where
+  pub me : Process
+  pub lives : process_at s pid ≡ Some me
+  pub after : Process
+  pub step : by me after
+  pub only : new ≡ with_process s pid after
+
+-- the instruction inside a live process that comes next was made
+abbrev pub StepsInside : State → ℕ → State → Type 0
+StepsInside s pid new = MovesInside (λ me after. next me ≡ inside after) s pid new
+
+-- so many instructions inside a live process were made, one after another, and nothing changed where they are none
+abbrev pub PassesInside : ℕ → ℕ → State → State → Type 0
+PassesInside zero pid s new = new ≡ s
+PassesInside (suc n) pid s new = MovesInside (Passes (suc n)) s pid new
+
+-- what came next in a process was made, if it is an instruction inside it, and else nothing changed
+abbrev pub IsRegistered : Fetched → ℕ → State → State → Type 0
+IsRegistered Gone pid s new = (process_at s pid ≡ None) × (new ≡ s)
+IsRegistered Register pid s new = StepsInside s pid new
+IsRegistered (Call call) pid s new = CallsNext call (process_at s pid) × (new ≡ s)
+
+abbrev pub unveiled_of : Process → Unveiled
+unveiled_of p = record { table = p.table; locked = p.locked }
+
+abbrev pub with_directory : ℕ → Process → Process
+with_directory n p = record p { directory = n }
+
+abbrev pub with_descriptors : Numbered Descriptor → Process → Process
+with_descriptors ds p = record p { descriptors = ds }
+
+-- without the descriptor that a call gives
+abbrev pub with_closed_descriptor : ℤ → Process → Process
+with_closed_descriptor d p = with_descriptors (without_descriptor p.descriptors d) p
+
+-- with a number the descriptor of an open file, which an execve keeps
+abbrev pub with_descriptor_at : ℕ → ℕ → Process → Process
+with_descriptor_at number file p =
+    with_descriptors (with_number p.descriptors number (record { file = file; close_on_exec = false })) p
+
+-- with a descriptor of an open file, the least that is free
+abbrev pub with_opened_descriptor : ℕ → Bool → Process → Process
+with_opened_descriptor file close_on_exec p =
+    with_descriptors (with_number p.descriptors (least_free p.descriptors) (record { file = file; close_on_exec = close_on_exec })) p
+
+abbrev pub with_table : Table → Process → Process
+with_table table p = record p { table = Some table }
+
+-- an entry was added to a process's table, or left with fewer permissions
+pub record Unveils (s : State) (pid : ℕ) (me : Process) (target : Target) (permissions : Perms) (new : State) : Type 0 where
+  pub table : Table
+  pub added : add_to (unveiled_of me) target permissions ≡ give table
+  pub only : new ≡ with_process s pid (with_table table me)
+
+-- the same, of the processes alone, and whether the entry is new
+pub record AddsEntry (ps : ProcessTable) (pid : ℕ) (me : Process) (target : Target) (permissions : Perms) (is_new : Bool) (new : ProcessTable) : Type 0 where
+  pub table : Table
+  pub added : add_to (unveiled_of me) target permissions ≡ give table
+  pub longer : is_new ≡ nat_lt (length (entries_of_table me.table)) (length table)
+  pub only : new ≡ process_put ps pid (with_table table me)
+
+-- the tree in which a node is opened: a file is cut where the flags say so
+abbrev pub tree_for_open : Tree → OpenFlags → ℕ → Tree
+tree_for_open t f n = if f.truncate then with_content t n [] else t
+
+-- the state with a node opened
+abbrev pub with_node_opened : State → ℕ → Process → OpenFlags → ℕ → State
+with_node_opened s pid me f n = with_open_file s pid me f n (tree_for_open s.tree f n)
+
+-- the state with a new file under a name, opened
+abbrev pub with_file_made : State → ℕ → Process → OpenFlags → ℕ → Bytes → State
+with_file_made s pid me f d name = with_open_file s pid me f (new_number s.tree) (with_new_node s.tree d name (file_node false []))
+
+-- at most so many bytes of a file, from a place on
+abbrev pub bytes_read : Tree → ℕ → ℕ → ℕ → Bytes
+bytes_read t n at count = take count (drop at (bytes_of (node_at t n)))

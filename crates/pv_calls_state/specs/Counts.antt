@@ -1,0 +1,37 @@
+-- The parts of the system, seen as the definitions' state, and how what is used and held is counted.
+use Rattle.std.specs.Prelude.{◌≡◌, ℕ, ◌+◌, ◌==◌, List, map, flat_map, count_by, slice_index}
+use Rattle.pv_files.specs.Counted.{Counted}
+use Rattle.pv_model.specs.Held.{live_processes, used_files, held_by_process}
+use Rattle.pv_model.specs.Numbered.{Numbered, present}
+use Rattle.pv_model.specs.State.{OpenFile, ProcessRecord, State}
+use Rattle.pv_procs.specs.ProcessTable.{ProcessTable, state_with}
+use Rattle.pv_tree.specs.Holding.{HeldTree, holds_at}
+
+-- the state that a tree, open files and processes make
+abbrev pub state_of : HeldTree → Counted → ProcessTable → State
+state_of tree counted processes = state_with tree.tree counted.files processes
+
+-- the processes of a state
+abbrev pub processes_of : State → ProcessTable
+processes_of s = record { processes = s.processes; last_process = s.last_process }
+
+-- how often a number stands in a list
+abbrev pub times : ℕ → List ℕ → ℕ
+times n ns = count_by (λ m. m == n) ns
+
+-- the open files that the descriptors of live processes are on, each as often as there is a descriptor
+abbrev pub used_in : List (ℕ × ProcessRecord) → List ℕ
+used_in rs = flat_map (λ p. used_files p.1) (live_processes rs)
+
+-- the working directories and the targets of tables of live processes
+abbrev pub held_in : List (ℕ × ProcessRecord) → List ℕ
+held_in rs = flat_map (λ p. held_by_process p.1) (live_processes rs)
+
+-- the nodes of open files
+abbrev pub open_nodes : Numbered OpenFile → List ℕ
+open_nodes files = map (λ f. f.node) (present files)
+
+-- each open file has as many users as there are descriptors on it, and each node is held as often as a working directory, a target or an open file stands for it
+pub record IsCountedUp (tree : HeldTree) (counted : Counted) (processes : ProcessTable) : Type 0 where
+  pub users : (k : ℕ) → slice_index counted.users k ≡ times k (used_in processes.processes)
+  pub holds : (n : ℕ) → holds_at tree n ≡ times n (held_in processes.processes) + times n (open_nodes counted.files)

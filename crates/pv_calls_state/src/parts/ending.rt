@@ -1,0 +1,198 @@
+//! Children, ends and new programs of processes.
+ghost use Rattle.std.specs.Prelude.{◌≡◌, if◌then◌else◌, ℕ, ◌+◌, ◌<◌, ◌≤◌, [], IsSome, is_some, OnErr, Some, option_map, slice_index};
+ghost use Rattle.pv_laws_states.specs.States.{IsWhole};
+ghost use Rattle.pv_model.specs.Answer.{update};
+ghost use Rattle.pv_model.specs.Calls.Processes.{end_process, fork, wait, with_program};
+ghost use Rattle.pv_model.specs.Held.{trim, held_by_table};
+ghost use Rattle.pv_model.specs.Numbered.{at_number};
+ghost use Rattle.pv_model.specs.State.{Process, process_at};
+ghost use Rattle.pv_model.specs.Tree.{node_at};
+ghost use Rattle.pv_calls_state.specs.Attempts.{plainly, trimmed};
+ghost use Rattle.pv_calls_state.specs.Counts.{times};
+ghost use Rattle.pv_calls_state.specs.Releasing.{files_on, if_marked, marked_of, HoldsOpened, Releases, Shares, LetsGo};
+ghost use Rattle.pv_procs.specs.Reaping.{waited};
+ghost use Rattle.pv_tree.specs.Holding.{holds_at};
+
+use super::Parts;
+use super::descriptors::{file_at, release};
+use super::holding::directory_of;
+use pv_files::{Descriptors, OpenFiles};
+use pv_model::Errno;
+use pv_model::limits::DESCRIPTORS;
+use pv_procs::Reap;
+use pv_promises::Pledge;
+use pv_script::Program;
+use pv_tree::Tree;
+use pv_unveil::Table;
+
+impl Parts {
+    /// The child that fork(2) makes of a live process: its number is the answer. It uses its parent's open files, and
+    /// holds what its parent holds.
+    ///
+    /// # Errors
+    ///
+    /// `EAGAIN` where 32 processes are live or have ended and are not waited for, or where the last number given was
+    /// 99,999, and only there; nothing has then changed.
+    pub fn fork(&mut self, pid: u32) -> Result<u32, Errno>
+        requires whole { IsWhole self.old }
+        requires live { IsSome (process_at self.old pid) }
+        ensures performed { (me : Process) → process_at self.old pid ≡ Some me → trimmed (fork self.old pid me) ≡ plainly self.new result }
+        ensures unchanged { OnErr result (self.new ≡ self.old) }
+    {
+        let _ = self.tree.sizes();
+        self.files.facts();
+        let child = self.processes.fork(pid)?;
+        let record = self.processes.record(child);
+        self.tree.hold(record.directory);
+        hold_targets(&mut self.tree, &record.unveiled);
+        share(&mut self.files, &record.descriptors);
+        let _ = self.tree.sizes();
+        self.files.facts();
+        Ok(child)
+    }
+
+    /// Waits for a child that has ended, wait(2): the one with the least number is told, and is gone.
+    pub fn reap(&mut self, pid: u32) -> Reap
+        requires { IsSome (process_at self.old pid) }
+        ensures performed { (me : Process) → process_at self.old pid ≡ Some me → trimmed (wait self.old pid me) ≡ waited result self.new }
+        ensures blocked { result ≡ Reap.Blocked → self.new ≡ self.old }
+        ensures unchanged { result ≡ Reap.NoChild → self.new ≡ self.old }
+    {
+        let _ = self.tree.sizes();
+        self.files.facts();
+        self.processes.facts();
+        self.processes.reap(pid)
+    }
+
+    /// Ends a live process, with the status that a parent's wait(2) tells. What it used and held is let go.
+    pub fn end(&mut self, pid: u32, status: u32)
+        requires whole { IsWhole self.old }
+        requires live { IsSome (process_at self.old pid) }
+        ensures { (me : Process) → process_at self.old pid ≡ Some me → self.new ≡ trim (end_process self.old pid me status) }
+    {
+        let _ = self.tree.sizes();
+        self.files.facts();
+        let record = self.processes.record(pid);
+        release_all(&mut self.tree, &mut self.files, &record.descriptors);
+        let_go_targets(&mut self.tree, &record.unveiled);
+        self.tree.let_go(record.directory);
+        self.processes.end(pid, status);
+        self.files.facts();
+    }
+
+    /// Gives a live process another program, execve(2). The descriptors that execve closes are closed, and without
+    /// execpromises what its table held is let go.
+    pub fn load(&mut self, pid: u32, program: Program)
+        requires whole { IsWhole self.old }
+        requires live { IsSome (process_at self.old pid) }
+        ensures { self.new ≡ trim (update self.old pid (λ me. with_program self.old pid me program)) }
+    {
+        let _ = self.tree.sizes();
+        self.files.facts();
+        let record = self.processes.record(pid);
+        release_marked(&mut self.tree, &mut self.files, &record.descriptors);
+        let keeps = keeps_table(&record.pledge);
+        let_go_unless(&mut self.tree, &record.unveiled, keeps);
+        self.processes.load(pid, program);
+        self.files.facts();
+    }
+}
+
+// Whether an execve keeps the unveil table: there are execpromises.
+fn keeps_table(pledge: &Pledge) -> bool
+    ensures { result ≡ is_some pledge.now.execpromises }
+{
+    pledge.execpromises().is_some()
+}
+
+// The open file of a descriptor that execve closes, where the number is one.
+fn marked_file_at(descriptors: &Descriptors, d: u8) -> Option<usize>
+    ensures { result ≡ option_map (λ e. e.file) (if_marked (at_number descriptors.now d)) }
+{
+    if descriptors.marked(d) {
+        file_at(descriptors, d)
+    } else {
+        None
+    }
+}
+
+// Each open file that the descriptors are on has another user for each.
+fn share(files: &mut OpenFiles, descriptors: &Descriptors)
+    requires opened { (k : ℕ) → 0 < times k (files_on descriptors.now) → IsSome (at_number files.old.files k) }
+    requires room { (k : ℕ) → slice_index files.old.users k + times k (files_on descriptors.now) ≤ 65535 }
+    ensures { Shares (files_on descriptors.now) [] files.old files.new }
+{
+    descriptors.facts();
+    for d in 0..DESCRIPTORS as u8 {
+        files.facts();
+        if let Some(file) = file_at(descriptors, d) {
+            files.dup(file);
+        }
+    }
+}
+
+// Takes the users away that the descriptors are.
+fn release_all(tree: &mut Tree, files: &mut OpenFiles, descriptors: &Descriptors)
+    requires used { (k : ℕ) → times k (files_on descriptors.now) ≤ slice_index files.old.users k }
+    requires held { HoldsOpened tree.old files.old }
+    ensures { Releases (files_on descriptors.now) [] tree.old files.old tree.new files.new }
+{
+    let _ = tree.sizes();
+    descriptors.facts();
+    for d in 0..DESCRIPTORS as u8 {
+        files.facts();
+        if let Some(file) = file_at(descriptors, d) {
+            release(tree, files, file);
+        }
+    }
+}
+
+// Takes the users away that the descriptors are which execve closes.
+fn release_marked(tree: &mut Tree, files: &mut OpenFiles, descriptors: &Descriptors)
+    requires used { (k : ℕ) → times k (files_on (marked_of descriptors.now)) ≤ slice_index files.old.users k }
+    requires held { HoldsOpened tree.old files.old }
+    ensures { Releases (files_on (marked_of descriptors.now)) [] tree.old files.old tree.new files.new }
+{
+    let _ = tree.sizes();
+    descriptors.facts();
+    for d in 0..DESCRIPTORS as u8 {
+        files.facts();
+        if let Some(file) = marked_file_at(descriptors, d) {
+            release(tree, files, file);
+        }
+    }
+}
+
+// Each target's directory is held once more.
+fn hold_targets(tree: &mut Tree, table: &Table)
+    requires there { (n : ℕ) → 0 < times n (held_by_table table.now.table) → IsSome (node_at tree.old.tree n) }
+    requires room { (n : ℕ) → holds_at tree.old n + times n (held_by_table table.now.table) ≤ 65535 }
+    ensures tree { tree.new.tree ≡ tree.old.tree }
+    ensures holds { (n : ℕ) → holds_at tree.new n ≡ holds_at tree.old n + times n (held_by_table table.now.table) }
+{
+    for k in 0..table.len() as u8 {
+        tree.hold(directory_of(table.target(k)));
+    }
+}
+
+// Each target's directory is held once less.
+fn let_go_targets(tree: &mut Tree, table: &Table)
+    requires { (n : ℕ) → times n (held_by_table table.now.table) ≤ holds_at tree.old n }
+    ensures { LetsGo (held_by_table table.now.table) tree.old tree.new }
+{
+    let _ = tree.sizes();
+    for k in 0..table.len() as u8 {
+        tree.let_go(directory_of(table.target(k)));
+    }
+}
+
+// The same, but where the table is kept.
+fn let_go_unless(tree: &mut Tree, table: &Table, keeps: bool)
+    requires { (n : ℕ) → times n (held_by_table table.now.table) ≤ holds_at tree.old n }
+    ensures { LetsGo (if keeps then [] else held_by_table table.now.table) tree.old tree.new }
+{
+    let _ = tree.sizes();
+    if !keeps {
+        let_go_targets(tree, table);
+    }
+}

@@ -1,0 +1,108 @@
+//! What changes in a process alone.
+ghost use Rattle.std.specs.Prelude.{◌≡◌, ◌<◌, ◌≤◌, ◌++◌, drop, length, IsSome, IsTrue, true};
+ghost use Rattle.pv_model.specs.Answer.{at_next_line, with_front, update};
+ghost use Rattle.pv_model.specs.Calls.Processes.{with_result};
+ghost use Rattle.pv_model.specs.State.{Process, process_at};
+ghost use Rattle.pv_model.specs.Sealed.{is_file};
+ghost use Rattle.pv_model.specs.Tree.{node_at};
+ghost use Rattle.pv_calls_state.specs.Changes.{IsRegistered, PassesInside, bytes_read};
+ghost use Rattle.pv_procs.specs.Turns.{AwaitsCall};
+
+use super::Parts;
+use pv_model::limits::BUFFER;
+use pv_procs::Fetched;
+use pv_promises::Pledge;
+use pv_script::CallTexts;
+use pv_tree::Tree;
+
+// Reads at most so many bytes of a file, from `at` on, to the front of a buffer: answers how many.
+fn read_part(tree: &Tree, node: u16, at: u32, count: usize, buffer: &mut [u8]) -> usize
+    requires file { IsTrue (is_file (node_at tree.now.tree node)) }
+    requires room { count ≤ length buffer.old }
+    ensures count { result ≡ length (bytes_read tree.now.tree node at count) }
+    ensures front { let bytes = bytes_read tree.now.tree node at count in buffer.new ≡ bytes ++ drop (length bytes) buffer.old }
+{
+    tree.read_at(node, at, &mut buffer[..count])
+}
+
+impl Parts {
+    /// What comes next in a process: an instruction on registers or a jump, which is made, or a call, with its texts
+    /// kept: past the last line, an exit.
+    pub fn step_or_fetch<'a>(&mut self, pid: u32, texts: &'a mut CallTexts) -> Fetched<'a>
+        ensures { IsRegistered result pid self.old self.new }
+    {
+        self.processes.facts();
+        self.processes.step_or_fetch(pid, texts)
+    }
+
+    /// Makes the instructions on registers and the jumps that come next in a process, at most so many, one after
+    /// another: answers how many. Where the process is not live, they are none.
+    pub fn pass(&mut self, pid: u32, most: u32) -> u32
+        ensures few { result ≤ most }
+        ensures made { PassesInside result pid self.old self.new }
+        ensures whole { result < most → AwaitsCall (process_at self.new pid) }
+    {
+        self.processes.facts();
+        self.processes.pass(pid, most)
+    }
+
+    /// A live process goes on to its next line, at most to the one after the last.
+    pub fn advance(&mut self, pid: u32)
+        requires { IsSome (process_at self.old pid) }
+        ensures { self.new ≡ update self.old pid at_next_line }
+    {
+        self.processes.facts();
+        self.processes.advance(pid);
+    }
+
+    /// Tells a live process what a call came to: r0 has the value, and r1 the error, 0 where there is none.
+    pub fn tell(&mut self, pid: u32, value: i32, error: u16)
+        requires { IsSome (process_at self.old pid) }
+        ensures { self.new ≡ update self.old pid (λ p. with_result p value error) }
+    {
+        self.processes.facts();
+        self.processes.tell(pid, value, error);
+    }
+
+    /// Puts bytes, at most 4,096, to the front of a live process's buffer.
+    pub fn put_front(&mut self, pid: u32, bytes: &[u8])
+        requires live { IsSome (process_at self.old pid) }
+        requires size { length bytes.now ≤ BUFFER }
+        ensures { self.new ≡ update self.old pid (with_front bytes.now) }
+    {
+        self.processes.facts();
+        self.processes.put_front(pid, bytes);
+    }
+
+    /// Reads at most so many bytes of a file, 4,096 at most, from `at` on to the front of a live process's buffer:
+    /// answers how many, fewer where the file ends, and none past its end.
+    pub fn read_front(&mut self, pid: u32, node: u16, at: u32, count: usize) -> usize
+        requires live { IsSome (process_at self.old pid) }
+        requires file { IsTrue (is_file (node_at self.old.tree node)) }
+        requires few { count ≤ BUFFER }
+        ensures count { result ≡ length (bytes_read self.old.tree node at count) }
+        ensures front { self.new ≡ update self.old pid (with_front (bytes_read self.old.tree node at count)) }
+    {
+        self.processes.facts();
+        let buffer = self.processes.record_mut(pid).context.buffer_mut();
+        read_part(&self.tree, node, at, count, buffer)
+    }
+
+    /// Gives a live process other promises and execpromises.
+    pub fn set_pledge(&mut self, pid: u32, pledge: Pledge)
+        requires { IsSome (process_at self.old pid) }
+        ensures { self.new ≡ update self.old pid (λ p. record p { promises = pledge.promises; execpromises = pledge.execpromises }) }
+    {
+        self.processes.facts();
+        self.processes.record_mut(pid).pledge = pledge;
+    }
+
+    /// Locks the unveil table of a live process.
+    pub fn lock(&mut self, pid: u32)
+        requires { IsSome (process_at self.old pid) }
+        ensures { self.new ≡ update self.old pid (λ p. record p { locked = true }) }
+    {
+        self.processes.facts();
+        self.processes.record_mut(pid).unveiled.lock();
+    }
+}

@@ -1,0 +1,51 @@
+-- A command that ends early has another status than one that is done.
+use Rattle.std.proofs.Common.{◌≢◌, Ok, Err}
+use Rattle.std.specs.Prelude.{IfErr}
+use Rattle.pv_model.specs.declared.fault.ImageFault.TheVariants.{Memory as ImageMemory}
+use Rattle.pv_model.specs.declared.fault.ManifestFault.TheVariants.{Memory as ManifestMemory}
+use Rattle.pv_model.specs.declared.run_fault.RunFault.{RunFault}
+use Rattle.pv_model.specs.declared.run_fault.RunFault.TheVariants.{Image, Manifest}
+use Rattle.pv_model.specs.declared.store_fault.ListFault.{ListFault}
+use Rattle.pv_model.specs.declared.store_fault.ListFault.TheVariants.{Image as ListedImage}
+use Rattle.pv_model.specs.declared.store_fault.MigrateFault.TheVariants.{Image as MigratedImage}
+use Rattle.pv_images.specs.declared.auditing.AuditStop.{AuditStop}
+use Rattle.pv_images.specs.declared.auditing.AuditStop.TheVariants.{Machine}
+use Rattle.pv_images.specs.declared.migrating.MigrateStop.{MigrateStop}
+use Rattle.pv_images.specs.declared.migrating.MigrateStop.TheVariants.{Refused}
+use Rattle.pv_cli_commands.specs.declared.fault.Fault.{Fault}
+use Rattle.pv_cli_commands.specs.declared.fault.Fault.TheVariants.{Run, Listing, Migrating, Auditing}
+use Rattle.pv_cli_commands.specs.Faults.{Answer}
+use Rattle.pv_cli_commands.specs.Status.{audit_status_of, list_status_of, migrate_status_of, run_status_of, status_of}
+
+run_status-not_zero : (fault : RunFault) → run_status_of fault ≢ 0
+run_status-not_zero (Image ImageMemory) h = cc
+run_status-not_zero (Image fault) h = cc
+run_status-not_zero (Manifest ManifestMemory) h = cc
+run_status-not_zero (Manifest fault) h = cc
+run_status-not_zero fault h = cc
+
+list_status-not_zero : (fault : ListFault) → list_status_of fault ≢ 0
+list_status-not_zero (ListedImage ImageMemory) h = cc
+list_status-not_zero (ListedImage fault) h = cc
+list_status-not_zero fault h = cc
+
+migrate_status-not_zero : (stop : MigrateStop) → migrate_status_of stop ≢ 0
+migrate_status-not_zero (Refused (MigratedImage ImageMemory)) h = cc
+migrate_status-not_zero (Refused (MigratedImage fault)) h = cc
+migrate_status-not_zero (Refused fault) h = cc
+migrate_status-not_zero stop h = cc
+
+audit_status-not_zero : (stop : AuditStop) → audit_status_of stop ≢ 0
+audit_status-not_zero (Machine fault) = run_status-not_zero fault
+audit_status-not_zero stop = λ h. cc
+
+status-not_zero : (fault : Fault) → status_of fault ≢ 0
+status-not_zero (Run fault) = run_status-not_zero fault
+status-not_zero (Listing fault) = list_status-not_zero fault
+status-not_zero (Migrating stop) = migrate_status-not_zero stop
+status-not_zero (Auditing stop) = audit_status-not_zero stop
+
+-- whatever a command answers
+pub failed_with_status : (answer : Answer) → IfErr answer (λ fault. status_of fault ≢ 0)
+failed_with_status (Ok done) = tt
+failed_with_status (Err fault) = status-not_zero fault

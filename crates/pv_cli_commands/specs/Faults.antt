@@ -1,0 +1,32 @@
+-- Which command a fault is of.
+use Rattle.std.specs.Prelude.{Result}
+use Rattle.pv_model.specs.declared.run_fault.RunFault.{RunFault}
+use Rattle.pv_model.specs.declared.store_fault.ListFault.{ListFault}
+use Rattle.pv_images.specs.declared.auditing.AuditStop.{AuditStop}
+use Rattle.pv_images.specs.declared.migrating.MigrateStop.{MigrateStop}
+use Rattle.pv_cli_commands.specs.declared.fault.Fault.{Fault}
+use Rattle.pv_cli_commands.specs.declared.fault.Fault.TheVariants.{Run, Listing, Migrating, Auditing}
+
+-- what a command answers
+abbrev pub Answer : Type 0
+Answer = Result (Unit {0}) Fault
+
+-- it is a fault of a run, of which this holds
+abbrev pub IsOfRun : (RunFault → Type 0) → Fault → Type 0
+IsOfRun holds (Run fault) = holds fault
+IsOfRun holds fault = ⊥
+
+-- it is a fault of a listing, of which this holds
+abbrev pub IsOfListing : (ListFault → Type 0) → Fault → Type 0
+IsOfListing holds (Listing fault) = holds fault
+IsOfListing holds fault = ⊥
+
+-- it is the end of a migration, of which this holds
+abbrev pub IsOfMigrating : (MigrateStop → Type 0) → Fault → Type 0
+IsOfMigrating holds (Migrating stop) = holds stop
+IsOfMigrating holds fault = ⊥
+
+-- it is the end of an audit, of which this holds
+abbrev pub IsOfAuditing : (AuditStop → Type 0) → Fault → Type 0
+IsOfAuditing holds (Auditing stop) = holds stop
+IsOfAuditing holds fault = ⊥

@@ -1,0 +1,64 @@
+-- The exit status of a command: 0 done, 1 refused input, 3 memory, 4 a failed read or write.
+use Rattle.std.specs.Prelude.{◌≡◌, ◌≢◌, ℕ, Result, Ok, Err}
+use Rattle.pv_model.specs.declared.fault.ImageFault.TheVariants.{Memory as ImageMemory}
+use Rattle.pv_model.specs.declared.fault.ManifestFault.TheVariants.{Memory as ManifestMemory}
+use Rattle.pv_model.specs.declared.run_fault.RunFault.{RunFault}
+use Rattle.pv_model.specs.declared.run_fault.RunFault.TheVariants.{Read, Image, Manifest, Schedule, Init, Memory, WriteTrace, WriteImage}
+use Rattle.pv_model.specs.declared.store_fault.ListFault.{ListFault}
+use Rattle.pv_model.specs.declared.store_fault.ListFault.TheVariants.{Read as ListRead, Image as ListedImage, Memory as ListMemory, Write as ListWrite}
+use Rattle.pv_model.specs.declared.store_fault.MigrateFault.TheVariants.{Image as MigratedImage, Small, Memory as MigrateMemory}
+use Rattle.pv_model.specs.declared.stream.Sink.{Ghosts as Writing}
+use Rattle.pv_images.specs.declared.auditing.AuditStop.{AuditStop}
+use Rattle.pv_images.specs.declared.auditing.AuditStop.TheVariants.{Machine, Path, Write as AuditWrite}
+use Rattle.pv_images.specs.declared.migrating.MigrateStop.{MigrateStop}
+use Rattle.pv_images.specs.declared.migrating.MigrateStop.TheVariants.{Read as MigrateRead, Refused, Write as MigrateWrite}
+use Rattle.pv_cli_commands.specs.declared.fault.Fault.{Fault}
+use Rattle.pv_cli_commands.specs.declared.fault.Fault.TheVariants.{Run, Listing, Migrating, Auditing}
+use Rattle.pv_cli_commands.specs.Faults.{Answer}
+
+abbrev pub run_status_of : RunFault → ℕ
+run_status_of (Image ImageMemory) = 3
+run_status_of (Image fault) = 1
+run_status_of (Manifest ManifestMemory) = 3
+run_status_of (Manifest fault) = 1
+run_status_of (Schedule n) = 1
+run_status_of (Init n) = 1
+run_status_of Memory = 3
+run_status_of Read = 4
+run_status_of WriteTrace = 4
+run_status_of WriteImage = 4
+
+abbrev pub list_status_of : ListFault → ℕ
+list_status_of (ListedImage ImageMemory) = 3
+list_status_of (ListedImage fault) = 1
+list_status_of ListMemory = 3
+list_status_of ListRead = 4
+list_status_of ListWrite = 4
+
+abbrev pub migrate_status_of : MigrateStop → ℕ
+migrate_status_of (Refused (MigratedImage ImageMemory)) = 3
+migrate_status_of (Refused (MigratedImage fault)) = 1
+migrate_status_of (Refused Small) = 1
+migrate_status_of (Refused MigrateMemory) = 3
+migrate_status_of MigrateRead = 4
+migrate_status_of MigrateWrite = 4
+
+abbrev pub audit_status_of : AuditStop → ℕ
+audit_status_of (Machine fault) = run_status_of fault
+audit_status_of (Path fault) = 1
+audit_status_of AuditWrite = 4
+
+abbrev pub status_of : Fault → ℕ
+status_of (Run fault) = run_status_of fault
+status_of (Listing fault) = list_status_of fault
+status_of (Migrating stop) = migrate_status_of stop
+status_of (Auditing stop) = audit_status_of stop
+
+-- what a command ends with
+abbrev pub status_of_answer : Answer → ℕ
+status_of_answer (Ok done) = 0
+status_of_answer (Err fault) = status_of fault
+
+-- where nothing waited in a sink and no read or write failed, nothing waits in it afterwards
+abbrev pub Flushes : {W : Type 0} → Writing W → W → W → Answer → Type 0
+Flushes writing before after answer = writing.buffered before ≡ 0 → status_of_answer answer ≢ 4 → writing.buffered after ≡ 0

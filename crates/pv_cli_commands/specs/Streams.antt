@@ -1,0 +1,59 @@
+-- What is seen of the files, the sources and the sinks of a command.
+use Rattle.std.specs.Prelude.{◌≡◌, ◌⊎◌, None}
+use Rattle.pv_model.specs.declared.stream.Sink.{Ghosts as Writing}
+use Rattle.pv_model.specs.declared.stream.Source.{Ghosts as Reading}
+use Rattle.pv_model.specs.Bytes.{Bytes}
+use Rattle.pv_model.specs.Stream.{Rose}
+use Rattle.pv_run.specs.declared.stream.TheConstants.{SOURCE_BYTES}
+use Rattle.pv_run.specs.Streams.{GivesMoreThan}
+use Rattle.pv_cli_commands.specs.declared.system.Files.{Ghosts as Filing}
+use Rattle.pv_cli_commands.specs.Created.{IsCreated}
+
+-- a source failed, or gave more than one may give
+abbrev pub FailsToGive : {S : Type 0} → Reading S → S → S → Type 0
+FailsToGive reading first last = Rose (reading.failures first) (reading.failures last) ⊎ GivesMoreThan SOURCE_BYTES (reading.remaining first)
+
+-- a sink failed
+abbrev pub FailsToTake : {W : Type 0} → Writing W → W → W → Type 0
+FailsToTake writing before after = Rose (writing.failures before) (writing.failures after)
+
+-- an image and a schedule: their sources, or the names of their files
+pub record Inputs (A : Type 0) : Type 0 where
+  pub image : A
+  pub schedule : A
+
+abbrev pub inputs_of : {A : Type 0} → A → A → Inputs A
+inputs_of image schedule = record { image = image; schedule = schedule }
+
+-- the sinks of a trace and of an image
+pub record Outputs (W O : Type 0) : Type 0 where
+  pub trace : W
+  pub image : O
+
+abbrev pub outputs_of : {W O : Type 0} → W → O → Outputs W O
+outputs_of trace image = record { trace = trace; image = image }
+
+-- the source of an image or that of a schedule failed, or gave more than one may give
+abbrev pub OneFailsToGive : {S : Type 0} → Reading S → Inputs S → Inputs S → Type 0
+OneFailsToGive reading first last = FailsToGive reading first.image last.image ⊎ FailsToGive reading first.schedule last.schedule
+
+-- what is seen of files: of all of them, of one that is read, and of one that is written
+pub record Disk (F R V : Type 0) : Type 1 where
+  pub files : Filing F R V
+  pub reading : Reading R
+  pub writing : Writing V
+
+abbrev pub disk_of : {F R V : Type 0} → Filing F R V → Reading R → Writing V → Disk F R V
+disk_of files reading writing = record { files = files; reading = reading; writing = writing }
+
+-- a file that was opened gives the bytes that its name has
+abbrev pub IsOpened : {F R V : Type 0} → Disk F R V → F → Bytes → R → Type 0
+IsOpened disk files name first = disk.reading.remaining first ≡ disk.files.bytes files name
+
+-- the bytes of the file of a name are not known
+abbrev pub IsUnknown : {F R V : Type 0} → Disk F R V → F → Bytes → Type 0
+IsUnknown disk files name = disk.files.bytes files name ≡ None
+
+-- a file to be written has this name, and nothing was written to it
+abbrev pub IsCreatedOn : {F R V : Type 0} → Disk F R V → Bytes → V → Type 0
+IsCreatedOn disk name writer = IsCreated disk.files.file_of disk.writing.written name writer

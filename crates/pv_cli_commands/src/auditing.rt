@@ -1,0 +1,53 @@
+//! Audits of images.
+ghost use Rattle.std.specs.Prelude.{◌≡◌, option_map};
+ghost use Rattle.pv_cli_commands.specs.Auditing.{AuditsFiles, AuditsImage};
+ghost use Rattle.pv_cli_commands.specs.Streams.{disk_of, inputs_of};
+
+use crate::fault::Fault;
+use crate::system::Files;
+use pv_images::{AuditStop, audit_image};
+use pv_model::{RunFault, Sink, Source};
+use std::alloc::Global;
+
+// The bytes of a path, where there is one.
+fn bytes_of(path: Option<&str>) -> Option<&[u8]>
+    ensures { option_map (λ bytes. bytes.now) result ≡ option_map (λ text. text.now) path.entry }
+{
+    path.map(|text| text.as_bytes())
+}
+
+// Audits what the schedule of a source leaves on the image of another.
+fn audit_from<S: Source, W: Sink>(
+    alloc: Global,
+    image: &mut S,
+    schedule: &mut S,
+    path: Option<&[u8]>,
+    out: &mut W,
+) -> Result<(), Fault>
+    ensures { AuditsImage S.Source W.Sink (inputs_of image.old schedule.old) (inputs_of image.new schedule.new)
+        (option_map (λ bytes. bytes.now) path.entry) out.old out.new result }
+{
+    audit_image(alloc, image, schedule, path, out)?;
+    Ok(())
+}
+
+// Audits what the schedule in a file leaves on the image in another.
+pub(crate) fn audit_files<F: Files, W: Sink>(
+    alloc: Global,
+    files: &F,
+    image: &str,
+    schedule: &str,
+    path: Option<&str>,
+    out: &mut W,
+) -> Result<(), Fault>
+    ensures { AuditsFiles (disk_of F.Files F.Reader.Source F.Writer.Sink) W.Sink files.now (inputs_of image.now schedule.now)
+        (option_map (λ text. text.now) path.entry) out.old out.new result }
+{
+    let Ok(mut image) = files.open(image) else {
+        return Err(Fault::Auditing(AuditStop::Machine(RunFault::Read)));
+    };
+    let Ok(mut schedule) = files.open(schedule) else {
+        return Err(Fault::Auditing(AuditStop::Machine(RunFault::Read)));
+    };
+    audit_from(alloc, &mut image, &mut schedule, bytes_of(path), out)
+}

@@ -1,0 +1,46 @@
+//! Runs on images.
+ghost use Rattle.pv_cli_commands.specs.Images.{RunsFiles, RunsImage};
+ghost use Rattle.pv_cli_commands.specs.Streams.{disk_of, inputs_of, outputs_of};
+
+use crate::fault::Fault;
+use crate::system::Files;
+use pv_model::{RunFault, Sink, Source};
+use std::alloc::Global;
+
+// Runs the image that a source gives under the schedule of another.
+fn run_from<S: Source, W: Sink, O: Sink>(
+    alloc: Global,
+    image: &mut S,
+    schedule: &mut S,
+    trace: &mut W,
+    out: &mut O,
+) -> Result<(), Fault>
+    ensures { RunsImage S.Source W.Sink O.Sink (inputs_of image.old schedule.old) (inputs_of image.new schedule.new)
+        (outputs_of trace.old out.old) (outputs_of trace.new out.new) result }
+{
+    pv_run::run(alloc, image, schedule, trace, out)?;
+    Ok(())
+}
+
+// Runs the image in a file under the schedule in another, and puts the image that is left into a third.
+pub(crate) fn run_files<F: Files, W: Sink>(
+    alloc: Global,
+    files: &F,
+    image: &str,
+    schedule: &str,
+    out: &str,
+    trace: &mut W,
+) -> Result<(), Fault>
+    ensures { RunsFiles (disk_of F.Files F.Reader.Source F.Writer.Sink) W.Sink files.now (inputs_of image.now schedule.now) out.now trace.old trace.new result }
+{
+    let Ok(mut image) = files.open(image) else {
+        return Err(Fault::Run(RunFault::Read));
+    };
+    let Ok(mut schedule) = files.open(schedule) else {
+        return Err(Fault::Run(RunFault::Read));
+    };
+    let Ok(mut out) = files.create(alloc, out) else {
+        return Err(Fault::Run(RunFault::Memory));
+    };
+    run_from(alloc, &mut image, &mut schedule, trace, &mut out)
+}

@@ -1,0 +1,32 @@
+//! Listings of images.
+ghost use Rattle.pv_cli_commands.specs.Listing.{ListsFile, ListsImage};
+ghost use Rattle.pv_cli_commands.specs.Streams.{disk_of};
+
+use crate::fault::Fault;
+use crate::system::Files;
+use pv_images::list;
+use pv_model::{Failed, ListFault, Sink, Source};
+use std::alloc::Global;
+
+// Lists the image that a source gives.
+fn list_from<S: Source, W: Sink>(alloc: Global, image: &mut S, out: &mut W) -> Result<(), Fault>
+    ensures { ListsImage S.Source W.Sink image.old image.new out.old out.new result }
+{
+    list(alloc, image, out)?;
+    Ok(())
+}
+
+// Lists the image in a file.
+pub(crate) fn list_file<F: Files, W: Sink>(
+    alloc: Global,
+    files: &F,
+    name: &str,
+    out: &mut W,
+) -> Result<(), Fault>
+    ensures { ListsFile (disk_of F.Files F.Reader.Source F.Writer.Sink) W.Sink files.now name.now out.old out.new result }
+{
+    match files.open(name) {
+        Ok(mut image) => list_from(alloc, &mut image, out),
+        Err(Failed) => Err(Fault::Listing(ListFault::Read)),
+    }
+}

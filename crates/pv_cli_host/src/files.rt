@@ -1,0 +1,129 @@
+//! The files of the system.
+ghost use Rattle.std.specs.Prelude.{◌≡◌, ◌≤◌, length, None, IfOk};
+ghost use Rattle.std.specs.String.{string_bytes};
+
+use pv_cli_commands::Files;
+use pv_model::{Failed, Sink, Source};
+use std::alloc::{AllocError, Global};
+use std::fs;
+use std::fs::File;
+use std::io::{Read, Write};
+
+/// The files of the system. What they have is not known.
+#[derive(Clone, Copy)]
+pub struct HostFiles<'a> {
+    rt: &'a HostRuntime,
+}
+
+impl<'a> HostFiles<'a> {
+    /// The files of the system of a runtime.
+    pub fn new(rt: &'a HostRuntime) -> HostFiles<'a>
+        ensures { result.rt ≡ rt.entry }
+    {
+        HostFiles { rt }
+    }
+}
+
+impl<'a> Files for HostFiles<'a> {
+    type Reader = OpenedFile;
+
+    type Writer = WrittenFile<'a>;
+
+    ghost bytes = { λ _ _. None };
+
+    ghost file_of = { λ writer. string_bytes writer.name };
+
+    fn open(&self, name: &str) -> Result<OpenedFile, Failed> {
+        match fs::open(self.rt, name) {
+            Ok(file) => Ok(OpenedFile { file, failures: 0 }),
+            Err(_) => Err(Failed),
+        }
+    }
+
+    fn create(&self, alloc: Global, name: &str) -> Result<WrittenFile<'a>, AllocError> {
+        Ok(WrittenFile {
+            rt: self.rt,
+            name: String::from_str(alloc, name)?,
+            file: None,
+            failures: 0,
+        })
+    }
+}
+
+/// A sink over a file that is made, or emptied, at the first write. What it was given is not known.
+#[derive(Drop)]
+pub struct WrittenFile<'a> {
+    rt: &'a HostRuntime,
+    name: String,
+    file: Option<File>,
+    failures: u64,
+}
+
+impl WrittenFile<'_> {
+    // Writes to the file, which is made or emptied where it is not open yet.
+    fn write_bytes(&mut self, buffer: &[u8]) -> Result<usize, Failed>
+        ensures bound { IfOk result (λ n. n ≤ length buffer.now) }
+        ensures name { self.new.name ≡ self.old.name }
+        ensures failures { self.new.failures ≡ self.old.failures }
+    {
+        if self.file.is_none() {
+            self.file = fs::create(self.rt, self.name.as_str()).ok();
+        }
+        let Some(file) = &mut self.file else {
+            return Err(Failed);
+        };
+        match file.write(buffer) {
+            Ok(count) => Ok(count),
+            Err(_) => Err(Failed),
+        }
+    }
+}
+
+impl Sink for WrittenFile<'_> {
+    ghost written = { λ _. None };
+
+    ghost buffered = { λ _. 0 };
+
+    ghost failures = { λ s. s.failures };
+
+    fn write(&mut self, buffer: &[u8]) -> Result<usize, Failed> {
+        match self.write_bytes(buffer) {
+            Ok(0) if !buffer.is_empty() => {
+                self.failures = self.failures.saturating_add(1);
+                Ok(0)
+            }
+            Ok(count) => Ok(count),
+            Err(Failed) => {
+                self.failures = self.failures.saturating_add(1);
+                Err(Failed)
+            }
+        }
+    }
+
+    fn flush(&mut self) -> Result<(), Failed> {
+        Ok(())
+    }
+}
+
+/// A source over an opened file. What it will give is not known.
+#[derive(Drop)]
+pub struct OpenedFile {
+    file: File,
+    failures: u64,
+}
+
+impl Source for OpenedFile {
+    ghost remaining = { λ _. None };
+
+    ghost failures = { λ s. s.failures };
+
+    fn read(&mut self, buffer: &mut [u8]) -> Result<usize, Failed> {
+        match self.file.read(buffer) {
+            Ok(count) => Ok(count),
+            Err(_) => {
+                self.failures = self.failures.saturating_add(1);
+                Err(Failed)
+            }
+        }
+    }
+}

@@ -1,0 +1,50 @@
+//! Sinks over the writers of the system.
+ghost use Rattle.std.specs.Prelude.{◌≡◌, None};
+
+use pv_model::{Failed, Sink};
+use std::io::Write;
+
+/// A sink over a writer. What it was given is not known.
+#[derive(Drop)]
+pub struct Output<W: Drop> {
+    writer: W,
+    failures: u64,
+}
+
+impl<W: Write + Drop> Output<W> {
+    /// A sink over a writer that has not failed yet.
+    pub fn new(writer: W) -> Output<W>
+        ensures { result.failures ≡ 0 }
+    {
+        Output {
+            writer,
+            failures: 0,
+        }
+    }
+}
+
+impl<W: Write + Drop> Sink for Output<W> {
+    ghost written = { λ _. None };
+
+    ghost buffered = { λ _. 0 };
+
+    ghost failures = { λ s. s.failures };
+
+    fn write(&mut self, buffer: &[u8]) -> Result<usize, Failed> {
+        match self.writer.write(buffer) {
+            Ok(0) if !buffer.is_empty() => {
+                self.failures = self.failures.saturating_add(1);
+                Ok(0)
+            }
+            Ok(count) => Ok(count),
+            Err(_) => {
+                self.failures = self.failures.saturating_add(1);
+                Err(Failed)
+            }
+        }
+    }
+
+    fn flush(&mut self) -> Result<(), Failed> {
+        Ok(())
+    }
+}

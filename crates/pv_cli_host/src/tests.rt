@@ -1,0 +1,75 @@
+//! Files that every system has, and streams that fail.
+use crate::{HostFiles, Input, Output};
+use pv_cli_commands::Files;
+use pv_model::{Failed, Sink, Source};
+use std::io;
+use std::io::{ErrorKind, Read, Write};
+
+// A reader that gives one byte and then fails, and a writer that takes one and then no more.
+#[derive(Drop)]
+struct Once {
+    is_used: bool,
+}
+
+impl Read for Once {
+    fn read(&mut self, buffer: &mut [u8]) -> io::Result<usize> {
+        if self.is_used || buffer.is_empty() {
+            return Err(io::Error::from(ErrorKind::Other));
+        }
+        self.is_used = true;
+        buffer[0] = b'x';
+        Ok(1)
+    }
+}
+
+impl Write for Once {
+    fn write(&mut self, buffer: &[u8]) -> io::Result<usize> {
+        if self.is_used || buffer.is_empty() {
+            return Ok(0);
+        }
+        self.is_used = true;
+        Ok(1)
+    }
+
+    fn flush(&mut self) -> io::Result<()> {
+        Ok(())
+    }
+}
+
+#[test]
+fn an_input_gives_what_its_reader_gives(rt: HostRuntime) {
+    let mut input = Input::new(Once { is_used: false });
+    let mut buffer = [0; 4];
+    assert!(rt; input.read(&mut buffer) == Ok(1));
+    assert!(rt; buffer[0] == b'x');
+    assert!(rt; input.read(&mut buffer) == Err(Failed));
+}
+
+#[test]
+fn an_output_takes_what_its_writer_takes(rt: HostRuntime) {
+    let mut output = Output::new(Once { is_used: false });
+    assert!(rt; output.write(b"xyz") == Ok(1));
+    assert!(rt; output.write(b"yz") == Ok(0));
+    assert!(rt; output.write(b"") == Ok(0));
+    assert!(rt; output.flush() == Ok(()));
+}
+
+#[test]
+fn an_empty_file_gives_nothing(rt: HostRuntime) {
+    let files = HostFiles::new(&rt);
+    let mut file = files.open("/dev/null").expect(&rt, "it opens");
+    assert!(rt; file.read(&mut [0; 4]) == Ok(0));
+    assert!(rt; files.open("/dev/null/none").is_err());
+}
+
+#[test]
+fn a_file_takes_what_there_is_room_for(rt: HostRuntime) {
+    let files = HostFiles::new(&rt);
+    let mut file = files.create(rt.alloc(), "/dev/null").expect(&rt, "memory");
+    assert!(rt; file.write(b"xyz") == Ok(3));
+    assert!(rt; file.flush() == Ok(()));
+    for name in ["/dev/full", "/dev/null/none"] {
+        let mut file = files.create(rt.alloc(), name).expect(&rt, "memory");
+        assert!(rt; file.write(b"xyz") == Err(Failed));
+    }
+}

@@ -1,0 +1,35 @@
+-- The exit status: 0 done, 1 refused input, 2 the command line, 3 memory, 4 a failed read or write.
+use Rattle.std.specs.Prelude.{◌≡◌, ◌⊎◌, ℕ, Result, Ok, Err}
+use Rattle.clap.specs.Words.{kind_of}
+use Rattle.clap.specs.declared.error.kind.ErrorKind.{ErrorKind}
+use Rattle.clap.specs.declared.error.kind.ErrorKind.TheVariants.{DisplayHelp, DisplayVersion}
+use Rattle.pv_cli_commands.specs.Status.{status_of as command_status}
+use Rattle.pv_cli_line.specs.declared.command.LineFault.{LineFault}
+use Rattle.pv_cli_line.specs.declared.command.LineFault.TheVariants as line
+use Rattle.pv_cli_line.specs.declared.fault.Fault.{Fault}
+use Rattle.pv_cli_line.specs.declared.fault.Fault.TheVariants.{Command, Line, Words}
+
+-- help and the version are what was asked for; else the words are wrong
+abbrev pub kind_status : ErrorKind → ℕ
+kind_status DisplayHelp = 0
+kind_status DisplayVersion = 0
+kind_status kind = 2
+
+abbrev pub line_status : LineFault → ℕ
+line_status (line.Parser error) = kind_status (kind_of error)
+line_status line.Number = 2
+line_status line.Memory = 3
+
+abbrev pub status_of : Fault → ℕ
+status_of (Command fault) = command_status fault
+status_of (Line fault) = line_status fault
+status_of Words = 2
+
+-- what a run ends with
+abbrev pub status_of_result : Result (Unit {0}) Fault → ℕ
+status_of_result (Ok done) = 0
+status_of_result (Err fault) = status_of fault
+
+-- that status, or 4 where what was asked for could not be written
+abbrev pub IsStatusOf : Result (Unit {0}) Fault → ℕ → Type 0
+IsStatusOf result status = (status ≡ status_of_result result) ⊎ ((status_of_result result ≡ 0) × (status ≡ 4))

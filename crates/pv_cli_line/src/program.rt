@@ -1,0 +1,83 @@
+//! A whole run of the program.
+ghost use Rattle.std.specs.Prelude.{◌≡◌, ◌≢◌, map, Err, OnOk, Result};
+ghost use Rattle.pv_cli_commands.specs.Streams.{disk_of};
+ghost use Rattle.pv_cli_line.specs.declared.fault.Fault.{Fault as Written};
+ghost use Rattle.pv_cli_line.specs.Program.{ComesTo, TellsErrorsAlone, TellsOutputAlone};
+ghost use Rattle.pv_cli_line.specs.Status.{IsStatusOf, status_of};
+
+use crate::command::command_of;
+use crate::fault::Fault;
+use pv_cli_commands::{Files, HostSystem, perform};
+use pv_model::{Sink, Source};
+use pv_trace::write_whole;
+use std::alloc::Global;
+use std::convert::AsStr;
+use std::fmt;
+use std::fmt::Write;
+
+// A sink as a writer of text.
+#[derive(Drop)]
+struct Text<'a, W: Sink> {
+    sink: &'a mut W,
+}
+
+impl<W: Sink> Write for Text<'_, W> {
+    fn write_str(&mut self, text: &str) -> fmt::Result {
+        write_whole(self.sink, text.as_bytes()).map_err(|_| fmt::Error)
+    }
+}
+
+// Writes the text of a fault, and hands it on.
+fn show<W: Sink>(fault: &Fault, sink: &mut W) -> fmt::Result
+    ensures { OnOk result (W.buffered sink.new ≡ 0) }
+{
+    Text { sink }.write(fault)?;
+    sink.flush().map_err(|_| fmt::Error)
+}
+
+/// Tells a fault and answers the exit status: on the standard error, but help and the version, which were
+/// asked for, on the standard output. Where these cannot be written or flushed the status is 4.
+pub fn tell<F: Drop, I: Drop, O: Sink + Drop, E: Sink + Drop>(
+    fault: &Fault,
+    system: &mut HostSystem<F, I, O, E>,
+) -> u8
+    ensures status { IsStatusOf (Err fault.now) result }
+    ensures errors { status_of fault.now ≢ 0 → TellsErrorsAlone system.old system.new }
+    ensures output { status_of fault.now ≡ 0 → TellsOutputAlone system.old system.new }
+    ensures flushed { O.buffered system.old.output ≡ 0 → result ≢ 4 → O.buffered system.new.output ≡ 0 }
+{
+    let status = fault.status();
+    if status != 0 {
+        let _written = show(fault, &mut system.errors);
+        return status;
+    }
+    match show(fault, &mut system.output) {
+        Ok(()) => status,
+        Err(_) => 4,
+    }
+}
+
+/// A whole run of the program: does what its words ask for, of which the first is the program's name, tells
+/// a person what went wrong, and answers the exit status.
+///
+/// The status is 0 where it is done, also where help or the version was asked for; 1 where the input is
+/// refused, 2 where the words are no command line, 3 where memory was refused, and 4 where a read or a
+/// write failed. With any status but 4, nothing waits in the standard output that did not wait there before.
+pub fn run<S: AsStr, F: Files + Drop, I: Source + Drop, O: Sink + Drop, E: Sink + Drop>(
+    alloc: Global,
+    words: &[S],
+    system: &mut HostSystem<F, I, O, E>,
+) -> u8
+    ensures comes { (outcome : Result (Unit {0}) Written) × IsStatusOf outcome result
+        × ComesTo (disk_of F.Files F.Reader.Source F.Writer.Sink) I.Source O.Sink (map S.text words.now) system.old system.new outcome }
+    ensures flushed { O.buffered system.old.output ≡ 0 → result ≢ 4 → O.buffered system.new.output ≡ 0 }
+{
+    let command = match command_of(alloc, words) {
+        Ok(command) => command,
+        Err(fault) => return tell(&Fault::Line(fault), system),
+    };
+    match perform(alloc, command, system) {
+        Ok(()) => 0,
+        Err(fault) => tell(&Fault::Command(fault), system),
+    }
+}

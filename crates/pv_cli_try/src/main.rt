@@ -1,0 +1,24 @@
+//! Runs the bundle on the standard input as `pvsim` runs one, without the parser of its command line.
+#![tactic(auto)]
+
+use pv_cli_commands::{Command, HostSystem, perform};
+use pv_cli_host::{HostFiles, Input, Output};
+use pv_trace::Buffered;
+use std::io;
+use std::process::ExitCode;
+
+fn main(rt: HostRuntime) -> ExitCode {
+    let mut system = HostSystem {
+        files: HostFiles::new(&rt),
+        input: Input::new(rt.reader()),
+        output: Buffered::new(rt.alloc(), Output::new(io::writer(&rt))),
+        errors: (),
+    };
+    match perform(rt.alloc(), Command::RunTree("-"), &mut system) {
+        Ok(()) => ExitCode::SUCCESS,
+        Err(fault) => {
+            let _written = eprint!(rt; "{fault}");
+            ExitCode::from(fault.status())
+        }
+    }
+}

@@ -1,5 +1,0 @@
-use Rattle.pv_files.proofs.Seen.{least_free_found}
-use Rattle.pv_files.proofs.places.first_free.Goals as goal
-
-pub returns : goal.returns
-returns g c = least_free_found c.args.places.now c.first_empty.result c.first_empty.ensures

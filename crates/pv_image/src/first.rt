@@ -1,0 +1,37 @@
+//! Images of version 1.
+ghost use Rattle.std.specs.Prelude.{◌≡◌, ◌⊎◌, ◌≤◌, length, take, bytes_eq, Ok, Err, IfOk, IfErr};
+ghost use Rattle.pv_model.specs.declared.version.Version.TheVariants.{V1};
+ghost use Rattle.pv_model.specs.Image.{magic};
+ghost use Rattle.pv_image.specs.Migrated.{mounted_first};
+
+use pv_model::ImageFault;
+use pv_model::limits::BLOCK;
+use pv_image_mount::mount;
+use pv_tree::Store;
+use std::alloc::Global;
+
+// Whether bytes begin as an image of version 1 does.
+fn is_first(bytes: &[u8]) -> bool
+    requires { 8 ≤ length bytes.now }
+    ensures { result ≡ bytes_eq (take 8 bytes.now) (magic V1) }
+{
+    &bytes[..8] == b"PVIMAGE1".as_slice()
+}
+
+/// The store of the tree that bytes hold as an image of version 1.
+///
+/// # Errors
+///
+/// As `mount`; also `Magic` where the bytes begin as an image of version 2 does.
+pub(crate) fn mount_first(alloc: Global, bytes: Vec<u8>) -> Result<Store, ImageFault>
+    ensures mounted { IfOk result (λ store. mounted_first bytes.items ≡ Ok store) }
+    ensures refused { IfErr result (λ fault. (fault ≡ ImageFault.Memory) ⊎ (mounted_first bytes.items ≡ Err fault)) }
+{
+    if bytes.len() < BLOCK {
+        return Err(ImageFault::Short);
+    }
+    if !is_first(&bytes) {
+        return Err(ImageFault::Magic);
+    }
+    mount(alloc, bytes)
+}

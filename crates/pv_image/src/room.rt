@@ -1,0 +1,41 @@
+//! Room for a tree in an image of version 2.
+ghost use Rattle.std.specs.Prelude.{◌≡◌};
+ghost use Rattle.pv_model.specs.declared.version.Version.TheVariants.{V2};
+ghost use Rattle.pv_model.specs.Image.{inode_blocks};
+ghost use Rattle.pv_model.specs.Mount.{are_image_sizes};
+ghost use Rattle.pv_image.specs.Migrated.{data_blocks, has_room};
+ghost use Rattle.pv_laws_trees.specs.Kept.{EachIsNamed};
+
+use pv_model::limits::{BLOCK, BLOCKS_V2, INODES};
+use pv_model::{Layout, Version};
+use pv_tree::Tree;
+use pv_image_write::needed_blocks;
+
+// The blocks that hold so many inodes.
+fn table_blocks(inodes: u32) -> usize
+    ensures { result ≡ inode_blocks V2 inodes }
+{
+    (inodes as usize * Layout::V2.inode_length).div_ceil(BLOCK)
+}
+
+// Whether there are images of so many blocks in all, and inodes.
+fn are_sizes(blocks: u32, inodes: u32) -> bool
+    ensures { result ≡ are_image_sizes V2 blocks inodes }
+{
+    inodes >= 1
+        && inodes as usize <= INODES
+        && table_blocks(inodes) + 1 <= blocks as usize
+        && blocks as usize <= BLOCKS_V2
+}
+
+/// Whether there is an image of these sizes, with no fewer inodes than the tree's, and with room for its nodes, each of
+/// which has a name.
+#[tactic(auto, unfolding(crate::specs::Migrated::has_room))]
+pub(crate) fn has_room(tree: &Tree, blocks: u32, inodes: u32) -> bool
+    requires { EachIsNamed tree.now.tree }
+    ensures { result ≡ has_room tree.now.tree blocks inodes }
+{
+    are_sizes(blocks, inodes)
+        && tree.sizes().inodes as u32 <= inodes
+        && needed_blocks(tree, Version::V2) as usize <= blocks as usize - table_blocks(inodes) - 1
+}

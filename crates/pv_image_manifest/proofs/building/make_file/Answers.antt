@@ -1,0 +1,48 @@
+use Rattle.std.proofs.Common.{◌≡◌, ap, sym, ◌∙◌, Ok, []}
+use Rattle.pv_model.specs.Sealed.{is_file}
+use Rattle.pv_model.specs.Tree.{file_node, node_at, with_new_node}
+use Rattle.pv_tree.specs.Changes.{new_node}
+use Rattle.pv_tree.specs.Rooms.{refusal}
+use Rattle.pv_image_manifest.proofs.NewFiles.{in-room, out-of-room, room-some, file-there, file-written-in, no-room-empty}
+use Rattle.pv_image_manifest.proofs.building.make_file.Goals as goal
+
+pub returns-in_default : goal.returns-in_default
+returns-in_default c =
+    let t = c.args.tree.now.tree in
+    let d = c.args.directory in
+    let name = c.args.name.now in
+    out-of-room c.args.line (with_new_node t d name (file_node c.args.executable c.args.bytes.now))
+    (no-room-empty t c.sizes.ensures.standing.well_formed d name c.args.executable c.requires.directory.0 c.requires.absent c.args.bytes.now c.in_default.field-0
+    (ap (λ node. refusal (with_new_node t d name node)) (sym c.file_kind.ensures) ∙ c.in_default.ensures.refused))
+
+pub write_at-requires : goal.write_at-requires
+write_at-requires c =
+    let t = c.args.tree.now.tree in
+    let d = c.args.directory in
+    let name = c.args.name.now in
+    let x = c.args.executable in
+    ap (λ h. is_file (node_at h.tree c.in-Ok.node)) c.in-Ok.ensures.ok ∙ ap (λ node. is_file (node_at (with_new_node t d name node) c.in-Ok.node)) c.file_kind.ensures
+    ∙ ap (λ n. is_file (node_at (with_new_node t d name (file_node x [])) n)) c.in-Ok.ensures.number
+    ∙ ap is_file (file-there t c.sizes.ensures.standing.well_formed d name x c.requires.directory.0 c.requires.absent [])
+
+pub returns-in_default-write_at : goal.returns-in_default-write_at
+returns-in_default-write_at c =
+    let made = with_new_node c.args.tree.now.tree c.args.directory c.args.name.now (file_node c.args.executable c.args.bytes.now) in
+    let written =
+    file-written-in c.args.tree.now.tree c.sizes.ensures.standing.well_formed c.args.directory c.args.name.now c.args.executable c.requires.directory.0 c.requires.absent c.args.bytes.now
+    c.make.new.self.tree (new_node c.file_kind.result) c.in-Ok.node (ap (λ h. h.tree) c.in-Ok.ensures.ok) c.file_kind.ensures c.in-Ok.ensures.number
+    in
+    out-of-room c.args.line made (room-some made c.in_default-write_at.field-0 (ap refusal (sym written) ∙ c.in_default-write_at.ensures.refused))
+
+pub returns : goal.returns
+returns c =
+    let made = with_new_node c.args.tree.now.tree c.args.directory c.args.name.now (file_node c.args.executable c.args.bytes.now) in
+    let written =
+    file-written-in c.args.tree.now.tree c.sizes.ensures.standing.well_formed c.args.directory c.args.name.now c.args.executable c.requires.directory.0 c.requires.absent c.args.bytes.now
+    c.make.new.self.tree (new_node c.file_kind.result) c.in-Ok.node (ap (λ h. h.tree) c.in-Ok.ensures.ok) c.file_kind.ensures c.in-Ok.ensures.number
+    in
+    let is : c.write_at.new.self.tree ≡ made = ap (λ h. h.tree) c.in-Ok-write_at.ensures.ok ∙ written in (
+      in-room c.args.line made (ap refusal (sym written) ∙ c.in-Ok-write_at.ensures.allowed) ∙ ap (λ t. Ok t) (sym is),
+      ap (λ t. t.version) is,
+      ap (λ h. h.holds) c.in-Ok-write_at.ensures.ok ∙ ap (λ h. h.holds) c.in-Ok.ensures.ok,
+    )

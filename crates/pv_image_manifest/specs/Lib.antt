@@ -1,0 +1,4 @@
+pub mod Building
+pub mod Contents
+pub mod Entries
+pub mod Reading

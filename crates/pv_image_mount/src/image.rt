@@ -1,0 +1,148 @@
+//! Bytes whose sizes are in order, and the fields of their inodes.
+ghost use Rattle.std.specs.Prelude.{◌≡◌, ◌+◌, ◌*◌, ◌<◌, ◌≤◌, length, IfOk, IfErr};
+ghost use Rattle.pv_model.specs.declared.limits.TheConstants.{BLOCK, INODES};
+ghost use Rattle.pv_model.specs.Image.{block, greatest_blocks, inode, inode_blocks, inode_length, size, stored_count};
+ghost use Rattle.pv_model.specs.Mount.{are_image_sizes, block_number, has_sizes, inode_number, is_data_block, kind, version_of, HasSizes, IsFaultOf};
+ghost use Rattle.pv_image_mount.specs.Numbers.{IsNumber};
+
+use crate::fields::{u8_at, u16_at, u32_at};
+use pv_model::limits::{BLOCK, INODES};
+use pv_model::{ImageFault, Version};
+
+// The version whose image begins as the bytes do.
+fn version_of(bytes: &[u8]) -> Option<Version>
+    requires { 8 ≤ length bytes.now }
+    ensures { result ≡ version_of bytes.now }
+{
+    if &bytes[..8] == b"PVIMAGE1".as_slice() {
+        Some(Version::V1)
+    } else if &bytes[..8] == b"PVIMAGE2".as_slice() {
+        Some(Version::V2)
+    } else {
+        None
+    }
+}
+
+// The blocks that hold so many inodes.
+fn inode_blocks(version: Version, inodes: u16) -> usize
+    ensures { result ≡ inode_blocks version inodes }
+{
+    (inodes as usize * version.layout().inode_length).div_ceil(BLOCK)
+}
+
+// Whether an image may have these sizes.
+fn are_image_sizes(version: Version, blocks: u16, inodes: u16) -> bool
+    ensures { result ≡ are_image_sizes version blocks inodes }
+{
+    inodes >= 1
+        && inodes as usize <= INODES
+        && inode_blocks(version, inodes) + 1 <= blocks as usize
+        && blocks <= version.layout().greatest_blocks
+}
+
+// Whether the sizes that the bytes tell are allowed, and their own.
+fn has_sizes(version: Version, bytes: &[u8]) -> bool
+    requires { 12 ≤ length bytes.now }
+    ensures { result ≡ has_sizes version bytes.now }
+{
+    let blocks = u16_at(bytes, 8);
+    are_image_sizes(version, blocks, u16_at(bytes, 10)) && bytes.len() == BLOCK * blocks as usize
+}
+
+/// The bytes of an image whose sizes are in order.
+#[derive(Clone, Copy)]
+pub(crate) struct Image<'a> {
+    /// All bytes.
+    pub(crate) bytes: &'a [u8],
+    /// The version of the format.
+    pub(crate) version: Version,
+    /// The number of blocks.
+    pub(crate) blocks: u16,
+    /// The number of inodes.
+    pub(crate) inodes: u16,
+    ghost are_blocks: { blocks ≡ block_number bytes.now },
+    ghost are_inodes: { inodes ≡ inode_number bytes.now },
+    ghost are_whole: { length bytes.now ≡ BLOCK * blocks },
+    ghost few_inodes: { inodes ≤ INODES },
+    ghost inodes_within: { inode_blocks version inodes + 1 ≤ blocks },
+}
+
+impl<'a> Image<'a> {
+    /// The image that bytes hold, if they begin as one and have the sizes that they tell.
+    pub(crate) fn read(bytes: &'a [u8]) -> Result<Image<'a>, ImageFault>
+        ensures bytes { IfOk result (λ image. image.bytes.now ≡ bytes.now) }
+        ensures sizes { IfOk result (λ image. HasSizes bytes.now image.version) }
+        ensures refused { IfErr result (λ fault. IsFaultOf bytes.now fault) }
+    {
+        if bytes.len() < BLOCK {
+            return Err(ImageFault::Short);
+        }
+        let Some(version) = version_of(bytes) else {
+            return Err(ImageFault::Magic);
+        };
+        if !has_sizes(version, bytes) {
+            return Err(ImageFault::Size);
+        }
+        Ok(Image {
+            bytes,
+            version,
+            blocks: u16_at(bytes, 8),
+            inodes: u16_at(bytes, 10),
+        })
+    }
+
+    /// The bytes of an inode.
+    pub(crate) fn inode(&self, n: u16) -> &'a [u8]
+        requires { IsNumber self.now.bytes.now n }
+        ensures bytes { result.now ≡ inode self.now.version self.now.bytes.now n }
+        ensures length { length result.now ≡ inode_length self.now.version }
+    {
+        let length = self.version.layout().inode_length;
+        let start = BLOCK + length * (n - 1) as usize;
+        &self.bytes[start..start + length]
+    }
+
+    /// What an inode is, as a number: 0 is free.
+    pub(crate) fn kind(&self, n: u16) -> u8
+        requires { IsNumber self.now.bytes.now n }
+        ensures { result ≡ kind self.now.version self.now.bytes.now n }
+    {
+        u8_at(self.inode(n), 0)
+    }
+
+    /// The length of an inode's content, in bytes.
+    pub(crate) fn size(&self, n: u16) -> u32
+        requires { IsNumber self.now.bytes.now n }
+        ensures { result ≡ size self.now.version self.now.bytes.now n }
+    {
+        u32_at(self.inode(n), 4)
+    }
+
+    /// The number of entries that name an inode, as it is stored.
+    pub(crate) fn stored_count(&self, n: u16) -> u32
+        requires { IsNumber self.now.bytes.now n }
+        ensures { result ≡ stored_count self.now.version (inode self.now.version self.now.bytes.now n) }
+    {
+        match self.version {
+            Version::V1 => u16_at(self.inode(n), 2) as u32,
+            Version::V2 => u32_at(self.inode(n), 38),
+        }
+    }
+
+    /// The bytes of a block.
+    pub(crate) fn block(&self, k: u16) -> &'a [u8]
+        requires { k < block_number self.now.bytes.now }
+        ensures bytes { result.now ≡ block self.now.bytes.now k }
+        ensures length { length result.now ≡ BLOCK }
+    {
+        let start = BLOCK * k as usize;
+        &self.bytes[start..start + BLOCK]
+    }
+
+    /// Whether a block is a data block.
+    pub(crate) fn is_data_block(&self, k: u16) -> bool
+        ensures { result ≡ is_data_block self.now.version self.now.bytes.now k }
+    {
+        inode_blocks(self.version, self.inodes) < k as usize && k < self.blocks
+    }
+}

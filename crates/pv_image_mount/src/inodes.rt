@@ -1,0 +1,49 @@
+//! The sorts and sizes of inodes.
+ghost use Rattle.std.specs.Prelude.{◌≡◌, IfNone, IfSome};
+ghost use Rattle.pv_model.specs.Mount.{has_bad_inode, PassesLeast, PassesNone};
+ghost use Rattle.pv_image_mount.specs.Numbers.{IsNumber};
+
+use crate::image::Image;
+use pv_model::limits::LINK_TEXT;
+
+/// The kind of a free inode.
+pub(crate) const FREE: u8 = 0;
+
+/// The kind of a directory.
+pub(crate) const DIRECTORY: u8 = 1;
+
+/// The kind of a symbolic link, the last kind.
+pub(crate) const LINK: u8 = 4;
+
+impl Image<'_> {
+    // Whether an inode is of no sort, or has a size that its sort may not have.
+    #[tactic(auto, unfolding(pv_model::specs::Mount::has_bad_inode))]
+    fn has_bad_inode(&self, n: u16) -> bool
+        requires { IsNumber self.now.bytes.now n }
+        ensures { result ≡ has_bad_inode self.now.version self.now.bytes.now n }
+    {
+        let kind = self.kind(n);
+        if kind == FREE {
+            return false;
+        }
+        let size = self.size(n);
+        let layout = self.version.layout();
+        kind > LINK
+            || size > layout.greatest_length
+            || (kind == DIRECTORY && size as usize % layout.slot_length != 0)
+            || (kind == LINK && (size < 1 || size as usize > LINK_TEXT))
+    }
+
+    /// The least inode that is of no sort, or has a size that its sort may not have.
+    pub(crate) fn least_bad_inode(&self) -> Option<u16>
+        ensures none { IfNone result (PassesNone self.now.bytes.now (has_bad_inode self.now.version self.now.bytes.now)) }
+        ensures least { IfSome result (PassesLeast self.now.bytes.now (has_bad_inode self.now.version self.now.bytes.now)) }
+    {
+        for n in 1..self.inodes + 1 {
+            if self.has_bad_inode(n) {
+                return Some(n);
+            }
+        }
+        None
+    }
+}

@@ -1,0 +1,65 @@
+//! Where inodes stand in the tree.
+ghost use Rattle.std.specs.Prelude.{◌≡◌, ◌+◌, ◌≤◌, ◌<◌, ℕ, length, slice_index, IfNone, IfOk, IfSome};
+ghost use Rattle.pv_blocks.specs.BlockSet.{is_member};
+ghost use Rattle.pv_model.specs.Mount.{has_bad_block, has_bad_content, has_bad_inode, has_bad_place, inode_number, is_reached_within, may_be_named, name_count, PassesLeast, PassesNone};
+ghost use Rattle.pv_image_mount.specs.Numbers.{IsNumber};
+
+use crate::image::Image;
+use crate::inodes::{DIRECTORY, FREE};
+use pv_blocks::BlockSet;
+use pv_model::limits::ROOT;
+use std::alloc::{AllocError, Global};
+
+impl Image<'_> {
+    // Whether an inode may have so many names: the root none, another directory one, a file or link at least one.
+    fn may_be_named(&self, n: u16, count: u32) -> bool
+        requires { IsNumber self.now.bytes.now n }
+        ensures { result ≡ may_be_named self.now.version self.now.bytes.now n count }
+    {
+        let is_directory = self.kind(n) == DIRECTORY;
+        if n == ROOT {
+            is_directory && count == 0
+        } else if is_directory {
+            count == 1
+        } else {
+            count >= 1
+        }
+    }
+
+    // Whether an inode's names are none that it may have, or not so many as it says, or it is not reached from the
+    // root. How many names each inode has, and which are reached, is told.
+    #[tactic(auto, unfolding(pv_model::specs::Mount::has_bad_place))]
+    fn has_bad_place(&self, n: u16, counts: &[u32], reached: &BlockSet) -> bool
+        requires number { IsNumber self.now.bytes.now n }
+        requires length { length counts.now ≡ inode_number self.now.bytes.now + 1 }
+        requires counts { slice_index counts.now n ≡ name_count self.now.version self.now.bytes.now n }
+        requires reached { is_member reached.now n ≡ is_reached_within self.now.version self.now.bytes.now (inode_number self.now.bytes.now) n }
+        ensures { result ≡ has_bad_place self.now.version self.now.bytes.now n }
+    {
+        if n != ROOT && self.kind(n) == FREE {
+            return false;
+        }
+        let count = counts[n as usize];
+        !self.may_be_named(n, count) || self.stored_count(n) != count || !reached.contains(n)
+    }
+
+    /// The least inode that has no place in the tree: its names are none that it may have, or not so many as it says,
+    /// or it is not reached from the root.
+    pub(crate) fn least_bad_place(&self, alloc: Global) -> Result<Option<u16>, AllocError>
+        requires inodes { PassesNone self.now.bytes.now (has_bad_inode self.now.version self.now.bytes.now) }
+        requires blocks { PassesNone self.now.bytes.now (has_bad_block self.now.version self.now.bytes.now) }
+        requires contents { PassesNone self.now.bytes.now (has_bad_content self.now.version self.now.bytes.now) }
+        requires root { 1 ≤ inode_number self.now.bytes.now }
+        ensures none { IfOk result (λ o. IfNone o (PassesNone self.now.bytes.now (has_bad_place self.now.version self.now.bytes.now))) }
+        ensures least { IfOk result (λ o. IfSome o (PassesLeast self.now.bytes.now (has_bad_place self.now.version self.now.bytes.now))) }
+    {
+        let counts = self.name_counts(alloc)?;
+        let reached = self.reached(alloc)?;
+        for n in 1..self.inodes + 1 {
+            if self.has_bad_place(n, counts.as_slice(), &reached) {
+                return Ok(Some(n));
+            }
+        }
+        Ok(None)
+    }
+}

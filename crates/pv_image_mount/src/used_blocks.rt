@@ -1,0 +1,168 @@
+//! The blocks that inodes use.
+ghost use Rattle.std.specs.Prelude.{◌≡◌, ◌+◌, ◌*◌, ◌≤◌, ◌<◌, ◌++◌, ℕ, false, length, slice_index, IfNone, IfOk, IfSome, OnOk};
+ghost use Rattle.pv_blocks.specs.BlockSet.{is_member};
+ghost use Rattle.pv_model.specs.Image.{block_count, size, used_content, used_index};
+ghost use Rattle.pv_model.specs.Mount.{block_number, has_bad_block, has_bad_inode, is_data_block, PassesLeast, PassesNone};
+ghost use Rattle.pv_model.specs.Room.{greatest_length, rounded_up};
+ghost use Rattle.pv_image_mount.specs.Claims.{is_refused, is_taken_by, HasUsedBefore};
+ghost use Rattle.pv_image_mount.specs.Numbers.{IsNumber};
+ghost use Rattle.pv_image_mount.specs.Rows.{pointed_row, pointer_row};
+
+use crate::fields::u16_at;
+use crate::image::Image;
+use crate::inodes::FREE;
+use pv_blocks::BlockSet;
+use pv_model::limits::BLOCK;
+use std::alloc::{AllocError, Global};
+
+// Where an inode has its pointers to blocks of content.
+const POINTERS: usize = 8;
+
+// How many they are.
+const DIRECT: usize = 10;
+
+// Where an inode has its pointers to index blocks.
+const INDEX_POINTERS: usize = 28;
+
+// How many pointers an index block has.
+const POINTED: usize = 256;
+
+// Adds pointers that stand in bytes, so many.
+fn add_pointers(list: &mut Vec<u16>, bytes: &[u8], count: usize) -> Result<(), AllocError>
+    requires { 2 * count ≤ length bytes.now }
+    ensures { OnOk result (list.new.items ≡ list.old.items ++ pointer_row count bytes.now) }
+{
+    for i in 0..count {
+        list.push(u16_at(bytes, 2 * i))?;
+    }
+    Ok(())
+}
+
+impl Image<'_> {
+    // How many blocks an inode's content takes.
+    fn block_count(&self, n: u16) -> usize
+        requires { IsNumber self.now.bytes.now n }
+        ensures { result ≡ block_count self.now.version self.now.bytes.now n }
+    {
+        self.size(n).div_ceil(BLOCK as u32) as usize
+    }
+
+    /// The index blocks that an inode uses.
+    pub(crate) fn used_index(&self, alloc: Global, n: u16) -> Result<Vec<u16>, AllocError>
+        requires number { IsNumber self.now.bytes.now n }
+        requires size { size self.now.version self.now.bytes.now n ≤ greatest_length self.now.version }
+        ensures { IfOk result (λ list. list.items ≡ used_index self.now.version self.now.bytes.now n) }
+    {
+        let count = self.block_count(n).saturating_sub(DIRECT).div_ceil(POINTED);
+        let mut list = Vec::with_capacity(alloc, count)?;
+        add_pointers(&mut list, &self.inode(n)[INDEX_POINTERS..], count)?;
+        Ok(list)
+    }
+
+    /// The blocks of an inode's content, in order, by the index blocks that it uses.
+    pub(crate) fn used_content(
+        &self,
+        alloc: Global,
+        n: u16,
+        index: &[u16],
+    ) -> Result<Vec<u16>, AllocError>
+        requires number { IsNumber self.now.bytes.now n }
+        requires index { index.now ≡ used_index self.now.version self.now.bytes.now n }
+        requires within { (i : ℕ) → i < length index.now → slice_index index.now i < block_number self.now.bytes.now }
+        ensures { IfOk result (λ list. list.items ≡ used_content self.now.version self.now.bytes.now n) }
+    {
+        let count = self.block_count(n);
+        let mut list = Vec::with_capacity(alloc, count)?;
+        add_pointers(&mut list, &self.inode(n)[POINTERS..], count.min(DIRECT))?;
+        for k in index {
+            let left = count.saturating_sub(list.len());
+            add_pointers(&mut list, self.block(*k), left.min(POINTED))?;
+        }
+        Ok(list)
+    }
+
+    // Puts the blocks to which pointers that stand in bytes lead, so many, into the set of those in use, one by one, up
+    // to one that is no data block or is in use already; whether there is one.
+    fn claim_row(&self, bytes: &[u8], count: usize, used: &mut BlockSet) -> bool
+        requires { 2 * count ≤ length bytes.now }
+        ensures refused { result ≡ is_refused (is_data_block self.now.version self.now.bytes.now) (is_member used.old) (pointer_row count bytes.now) }
+        ensures after { result ≡ false → (k : ℕ) → is_member used.new k ≡ is_taken_by (is_member used.old) (pointer_row count bytes.now) k }
+    {
+        for i in 0..count {
+            let k = u16_at(bytes, 2 * i);
+            if !self.is_data_block(k) || used.contains(k) {
+                return true;
+            }
+            used.insert(k);
+        }
+        false
+    }
+
+    // The same for so many pointers that stand in index blocks, block by block. The pointers to index blocks stand in
+    // bytes.
+    fn claim_pointed(&self, index: &[u8], count: usize, used: &mut BlockSet) -> bool
+        requires room { 2 * rounded_up count 256 ≤ length index.now }
+        requires within { (i : ℕ) → i < rounded_up count 256 → slice_index (pointer_row (rounded_up count 256) index.now) i < block_number self.now.bytes.now }
+        ensures refused { result ≡ is_refused (is_data_block self.now.version self.now.bytes.now) (is_member used.old) (pointed_row count self.now.bytes.now (pointer_row (rounded_up count 256) index.now)) }
+        ensures after { result ≡ false → (k : ℕ) → is_member used.new k ≡ is_taken_by (is_member used.old) (pointed_row count self.now.bytes.now (pointer_row (rounded_up count 256) index.now)) k }
+    {
+        for i in 0..count.div_ceil(POINTED) {
+            let block = self.block(u16_at(index, 2 * i));
+            let left = count.saturating_sub(POINTED * i);
+            if self.claim_row(block, left.min(POINTED), used) {
+                return true;
+            }
+        }
+        false
+    }
+
+    // The same for all blocks of an inode in use. Its index blocks come first: each is a data block by the time that the
+    // pointers in it are read.
+    fn claim_used(&self, n: u16, used: &mut BlockSet) -> bool
+        requires number { IsNumber self.now.bytes.now n }
+        requires size { size self.now.version self.now.bytes.now n ≤ greatest_length self.now.version }
+        ensures refused { result ≡ is_refused (is_data_block self.now.version self.now.bytes.now) (is_member used.old) (used_index self.now.version self.now.bytes.now n ++ used_content self.now.version self.now.bytes.now n) }
+        ensures after { result ≡ false → (k : ℕ) → is_member used.new k ≡ is_taken_by (is_member used.old) (used_index self.now.version self.now.bytes.now n ++ used_content self.now.version self.now.bytes.now n) k }
+    {
+        let inode = self.inode(n);
+        let count = self.block_count(n);
+        let pointed = count.saturating_sub(DIRECT);
+        let index = &inode[INDEX_POINTERS..];
+        if self.claim_row(index, pointed.div_ceil(POINTED), used) {
+            return true;
+        }
+        if self.claim_row(&inode[POINTERS..], count.min(DIRECT), used) {
+            return true;
+        }
+        self.claim_pointed(index, pointed, used)
+    }
+
+    // Whether a block that an inode uses is no data block, or is used already. If not, the set has its blocks, too.
+    fn has_bad_block(&self, n: u16, used: &mut BlockSet) -> bool
+        requires number { IsNumber self.now.bytes.now n }
+        requires inode { has_bad_inode self.now.version self.now.bytes.now n ≡ false }
+        requires used { HasUsedBefore used.old self.now.version self.now.bytes.now n }
+        ensures bad { result ≡ has_bad_block self.now.version self.now.bytes.now n }
+        ensures after { result ≡ false → HasUsedBefore used.new self.now.version self.now.bytes.now (n + 1) }
+    {
+        if self.kind(n) == FREE {
+            return false;
+        }
+        self.claim_used(n, used)
+    }
+
+    /// The least inode that uses a block that is no data block, or that is used already.
+    pub(crate) fn least_bad_block(&self) -> Option<u16>
+        requires { PassesNone self.now.bytes.now (has_bad_inode self.now.version self.now.bytes.now) }
+        ensures none { IfNone result (PassesNone self.now.bytes.now (has_bad_block self.now.version self.now.bytes.now)) }
+        ensures least { IfSome result (PassesLeast self.now.bytes.now (has_bad_block self.now.version self.now.bytes.now)) }
+    {
+        let mut used = BlockSet::new();
+        for n in 1..self.inodes + 1 {
+            if self.has_bad_block(n, &mut used) {
+                return Some(n);
+            }
+        }
+        None
+    }
+}

@@ -1,0 +1,12 @@
+pub mod Ranges
+pub mod Components
+pub mod Listed
+pub mod Contents
+pub mod Heads
+pub mod Reading
+pub mod NamedTrees
+pub mod Places
+pub mod Windows
+pub mod Writing
+pub mod Law
+pub mod PlacedTrees

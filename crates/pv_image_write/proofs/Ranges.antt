@@ -1,0 +1,121 @@
+-- Rows of numbers, and numbers as they are spelled.
+use Rattle.std.proofs.Common.{◌≡◌, ℕ, zero, suc, ◌+◌, ◌-◌, ◌*◌, ◌/◌, ◌<◌, ◌≤◌, Bool, true, false, cond, ◌&&◌, ◌==◌, List, [], ◌∷◌, ◌++◌, length, take, drop, refl, ap, sym, ◌∙◌, arith}
+use Rattle.std.specs.Prelude.{filter, flat_map}
+use Rattle.std.specs.List.{AllByRecursion, IsDistinct, list_all, range_with_len}
+use Rattle.std.proofs.lemmas.Bool.{ne_eqb}
+use Rattle.std.proofs.lemmas.Grind.{flat_map-append}
+use Rattle.std.proofs.lemmas.List.{take-take, drop-take, drop-drop}
+use Rattle.std.proofs.lemmas.List.Folds.{list_all-append}
+use Rattle.std.proofs.lemmas.List.FromFn.{length-range_with_len}
+use Rattle.std.proofs.Math.Seq.{take-add}
+use Rattle.pv_model.specs.Bytes.{Bytes, little_endian}
+use Rattle.pv_model.specs.Image.{number_of, field, pointers, block}
+use Rattle.pv_image_write.specs.Spelling.{spelled}
+
+pub range_with_len-add : (a m n : ℕ) → range_with_len a (m + n) ≡ range_with_len a m ++ range_with_len (a + m) n
+range_with_len-add a zero n =
+    let none : 0 + n ≡ n = omega arith in
+    let same : a ≡ a + 0 = omega arith in
+    ap (range_with_len a) none ∙ ap (λ k. range_with_len k n) same
+range_with_len-add a (suc m) n =
+    let all : suc m + n ≡ suc (m + n) = omega arith in
+    let same : a + 1 + m ≡ a + suc m = omega arith in
+    ap (range_with_len a) all ∙ ap (λ (ks : List ℕ). a ∷ ks) (range_with_len-add (a + 1) m n ∙ ap (λ k. range_with_len (a + 1) m ++ range_with_len k n) same)
+
+-- what holds of each number of a row
+pub all-range : (P : ℕ → Type 0) (a n : ℕ) → ((k : ℕ) → a ≤ k → k < a + n → P k) → AllByRecursion P (range_with_len a n)
+all-range P a zero each = tt
+all-range P a (suc n) each = (each a (omega arith) (omega arith), all-range P (a + 1) n (λ k from below. each k (omega arith) (omega arith)))
+
+pub distinct-range : (a n : ℕ) → IsDistinct ◌==◌ (range_with_len a n)
+unfolding IsDistinct
+distinct-range a zero = tt
+distinct-range a (suc n) = (all-range (λ k. (a == k) ≡ false) (a + 1) n (λ k from below. ne_eqb a k (λ same. absurd (omega arith))), distinct-range (a + 1) n)
+
+-- a test of all bytes that come of the numbers of a row that pass another
+pub list_all-picked : (f : ℕ → Bytes) (p test : ℕ → Bool) (a n : ℕ) → ((k : ℕ) → a ≤ k → k < a + n → test k ≡ true → list_all p (f k) ≡ true)
+    → list_all p (flat_map f (filter test (range_with_len a n))) ≡ true
+list_all-picked f p test a zero each = refl
+list_all-picked f p test a (suc n) each =
+    let rest = list_all-picked f p test (a + 1) n (λ k from below. each k (omega arith) (omega arith)) in
+    let tail = filter test (range_with_len (a + 1) n) in
+    elim (test a) as (λ b. test a ≡ b → list_all p (flat_map f (cond b (a ∷ tail) tail)) ≡ true) [
+      | true ↦ λ is. list_all-both p (f a) (flat_map f tail) (each a (omega arith) (omega arith) is) rest
+      | false ↦ λ is. rest
+    ] refl
+  where
+    list_all-both : (q : ℕ → Bool) (xs ys : Bytes) → list_all q xs ≡ true → list_all q ys ≡ true → list_all q (xs ++ ys) ≡ true
+    list_all-both q xs ys first second = list_all-append q xs ys ∙ ap (λ b. b && list_all q ys) first ∙ second
+
+-- ---- numbers in bytes
+
+pub length-little_endian : (k n : ℕ) → length (little_endian k n) ≡ k
+length-little_endian zero n = refl
+length-little_endian (suc k) n = ap suc (length-little_endian k (n / 256))
+
+pub two-bytes : (n : ℕ) → n < 65536 → number_of (little_endian 2 n) ≡ n
+two-bytes n small = omega arith
+
+pub four-bytes : (n : ℕ) → n < 4294967296 → number_of (little_endian 4 n) ≡ n
+four-bytes n small = omega arith
+
+pub length-spelled : (ks : List ℕ) → length (spelled ks) ≡ 2 * length ks
+unfolding spelled
+length-spelled [] = refl
+length-spelled (k ∷ ks) = omega (arith, length-spelled ks)
+
+pub length-spelled_row : (a n : ℕ) → length (spelled (range_with_len a n)) ≡ 2 * n
+length-spelled_row a n = length-spelled (range_with_len a n) ∙ ap (λ k. 2 * k) (length-range_with_len a n)
+
+pub spelled-more : (a n : ℕ) → spelled (range_with_len a (n + 1)) ≡ spelled (range_with_len a n) ++ little_endian 2 (a + n)
+unfolding spelled
+spelled-more a n =
+    ap (flat_map (little_endian 2)) (range_with_len-add a n 1)
+    ∙ flat_map-append (little_endian 2) (range_with_len a n) (range_with_len (a + n) 1)
+
+pub pointers-spelled : (a n : ℕ) (rest : Bytes) → a + n ≤ 65536 → pointers n (spelled (range_with_len a n) ++ rest) ≡ range_with_len a n
+unfolding spelled
+pointers-spelled a zero rest small = refl
+pointers-spelled a (suc n) rest small =
+    ap (λ k. k ∷ pointers n (spelled (range_with_len (a + 1) n) ++ rest)) (two-bytes a (omega arith))
+    ∙ ap (λ (ks : List ℕ). a ∷ ks) (pointers-spelled (a + 1) n rest (omega arith))
+
+pub pointers-add : (m n : ℕ) (xs : Bytes) → pointers (m + n) xs ≡ pointers m xs ++ pointers n (drop (2 * m) xs)
+pointers-add zero n xs = let none : 0 + n ≡ n = omega arith in ap (λ k. pointers k xs) none
+pointers-add (suc m) n xs =
+    let all : suc m + n ≡ suc (m + n) = omega arith in
+    let same : 2 + 2 * m ≡ 2 * suc m = omega arith in
+    ap (λ k. pointers k xs) all
+    ∙ ap (λ (ks : List ℕ). field xs 0 2 ∷ ks) (pointers-add m n (drop 2 xs) ∙ ap (λ (ys : Bytes). pointers m (drop 2 xs) ++ pointers n ys) (drop-drop (2 * m) 2 xs ∙ ap (λ k. drop k xs) same))
+
+-- pointers are read of the first bytes alone
+pub pointers-take : (n c : ℕ) (xs : Bytes) → 2 * n ≤ c → pointers n (take c xs) ≡ pointers n xs
+pointers-take zero c xs enough = refl
+pointers-take (suc n) c xs enough =
+    let two : 2 ≤ c = omega arith in
+    let more : c ≡ 2 + (c - 2) = omega arith in
+    ap (λ (ys : Bytes). number_of ys ∷ pointers n (drop 2 (take c xs))) (take-take 2 c xs two)
+    ∙ ap (λ (ks : List ℕ). field xs 0 2 ∷ ks)
+    (ap (λ k. pointers n (drop 2 (take k xs))) more ∙ ap (pointers n) (drop-take 2 (c - 2) xs) ∙ pointers-take n (c - 2) (drop 2 xs) (omega arith))
+
+-- ---- blocks in a row
+
+pub blocks-row : (bytes : Bytes) (k m : ℕ) → flat_map (block bytes) (range_with_len k m) ≡ take (512 * m) (drop (512 * k) bytes)
+blocks-row bytes k zero = refl
+blocks-row bytes k (suc m) =
+    let all : 512 * suc m ≡ 512 + 512 * m = omega arith in
+    let next : 512 * k + 512 ≡ 512 * (k + 1) = omega arith in
+    ap (λ (ys : Bytes). block bytes k ++ ys) (blocks-row bytes (k + 1) m ∙ ap (λ j. take (512 * m) (drop j bytes)) (sym next) ∙ ap (take (512 * m)) (sym (drop-drop 512 (512 * k) bytes)))
+    ∙ sym (take-add 512 (512 * m) (drop (512 * k) bytes))
+    ∙ ap (λ j. take j (drop (512 * k) bytes)) (sym all)
+
+pub pointers-row : (bytes : Bytes) (k m : ℕ) → flat_map (λ j. pointers 256 (block bytes j)) (range_with_len k m) ≡ pointers (256 * m) (drop (512 * k) bytes)
+pointers-row bytes k zero = refl
+pointers-row bytes k (suc m) =
+    let all : 256 * suc m ≡ 256 + 256 * m = omega arith in
+    let next : 512 * k + 512 ≡ 512 * (k + 1) = omega arith in
+    ap (λ (ks : List ℕ). ks ++ flat_map (λ j. pointers 256 (block bytes j)) (range_with_len (k + 1) m)) (pointers-take 256 512 (drop (512 * k) bytes) (omega arith))
+    ∙ ap (λ (ks : List ℕ). pointers 256 (drop (512 * k) bytes) ++ ks)
+    (pointers-row bytes (k + 1) m ∙ ap (λ j. pointers (256 * m) (drop j bytes)) (sym next) ∙ ap (pointers (256 * m)) (sym (drop-drop 512 (512 * k) bytes)))
+    ∙ sym (pointers-add 256 (256 * m) (drop (512 * k) bytes))
+    ∙ ap (λ j. pointers j (drop (512 * k) bytes)) (sym all)

@@ -1,0 +1,182 @@
+use Rattle.std.proofs.Common.{◌≡◌, ℕ, suc, ◌+◌, ◌-◌, ◌*◌, ◌≤◌, ◌++◌, replicate, sym, ap, subst, ◌∙◌, add-one, arith}
+use Rattle.std.proofs.lemmas.Result.{on_err_weaker, on_ok_weaker}
+use Rattle.pv_model.specs.declared.version.Version.{Version}
+use Rattle.pv_model.specs.Bytes.{Bytes}
+use Rattle.pv_model.specs.Image.{inode_blocks}
+use Rattle.pv_model.specs.Tree.{node_at, greatest_name}
+use Rattle.pv_tree.specs.Holding.{HeldTree}
+use Rattle.pv_tree.specs.Standing.{IsStanding}
+use Rattle.pv_trace.proofs.Telling.{on_err}
+use Rattle.pv_trace.specs.Streams.{and_all, TellsBeginning}
+use Rattle.pv_image_write.specs.Placed.{placed, written_at}
+use Rattle.pv_image_write.specs.Spelling.{all_contents, padded}
+use Rattle.pv_image_write.proofs.PlacedTrees.{node-placed}
+use Rattle.pv_image_write.proofs.Windows.{put-all, put-cut, put-on}
+use Rattle.pv_image_write.proofs.Writing.{blocks-left, cut-node, node-room, put-node, put-none, put-zeros, written-node, as_written-room, zeros-room}
+use Rattle.pv_image_write.proofs.image.write_contents.Goals as goal
+
+-- the node that is next
+next-node : (h : HeldTree) → IsStanding h → (v : Version) (blocks inodes : ℕ) → h.tree.inodes ≤ inodes → greatest_name h.tree.version ≤ greatest_name v → (n : ℕ)
+    → written_at h.tree (n + 1) ≡ node_at (placed h.tree v blocks inodes) (suc n)
+next-node h s v blocks inodes more longer n =
+    let u = placed h.tree v blocks inodes in
+    sym (node-placed h s v blocks inodes more longer (n + 1)) ∙ ap (node_at u) (add-one n)
+
+whole-image : (blocks table : ℕ) → table + 1 ≤ blocks → blocks ≡ table + 1 + (blocks - (table + 1))
+whole-image blocks table fits = omega arith
+
+pub table_blocks-next-requires : goal.table_blocks-next-requires
+unfolding placed
+table_blocks-next-requires g c = c.requires.writable.few
+
+pub loop-slot-init : goal.loop-slot-init
+unfolding placed
+loop-slot-init g c = record {
+  put =
+      put-none (placed c.args.tree.now.tree c.args.version c.args.blocks c.args.inodes) c.requires.writable c.args.window.now.items (g.O.Sink.written c.args.image.now)
+      (c.table_blocks-next.result + 1) (ap (λ k. k + 1) c.table_blocks-next.ensures);
+  room = omega arith;
+  quiet = λ _. g.O.Sink.failures c.args.image.now;
+}
+
+pub add_blocks-requires-clause-blocks : goal.add_blocks-requires-clause-blocks
+unfolding placed
+add_blocks-requires-clause-blocks g c =
+    let n = c.loop-slot.slot in
+    let u = placed c.args.tree.now.tree c.args.version c.args.blocks c.args.inodes in
+    let is = next-node c.args.tree.now c.sizes.ensures.standing c.args.version c.args.blocks c.args.inodes c.requires.inodes c.requires.names n in
+    as_written-room u c.requires.writable n c.loop-slot.next (written_at c.args.tree.now.tree (n + 1)) c.loop-slot.invariant.put.as_written.block_after c.loop-slot-test.true is
+
+pub add_blocks-requires-clause-room : goal.add_blocks-requires-clause-room
+unfolding placed
+add_blocks-requires-clause-room g c =
+    let n = c.loop-slot.slot in
+    let u = placed c.args.tree.now.tree c.args.version c.args.blocks c.args.inodes in
+    let is = next-node c.args.tree.now c.sizes.ensures.standing c.args.version c.args.blocks c.args.inodes c.requires.inodes c.requires.names n in
+    let whole = whole-image c.args.blocks (inode_blocks c.args.version c.args.inodes) c.requires.sizes in
+    let room =
+    node-room u c.requires.writable n c.args.window.now.items (g.O.Sink.written c.args.image.now) (g.O.Sink.written c.loop-slot.image) c.loop-slot.window.items c.loop-slot.next c.args.blocks
+    (written_at c.args.tree.now.tree (n + 1)) c.loop-slot.invariant.put c.loop-slot-test.true is c.requires.following whole in
+    omega (arith, room, c.loop-slot.window.ok.0, c.loop-slot.invariant.room, c.requires.room)
+
+pub overflow_cast-next : goal.overflow_cast-next
+unfolding placed
+overflow_cast-next g c =
+    let n = c.loop-slot.slot in
+    let u = placed c.args.tree.now.tree c.args.version c.args.blocks c.args.inodes in
+    let is = next-node c.args.tree.now c.sizes.ensures.standing c.args.version c.args.blocks c.args.inodes c.requires.inodes c.requires.names n in
+    let room = as_written-room u c.requires.writable n c.loop-slot.next (written_at c.args.tree.now.tree (n + 1)) c.loop-slot.invariant.put.as_written.block_after c.loop-slot-test.true is in
+    omega (arith, room, c.taken_blocks.ensures)
+
+pub overflow_add-next-in-loop-slot : goal.overflow_add-next-in-loop-slot
+unfolding placed
+overflow_add-next-in-loop-slot g c =
+    let n = c.loop-slot.slot in
+    let u = placed c.args.tree.now.tree c.args.version c.args.blocks c.args.inodes in
+    let is = next-node c.args.tree.now c.sizes.ensures.standing c.args.version c.args.blocks c.args.inodes c.requires.inodes c.requires.names n in
+    let room = as_written-room u c.requires.writable n c.loop-slot.next (written_at c.args.tree.now.tree (n + 1)) c.loop-slot.invariant.put.as_written.block_after c.loop-slot-test.true is in
+    omega (arith, room, c.taken_blocks.ensures)
+
+pub returns-in_err-write_full-clause-cut : goal.returns-in_err-write_full-clause-cut
+unfolding placed
+returns-in_err-write_full-clause-cut g c =
+    let n = c.loop-slot.slot in
+    let u = placed c.args.tree.now.tree c.args.version c.args.blocks c.args.inodes in
+    let had = c.args.window.now.items in
+    let entry = g.O.Sink.written c.args.image.now in
+    let mid = g.O.Sink.written c.loop-slot.image in
+    let after = g.O.Sink.written c.write_full.new.image in
+    let is = next-node c.args.tree.now c.sizes.ensures.standing c.args.version c.args.blocks c.args.inodes c.requires.inodes c.requires.names n in
+    let put =
+    put-node u c.requires.writable n had entry mid c.loop-slot.window.items c.add_blocks.new.bytes.items c.loop-slot.next c.taken_blocks.result (written_at c.args.tree.now.tree (n + 1))
+    c.loop-slot.invariant.put is c.add_blocks.ensures.items c.taken_blocks.ensures in
+    on_err c.from_residual.result (cut-node u c.requires.writable (n + 1) had entry mid after c.add_blocks.new.bytes.items (c.loop-slot.next + c.taken_blocks.result) (omega (arith, c.loop-slot-test.true)) put c.in_err-write_full.ensures.cut)
+
+pub loop-slot-preserved : goal.loop-slot-preserved
+unfolding placed
+loop-slot-preserved g c =
+    let n = c.loop-slot.slot in
+    let u = placed c.args.tree.now.tree c.args.version c.args.blocks c.args.inodes in
+    let had = c.args.window.now.items in
+    let entry = g.O.Sink.written c.args.image.now in
+    let mid = g.O.Sink.written c.loop-slot.image in
+    let after = g.O.Sink.written c.write_full.new.image in
+    let is = next-node c.args.tree.now c.sizes.ensures.standing c.args.version c.args.blocks c.args.inodes c.requires.inodes c.requires.names n in
+    let put =
+    put-node u c.requires.writable n had entry mid c.loop-slot.window.items c.add_blocks.new.bytes.items c.loop-slot.next c.taken_blocks.result (written_at c.args.tree.now.tree (n + 1))
+    c.loop-slot.invariant.put is c.add_blocks.ensures.items c.taken_blocks.ensures in
+    record {
+      put = written-node u c.requires.writable (n + 1) had entry mid after c.add_blocks.new.bytes.items c.write_full.new.window.items (c.loop-slot.next + c.taken_blocks.result) put c.in_ok-write_full.ensures.put;
+      room = omega (arith, c.loop-slot.invariant.room, c.add_blocks.ensures.capacity, c.write_full.ensures.capacity);
+      quiet = c.in_ok-write_full.ensures.quiet ∙ c.loop-slot.invariant.quiet;
+    }
+
+pub overflow_sub-blocks : goal.overflow_sub-blocks
+unfolding placed
+overflow_sub-blocks g c =
+    let u = placed c.args.tree.now.tree c.args.version c.args.blocks c.args.inodes in
+    let all : c.loop-slot.slot ≡ c.args.inodes = omega arith in
+    let whole = whole-image c.args.blocks (inode_blocks c.args.version c.args.inodes) c.requires.sizes in
+    blocks-left u c.requires.writable c.loop-slot.slot c.loop-slot.next c.args.blocks all c.loop-slot.invariant.put.as_written.block_after whole
+
+pub write_zeros-requires : goal.write_zeros-requires
+unfolding placed
+write_zeros-requires g c =
+    let u = placed c.args.tree.now.tree c.args.version c.args.blocks c.args.inodes in
+    let all : c.loop-slot.slot ≡ c.args.inodes = omega arith in
+    let whole = whole-image c.args.blocks (inode_blocks c.args.version c.args.inodes) c.requires.sizes in
+    let room =
+    zeros-room u c.requires.writable c.loop-slot.slot c.args.window.now.items (g.O.Sink.written c.args.image.now) (g.O.Sink.written c.loop-slot.image) c.loop-slot.window.items c.loop-slot.next
+    c.args.blocks c.loop-slot.invariant.put all c.requires.following whole in
+    omega (arith, room, c.loop-slot.window.ok.0, c.loop-slot.invariant.room, c.requires.room)
+
+pub returns-in_err-write_zeros-clause-cut : goal.returns-in_err-write_zeros-clause-cut
+unfolding placed
+returns-in_err-write_zeros-clause-cut g c =
+    let u = placed c.args.tree.now.tree c.args.version c.args.blocks c.args.inodes in
+    let had = c.args.window.now.items in
+    let entry = g.O.Sink.written c.args.image.now in
+    let mid = g.O.Sink.written c.loop-slot.image in
+    let after = g.O.Sink.written c.write_zeros.new.image in
+    let all : c.loop-slot.slot ≡ c.args.inodes = omega arith in
+    let whole = whole-image c.args.blocks (inode_blocks c.args.version c.args.inodes) c.requires.sizes in
+    let put = put-zeros u c.requires.writable c.loop-slot.slot had entry mid c.loop-slot.window.items c.loop-slot.next c.args.blocks c.loop-slot.invariant.put all whole in
+    on_err c.from_residual-in_err-write_zeros.result (put-cut entry mid after (c.loop-slot.window.items ++ replicate (512 * (c.args.blocks - c.loop-slot.next)) 0) (had ++ padded (512 * u.blocks) (all_contents u u.inodes)) put
+    c.in_err-write_zeros.ensures.cut)
+
+pub returns-clause-whole : goal.returns-clause-whole
+unfolding placed
+returns-clause-whole g c =
+    let u = placed c.args.tree.now.tree c.args.version c.args.blocks c.args.inodes in
+    let had = c.args.window.now.items in
+    let entry = g.O.Sink.written c.args.image.now in
+    let mid = g.O.Sink.written c.loop-slot.image in
+    let last = g.O.Sink.written c.write_zeros.new.image in
+    let after = g.O.Sink.written c.write_through.new.sink in
+    let image = had ++ padded (512 * u.blocks) (all_contents u u.inodes) in
+    let all : c.loop-slot.slot ≡ c.args.inodes = omega arith in
+    let whole = whole-image c.args.blocks (inode_blocks c.args.version c.args.inodes) c.requires.sizes in
+    let put = put-zeros u c.requires.writable c.loop-slot.slot had entry mid c.loop-slot.window.items c.loop-slot.next c.args.blocks c.loop-slot.invariant.put all whole in
+    let left = c.write_zeros.new.window.items in
+    let zeros = c.loop-slot.window.items ++ replicate (512 * (c.args.blocks - c.loop-slot.next)) 0 in
+    let now = put-on entry mid last zeros image left put c.in_ok-write_zeros.ensures.put in
+    on_ok_weaker c.write_through.result (λ written. put-all entry last after left image now (written ∙ ap (and_all last) c.as_slice.ensures.value)) c.write_through.ensures.whole
+
+pub returns-clause-cut : goal.returns-clause-cut
+unfolding placed
+returns-clause-cut g c =
+    let u = placed c.args.tree.now.tree c.args.version c.args.blocks c.args.inodes in
+    let had = c.args.window.now.items in
+    let entry = g.O.Sink.written c.args.image.now in
+    let mid = g.O.Sink.written c.loop-slot.image in
+    let last = g.O.Sink.written c.write_zeros.new.image in
+    let after = g.O.Sink.written c.write_through.new.sink in
+    let image = had ++ padded (512 * u.blocks) (all_contents u u.inodes) in
+    let all : c.loop-slot.slot ≡ c.args.inodes = omega arith in
+    let whole = whole-image c.args.blocks (inode_blocks c.args.version c.args.inodes) c.requires.sizes in
+    let put = put-zeros u c.requires.writable c.loop-slot.slot had entry mid c.loop-slot.window.items c.loop-slot.next c.args.blocks c.loop-slot.invariant.put all whole in
+    let left = c.write_zeros.new.window.items in
+    let zeros = c.loop-slot.window.items ++ replicate (512 * (c.args.blocks - c.loop-slot.next)) 0 in
+    let now = put-on entry mid last zeros image left put c.in_ok-write_zeros.ensures.put in
+    on_err_weaker c.write_through.result
+    (λ begun. put-cut entry last after left image now (subst (λ (xs : Bytes). TellsBeginning xs last after) c.as_slice.ensures.value begun)) c.write_through.ensures.beginning

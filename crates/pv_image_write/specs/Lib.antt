@@ -1,0 +1,4 @@
+pub mod Placed
+pub mod Spelling
+pub mod Written
+pub mod Writable

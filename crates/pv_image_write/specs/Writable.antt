@@ -1,0 +1,30 @@
+-- Trees of which an image can be written.
+use Rattle.std.specs.Prelude.{◌≡◌, ℕ, suc, ◌+◌, ◌^◌, ◌<◌, ◌≤◌, [], ◌++◌, length, Some}
+use Rattle.pv_model.specs.declared.limits.TheConstants.{INODES}
+use Rattle.pv_model.specs.declared.version.Version.{Version}
+use Rattle.pv_model.specs.declared.version.Version.TheVariants.{V1, V2}
+use Rattle.pv_model.specs.Bytes.{Bytes}
+use Rattle.pv_model.specs.Image.{greatest_blocks}
+use Rattle.pv_model.specs.Room.{greatest_length}
+use Rattle.pv_model.specs.Tree.{Node, Tree, root, node_at, names_of, IsWellFormed}
+use Rattle.pv_image_write.specs.Spelling.{content_of, taken_before, first_data, first_of}
+
+-- what an inode's number of names stays below
+abbrev pub names_end : Version → ℕ
+names_end V1 = 2 ^ 16
+names_end V2 = 2 ^ 32
+
+-- each node but the root is named, the sizes are those of an image, and all has room in it
+pub record IsWritable (t : Tree) : Type 0 where
+  pub well_formed : IsWellFormed t
+  pub each_named : (n : ℕ) (node : Node) → node_at t n ≡ Some node → names_of t n ≡ [] → n ≡ root
+  pub few : t.inodes ≤ INODES
+  pub allowed : first_data t.version t.inodes + t.blocks ≤ greatest_blocks t.version
+  pub short : (n : ℕ) → length (content_of t.version (node_at t n)) ≤ greatest_length t.version
+  pub counted : (n : ℕ) → length (names_of t n) < names_end t.version
+  pub room : taken_before t (suc t.inodes) ≤ t.blocks
+
+-- a part of each of the nodes up to a number, all_inodes or all_contents, stands after other bytes; and the block after theirs
+pub record AreWritten (part : Tree → ℕ → Bytes) (t : Tree) (n : ℕ) (before now : Bytes) (next : ℕ) : Type 0 where
+  pub so_far : now ≡ before ++ part t n
+  pub block_after : next ≡ first_of t (suc n)

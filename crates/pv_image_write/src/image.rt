@@ -1,0 +1,262 @@
+//! The whole image.
+ghost use Rattle.std.specs.Prelude.{◌≡◌, ◌+◌, ◌-◌, ◌*◌, ◌^◌, ◌<◌, ◌≤◌, ◌++◌, false, length, vec_capacity, vec_len, IsTrue, IsSome, None, Err, IfOk, OnOk, OnErr};
+ghost use Rattle.pv_model.specs.declared.limits.TheConstants.{BLOCK, INODES};
+ghost use Rattle.pv_model.specs.Held.{named_tree};
+ghost use Rattle.pv_model.specs.Image.{inode_blocks, inode_length, magic};
+ghost use Rattle.pv_model.specs.Mount.{are_image_sizes};
+ghost use Rattle.pv_model.specs.Stream.{Rose};
+ghost use Rattle.pv_model.specs.Tree.{greatest_name, names_of, node_at};
+ghost use Rattle.pv_trace.specs.Streams.{and_all, TellsBeginning};
+ghost use Rattle.pv_image_write.specs.Placed.{placed, written_at, named_need};
+ghost use Rattle.pv_image_write.specs.Spelling.{all_contents, all_inodes, blocks_of, first_block, image_bytes, inode_of, padded, taken_of};
+ghost use Rattle.pv_image_write.specs.Written.{BeginsImage, TellsImage};
+ghost use Rattle.pv_image_write.specs.Writable.{names_end, IsWritable};
+
+use crate::content::{content_length, put_content};
+use crate::fault::WriteFault;
+use crate::filling::{fill, put, put_u16, put_zeros};
+use crate::inode::{extent_of, put_after_content, put_inode};
+use crate::window::{write_full, write_zeros};
+use pv_model::limits::{BLOCK, ROOT};
+use pv_model::{Failed, Sink, Version};
+use pv_trace::write_through;
+use pv_tree::Tree;
+use std::alloc::{AllocError, Global};
+
+// Whether an image has the node of a number: it is the root, or has a name.
+fn is_written(tree: &Tree, node: u16) -> bool
+    ensures as_written { IsTrue result → written_at tree.now.tree node ≡ node_at tree.now.tree node }
+    ensures used { IsTrue result → IsSome (node_at tree.now.tree node) }
+    ensures free { result ≡ false → written_at tree.now.tree node ≡ None }
+{
+    tree.is_used(node) && (node == ROOT || tree.names(node) > 0)
+}
+
+// The data blocks that the node of a number takes in an image of this version, if the image has one.
+fn taken_blocks(tree: &Tree, version: Version, node: u16) -> u32
+    requires { greatest_name tree.now.tree.version ≤ greatest_name version }
+    ensures { result ≡ taken_of version (written_at tree.now.tree node) }
+{
+    if !is_written(tree, node) {
+        return 0;
+    }
+    let extent = extent_of(content_length(tree, version, node));
+    u32::from(extent.filled + extent.index)
+}
+
+// Appends the inode of a number, whose blocks begin at `first`, or a free one if the image has no such node.
+fn add_inode(bytes: &mut Vec<u8>, tree: &Tree, version: Version, node: u16, first: u16)
+    requires names { greatest_name tree.now.tree.version ≤ greatest_name version }
+    requires counted { length (names_of tree.now.tree node) < names_end version }
+    requires blocks { first + taken_of version (written_at tree.now.tree node) < 2 ^ 16 }
+    requires room { vec_len bytes.old + inode_length version ≤ vec_capacity bytes.old }
+    ensures items { bytes.new.items ≡ bytes.old.items ++ inode_of version (length (names_of tree.now.tree node)) first (written_at tree.now.tree node) }
+    ensures len { vec_len bytes.new ≡ vec_len bytes.old + inode_length version }
+    ensures capacity { vec_capacity bytes.old ≤ vec_capacity bytes.new }
+{
+    if !is_written(tree, node) {
+        return put_zeros(bytes, version.layout().inode_length);
+    }
+    let sort = tree.kind(node) as u8;
+    let names = tree.names(node);
+    let size = content_length(tree, version, node);
+    put_inode(bytes, version, sort, names, size, first);
+}
+
+// Appends the blocks of the node of a number, which begin at `first`, if the image has it.
+fn add_blocks(bytes: &mut Vec<u8>, tree: &Tree, version: Version, node: u16, first: u16)
+    requires names { greatest_name tree.now.tree.version ≤ greatest_name version }
+    requires blocks { first + taken_of version (written_at tree.now.tree node) < 2 ^ 16 }
+    requires room { vec_len bytes.old + BLOCK * taken_of version (written_at tree.now.tree node) ≤ vec_capacity bytes.old }
+    ensures items { bytes.new.items ≡ bytes.old.items ++ blocks_of version first (written_at tree.now.tree node) }
+    ensures capacity { vec_capacity bytes.old ≤ vec_capacity bytes.new }
+{
+    if !is_written(tree, node) {
+        return;
+    }
+    put_content(bytes, tree, version, node);
+    put_after_content(bytes, content_length(tree, version, node), first);
+}
+
+// The blocks that so many inodes fill.
+fn table_blocks(version: Version, inodes: u16) -> u16
+    requires { inodes ≤ INODES }
+    ensures { result ≡ inode_blocks version inodes }
+{
+    (inodes as usize * version.layout().inode_length).div_ceil(BLOCK) as u16
+}
+
+// The bytes with which an image begins.
+fn magic_of(version: Version) -> &'static [u8]
+    ensures { result.now ≡ magic version }
+{
+    match version {
+        Version::V1 => b"PVIMAGE1",
+        Version::V2 => b"PVIMAGE2",
+    }
+}
+
+// The first block of an image of so many blocks and inodes, with room after it for the others. It costs nothing until
+// it is written.
+#[tactic(auto, unfolding(crate::specs::Spelling::first_block))]
+fn beginning(
+    alloc: Global,
+    version: Version,
+    blocks: u16,
+    inodes: u16,
+) -> Result<Vec<u8>, AllocError>
+    requires { 1 ≤ blocks }
+    ensures items { IfOk result (λ bytes. bytes.items ≡ first_block version blocks inodes) }
+    ensures room { IfOk result (λ bytes. BLOCK * blocks ≤ vec_capacity bytes) }
+{
+    let mut bytes = Vec::with_capacity(alloc, BLOCK * blocks as usize)?;
+    put(&mut bytes, magic_of(version));
+    put_u16(&mut bytes, blocks);
+    put_u16(&mut bytes, inodes);
+    put_zeros(&mut bytes, 500);
+    Ok(bytes)
+}
+
+// The first block and the table of the inodes, with room after them for the contents.
+fn with_table(
+    alloc: Global,
+    tree: &Tree,
+    version: Version,
+    blocks: u16,
+    inodes: u16,
+) -> Result<Vec<u8>, AllocError>
+    requires sizes { inode_blocks version inodes + 1 ≤ blocks }
+    requires names { greatest_name tree.now.tree.version ≤ greatest_name version }
+    requires inodes { tree.now.tree.inodes ≤ inodes }
+    requires writable { IsWritable (placed tree.now.tree version blocks inodes) }
+    ensures items { IfOk result (λ bytes. bytes.items ≡ first_block version blocks inodes ++ padded (BLOCK * inode_blocks version inodes) (all_inodes (placed tree.now.tree version blocks inodes) inodes)) }
+    ensures room { IfOk result (λ bytes. BLOCK * blocks ≤ vec_capacity bytes) }
+{
+    let _ = tree.sizes();
+    let first_data = table_blocks(version, inodes) + 1;
+    let mut bytes = beginning(alloc, version, blocks, inodes)?;
+    let mut first = first_data;
+    for slot in 0..inodes {
+        add_inode(&mut bytes, tree, version, slot + 1, first);
+        first += taken_blocks(tree, version, slot + 1) as u16;
+    }
+    fill(&mut bytes, BLOCK * first_data as usize);
+    Ok(bytes)
+}
+
+// Writes the window, and after it the contents of all nodes, and zeros up to the end of the image.
+fn write_contents<O: Sink>(
+    window: &mut Vec<u8>,
+    tree: &Tree,
+    version: Version,
+    blocks: u16,
+    inodes: u16,
+    image: &mut O,
+) -> Result<(), Failed>
+    requires sizes { inode_blocks version inodes + 1 ≤ blocks }
+    requires names { greatest_name tree.now.tree.version ≤ greatest_name version }
+    requires inodes { tree.now.tree.inodes ≤ inodes }
+    requires writable { IsWritable (placed tree.now.tree version blocks inodes) }
+    requires following { length window.old.items ≡ BLOCK * (inode_blocks version inodes + 1) }
+    requires room { BLOCK * blocks ≤ vec_capacity window.old }
+    ensures whole { OnOk result (O.written image.new ≡ and_all (O.written image.old) (window.old.items ++ padded (BLOCK * (blocks - (inode_blocks version inodes + 1))) (all_contents (placed tree.now.tree version blocks inodes) inodes))) }
+    ensures cut { OnErr result (TellsBeginning (window.old.items ++ padded (BLOCK * (blocks - (inode_blocks version inodes + 1))) (all_contents (placed tree.now.tree version blocks inodes) inodes)) (O.written image.old) (O.written image.new)) }
+    ensures failed { OnErr result (Rose (O.failures image.old) (O.failures image.new)) }
+    ensures flushed { OnOk result (O.buffered image.new ≡ 0) }
+{
+    let _ = tree.sizes();
+    let mut next = table_blocks(version, inodes) + 1;
+    for slot in 0..inodes {
+        add_blocks(window, tree, version, slot + 1, next);
+        next += taken_blocks(tree, version, slot + 1) as u16;
+        write_full(window, image)?;
+    }
+    write_zeros(window, blocks - next, image)?;
+    write_through(image, window.as_slice())
+}
+
+// Writes an image, each byte of which is told.
+fn write_bytes<O: Sink>(
+    alloc: Global,
+    tree: &Tree,
+    version: Version,
+    blocks: u16,
+    inodes: u16,
+    image: &mut O,
+) -> Result<(), WriteFault>
+    requires sizes { inode_blocks version inodes + 1 ≤ blocks }
+    requires names { greatest_name tree.now.tree.version ≤ greatest_name version }
+    requires inodes { tree.now.tree.inodes ≤ inodes }
+    requires writable { IsWritable (placed tree.now.tree version blocks inodes) }
+    ensures whole { OnOk result (O.written image.new ≡ and_all (O.written image.old) (image_bytes (placed tree.now.tree version blocks inodes))) }
+    ensures cut { result ≡ Err WriteFault.Write → TellsBeginning (image_bytes (placed tree.now.tree version blocks inodes)) (O.written image.old) (O.written image.new) }
+    ensures failed { result ≡ Err WriteFault.Write → Rose (O.failures image.old) (O.failures image.new) }
+    ensures memory { result ≡ Err WriteFault.Memory → O.written image.new ≡ O.written image.old }
+    ensures flushed { OnOk result (O.buffered image.new ≡ 0) }
+{
+    let mut window = with_table(alloc, tree, version, blocks, inodes)?;
+    Ok(write_contents(&mut window, tree, version, blocks, inodes, image)?)
+}
+
+/// The data blocks that the root and the nodes in an entry need in an image of a version in which the tree's names may
+/// stand: how many there have to be for `write_as`.
+pub fn needed_blocks(tree: &Tree, version: Version) -> u32
+    requires { greatest_name tree.now.tree.version ≤ greatest_name version }
+    ensures { result ≡ named_need tree.now.tree version }
+{
+    let mut needed = 0;
+    for slot in 0..tree.sizes().inodes {
+        needed += taken_blocks(tree, version, slot + 1);
+    }
+    needed
+}
+
+/// Writes an image of this version, of so many blocks in all, and so many inodes, which the version allows. It has
+/// the root and the nodes in an entry, under their numbers, and nothing else; what none of them uses is zero. The
+/// inodes are at least those of the tree, its names may stand in an image of the version, and there is room for what
+/// is written, as `needed_blocks` tells. What was written is flushed.
+///
+/// # Errors
+///
+/// `Memory` where memory was refused: then nothing was written. `Write` where a write or the handing on failed: the sink
+/// was told a beginning of the image.
+pub fn write_as<O: Sink>(
+    alloc: Global,
+    tree: &Tree,
+    version: Version,
+    blocks: u16,
+    inodes: u16,
+    image: &mut O,
+) -> Result<(), WriteFault>
+    requires sizes { IsTrue (are_image_sizes version blocks inodes) }
+    requires inodes { tree.now.tree.inodes ≤ inodes }
+    requires names { greatest_name tree.now.tree.version ≤ greatest_name version }
+    requires room { inode_blocks version inodes + 1 + named_need tree.now.tree version ≤ blocks }
+    ensures whole { OnOk result (TellsImage (placed tree.now.tree version blocks inodes) (O.written image.old) (O.written image.new)) }
+    ensures cut { result ≡ Err WriteFault.Write → BeginsImage (placed tree.now.tree version blocks inodes) (O.written image.old) (O.written image.new) }
+    ensures failed { result ≡ Err WriteFault.Write → Rose (O.failures image.old) (O.failures image.new) }
+    ensures memory { result ≡ Err WriteFault.Memory → O.written image.new ≡ O.written image.old }
+    ensures flushed { OnOk result (O.buffered image.new ≡ 0) }
+{
+    let _ = tree.sizes();
+    write_bytes(alloc, tree, version, blocks, inodes, image)
+}
+
+/// Writes an image of the tree: with only the root and the nodes in an entry, its sizes and version kept. What was written
+/// is flushed.
+///
+/// # Errors
+///
+/// `Memory` where memory was refused: then nothing was written. `Write` where a write or the handing on failed: the sink
+/// was told a beginning of the image.
+pub fn write_tree<O: Sink>(alloc: Global, tree: &Tree, image: &mut O) -> Result<(), WriteFault>
+    ensures whole { OnOk result (TellsImage (named_tree tree.now.tree) (O.written image.old) (O.written image.new)) }
+    ensures cut { result ≡ Err WriteFault.Write → BeginsImage (named_tree tree.now.tree) (O.written image.old) (O.written image.new) }
+    ensures failed { result ≡ Err WriteFault.Write → Rose (O.failures image.old) (O.failures image.new) }
+    ensures memory { result ≡ Err WriteFault.Memory → O.written image.new ≡ O.written image.old }
+    ensures flushed { OnOk result (O.buffered image.new ≡ 0) }
+{
+    let sizes = tree.sizes();
+    let blocks = table_blocks(sizes.version, sizes.inodes) + 1 + sizes.blocks;
+    write_as(alloc, tree, sizes.version, blocks, sizes.inodes, image)
+}

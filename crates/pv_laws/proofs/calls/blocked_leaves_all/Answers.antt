@@ -1,5 +1,0 @@
-use Rattle.pv_laws.proofs.Outcomes.{blocked-leaves}
-use Rattle.pv_laws.proofs.calls.blocked_leaves_all.Goals as goal
-
-pub returns : goal.returns
-returns c = blocked-leaves

@@ -1,5 +1,0 @@
-use Rattle.pv_laws.proofs.Far.{far-too_long}
-use Rattle.pv_laws.proofs.calls.far_is_too_long.Goals as goal
-
-pub returns : goal.returns
-returns c = far-too_long

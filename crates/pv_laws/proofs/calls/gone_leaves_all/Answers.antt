@@ -1,5 +1,0 @@
-use Rattle.pv_laws.proofs.Outcomes.{gone-leaves}
-use Rattle.pv_laws.proofs.calls.gone_leaves_all.Goals as goal
-
-pub returns : goal.returns
-returns c = gone-leaves

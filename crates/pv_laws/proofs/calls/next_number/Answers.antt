@@ -1,5 +1,0 @@
-use Rattle.pv_laws.proofs.Outcomes.{next-number}
-use Rattle.pv_laws.proofs.calls.next_number.Goals as goal
-
-pub returns : goal.returns
-returns c = next-number

@@ -1,5 +1,0 @@
-use Rattle.pv_laws.proofs.Outcomes.{refused-unharmed}
-use Rattle.pv_laws.proofs.calls.refused_is_unharmed.Goals as goal
-
-pub returns : goal.returns
-returns c = refused-unharmed

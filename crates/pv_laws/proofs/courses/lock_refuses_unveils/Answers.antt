@@ -1,5 +1,0 @@
-use Rattle.pv_laws.proofs.Going.{lock-refuses}
-use Rattle.pv_laws.proofs.courses.lock_refuses_unveils.Goals as goal
-
-pub returns : goal.returns
-returns c = lock-refuses

@@ -1,5 +1,0 @@
-use Rattle.pv_laws.proofs.BySteps.{first-whole}
-use Rattle.pv_laws.proofs.states.first_is_whole.Goals as goal
-
-pub returns : goal.returns
-returns c = first-whole

@@ -1,5 +1,0 @@
-use Rattle.pv_laws.proofs.BySteps.{run-keeps_whole}
-use Rattle.pv_laws.proofs.states.run_keeps_whole.Goals as goal
-
-pub returns : goal.returns
-returns c = run-keeps_whole

@@ -1,5 +1,0 @@
-use Rattle.pv_model.proofs.Runs.{run-append}
-use Rattle.pv_laws.proofs.steps.runs_join.Goals as goal
-
-pub returns : goal.returns
-returns c = run-append

@@ -1,0 +1,5 @@
+use Rattle.pv_laws_access.proofs.Framed.{own-files-go}
+use Rattle.pv_laws_access.proofs.frame.only_own_files_go.Goals as goal
+
+pub returns : goal.returns
+returns c = own-files-go

@@ -1,0 +1,5 @@
+use Rattle.pv_laws_access.proofs.Images.{child-same}
+use Rattle.pv_laws_access.proofs.growth.child_has_the_same.Goals as goal
+
+pub returns : goal.returns
+returns c = child-same

@@ -1,0 +1,5 @@
+use Rattle.pv_laws_access.proofs.Images.{execve-leaves}
+use Rattle.pv_laws_access.proofs.growth.execve_leaves.Goals as goal
+
+pub returns : goal.returns
+returns c = execve-leaves

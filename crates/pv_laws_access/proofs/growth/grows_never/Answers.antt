@@ -1,0 +1,5 @@
+use Rattle.pv_laws_access.proofs.Images.{grows-never}
+use Rattle.pv_laws_access.proofs.growth.grows_never.Goals as goal
+
+pub returns : goal.returns
+returns c = grows-never

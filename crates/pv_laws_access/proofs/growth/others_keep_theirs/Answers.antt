@@ -1,0 +1,5 @@
+use Rattle.pv_laws_access.proofs.Images.{others-keep}
+use Rattle.pv_laws_access.proofs.growth.others_keep_theirs.Goals as goal
+
+pub returns : goal.returns
+returns c = others-keep

@@ -1,0 +1,5 @@
+use Rattle.pv_laws_access.proofs.Images.{runs-without}
+use Rattle.pv_laws_access.proofs.growth.runs_without_growth.Goals as goal
+
+pub returns : goal.returns
+returns c = runs-without

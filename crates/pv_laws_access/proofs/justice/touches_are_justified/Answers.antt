@@ -1,0 +1,5 @@
+use Rattle.pv_laws_access.proofs.JustReads.{all-justified}
+use Rattle.pv_laws_access.proofs.justice.touches_are_justified.Goals as goal
+
+pub returns : goal.returns
+returns c = all-justified

@@ -1,0 +1,5 @@
+use Rattle.pv_laws_access.proofs.Promised.{without-rpath}
+use Rattle.pv_laws_access.proofs.means.without_rpath_none_for_reading.Goals as goal
+
+pub returns : goal.returns
+returns c = λ program_of s pid p n mode whole at none reading. without-rpath program_of s pid p n mode whole at none reading

@@ -1,0 +1,5 @@
+use Rattle.pv_laws_access.proofs.Closed.{sealed-not_read}
+use Rattle.pv_laws_access.proofs.secrets.sealed_is_not_read.Goals as goal
+
+pub returns : goal.returns
+returns c = sealed-not_read

@@ -1,0 +1,43 @@
+-- What a step leaves of open files: which stay, which come, and which go.
+use Rattle.std.specs.Prelude.{◌≡◌, ◌≢◌, ℕ, Bool, true, false, IsFalse, Option, None, Some}
+use Rattle.pv_model.specs.declared.call.Call.{Call}
+use Rattle.pv_model.specs.declared.open_flags.OpenFlags.{OpenFlags}
+use Rattle.pv_model.specs.declared.outcome.Outcome.{Outcome}
+use Rattle.pv_model.specs.declared.outcome.Outcome.TheVariants.{Killed, Exited}
+use Rattle.pv_model.specs.Bytes.{Bytes}
+use Rattle.pv_model.specs.Numbered.{at_number, least_free}
+use Rattle.pv_model.specs.Program.{calls_for, next}
+use Rattle.pv_model.specs.State.{OpenFile, Descriptor, Program, Process, State, process_at}
+use Rattle.pv_model.specs.Step.{step}
+use Rattle.pv_model.specs.Touch.{flags_of}
+use Rattle.pv_laws_access.specs.Growth.{IsInOrder, IsSameFile, IsNamedBy}
+
+-- an open file after a step: it is as it was; or the call is by the process's own descriptor of it, and it stands elsewhere; or an open made it, under the least number that was free
+pub data CameOf (s : State) (pid k : ℕ) : OpenFile → Type 0 where
+  as_it_was : (file : OpenFile) → at_number s.files k ≡ Some file → CameOf s pid k file
+  moved : (old left : OpenFile) → at_number s.files k ≡ Some old → IsSameFile old left → IsNamedBy s pid k → CameOf s pid k left
+  opened : (p : Process) (call : Call) (flags : OpenFlags) (left : OpenFile) → process_at s pid ≡ Some p → next p ≡ calls_for call → flags_of call ≡ Some flags → left.mode ≡ flags.mode
+      → k ≡ least_free s.files → CameOf s pid k left
+
+-- there are no other open files after a step
+abbrev pub OpenFilesComeOf : Type 0
+OpenFilesComeOf =
+    (program_of : Bytes → Option Program) (s : State) (pid k : ℕ) (left : OpenFile) → at_number (step program_of s pid).after.files k ≡ Some left → CameOf s pid k left
+
+-- and those that are gone were no other process's
+abbrev pub OnlyOwnFilesGo : Type 0
+OnlyOwnFilesGo =
+    (program_of : Bytes → Option Program) (s : State) (pid k : ℕ) (file : OpenFile) → IsInOrder s → at_number s.files k ≡ Some file → at_number (step program_of s pid).after.files k ≡ None
+    → (other : ℕ) (p : Process) (d : ℕ) (x : Descriptor) → other ≢ pid → process_at s other ≡ Some p → at_number p.descriptors d ≡ Some x → x.file ≢ k
+
+-- a step that ends its process
+abbrev pub is_end : Outcome → Bool
+is_end Exited = true
+is_end (Killed promise) = true
+is_end outcome = false
+
+-- a step that does not end its process leaves each other live process wholly as it was, its parent too
+abbrev pub OthersKeepAll : Type 0
+OthersKeepAll =
+    (program_of : Bytes → Option Program) (s : State) (pid other : ℕ) (p : Process) → IsInOrder s → other ≢ pid → process_at s other ≡ Some p
+    → IsFalse (is_end (step program_of s pid).outcome) → process_at (step program_of s pid).after other ≡ Some p

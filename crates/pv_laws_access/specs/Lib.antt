@@ -1,0 +1,9 @@
+pub mod Growth
+pub mod Justice
+pub mod Secrets
+pub mod Reasons
+pub mod Examples
+pub mod Means
+pub mod Ends
+pub mod EndExamples
+pub mod Frame

@@ -1,0 +1,25 @@
+-- A run after which files are sealed and frozen, by computing.
+use Rattle.std.proofs.Common.{[], ◌∷◌, refl, inl}
+use Rattle.pv_model.specs.Grammar.Arguments.{text_at, flags_of}
+use Rattle.pv_model.specs.Grammar.Instructions.{instruction_by}
+use Rattle.pv_model.specs.Grammar.Manifests.{entry_by, read_manifest, add_entry}
+use Rattle.pv_model.specs.Grammar.Programs.{read_program}
+use Rattle.pv_model.specs.OnLiterals.{machine_on_literals}
+use Rattle.pv_model.specs.State.{first_state}
+use Rattle.pv_laws_runs.specs.Examples.{manifest, tree, program, SecrecyExamples}
+use Rattle.pv_laws_runs.specs.Starts.{MakesTree}
+
+makes : MakesTree manifest tree
+unfolding machine_on_literals read_manifest entry_by add_entry read_program instruction_by text_at flags_of
+makes = record { are_bytes = refl; manifest = _; read = inl refl; tree = refl }
+
+pub secrets-happen : SecrecyExamples
+unfolding machine_on_literals read_manifest entry_by add_entry read_program instruction_by text_at flags_of
+secrets-happen = record {
+  reached = record { tree = tree; given = inl makes; first = first_state tree program; boots = refl; pids = 1 ∷ 1 ∷ 1 ∷ 1 ∷ []; reaches = refl };
+  exposed = refl;
+  sealed = record { file = refl; sealed = refl };
+  not_frozen = refl;
+  written = refl;
+  frozen = record { file = refl; frozen = refl };
+}

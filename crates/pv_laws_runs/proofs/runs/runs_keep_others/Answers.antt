@@ -1,0 +1,8 @@
+use Rattle.pv_model.specs.Grammar.Programs.{program_of}
+use Rattle.pv_laws_access.proofs.Ends.{whole-in_order}
+use Rattle.pv_laws_access.proofs.Images.{others-keep}
+use Rattle.pv_laws_runs.proofs.Starting.{reached-whole}
+use Rattle.pv_laws_runs.proofs.runs.runs_keep_others.Goals as goal
+
+pub returns : goal.returns
+returns c = λ bytes s pid other p is. others-keep program_of s pid other p (whole-in_order s (reached-whole bytes s is))

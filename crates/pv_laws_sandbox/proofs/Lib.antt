@@ -1,0 +1,11 @@
+pub mod Judged
+pub mod Inherited
+pub mod Missing
+pub mod Refused
+pub mod Held
+pub mod Decided
+pub mod TableSays
+pub mod Firsts
+pub mod Spared
+pub mod Pledged
+pub mod RefusalExampleRuns

@@ -1,0 +1,5 @@
+use Rattle.pv_laws_states.proofs.Outcomes.{answered-always}
+use Rattle.pv_laws_states.proofs.calls.answered_always.Goals as goal
+
+pub returns : goal.returns
+returns c = answered-always

@@ -1,0 +1,5 @@
+use Rattle.pv_laws_states.proofs.Outcomes.{gone-leaves}
+use Rattle.pv_laws_states.proofs.calls.gone_leaves_all.Goals as goal
+
+pub returns : goal.returns
+returns c = gone-leaves

@@ -1,0 +1,5 @@
+use Rattle.pv_laws_states.proofs.Outcomes.{next-number}
+use Rattle.pv_laws_states.proofs.calls.next_number.Goals as goal
+
+pub returns : goal.returns
+returns c = next-number

@@ -1,0 +1,5 @@
+use Rattle.pv_laws_states.proofs.Outcomes.{others-kill}
+use Rattle.pv_laws_states.proofs.calls.others_kill.Goals as goal
+
+pub returns : goal.returns
+returns c = others-kill

@@ -1,0 +1,5 @@
+use Rattle.pv_laws_states.proofs.Going.{lock-refuses}
+use Rattle.pv_laws_states.proofs.courses.lock_refuses_unveils.Goals as goal
+
+pub returns : goal.returns
+returns c = lock-refuses

@@ -1,0 +1,5 @@
+use Rattle.pv_laws_states.proofs.Apart.{ignores-others}
+use Rattle.pv_laws_states.proofs.steps.ignores_others.Goals as goal
+
+pub returns : goal.returns
+returns c = ignores-others

@@ -1,0 +1,116 @@
+-- Laws of calls.
+use Rattle.std.specs.Prelude.{◌≡◌, ◌≢◌, ℕ, suc, negsuc, Bool, true, false, IsTrue, IsFalse, length, List, Option, None, Some}
+use Rattle.std.specs.FinMap.Entries.{find}
+use Rattle.std.specs.Ordering.{nat_cmp}
+use Rattle.pv_model.specs.declared.limits.TheConstants.{LAST_PROCESS}
+use Rattle.pv_model.specs.declared.call.Call.{Call}
+use Rattle.pv_model.specs.declared.call.Call.TheVariants.{Exit, Pledge, Fork}
+use Rattle.pv_model.specs.declared.errno.Errno.{Errno}
+use Rattle.pv_model.specs.declared.outcome.Cause.{Cause}
+use Rattle.pv_model.specs.declared.outcome.Outcome.TheVariants.{Value, Failed, Killed, Blocked, Gone}
+use Rattle.pv_model.specs.declared.promise.Promise.{Promise}
+use Rattle.pv_model.specs.Answer.{Answered, answer, at_next_line}
+use Rattle.pv_model.specs.Bytes.{Bytes}
+use Rattle.pv_model.specs.Calls.Processes.{with_result}
+use Rattle.pv_model.specs.Errno.{errno_number}
+use Rattle.pv_model.specs.Needs.{needs}
+use Rattle.pv_model.specs.Promises.{Promises, missing_promise}
+use Rattle.pv_model.specs.State.{Program, Process, State, process_at, with_process}
+use Rattle.pv_model.specs.Calls.Descriptors.{with_content, is_past_greatest}
+use Rattle.pv_model.specs.Held.{among}
+use Rattle.pv_model.specs.Room.{is_too_long}
+use Rattle.pv_model.specs.Sealed.{is_file}
+use Rattle.pv_model.specs.Tree.{Tree, node_at}
+use Rattle.pv_laws_trees.specs.Kept.{kept}
+
+-- a process that is told an error: it stands at its next line, and r0 and r1 have the answer
+abbrev pub told_error : Process → Errno → Process
+told_error p e = with_result (at_next_line p) (negsuc 0) (errno_number e)
+
+-- the caller, live, is told the error, and all else is as it was
+abbrev pub OnlyTells : State → ℕ → Errno → State → Type 0
+OnlyTells s pid e after = (me : Process) × (process_at s pid ≡ Some me) × (after ≡ with_process s pid (told_error me e))
+
+-- a refused call tells its caller the error, and leaves all else
+abbrev pub RefusedOnlyTells : Type 0
+RefusedOnlyTells =
+    (program_of : Bytes → Option Program) (s : State) (pid : ℕ) (call : Call) (e : Errno) (c : Cause)
+    → (answer program_of s pid call).outcome ≡ Failed e c → OnlyTells s pid e (answer program_of s pid call).after
+
+-- what a process may do, and on what
+pub record SameRights (p q : Process) : Type 0 where
+  pub promises : q.promises ≡ p.promises
+  pub execpromises : q.execpromises ≡ p.execpromises
+  pub table : q.table ≡ p.table
+  pub locked : q.locked ≡ p.locked
+  pub directory : q.directory ≡ p.directory
+  pub descriptors : q.descriptors ≡ p.descriptors
+  pub program : q.program ≡ p.program
+  pub buffer : q.buffer ≡ p.buffer
+  pub parent : q.parent ≡ p.parent
+
+-- tree, open files and process numbers stand, each other process is the same, and the caller has the same rights
+pub record IsUnharmed (s : State) (pid : ℕ) (after : State) : Type 0 where
+  pub tree : after.tree ≡ s.tree
+  pub files : after.files ≡ s.files
+  pub last_process : after.last_process ≡ s.last_process
+  pub others : (q : ℕ) → q ≢ pid → find nat_cmp q after.processes ≡ find nat_cmp q s.processes
+  pub caller : (p : Process) → process_at s pid ≡ Some p → (q : Process) × (process_at after pid ≡ Some q) × SameRights p q
+
+-- a refused call leaves all rights of all processes
+abbrev pub RefusedIsUnharmed : Type 0
+RefusedIsUnharmed =
+    (program_of : Bytes → Option Program) (s : State) (pid : ℕ) (call : Call) (e : Errno) (c : Cause)
+    → (answer program_of s pid call).outcome ≡ Failed e c → IsUnharmed s pid (answer program_of s pid call).after
+
+-- a call that waits leaves the state
+abbrev pub BlockedLeaves : Type 0
+BlockedLeaves =
+    (program_of : Bytes → Option Program) (s : State) (pid : ℕ) (call : Call)
+    → (answer program_of s pid call).outcome ≡ Blocked → (answer program_of s pid call).after ≡ s
+
+-- a call of a process that is not live leaves the state, and no other call answers so
+pub record OfNobody (s : State) (pid : ℕ) (a : Answered) : Type 0 where
+  pub not_live : process_at s pid ≡ None
+  pub leaves : a.after ≡ s
+  pub no_walks : a.walks ≡ 0
+
+abbrev pub GoneLeaves : Type 0
+GoneLeaves =
+    (program_of : Bytes → Option Program) (s : State) (pid : ℕ) (call : Call)
+    → (answer program_of s pid call).outcome ≡ Gone → OfNobody s pid (answer program_of s pid call)
+
+-- the calls that need no promise
+abbrev pub needs_nothing : Call → Bool
+needs_nothing (Exit status) = true
+needs_nothing (Pledge promises execpromises) = true
+needs_nothing call = false
+
+-- these are answered under every set of promises
+abbrev pub AnsweredAlways : Type 0
+AnsweredAlways = (held : Option Promises) (call : Call) → IsTrue (needs_nothing call) → missing_promise held (needs call) ≡ None
+
+-- and under the empty set no other is: it kills
+abbrev pub OthersKill : Type 0
+OthersKill =
+    (program_of : Bytes → Option Program) (s : State) (pid : ℕ) (p : Process) (call : Call)
+    → process_at s pid ≡ Some p → p.promises ≡ Some 0 → IsFalse (needs_nothing call)
+    → (missing : Promise) × ((answer program_of s pid call).outcome ≡ Killed missing)
+
+-- a new process has the number after the last that was given, which is at most 99,999
+pub record IsNewNumber (s : State) (n : ℕ) (after : State) : Type 0 where
+  pub next : n ≡ suc s.last_process
+  pub kept : after.last_process ≡ n
+  pub within : IsTrue (Rattle.std.specs.Prelude.nat_le n LAST_PROCESS)
+
+abbrev pub NextNumber : Type 0
+NextNumber =
+    (program_of : Bytes → Option Program) (s : State) (pid n : ℕ)
+    → (answer program_of s pid Fork).outcome ≡ Value n → IsNewNumber s n (answer program_of s pid Fork).after
+
+-- a length that no file may have is found too long in the tree, where the file is held
+abbrev pub FarIsTooLong : Type 0
+FarIsTooLong =
+    (t : Tree) (f : ℕ) (bytes : Bytes) (held : List ℕ)
+    → IsTrue (is_file (node_at t f)) → IsTrue (among held f) → IsTrue (is_past_greatest t (length bytes))
+    → IsTrue (is_too_long (kept (with_content t f bytes) held))

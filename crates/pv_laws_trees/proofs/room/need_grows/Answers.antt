@@ -1,0 +1,5 @@
+use Rattle.pv_laws_trees.proofs.Rooms.{need_grows}
+use Rattle.pv_laws_trees.proofs.room.need_grows.Goals as goal
+
+pub returns : goal.returns
+returns c = need_grows

@@ -1,0 +1,5 @@
+use Rattle.pv_laws_trees.proofs.Rooms.{smaller-fits}
+use Rattle.pv_laws_trees.proofs.room.smaller_fits.Goals as goal
+
+pub returns : goal.returns
+returns c = smaller-fits

@@ -1,0 +1,5 @@
+use Rattle.pv_laws_trees.proofs.Entries.{ties-bytes_eq}
+use Rattle.pv_laws_trees.proofs.tree.names_tie.Goals as goal
+
+pub returns : goal.returns
+returns c = ties-bytes_eq

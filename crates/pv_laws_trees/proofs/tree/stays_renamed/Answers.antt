@@ -1,0 +1,5 @@
+use Rattle.pv_laws_trees.proofs.Edits.{stays-renamed}
+use Rattle.pv_laws_trees.proofs.tree.stays_renamed.Goals as goal
+
+pub returns : goal.returns
+returns c = stays-renamed

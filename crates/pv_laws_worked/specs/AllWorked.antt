@@ -1,0 +1,264 @@
+-- The record of all that worked runs show.
+use Rattle.pv_laws_worked.specs.Audits
+use Rattle.pv_laws_worked.specs.Errors
+use Rattle.pv_laws_worked.specs.Execve
+use Rattle.pv_laws_worked.specs.Files
+use Rattle.pv_laws_worked.specs.Grammars
+use Rattle.pv_laws_worked.specs.Images
+use Rattle.pv_laws_worked.specs.Limits
+use Rattle.pv_laws_worked.specs.LongDirectory
+use Rattle.pv_laws_worked.specs.Mounts
+use Rattle.pv_laws_worked.specs.Openat
+use Rattle.pv_laws_worked.specs.Processes
+use Rattle.pv_laws_worked.specs.Promises
+use Rattle.pv_laws_worked.specs.Rooms
+use Rattle.pv_laws_worked.specs.Starts
+use Rattle.pv_laws_worked.specs.Texts
+use Rattle.pv_laws_worked.specs.Unveils
+use Rattle.pv_laws_worked.specs.Walks
+
+-- what a theorem states
+abbrev pub Stated : {A : Type 0} → A → Type 0
+Stated {A} theorem = A
+
+pub record AllAudits : Type 0 where
+  pub audit_absent : Stated Audits.audit_absent
+  pub audit_directory : Stated Audits.audit_directory
+  pub sealed_by_table : Stated Audits.sealed_by_table
+  pub sealed_by_pledge : Stated Audits.sealed_by_pledge
+  pub sealed_not_frozen : Stated Audits.sealed_not_frozen
+  pub sealed_under_exec : Stated Audits.sealed_under_exec
+  pub exposed_at_first : Stated Audits.exposed_at_first
+  pub exposed_by_descriptor : Stated Audits.exposed_by_descriptor
+  pub exposed_by_exec : Stated Audits.exposed_by_exec
+  pub exposed_second_name : Stated Audits.exposed_second_name
+  pub exposed_unlocked : Stated Audits.exposed_unlocked
+  pub exposed_above : Stated Audits.exposed_above
+  pub exposed_by_names : Stated Audits.exposed_by_names
+  pub exposed_by_permission_c : Stated Audits.exposed_by_permission_c
+  pub exposed_two_above : Stated Audits.exposed_two_above
+  pub sealed_without_lock : Stated Audits.sealed_without_lock
+  pub all_reported : Stated Audits.all_reported
+
+pub record AllErrors : Type 0 where
+  pub of_pledge : Stated Errors.of_pledge
+  pub of_unveil : Stated Errors.of_unveil
+  pub of_execve : Stated Errors.of_execve
+  pub of_open : Stated Errors.of_open
+  pub of_openat : Stated Errors.of_openat
+  pub of_descriptors : Stated Errors.of_descriptors
+  pub of_open_files : Stated Errors.of_open_files
+  pub of_full_descriptors : Stated Errors.of_full_descriptors
+  pub of_walks : Stated Errors.of_walks
+  pub of_two_walks : Stated Errors.of_two_walks
+  pub of_judgements : Stated Errors.of_judgements
+  pub of_second_judgements : Stated Errors.of_second_judgements
+  pub of_objects : Stated Errors.of_objects
+  pub of_long_text : Stated Errors.of_long_text
+  pub of_space : Stated Errors.of_space
+  pub of_length : Stated Errors.of_length
+
+pub record AllExecve : Type 0 where
+  pub execve_refusals : Stated Execve.execve_refusals
+  pub execve_under_execpromises : Stated Execve.execve_under_execpromises
+  pub execve_keeps_lock : Stated Execve.execve_keeps_lock
+  pub execve_without_execpromises : Stated Execve.execve_without_execpromises
+  pub close_on_exec : Stated Execve.close_on_exec
+
+pub record AllFiles : Type 0 where
+  pub shared_offset : Stated Files.shared_offset
+  pub shared_offset_in_turn : Stated Files.shared_offset_in_turn
+  pub listing : Stated Files.listing
+  pub moved_directory : Stated Files.moved_directory
+  pub removed_directory : Stated Files.removed_directory
+  pub rename_refusals : Stated Files.rename_refusals
+  pub far_end : Stated Files.far_end
+  pub room_of_long_files : Stated Files.room_of_long_files
+  pub listing_of_dot_name : Stated Files.listing_of_dot_name
+
+pub record AllGrammars : Type 0 where
+  pub no_bytes : Stated Grammars.no_bytes
+  pub no_line_end : Stated Grammars.no_line_end
+  pub bad_target : Stated Grammars.bad_target
+  pub two_spaces : Stated Grammars.two_spaces
+  pub empty_line : Stated Grammars.empty_line
+  pub large_number : Stated Grammars.large_number
+  pub flags_out_of_order : Stated Grammars.flags_out_of_order
+  pub space_in_front : Stated Grammars.space_in_front
+  pub space_after : Stated Grammars.space_after
+  pub carriage_return : Stated Grammars.carriage_return
+  pub escape_without_need : Stated Grammars.escape_without_need
+  pub escape_of_zero : Stated Grammars.escape_of_zero
+  pub escape_in_capitals : Stated Grammars.escape_in_capitals
+  pub longest_text : Stated Grammars.longest_text
+  pub text_too_long : Stated Grammars.text_too_long
+  pub register_before_target : Stated Grammars.register_before_target
+  pub line_zero : Stated Grammars.line_zero
+  pub line_below_zero : Stated Grammars.line_below_zero
+  pub line_with_zero_in_front : Stated Grammars.line_with_zero_in_front
+  pub place_past_buffer : Stated Grammars.place_past_buffer
+  pub negative_zero : Stated Grammars.negative_zero
+  pub flag_twice : Stated Grammars.flag_twice
+  pub many_lines : Stated Grammars.many_lines
+  pub too_many_lines : Stated Grammars.too_many_lines
+  pub two_turns : Stated Grammars.two_turns
+  pub turn_of_zero_steps : Stated Grammars.turn_of_zero_steps
+  pub turn_with_space_after : Stated Grammars.turn_with_space_after
+  pub process_too_great : Stated Grammars.process_too_great
+  pub manifest_of_no_lines : Stated Grammars.manifest_of_no_lines
+  pub sizes_of_any_length : Stated Grammars.sizes_of_any_length
+  pub sizes_with_zero_in_front : Stated Grammars.sizes_with_zero_in_front
+  pub form_before_sizes : Stated Grammars.form_before_sizes
+  pub second_sizes : Stated Grammars.second_sizes
+  pub path_of_root : Stated Grammars.path_of_root
+  pub path_with_dots : Stated Grammars.path_with_dots
+  pub empty_link : Stated Grammars.empty_link
+  pub lines_that_are_missing : Stated Grammars.lines_that_are_missing
+  pub last_line_gets_its_end : Stated Grammars.last_line_gets_its_end
+  pub manifest_with_schedule : Stated Grammars.manifest_with_schedule
+  pub bundle_without_schedule : Stated Grammars.bundle_without_schedule
+  pub bundle_of_schedule_alone : Stated Grammars.bundle_of_schedule_alone
+  pub schedule_inside_of_entry : Stated Grammars.schedule_inside_of_entry
+  pub parent_that_is_missing : Stated Grammars.parent_that_is_missing
+  pub name_that_is_there : Stated Grammars.name_that_is_there
+  pub source_that_is_missing : Stated Grammars.source_that_is_missing
+
+pub record AllImages : Type 0 where
+  pub smallest_is_mounted : Stated Images.smallest_is_mounted
+  pub smallest_with_no_turn : Stated Images.smallest_with_no_turn
+  pub smallest_with_one_turn : Stated Images.smallest_with_one_turn
+  pub example_is_mounted : Stated Images.example_is_mounted
+  pub example_uses_blocks : Stated Images.example_uses_blocks
+  pub example_unused_bytes : Stated Images.example_unused_bytes
+  pub example_listing : Stated Images.example_listing
+  pub name_of_sixty : Stated Images.name_of_sixty
+  pub name_past_slot : Stated Images.name_past_slot
+  pub name_far_past_slot : Stated Images.name_far_past_slot
+
+pub record AllLimits : Type 0 where
+  pub full_table : Stated Limits.full_table
+  pub long_path : Stated Limits.long_path
+  pub many_descriptors : Stated Limits.many_descriptors
+  pub many_links : Stated Limits.many_links
+  pub many_processes : Stated Limits.many_processes
+  pub many_open_files : Stated Limits.many_open_files
+
+pub record AllLongDirectory : Type 0 where
+  pub by_open : Stated LongDirectory.by_open
+  pub by_openat : Stated LongDirectory.by_openat
+  pub by_mkdir : Stated LongDirectory.by_mkdir
+  pub by_symlink : Stated LongDirectory.by_symlink
+  pub by_link : Stated LongDirectory.by_link
+  pub by_rename : Stated LongDirectory.by_rename
+
+pub record AllMounts : Type 0 where
+  pub not_reached : Stated Mounts.not_reached
+  pub block_of_another : Stated Mounts.block_of_another
+  pub block_of_inodes : Stated Mounts.block_of_inodes
+  pub half_a_slot : Stated Mounts.half_a_slot
+  pub inode_before_block : Stated Mounts.inode_before_block
+  pub slot_of_no_inode : Stated Mounts.slot_of_no_inode
+  pub slot_without_name : Stated Mounts.slot_without_name
+  pub content_before_place : Stated Mounts.content_before_place
+  pub file_in_no_entry : Stated Mounts.file_in_no_entry
+  pub last_byte_missing : Stated Mounts.last_byte_missing
+  pub more_blocks_than_bytes : Stated Mounts.more_blocks_than_bytes
+  pub no_inode : Stated Mounts.no_inode
+  pub other_magic : Stated Mounts.other_magic
+  pub half_a_block : Stated Mounts.half_a_block
+  pub version_2 : Stated Mounts.version_2
+
+pub record AllOpenat : Type 0 where
+  pub openat_paths : Stated Openat.openat_paths
+  pub openat_judged : Stated Openat.openat_judged
+  pub openat_removed : Stated Openat.openat_removed
+
+pub record AllProcesses : Type 0 where
+  pub ends : Stated Processes.ends
+  pub least_is_waited_for : Stated Processes.least_is_waited_for
+  pub promises_outlast_parent : Stated Processes.promises_outlast_parent
+  pub first_has_no_parent : Stated Processes.first_has_no_parent
+
+pub record AllPromises : Type 0 where
+  pub error_promise : Stated Promises.error_promise
+  pub promise_texts : Stated Promises.promise_texts
+  pub killed_and_waited : Stated Promises.killed_and_waited
+  pub rename_without_promise : Stated Promises.rename_without_promise
+  pub create_without_promise : Stated Promises.create_without_promise
+
+pub record AllRooms : Type 0 where
+  pub ten_blocks : Stated Rooms.ten_blocks
+  pub eleven_blocks : Stated Rooms.eleven_blocks
+  pub greatest_in_version_1 : Stated Rooms.greatest_in_version_1
+  pub greatest_in_version_2 : Stated Rooms.greatest_in_version_2
+  pub eight_entries : Stated Rooms.eight_entries
+  pub full : Stated Rooms.full
+  pub moved : Stated Rooms.moved
+  pub added : Stated Rooms.added
+
+pub record AllStarts : Type 0 where
+  pub form_comes_first : Stated Starts.form_comes_first
+  pub sizes_come_before_entries : Stated Starts.sizes_come_before_entries
+  pub entries_come_before_schedule : Stated Starts.entries_come_before_schedule
+  pub schedule_comes_before_init : Stated Starts.schedule_comes_before_init
+  pub line_of_init : Stated Starts.line_of_init
+  pub init_is_a_directory : Stated Starts.init_is_a_directory
+  pub init_is_not_executable : Stated Starts.init_is_not_executable
+  pub init_is_too_long : Stated Starts.init_is_too_long
+  pub image_comes_first : Stated Starts.image_comes_first
+  pub schedule_after_image : Stated Starts.schedule_after_image
+  pub image_run : Stated Starts.image_run
+  pub image_run_2 : Stated Starts.image_run_2
+  pub schedule_after_manifest : Stated Starts.schedule_after_manifest
+  pub schedule_without_its_end : Stated Starts.schedule_without_its_end
+  pub schedule_of_no_lines : Stated Starts.schedule_of_no_lines
+
+pub record AllTexts : Type 0 where
+  pub read_one_file : Stated Texts.read_one_file
+  pub registers_and_bytes : Stated Texts.registers_and_bytes
+
+pub record AllUnveils : Type 0 where
+  pub not_by_prefix : Stated Unveils.not_by_prefix
+  pub nearest_entry : Stated Unveils.nearest_entry
+  pub increase_and_lock : Stated Unveils.increase_and_lock
+  pub unveil_arguments : Stated Unveils.unveil_arguments
+  pub unveiled_file : Stated Unveils.unveiled_file
+  pub create_needs_permission : Stated Unveils.create_needs_permission
+  pub descriptors_stay : Stated Unveils.descriptors_stay
+  pub links_and_dots : Stated Unveils.links_and_dots
+  pub directory_made_again : Stated Unveils.directory_made_again
+  pub absent_name_holds_directory : Stated Unveils.absent_name_holds_directory
+  pub file_made_again : Stated Unveils.file_made_again
+  pub unlink_needs_permission : Stated Unveils.unlink_needs_permission
+  pub child_has_table : Stated Unveils.child_has_table
+
+pub record AllWalks : Type 0 where
+  pub kept_link : Stated Walks.kept_link
+  pub link_with_slash : Stated Walks.link_with_slash
+  pub file_with_slash : Stated Walks.file_with_slash
+  pub absent_with_slash : Stated Walks.absent_with_slash
+  pub after_file : Stated Walks.after_file
+  pub link_text_with_slash : Stated Walks.link_text_with_slash
+  pub slash_dropped : Stated Walks.slash_dropped
+  pub slashes_alone : Stated Walks.slashes_alone
+  pub weight_at_most : Stated Walks.weight_at_most
+  pub weight_above : Stated Walks.weight_above
+
+pub record AllWorked : Type 0 where
+  pub audits : AllAudits
+  pub errors : AllErrors
+  pub execve : AllExecve
+  pub files : AllFiles
+  pub grammars : AllGrammars
+  pub images : AllImages
+  pub limits : AllLimits
+  pub long_directory : AllLongDirectory
+  pub mounts : AllMounts
+  pub openat : AllOpenat
+  pub processes : AllProcesses
+  pub promises : AllPromises
+  pub rooms : AllRooms
+  pub starts : AllStarts
+  pub texts : AllTexts
+  pub unveils : AllUnveils
+  pub walks : AllWalks

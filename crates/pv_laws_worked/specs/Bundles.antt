@@ -1,0 +1,76 @@
+-- What worked runs have in common: a bundle, line by line, is read and run.
+use Rattle.std.specs.Prelude.{⊤, Bool, true, false, if◌then◌else◌, ◌==◌, ℕ, List, [], ◌++◌, flat_map, filter, map, codes, Option, option_map, option_and_then, Result, Ok, Err}
+use Rattle.std.specs.Fmt.{decimal}
+use Rattle.std.specs.Result.{result_ok}
+use Rattle.pv_model.specs.declared.verdict.AuditFault.{AuditFault}
+use Rattle.pv_model.specs.declared.verdict.AuditFault.TheVariants.{Walk, NotFile}
+use Rattle.pv_model.specs.declared.verdict.Verdict.{Verdict}
+use Rattle.pv_model.specs.Bytes.{Bytes}
+use Rattle.pv_model.specs.Errno.{errno_number, errno_name}
+use Rattle.pv_model.specs.Grammar.Arguments.{text_at, flags_of}
+use Rattle.pv_model.specs.Grammar.Instructions.{instruction_by}
+use Rattle.pv_model.specs.Grammar.Manifests.{Manifest, entry_by, read_manifest, read_bundle, add_entry, tree_of, with_line_end}
+use Rattle.pv_model.specs.Grammar.Programs.{read_program, program_of}
+use Rattle.pv_model.specs.Grammar.Schedules.{schedule_of_lines}
+use Rattle.pv_model.specs.Listing.{report}
+use Rattle.pv_model.specs.OnLiterals.{machine_on_literals}
+use Rattle.pv_model.specs.Sealed.{audit, verdict_text}
+use Rattle.pv_model.specs.Step.{Run, Schedule, steps_of, boot, run}
+use Rattle.pv_model.specs.Trace.{Word, call_word, nami_word, Line, pad_right, word_name, word_text, trace_bytes}
+use Rattle.pv_model.specs.Tree.{Tree}
+
+-- what a proof by computing unfolds
+unfoldable pub bundles_on_literals : ⊤
+unfolding machine_on_literals read_manifest read_bundle entry_by add_entry read_program instruction_by text_at flags_of
+bundles_on_literals = tt
+
+-- the text of lines
+abbrev pub lines_text : List Bytes → Bytes
+lines_text lines = flat_map with_line_end lines
+
+-- the tree of the manifest that lines are
+abbrev pub tree_of_lines : List Bytes → Option Tree
+tree_of_lines lines = option_and_then (λ m. result_ok (tree_of m)) (result_ok (read_manifest (lines_text lines)))
+
+abbrev pub run_on : Tree → Schedule → Option Run
+run_on t schedule = option_map (run program_of (steps_of schedule)) (boot program_of t)
+
+abbrev pub run_of_parts : Manifest → Option Run
+run_of_parts m =
+    option_and_then (λ t. option_and_then (run_on t) (result_ok (schedule_of_lines m.listed.following))) (result_ok (tree_of m))
+
+-- the run of the bundle that lines are
+abbrev pub run_of : List Bytes → Option Run
+run_of lines = option_and_then run_of_parts (result_ok (read_bundle (lines_text lines)))
+
+-- its text
+abbrev pub text_of : List Bytes → Option Bytes
+text_of lines = option_map (λ r. trace_bytes r.lines) (run_of lines)
+
+abbrev pub is_shown : Word → Bool
+is_shown (call_word call) = false
+is_shown (nami_word path) = false
+is_shown _ = true
+
+abbrev pub number_shown : ℕ → Bytes
+number_shown pid = if pid == 1 then [] else decimal pid ++ codes " "
+
+abbrev pub shown_line : Line → Bytes
+shown_line l = number_shown l.pid ++ pad_right 4 (word_name l.word) ++ codes "  " ++ word_text l.word
+
+-- its lines without CALL and NAMI, and without the number of process 1
+abbrev pub shown_of : List Bytes → Option (List Bytes)
+shown_of lines = option_map (λ r. map shown_line (filter (λ l. is_shown l.word) r.lines)) (run_of lines)
+
+abbrev pub audited_text : Result Verdict AuditFault → Bytes
+audited_text (Ok found) = verdict_text found
+audited_text (Err (Walk e)) = codes "errno " ++ decimal (errno_number e) ++ codes " " ++ errno_name e
+audited_text (Err NotFile) = codes "not a file"
+
+-- what is found of a path after it
+abbrev pub audited_of : List Bytes → Bytes → Option Bytes
+audited_of lines path = option_map (λ r. audited_text (audit r.final path)) (run_of lines)
+
+-- what is reported of all files after it
+abbrev pub reported_of : List Bytes → Option Bytes
+reported_of lines = option_map (λ r. report r.final) (run_of lines)

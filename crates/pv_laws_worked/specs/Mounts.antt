@@ -1,0 +1,102 @@
+-- What bytes hold as an image: faults in their order, and an image of version 2.
+use Rattle.std.specs.Prelude.{◌≡◌, ℕ, ◌-◌, List, [], ◌∷◌, ◌++◌, length, take, replicate, fold, slice_set, codes, Ok, Err, refl}
+use Rattle.pv_model.specs.declared.fault.ImageFault.TheVariants.{Short, Magic, Size, Inode, Block, Dir, Tree as NoTree}
+use Rattle.pv_model.specs.declared.version.Version.TheVariants.{V2}
+use Rattle.pv_model.specs.Bytes.{Bytes, little_endian}
+use Rattle.pv_model.specs.Mount.{mounted}
+use Rattle.pv_laws_worked.specs.Images.{images_on_literals, inode_bytes, slot_bytes, filled, program, example_tree}
+
+-- two directories that stand in each other and not in the root
+abbrev pub ring : Bytes
+ring =
+    filled (codes "PVIMAGE1" ++ 4 ∷ 0 ∷ 3 ∷ 0 ∷ [])
+    ++ filled (inode_bytes 1 0 0 0 ++ inode_bytes 1 1 64 2 ++ inode_bytes 1 1 64 3)
+    ++ filled (slot_bytes 3 (codes "a"))
+    ++ filled (slot_bytes 2 (codes "a"))
+
+-- with other bytes at some places
+abbrev pub changed : List (ℕ × ℕ) → Bytes
+changed places = fold (λ bytes place. slice_set bytes place.0 place.1) ring places
+
+pub not_reached : mounted ring ≡ Err (NoTree 2)
+unfolding images_on_literals
+not_reached = refl
+
+pub block_of_another : mounted (changed ((584, 2) ∷ [])) ≡ Err (Block 3)
+unfolding images_on_literals
+block_of_another = refl
+
+pub block_of_inodes : mounted (changed ((552, 1) ∷ [])) ≡ Err (Block 2)
+unfolding images_on_literals
+block_of_inodes = refl
+
+pub half_a_slot : mounted (changed ((548, 65) ∷ [])) ≡ Err (Inode 2)
+unfolding images_on_literals
+half_a_slot = refl
+
+-- an inode's fault comes before a block's
+pub inode_before_block : mounted (changed ((548, 65) ∷ (584, 2) ∷ [])) ≡ Err (Inode 2)
+unfolding images_on_literals
+inode_before_block = refl
+
+pub slot_of_no_inode : mounted (changed ((1536, 4) ∷ [])) ≡ Err (Dir 3)
+unfolding images_on_literals
+slot_of_no_inode = refl
+
+pub slot_without_name : mounted (changed ((1538, 0) ∷ [])) ≡ Err (Dir 3)
+unfolding images_on_literals
+slot_without_name = refl
+
+-- a content's fault comes before one of the tree, whatever the numbers are
+pub content_before_place : mounted (changed ((546, 2) ∷ (1538, 0) ∷ [])) ≡ Err (Dir 3)
+unfolding images_on_literals
+content_before_place = refl
+
+pub file_in_no_entry : mounted (changed ((544, 2) ∷ (546, 0) ∷ (580, 0) ∷ [])) ≡ Err (NoTree 2)
+unfolding images_on_literals
+file_in_no_entry = refl
+
+pub last_byte_missing : mounted (take 2047 ring) ≡ Err Size
+unfolding images_on_literals
+last_byte_missing = refl
+
+pub more_blocks_than_bytes : mounted (changed ((8, 5) ∷ [])) ≡ Err Size
+unfolding images_on_literals
+more_blocks_than_bytes = refl
+
+pub no_inode : mounted (changed ((10, 0) ∷ [])) ≡ Err Size
+unfolding images_on_literals
+no_inode = refl
+
+pub other_magic : mounted (changed ((7, 51) ∷ [])) ≡ Err Magic
+unfolding images_on_literals
+other_magic = refl
+
+pub half_a_block : mounted (take 511 ring) ≡ Err Short
+unfolding images_on_literals
+half_a_block = refl
+
+-- ---- version 2
+
+-- an inode of two blocks at most
+abbrev pub inode_bytes_2 : ℕ → ℕ → ℕ → ℕ → ℕ → Bytes
+inode_bytes_2 kind count size first second =
+    kind ∷ 0 ∷ 0 ∷ 0 ∷ little_endian 4 size ++ little_endian 2 first ++ little_endian 2 second ++ replicate 26 0 ++ little_endian 4 count ++ replicate 22 0
+
+abbrev pub slot_bytes_2 : ℕ → Bytes → Bytes
+slot_bytes_2 n name = little_endian 2 n ++ (length name ∷ 0 ∷ []) ++ name ++ replicate (256 - length name) 0
+
+-- the image of the run that reads one file: the root's second slot stands across two blocks
+abbrev pub example_2 : Bytes
+example_2 =
+    filled (codes "PVIMAGE2" ++ 8 ∷ 0 ∷ 16 ∷ 0 ∷ [])
+    ++ filled (inode_bytes_2 1 0 520 3 4 ++ inode_bytes_2 1 1 260 5 0 ++ inode_bytes_2 2 1 5 6 0 ++ inode_bytes_2 3 1 72 7 0)
+    ++ replicate 512 0
+    ++ slot_bytes_2 2 (codes "etc") ++ slot_bytes_2 4 (codes "init") ++ replicate 504 0
+    ++ filled (slot_bytes_2 3 (codes "motd"))
+    ++ filled (codes "hello")
+    ++ filled program
+
+pub version_2 : mounted example_2 ≡ Ok (record example_tree { blocks = 5; version = V2 })
+unfolding images_on_literals
+version_2 = refl

@@ -1,4 +1,0 @@
-pub mod Lacking
-pub mod Tables
-pub mod Descent
-pub mod Examples

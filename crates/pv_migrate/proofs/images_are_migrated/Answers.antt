@@ -1,5 +1,0 @@
-use Rattle.pv_migrate.proofs.Migrations.{to-migrates, from-migrates}
-use Rattle.pv_migrate.proofs.images_are_migrated.Goals as goal
-
-pub returns : goal.returns
-returns c = λ bytes blocks inodes new. (to-migrates bytes blocks inodes new, from-migrates bytes blocks inodes new)

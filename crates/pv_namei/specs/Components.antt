@@ -1,0 +1,8 @@
+-- Components, spelled out.
+use Rattle.std.specs.Prelude.{List, [], ◌∷◌, ◌++◌}
+use Rattle.pv_model.specs.Bytes.{Bytes}
+
+-- the components with a slash after each
+abbrev pub with_slashes : List Bytes → Bytes
+with_slashes [] = []
+with_slashes (p ∷ ps) = p ++ 47 ∷ with_slashes ps

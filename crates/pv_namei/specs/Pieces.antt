@@ -1,8 +1,0 @@
--- Pieces, spelled out.
-use Rattle.std.specs.Prelude.{List, [], ◌∷◌, ◌++◌}
-use Rattle.pv_model.specs.Bytes.{Bytes}
-
--- the pieces with a slash behind each
-abbrev pub with_slashes : List Bytes → Bytes
-with_slashes [] = []
-with_slashes (p ∷ ps) = p ++ 47 ∷ with_slashes ps

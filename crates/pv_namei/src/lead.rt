@@ -1,0 +1,84 @@
+//! Where one component of a path leads.
+ghost use Rattle.std.specs.Prelude.{◌≡◌, ◌∷◌, nat_lt, length, IsTrue, List, Bool, IfOk};
+ghost use Rattle.pv_model.specs.Bytes.{Bytes};
+ghost use Rattle.pv_model.specs.Tree.{greatest_name, is_directory_at, find_entry, IsWellFormed};
+ghost use Rattle.pv_model.specs.Walk.{is_dot, is_dot_dot, along, PastLink};
+ghost use Rattle.pv_namei.specs.Onward.{led, named, IsLeadIn};
+
+use crate::lookup::Lookup;
+use pv_model::{Errno, Version};
+use pv_tree::Tree;
+
+/// Where a component leads from a directory.
+#[derive(Clone, Copy)]
+pub(crate) enum Lead {
+    /// To a directory: `.` to the same, and `..` to the one above it.
+    Directory(u16),
+    /// To what the directory has under the component: a node, or nothing.
+    Entry(Option<u16>),
+}
+
+/// Whether a component is `.`.
+pub(crate) fn is_dot(component: &[u8]) -> bool
+    ensures { result ≡ is_dot component.now }
+{
+    matches!(component, b".")
+}
+
+/// Whether a component is `..`.
+pub(crate) fn is_dot_dot(component: &[u8]) -> bool
+    ensures { result ≡ is_dot_dot component.now }
+{
+    matches!(component, b"..")
+}
+
+// Whether a component is longer than a name may be.
+fn is_too_long(version: Version, component: &[u8]) -> bool
+    ensures { result ≡ nat_lt (greatest_name version) (length component.now) }
+{
+    component.len() > version.layout().name_limit
+}
+
+// What a directory has under a component that is a name.
+fn entry<L: Lookup>(tree: &Tree, lookup: &mut L, at: u16, component: &[u8]) -> Result<Lead, Errno>
+    requires directory { IsTrue (is_directory_at tree.now.tree at) }
+    requires agrees { L.agrees lookup.old (find_entry tree.now.tree) }
+    ensures leads { (last : Bool) → (following : PastLink) → (rest : List Bytes) → (mark : Bool) → named tree.now.tree last following rest mark at component.now ≡ led tree.now.tree last following rest mark at component.now result }
+    ensures agrees { L.agrees lookup.new (find_entry tree.now.tree) }
+    ensures lead { IfOk result (IsLeadIn tree.now.tree at component.now) }
+{
+    if is_too_long(tree.sizes().version, component) {
+        return Err(Errno::ENAMETOOLONG);
+    }
+    if tree.parent(at).is_none() {
+        return Err(Errno::ENOENT);
+    }
+    Ok(Lead::Entry(lookup.look(tree, at, component)))
+}
+
+/// Where a component leads from a directory: ENOENT for `..` in a removed directory, and for every name in it;
+/// ENAMETOOLONG for a component that is longer than a name may be.
+pub(crate) fn lead_along<L: Lookup>(
+    tree: &Tree,
+    lookup: &mut L,
+    at: u16,
+    component: &[u8],
+) -> Result<Lead, Errno>
+    requires well_formed { IsWellFormed tree.now.tree }
+    requires directory { IsTrue (is_directory_at tree.now.tree at) }
+    requires agrees { L.agrees lookup.old (find_entry tree.now.tree) }
+    ensures leads { (last : Bool) → (following : PastLink) → (rest : List Bytes) → (mark : Bool) → along tree.now.tree last following (component.now ∷ rest) mark at ≡ led tree.now.tree last following rest mark at component.now result }
+    ensures agrees { L.agrees lookup.new (find_entry tree.now.tree) }
+    ensures lead { IfOk result (IsLeadIn tree.now.tree at component.now) }
+{
+    if is_dot(component) {
+        return Ok(Lead::Directory(at));
+    }
+    if is_dot_dot(component) {
+        return match tree.parent(at) {
+            Some(above) => Ok(Lead::Directory(above)),
+            None => Err(Errno::ENOENT),
+        };
+    }
+    entry(tree, lookup, at, component)
+}

@@ -1,5 +1,0 @@
-use Rattle.pv_others.proofs.Framed.{files-come}
-use Rattle.pv_others.proofs.frame.open_files_come_of.Goals as goal
-
-pub returns : goal.returns
-returns c = λ program_of s pid k left. files-come s pid k left program_of

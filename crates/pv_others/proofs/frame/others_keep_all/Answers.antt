@@ -1,5 +1,0 @@
-use Rattle.pv_others.proofs.Framed.{others-keep_all}
-use Rattle.pv_others.proofs.frame.others_keep_all.Goals as goal
-
-pub returns : goal.returns
-returns c = λ program_of s pid other p order apart live goes. others-keep_all program_of s pid other p order apart live goes

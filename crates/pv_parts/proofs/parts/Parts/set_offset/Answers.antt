@@ -1,8 +1,0 @@
-use Rattle.std.proofs.Common.{refl}
-use Rattle.pv_parts.proofs.Alone.{counted-changed}
-use Rattle.pv_parts.proofs.parts.Parts.set_offset.Goals as goal
-
-pub invariant_of-self : goal.invariant_of-self
-invariant_of-self c =
-    let i = c.self.inside in
-    counted-changed i.tree i.files c.set_offset.new.self i.processes c.self.invariant c.args.file _ (λ f. refl) c.set_offset.ensures

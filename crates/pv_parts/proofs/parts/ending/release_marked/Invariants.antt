@@ -1,6 +1,0 @@
-use Rattle.std.proofs.Common.{drop}
-use Rattle.pv_parts.specs.Releasing.{files_on, marked_of, Releases}
-use Rattle.pv_parts.proofs.parts.ending.release_marked.Given as goal
-
-abbrev pub invariant-loop-d : goal.invariant-loop-d
-invariant-loop-d l = Releases (files_on (marked_of l.descriptors)) (files_on (drop l.d (marked_of l.descriptors))) l.initial.tree l.initial.files l.tree l.files

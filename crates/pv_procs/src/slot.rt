@@ -1,0 +1,181 @@
+//! A place for a process.
+ghost use Rattle.std.specs.Prelude.{◌≡◌, ◌-◌, ◌==◌, true, List, position, is_some, IsSome, IfSome, Some, None, IfOk, vec_len, vec_capacity, if◌then◌else◌};
+ghost use Rattle.std.specs.FinMap.Entries.{find};
+ghost use Rattle.std.specs.Ordering.{nat_cmp};
+ghost use Rattle.pv_model.specs.State.{live_process};
+ghost use Rattle.pv_procs.specs.declared.shared.Shared.{Shared};
+ghost use Rattle.pv_procs.specs.Children.{child_slot};
+ghost use Rattle.pv_procs.specs.Parts.{first_record};
+ghost use Rattle.std.specs.List.{list_any, HoldsAt};
+ghost use Rattle.pv_procs.specs.Slots.{is_ended_child, ascends, entries_of};
+
+use crate::record::Stored;
+use pv_model::limits::PROCESSES;
+use std::alloc::{AllocError, Global};
+
+/// A process that is live, or what is left of one that has ended until it is waited for.
+#[derive(Drop)]
+pub(crate) struct ProcessSlot {
+    /// Its number.
+    pub(crate) number: u32,
+    /// The number of its parent, 0 where nobody will wait for it.
+    pub(crate) parent: u32,
+    /// The status that it ended with, once it has.
+    pub(crate) status: Option<u32>,
+    /// The place of its program.
+    pub(crate) program: usize,
+    /// What it owns while it is live.
+    pub(crate) record: Stored,
+}
+
+/// A place with the record of a process before its first step.
+pub(crate) fn blank(alloc: Global, number: u32) -> Result<ProcessSlot, AllocError>
+    ensures { IfOk result (λ slot. slot ≡ record { number = number; parent = 0; status = None; program = 0; «record» = first_record }) }
+{
+    Ok(ProcessSlot {
+        number,
+        parent: 0,
+        status: None,
+        program: 0,
+        record: Stored::new(alloc)?,
+    })
+}
+
+/// The places of all processes but one, with room for that one too.
+pub(crate) fn spare_slots(alloc: Global) -> Result<Vec<ProcessSlot>, AllocError>
+    ensures count { IfOk result (λ spare. vec_len spare ≡ PROCESSES - 1) }
+    ensures room { IfOk result (λ spare. vec_capacity spare ≡ PROCESSES) }
+{
+    let mut spare = Vec::with_capacity(alloc, PROCESSES)?;
+    for _slot in 0..PROCESSES - 1 {
+        spare.push_reserved(blank(alloc, 0)?);
+    }
+    Ok(spare)
+}
+
+/// Makes a spare place that of a child, under its number: fork(2) answers it 0.
+pub(crate) fn make_child(slot: &mut ProcessSlot, number: u32, parent: &ProcessSlot)
+    ensures { slot.new ≡ child_slot number parent.now }
+{
+    slot.number = number;
+    slot.parent = parent.number;
+    slot.status = None;
+    slot.program = parent.program;
+    let owned = slot.record.get_mut();
+    owned.copy_from(parent.record.get());
+    owned.context.tell(0, 0);
+}
+
+// Whether a process's place is this one.
+fn stands_at(slots: &[ProcessSlot], k: usize, pid: u32) -> bool
+    requires { ascends slots.now ≡ true }
+    ensures { result ≡ true → Some k ≡ position (λ slot. slot.number == pid) slots.now }
+{
+    if k >= slots.len() {
+        return false;
+    }
+    let slot = &slots[k];
+    slot.number == pid
+}
+
+// Where the place of a process stands while no process after it has gone.
+fn from_the_end(slots: &[ProcessSlot], pid: u32) -> usize {
+    let last = match slots.last() {
+        Some(last) => last.number,
+        None => 0,
+    };
+    let following = last.saturating_sub(pid) as usize;
+    slots.len().saturating_sub(following).saturating_sub(1)
+}
+
+// The index of a process's place: the places stand in the order of their numbers. It is looked for first where it
+// stands while no process before it has gone, and then where it stands while none after it has.
+pub(crate) fn index_of(slots: &[ProcessSlot], pid: u32) -> Option<usize>
+    requires { ascends slots.now ≡ true }
+    ensures { result ≡ position (λ slot. slot.number == pid) slots.now }
+{
+    let guess = (pid as usize).saturating_sub(1);
+    if stands_at(slots, guess, pid) {
+        return Some(guess);
+    }
+    let guess = from_the_end(slots, pid);
+    if stands_at(slots, guess, pid) {
+        return Some(guess);
+    }
+    match slots.binary_search_by_key(&pid, |slot| slot.number) {
+        Ok(k) => Some(k),
+        Err(_) => None,
+    }
+}
+
+// The index of the place of a process that has one.
+pub(crate) fn live_index(slots: &[ProcessSlot], pid: u32) -> usize
+    requires ascends { ascends slots.now ≡ true }
+    requires there { IsSome (position (λ slot. slot.number == pid) slots.now) }
+    ensures { position (λ slot. slot.number == pid) slots.now ≡ Some result }
+{
+    match index_of(slots, pid) {
+        Some(k) => k,
+        None => unreachable!(),
+    }
+}
+
+// The index of the first place that has an ended child of a process.
+pub(crate) fn ended_child_of(slots: &[ProcessSlot], pid: u32) -> Option<usize>
+    ensures { result ≡ position (λ slot. is_ended_child pid slot) slots.now }
+{
+    slots
+        .iter()
+        .position(|slot| slot.parent == pid && slot.status.is_some())
+}
+
+// Whether a process is live: its place is used.
+pub(crate) fn is_live(slots: &[ProcessSlot], pid: u32) -> bool
+    requires { ascends slots.now ≡ true }
+    ensures { (programs : List Shared) → result ≡ is_some (live_process (find nat_cmp pid (entries_of programs slots.now))) }
+{
+    match index_of(slots, pid) {
+        Some(k) => slots[k].status.is_none(),
+        None => false,
+    }
+}
+
+// The index of the place of a live process.
+pub(crate) fn index_of_live(slots: &[ProcessSlot], pid: u32) -> Option<usize>
+    requires { ascends slots.now ≡ true }
+    ensures slot { IfSome result (λ k. position (λ slot. slot.number == pid) slots.now ≡ Some k) }
+    ensures live { IfSome result (λ k. HoldsAt (λ slot. slot.status ≡ None) slots.now k) }
+    ensures none { result ≡ None → (programs : List Shared) → live_process (find nat_cmp pid (entries_of programs slots.now)) ≡ None }
+{
+    let k = index_of(slots, pid)?;
+    let slot = &slots[k];
+    match slot.status {
+        None => Some(k),
+        Some(_) => None,
+    }
+}
+
+// Who adopts orphans: process 1 while it is live, and else nobody.
+pub(crate) fn adopter(slots: &[ProcessSlot]) -> u32
+    requires { ascends slots.now ≡ true }
+    ensures { (programs : List Shared) → result
+        ≡ (if is_some (live_process (find nat_cmp 1 (entries_of programs slots.now))) then 1 else 0) }
+{
+    if is_live(slots, 1) { 1 } else { 0 }
+}
+
+// Whether a process has a child.
+pub(crate) fn has_child(slots: &[ProcessSlot], pid: u32) -> bool
+    ensures { result ≡ list_any (λ slot. slot.parent == pid) slots.now }
+{
+    slots.iter().any(|slot| slot.parent == pid)
+}
+
+// Whether a process has a child that has ended.
+pub(crate) fn has_ended_child(slots: &[ProcessSlot], pid: u32) -> bool
+    ensures { result ≡ list_any (λ slot. is_ended_child pid slot) slots.now }
+{
+    slots
+        .iter()
+        .any(|slot| slot.parent == pid && slot.status.is_some())
+}

@@ -1,3 +1,0 @@
-pub mod Tables
-pub mod Promises
-pub mod Examples

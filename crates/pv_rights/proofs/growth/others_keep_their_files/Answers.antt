@@ -1,5 +1,0 @@
-use Rattle.pv_rights.proofs.Frames.{others-files}
-use Rattle.pv_rights.proofs.growth.others_keep_their_files.Goals as goal
-
-pub returns : goal.returns
-returns c = λ program_of s pid other p d x file order apart live has there. others-files program_of s pid order other p d x file apart live has there

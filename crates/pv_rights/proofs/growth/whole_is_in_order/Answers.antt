@@ -1,5 +1,0 @@
-use Rattle.pv_rights.proofs.Ends.{whole-in_order}
-use Rattle.pv_rights.proofs.growth.whole_is_in_order.Goals as goal
-
-pub returns : goal.returns
-returns c = whole-in_order

@@ -1,5 +1,0 @@
-use Rattle.pv_rights.proofs.Promised.{without-rpath}
-use Rattle.pv_rights.proofs.means.without_rpath_none_for_reading.Goals as goal
-
-pub returns : goal.returns
-returns c = λ program_of s pid p n mode whole at none reading. without-rpath program_of s pid p n mode whole at none reading

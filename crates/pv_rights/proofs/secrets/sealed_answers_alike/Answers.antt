@@ -1,5 +1,0 @@
-use Rattle.pv_rights.proofs.Closed.{sealed-answers_alike}
-use Rattle.pv_rights.proofs.secrets.sealed_answers_alike.Goals as goal
-
-pub returns : goal.returns
-returns c = sealed-answers_alike

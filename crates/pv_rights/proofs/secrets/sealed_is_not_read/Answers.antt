@@ -1,5 +1,0 @@
-use Rattle.pv_rights.proofs.Closed.{sealed-not_read}
-use Rattle.pv_rights.proofs.secrets.sealed_is_not_read.Goals as goal
-
-pub returns : goal.returns
-returns c = sealed-not_read

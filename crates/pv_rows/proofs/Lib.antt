@@ -1,7 +1,0 @@
-pub mod FileRows
-pub mod Opened
-pub mod Plain
-pub mod Pledging
-pub mod Room
-pub mod Telling
-pub mod Waits

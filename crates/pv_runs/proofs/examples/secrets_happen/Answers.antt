@@ -1,5 +1,0 @@
-use Rattle.pv_runs.proofs.Secrets.{secrets-happen}
-use Rattle.pv_runs.proofs.examples.secrets_happen.Goals as goal
-
-pub returns : goal.returns
-returns c = secrets-happen

@@ -1,5 +1,0 @@
-use Rattle.pv_runs.proofs.Started.{accepted-start}
-use Rattle.pv_runs.proofs.runs.accepted_images_start.Goals as goal
-
-pub returns : goal.returns
-returns c = accepted-start

@@ -1,5 +1,0 @@
-use Rattle.pv_runs.proofs.Started.{bundle-start}
-use Rattle.pv_runs.proofs.runs.bundles_start.Goals as goal
-
-pub returns : goal.returns
-returns c = bundle-start

@@ -1,5 +1,0 @@
-use Rattle.pv_runs.proofs.Starting.{reached-whole}
-use Rattle.pv_runs.proofs.runs.reached_is_whole.Goals as goal
-
-pub returns : goal.returns
-returns c = reached-whole

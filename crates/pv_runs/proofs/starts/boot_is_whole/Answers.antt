@@ -1,5 +1,0 @@
-use Rattle.pv_runs.proofs.Starting.{boot-whole}
-use Rattle.pv_runs.proofs.starts.boot_is_whole.Goals as goal
-
-pub returns : goal.returns
-returns c = boot-whole

@@ -1,5 +1,0 @@
-use Rattle.pv_runs.proofs.Starting.{made-first}
-use Rattle.pv_runs.proofs.starts.manifests_make_first_trees.Goals as goal
-
-pub returns : goal.returns
-returns c = made-first

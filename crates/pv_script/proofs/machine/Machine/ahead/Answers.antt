@@ -1,7 +1,0 @@
-use Rattle.std.proofs.Common.{rules}
-use Rattle.pv_script.proofs.Contexts.{one_passed}
-use Rattle.pv_script.proofs.machine.Machine.ahead.Goals as goal
-
-pub returns-in-Some-clause-made : goal.returns-in-Some-clause-made
-returns-in-Some-clause-made c =
-    one_passed c.args.program.now c.args.self.now c.pass.new.self c.pass.result c.pass.ensures.few c.pass.ensures.made c.pass.ensures.whole (search rules)

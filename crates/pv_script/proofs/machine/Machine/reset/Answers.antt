@@ -1,7 +1,0 @@
-use Rattle.std.proofs.Common.{refl}
-use Rattle.pv_script.specs.Context.{first_context}
-use Rattle.pv_script.proofs.machine.Machine.reset.Goals as goal
-
-pub returns : goal.returns
-unfolding first_context
-returns c = rw c.clear.ensures refl

@@ -1,6 +1,0 @@
-pub mod Brought
-pub mod Heirs
-pub mod Guards
-pub mod Kept
-pub mod Stays
-pub mod ForEver

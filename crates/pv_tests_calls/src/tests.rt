@@ -1,0 +1,231 @@
+//! Each call once, as two lookups answer it, full tables, and memory that is refused.
+use crate::store_of;
+use pv_calls::Kernel;
+use pv_model::{Cause, Errno, Outcome, StepFault, Taken};
+use pv_namei::Lookup;
+use pv_procs::Fetched;
+use pv_script::CallTexts;
+use pv_tree::Tree;
+use std::alloc::Global;
+use std::process::Abort;
+use std::test::Fail;
+
+// Each call once; the child that line 28 makes runs the file "/p".
+const CALLS: &[u8] =
+    b"image 64 32\ndir \"/d\"\nbytes \"/d/f\" \"hello\"\nlink \"/l\" \"d/f\"\nexec \"/p\" 1\nexit 7\nexec \"/init\" 30\ngetpid\ngetppid\nopen \"/l\" rw\nread 0 3\nlseek 0 -1 cur\nwrite 0 2\nfstat 0\nftruncate 0 4\ndup 0\ndup2 1 5\nclose 0\nopen \"/d\" r\ngetdents 0\nfchdir 0\nopenat 0 \"f\" r\nstat \"f\"\nlstat \"/l\"\nreadlink \"/l\"\nmkdir \"n\"\nsymlink \"x\" \"s\"\nlink \"f\" \"g\"\nrename \"g\" \"h\"\nunlink \"h\"\nrmdir \"n\"\nchdir \"/\"\nunveil \"/\" \"rx\"\npledge \"stdio proc exec\" null\nfork\nwait\nexecve \"/p\"\n";
+
+// Whose step it is, and what it answers, until both processes are gone.
+const WANTED: &[(u32, Outcome)] = &[
+    (1, Outcome::Value(1)),
+    (1, Outcome::Value(0)),
+    (1, Outcome::Value(0)),
+    (1, Outcome::Text(Taken { value: 3, len: 3 })),
+    (1, Outcome::Value(2)),
+    (1, Outcome::Value(2)),
+    (1, Outcome::Text(Taken { value: 0, len: 8 })),
+    (1, Outcome::Value(0)),
+    (1, Outcome::Value(1)),
+    (1, Outcome::Value(5)),
+    (1, Outcome::Value(0)),
+    (1, Outcome::Value(0)),
+    (1, Outcome::Text(Taken { value: 1, len: 1 })),
+    (1, Outcome::Value(0)),
+    (1, Outcome::Value(2)),
+    (1, Outcome::Text(Taken { value: 0, len: 8 })),
+    (1, Outcome::Text(Taken { value: 0, len: 8 })),
+    (1, Outcome::Text(Taken { value: 3, len: 3 })),
+    (1, Outcome::Value(0)),
+    (1, Outcome::Value(0)),
+    (1, Outcome::Value(0)),
+    (1, Outcome::Value(0)),
+    (1, Outcome::Value(0)),
+    (1, Outcome::Value(0)),
+    (1, Outcome::Value(0)),
+    (1, Outcome::Value(0)),
+    (1, Outcome::Value(0)),
+    (1, Outcome::Value(2)),
+    (1, Outcome::Blocked),
+    (2, Outcome::Failed(Errno::ECHILD, Cause::Plain)),
+    (2, Outcome::Value(0)),
+    (2, Outcome::Exited),
+    (2, Outcome::Gone),
+    (1, Outcome::Text(Taken { value: 2, len: 4 })),
+    (1, Outcome::Value(0)),
+    (1, Outcome::Exited),
+    (1, Outcome::Gone),
+];
+
+// A process that reads what it wrote.
+const READER: &[u8] =
+    b"image 64 32\nexec \"/init\" 13\nopen \"/f\" rw+append+create\nput \"abcdefgh\"\nwrite 0 4\nput \"WXYZ\"\nread 0 8\nlseek 0 2 set\nread 0 8\nlseek 0 1 set\nwrite 0 3\nlseek 0 0 set\nread 0 4096\nlseek 0 100 set\nread 0 1\n";
+
+// What each of its steps answers, and what its buffer then begins with.
+const FRONTS: &[(Outcome, &[u8])] = &[
+    (Outcome::Value(0), b"\0\0\0\0\0\0\0\0\0"),
+    (Outcome::Value(0), b"abcdefgh\0"),
+    (Outcome::Value(4), b"abcdefgh\0"),
+    (Outcome::Value(0), b"WXYZefgh\0"),
+    (Outcome::Text(Taken { value: 0, len: 0 }), b"WXYZefgh\0"),
+    (Outcome::Value(2), b"WXYZefgh\0"),
+    (Outcome::Text(Taken { value: 2, len: 2 }), b"cdYZefgh\0"),
+    (Outcome::Value(1), b"cdYZefgh\0"),
+    (Outcome::Value(3), b"cdYZefgh\0"),
+    (Outcome::Value(0), b"cdYZefgh\0"),
+    (Outcome::Text(Taken { value: 7, len: 7 }), b"abcdcdYh\0"),
+    (Outcome::Value(100), b"abcdcdYh\0"),
+    (Outcome::Text(Taken { value: 0, len: 0 }), b"abcdcdYh\0"),
+];
+
+// A lookup that asks the tree each time, and counts how often.
+#[derive(Drop)]
+struct Counting {
+    looks: u32,
+}
+
+impl Lookup for Counting {
+    ghost use Rattle.std.specs.Prelude.{⊤};
+
+    ghost agrees = { λ lookup map. ⊤ };
+
+    ghost same_answers = { λ lookup map other agreed same. tt };
+
+    fn look(&mut self, tree: &Tree, directory: u16, name: &[u8]) -> Option<u16> {
+        self.looks = self.looks.saturating_add(1);
+        tree.find(directory, name)
+    }
+
+    fn changed(&mut self, _directory: u16, _name: &[u8]) {}
+}
+
+// Makes the next step of a process.
+fn step<L: Lookup + Drop>(
+    kernel: &mut Kernel<L>,
+    alloc: Global,
+    pid: u32,
+) -> Result<Outcome, StepFault> {
+    let mut texts = CallTexts::new();
+    match kernel.step_or_fetch(pid, &mut texts) {
+        Fetched::Gone => Ok(Outcome::Gone),
+        Fetched::Register => Ok(Outcome::Value(0)),
+        Fetched::Call(call) => kernel.call(alloc, pid, call),
+    }
+}
+
+// Checks what a step of a process answers.
+fn expect<L: Lookup + Drop>(
+    rt: &impl Abort,
+    alloc: Global,
+    kernel: &mut Kernel<L>,
+    pid: u32,
+    wanted: Outcome,
+) {
+    assert_eq!(rt; step(kernel, alloc, pid), Ok(wanted));
+}
+
+// Checks that a step of a process on two kernels answers this on both, after as many walks, with the same buffer.
+fn expect_both<L: Lookup + Drop, M: Lookup + Drop>(
+    rt: &impl Abort,
+    alloc: Global,
+    kernel: &mut Kernel<L>,
+    other: &mut Kernel<M>,
+    pid: u32,
+    wanted: Outcome,
+) {
+    expect(rt, alloc, kernel, pid, wanted);
+    expect(rt, alloc, other, pid, wanted);
+    assert_eq!(rt; kernel.walks(), other.walks());
+    assert!(rt; kernel.buffer(pid) == other.buffer(pid));
+}
+
+fn value(value: u32) -> Outcome {
+    Outcome::Value(value)
+}
+
+fn failed(errno: Errno) -> Outcome {
+    Outcome::Failed(errno, Cause::Plain)
+}
+
+#[test]
+fn each_call_as_two_lookups_answer(rt: HostRuntime) -> Result<(), Fail> {
+    let alloc = rt.alloc();
+    let mut kernel = Kernel::boot(alloc, store_of(alloc, CALLS)?)?;
+    let mut other = Kernel::boot_with(alloc, store_of(alloc, CALLS)?, Counting { looks: 0 })?;
+    for (pid, outcome) in WANTED {
+        expect_both(&rt, alloc, &mut kernel, &mut other, *pid, *outcome);
+    }
+    assert!(rt; kernel.tree().sizes().inodes == other.tree().sizes().inodes);
+    Ok(())
+}
+
+#[test]
+fn a_read_leaves_what_stands_after_its_bytes(rt: HostRuntime) -> Result<(), Fail> {
+    let alloc = rt.alloc();
+    let mut kernel = Kernel::boot(alloc, store_of(alloc, READER)?)?;
+    for (outcome, front) in FRONTS {
+        expect(&rt, alloc, &mut kernel, 1, *outcome);
+        assert!(rt; kernel.buffer(1).starts_with(front));
+    }
+    Ok(())
+}
+
+#[test]
+fn processes_end_at_32(rt: HostRuntime) -> Result<(), Fail> {
+    let alloc = rt.alloc();
+    let store = store_of(alloc, b"image 16 16\nexec \"/init\" 2\nfork\njmp 1\n")?;
+    let mut kernel = Kernel::boot(alloc, store)?;
+    for number in 2..33 {
+        expect(&rt, alloc, &mut kernel, 1, value(number));
+        expect(&rt, alloc, &mut kernel, 1, value(0));
+    }
+    expect(&rt, alloc, &mut kernel, 1, failed(Errno::EAGAIN));
+    expect(&rt, alloc, &mut kernel, 33, Outcome::Gone);
+    Ok(())
+}
+
+#[test]
+fn open_files_end(rt: HostRuntime) -> Result<(), Fail> {
+    let alloc = rt.alloc();
+    let store = store_of(
+        alloc,
+        b"image 16 16\nbytes \"/f\" \"\"\nexec \"/init\" 5\nfork\njz r0 4\njmp 1\nopen \"/f\" r\njmp 4\n",
+    )?;
+    let mut kernel = Kernel::boot(alloc, store)?;
+    for child in 2..11 {
+        expect(&rt, alloc, &mut kernel, 1, value(child));
+        expect(&rt, alloc, &mut kernel, 1, value(0));
+        expect(&rt, alloc, &mut kernel, 1, value(0));
+        expect(&rt, alloc, &mut kernel, child, value(0));
+    }
+    for child in 2..10 {
+        for d in 0..16 {
+            expect(&rt, alloc, &mut kernel, child, value(d));
+            expect(&rt, alloc, &mut kernel, child, value(0));
+        }
+        expect(&rt, alloc, &mut kernel, child, failed(Errno::EMFILE));
+    }
+    expect(&rt, alloc, &mut kernel, 10, failed(Errno::ENFILE));
+    Ok(())
+}
+
+#[test]
+fn execve_comes_after_want_of_memory(rt: HostRuntime) -> Result<(), Fail> {
+    let alloc = rt.alloc();
+    let store = store_of(
+        alloc,
+        b"image 16 16\nexec \"/p\" 2\ngetpid\nexit 0\nexec \"/init\" 2\nput \"abc\"\nexecve \"/p\"\n",
+    )?;
+    let mut kernel = Kernel::boot(alloc, store)?;
+    expect(&rt, alloc, &mut kernel, 1, value(0));
+    let first = step(&mut kernel, alloc, 1);
+    if first == Err(StepFault::NoMemory) {
+        assert!(rt; kernel.buffer(1).starts_with(b"abc"));
+        assert_eq!(rt; kernel.walks(), 0);
+        assert_eq!(rt; step(&mut kernel, alloc, 1), Ok(value(0)));
+    } else {
+        assert_eq!(rt; first, Ok(value(0)));
+    }
+    assert_eq!(rt; kernel.walks(), 1);
+    expect(&rt, alloc, &mut kernel, 1, value(1));
+    expect(&rt, alloc, &mut kernel, 1, Outcome::Exited);
+    Ok(())
+}

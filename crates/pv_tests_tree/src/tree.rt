@@ -1,0 +1,468 @@
+//! Whole runs of calls on a tree.
+ghost use Rattle.std.specs.Prelude.{◌≤◌};
+
+use crate::answers::{expect_equal, expect_name, expect_same};
+use crate::trees::{
+    expect_find, expect_make, expect_new, hold, of_version_2, remove_directory, with_data_blocks,
+};
+use pv_model::{NewNode, Kind, is_name};
+use pv_tree::{Space, Tree};
+use std::alloc::{AllocError, AllocGlobal};
+use std::process::Abort;
+
+// What it answers that a node gets a name that is new.
+fn expect_link(
+    rt: &impl Abort,
+    tree: &mut Tree,
+    directory: u16,
+    name: &[u8],
+    node: u16,
+    answer: Result<(), Space>,
+) {
+    expect_new(rt, tree, directory, name);
+    assert!(rt; tree.is_used(node));
+    assert!(rt; !tree.is_directory(node));
+    expect_same(rt, tree.link(directory, name, node), answer);
+}
+
+// Gives a node a name that no node has.
+fn expect_rename(
+    rt: &impl Abort,
+    tree: &mut Tree,
+    from: u16,
+    name: &[u8],
+    to: u16,
+    other: &[u8],
+    answer: Result<(), Space>,
+) {
+    assert!(rt; tree.is_directory(from));
+    let node = tree.find(from, name).expect(rt, "the name is there");
+    expect_new(rt, tree, to, other);
+    assert!(rt; !tree.contains(node, to));
+    expect_same(rt, tree.rename(from, name, to, other), answer);
+}
+
+// Gives a node a name that another node without entries has.
+fn expect_rename_over(
+    rt: &impl Abort,
+    tree: &mut Tree,
+    from: u16,
+    name: &[u8],
+    to: u16,
+    other: &[u8],
+    answer: Result<(), Space>,
+) {
+    assert!(rt; tree.is_directory(from));
+    let node = tree.find(from, name).expect(rt, "the name is there");
+    assert!(rt; tree.is_directory(to));
+    assert!(rt; tree.parent(to).is_some());
+    assert!(rt; !tree.contains(node, to));
+    let gone = tree.find(to, other).expect(rt, "the other name is there");
+    assert!(rt; gone != node);
+    assert!(rt; tree.is_directory(gone));
+    assert!(rt; tree.is_empty(gone));
+    assert!(rt; is_name(tree.sizes().version, other));
+    expect_same(rt, tree.rename(from, name, to, other), answer);
+}
+
+fn expect_write(
+    rt: &impl Abort,
+    tree: &mut Tree,
+    node: u16,
+    at: u32,
+    bytes: &[u8],
+    answer: Result<(), Space>,
+) {
+    assert!(rt; tree.is_used(node));
+    assert!(rt; tree.kind(node) == Kind::File);
+    expect_same(rt, tree.write_at(node, at, bytes), answer);
+}
+
+fn expect_cut(rt: &impl Abort, tree: &mut Tree, node: u16, size: u32, answer: Result<(), Space>) {
+    assert!(rt; tree.is_used(node));
+    assert!(rt; tree.kind(node) == Kind::File);
+    expect_same(rt, tree.cut(node, size), answer);
+}
+
+// Lets go of a node that is held once.
+fn let_go(rt: &impl Abort, tree: &mut Tree, node: u16) {
+    assert!(rt; tree.is_used(node));
+    assert!(rt; tree.holds(node) == 1);
+    tree.let_go(node);
+}
+
+// A name of a directory is this one, if any, and stands after another.
+fn expect_next(
+    rt: &impl Abort,
+    tree: &Tree,
+    directory: u16,
+    last: Option<&[u8]>,
+    name: Option<&[u8]>,
+) {
+    assert!(rt; tree.is_directory(directory));
+    let next = tree.next_after(directory, last);
+    expect_name(rt, next.as_ref(), name);
+}
+
+// The names of a directory are these, in this order, and all of them.
+fn expect_lists(rt: &impl Abort, tree: &Tree, directory: u16, names: &[&[u8]]) {
+    let mut last = None;
+    for &name in names {
+        expect_next(rt, tree, directory, last, Some(name));
+        last = Some(name);
+    }
+    expect_next(rt, tree, directory, last, None);
+}
+
+fn expect_parent(rt: &impl Abort, tree: &Tree, directory: u16, parent: Option<u16>) {
+    assert!(rt; tree.is_directory(directory));
+    expect_same(rt, tree.parent(directory), parent);
+}
+
+fn expect_size(rt: &impl Abort, tree: &Tree, node: u16, size: u32) {
+    assert!(rt; tree.is_used(node));
+    expect_same(rt, tree.size(node), size);
+}
+
+fn expect_names(rt: &impl Abort, tree: &Tree, node: u16, names: u32) {
+    assert!(rt; tree.is_used(node));
+    expect_same(rt, tree.names(node), names);
+}
+
+fn expect_holds(rt: &impl Abort, tree: &Tree, node: u16, holds: u16) {
+    assert!(rt; tree.is_used(node));
+    expect_same(rt, tree.holds(node), holds);
+}
+
+fn expect_empty(rt: &impl Abort, tree: &Tree, directory: u16) {
+    assert!(rt; tree.is_directory(directory));
+    assert!(rt; tree.is_empty(directory));
+}
+
+// What holds of a tree.
+#[derive(Clone, Copy)]
+enum Fact<'a> {
+    // A directory has these names, in this order, and no others.
+    Lists(u16, &'a [&'a [u8]]),
+    // A name in a directory has this node.
+    Find(u16, &'a [u8], u16),
+    // A directory stands in this one, or in none.
+    Parent(u16, Option<u16>),
+    // A node has so many bytes or entries.
+    Size(u16, u32),
+    // A node has so many names.
+    Names(u16, u32),
+    // A node is held so many times.
+    Holds(u16, u16),
+    // A directory has no entries.
+    Empty(u16),
+    // A number is no node's.
+    Unused(u16),
+}
+
+use Fact::{Empty, Find, Holds, Lists, Names, Parent, Size, Unused};
+
+fn expect_fact(rt: &impl Abort, tree: &Tree, fact: Fact) {
+    match fact {
+        Lists(directory, names) => expect_lists(rt, tree, directory, names),
+        Find(directory, name, node) => expect_find(rt, tree, directory, name, Some(node)),
+        Parent(directory, parent) => expect_parent(rt, tree, directory, parent),
+        Size(node, size) => expect_size(rt, tree, node, size),
+        Names(node, names) => expect_names(rt, tree, node, names),
+        Holds(node, holds) => expect_holds(rt, tree, node, holds),
+        Empty(directory) => expect_empty(rt, tree, directory),
+        Unused(node) => assert!(rt; !tree.is_used(node)),
+    }
+}
+
+// What is done to a tree, and what that answers, or what is to hold of it then.
+#[derive(Clone, Copy)]
+enum Step<'a> {
+    // A node is made under a name that is new.
+    Make(u16, &'a [u8], NewNode<'a>, Result<u16, Space>),
+    // A node gets a name that is new.
+    Link(u16, &'a [u8], u16, Result<(), Space>),
+    // A name gives its node to one that is new.
+    Rename(u16, &'a [u8], u16, &'a [u8], Result<(), Space>),
+    // A name gives its node to one that has an empty directory.
+    RenameOver(u16, &'a [u8], u16, &'a [u8], Result<(), Space>),
+    // Bytes are written to a file at a place.
+    Write(u16, u32, &'a [u8], Result<(), Space>),
+    // A file is cut to a length.
+    Cut(u16, u32, Result<(), Space>),
+    // A node is held that nothing has held.
+    Hold(u16),
+    // A node is let go that is held once.
+    LetGo(u16),
+    // The name of an empty directory goes.
+    Remove(u16, &'a [u8]),
+    // This holds.
+    That(Fact<'a>),
+}
+
+use Step::{Cut, Hold, LetGo, Link, Make, Remove, Rename, RenameOver, That, Write};
+
+fn expect_step(rt: &impl Abort, tree: &mut Tree, step: Step) {
+    match step {
+        Make(directory, name, kind, answer) => expect_make(rt, tree, directory, name, kind, answer),
+        Link(directory, name, node, answer) => expect_link(rt, tree, directory, name, node, answer),
+        Rename(from, name, to, other, answer) => {
+            expect_rename(rt, tree, from, name, to, other, answer);
+        }
+        RenameOver(from, name, to, other, answer) => {
+            expect_rename_over(rt, tree, from, name, to, other, answer);
+        }
+        Write(node, at, bytes, answer) => expect_write(rt, tree, node, at, bytes, answer),
+        Cut(node, size, answer) => expect_cut(rt, tree, node, size, answer),
+        Hold(node) => hold(rt, tree, node),
+        LetGo(node) => let_go(rt, tree, node),
+        Remove(directory, name) => remove_directory(rt, tree, directory, name),
+        That(fact) => expect_fact(rt, tree, fact),
+    }
+}
+
+// Steps are taken in turn.
+fn expect_steps(rt: &impl Abort, tree: &mut Tree, steps: &[Step]) {
+    for &step in steps {
+        expect_step(rt, tree, step);
+    }
+}
+
+// Steps are taken with a tree of so many data blocks, that has the root alone.
+fn expect_run<R: Abort + AllocGlobal>(rt: &R, count: u16, steps: &[Step]) -> Result<(), AllocError>
+    requires { count ≤ 8000 }
+{
+    let mut tree = with_data_blocks(rt.alloc(), count)?;
+    expect_steps(rt, &mut tree, steps);
+    Ok(())
+}
+
+const GROWN: &[Step] = &[
+    Make(1, b"f", NewNode::File, Ok(2)),
+    Write(2, 1_023, b"x", Ok(())),
+    Write(2, 1_024, b"x", Err(Space::Full)),
+    Write(2, 136_192, b"x", Err(Space::TooBig)),
+    That(Size(2, 1_024)),
+    Cut(2, 1_025, Err(Space::Full)),
+    Cut(2, 1, Ok(())),
+    That(Size(2, 1)),
+];
+
+#[test]
+fn a_file_grows_as_far_as_there_are_blocks(rt: HostRuntime) -> Result<(), AllocError> {
+    expect_run(&rt, 3, GROWN)
+}
+
+// In the end the directories use no block, two and one: a name more needs a block in the first alone.
+const GIVEN_BACK: &[Step] = &[
+    Make(1, b"a", NewNode::Directory, Ok(2)),
+    Make(1, b"b", NewNode::Directory, Ok(3)),
+    Make(2, b"f", NewNode::File, Ok(4)),
+    Link(3, b"1", 4, Ok(())),
+    Link(3, b"2", 4, Ok(())),
+    Link(3, b"3", 4, Ok(())),
+    Link(3, b"4", 4, Ok(())),
+    Link(3, b"5", 4, Ok(())),
+    Link(3, b"6", 4, Ok(())),
+    Link(3, b"7", 4, Ok(())),
+    Link(3, b"8", 4, Ok(())),
+    Link(3, b"g", 4, Err(Space::Full)),
+    Rename(2, b"f", 3, b"g", Ok(())),
+    That(Find(3, b"g", 4)),
+    That(Names(4, 9)),
+    That(Empty(2)),
+    That(Size(2, 0)),
+    That(Size(3, 9)),
+    That(Size(1, 2)),
+    Link(2, b"h", 4, Err(Space::Full)),
+    Link(3, b"h", 4, Ok(())),
+    Link(1, b"h", 4, Ok(())),
+];
+
+#[test]
+fn a_rename_gives_back_before_it_asks(rt: HostRuntime) -> Result<(), AllocError> {
+    expect_run(&rt, 3, GIVEN_BACK)
+}
+
+const HELD: &[Step] = &[
+    Make(1, b"d", NewNode::Directory, Ok(2)),
+    Hold(2),
+    Remove(1, b"d"),
+    Make(1, b"d", NewNode::Directory, Ok(3)),
+    That(Parent(2, None)),
+    LetGo(2),
+    That(Unused(2)),
+    Make(1, b"e", NewNode::Symlink(b"d"), Ok(2)),
+];
+
+#[test]
+fn a_node_that_is_held_keeps_its_number(rt: HostRuntime) -> Result<(), AllocError> {
+    expect_run(&rt, 3, HELD)
+}
+
+const PUT_BACK: &[Step] = &[
+    Make(1, b"a", NewNode::Directory, Ok(2)),
+    Make(1, b"f", NewNode::File, Ok(3)),
+    Write(3, 0, b"x", Ok(())),
+    Rename(1, b"f", 2, b"g", Err(Space::Full)),
+    That(Lists(1, &[b"a", b"f"])),
+    That(Find(1, b"f", 3)),
+    That(Lists(2, &[])),
+    Cut(3, 0, Ok(())),
+    Rename(1, b"f", 2, b"g", Ok(())),
+    That(Lists(1, &[b"a"])),
+    That(Lists(2, &[b"g"])),
+];
+
+#[test]
+fn a_refused_rename_is_put_back(rt: HostRuntime) -> Result<(), AllocError> {
+    expect_run(&rt, 2, PUT_BACK)
+}
+
+const REPLACED: &[Step] = &[
+    Make(1, b"a", NewNode::Directory, Ok(2)),
+    Make(2, b"d", NewNode::Directory, Ok(3)),
+    Make(1, b"e", NewNode::Directory, Ok(4)),
+    Hold(4),
+    RenameOver(2, b"d", 1, b"e", Ok(())),
+    That(Lists(1, &[b"a", b"e"])),
+    That(Lists(2, &[])),
+    That(Find(1, b"e", 3)),
+    That(Parent(3, Some(1))),
+    // The other one is held, so it stays, removed.
+    That(Parent(4, None)),
+    That(Names(4, 0)),
+    LetGo(4),
+    That(Unused(4)),
+    // Where nothing holds it, it goes at once.
+    RenameOver(1, b"e", 1, b"a", Ok(())),
+    That(Unused(2)),
+    That(Lists(1, &[b"a"])),
+];
+
+#[test]
+fn a_rename_takes_the_place_of_another_node(rt: HostRuntime) -> Result<(), AllocError> {
+    expect_run(&rt, 4, REPLACED)
+}
+
+// Makes 15 files, of which each has one byte as its name.
+fn make_15(rt: &impl Abort, tree: &mut Tree) {
+    for k in 0..15u8 {
+        expect_make(rt, tree, 1, &[128 + k], NewNode::File, Ok(2 + u16::from(k)));
+    }
+}
+
+const SIXTEENTH: &[Step] = &[
+    Make(1, b"x", NewNode::File, Err(Space::Full)),
+    That(Size(1, 15)),
+    Link(1, b"x", 2, Ok(())),
+];
+
+#[test]
+fn the_last_inode_is_the_sixteenth(rt: HostRuntime) -> Result<(), AllocError> {
+    let mut tree = with_data_blocks(rt.alloc(), 3)?;
+    make_15(&rt, &mut tree);
+    expect_steps(&rt, &mut tree, SIXTEENTH);
+    Ok(())
+}
+
+// Gives the node 2 so many names of two bytes that its directory has 2,128 with its first.
+fn link_2127(rt: &impl Abort, tree: &mut Tree) {
+    for k in 0..2_127u16 {
+        let name = [128 + (k / 64) as u8, 128 + (k % 64) as u8];
+        expect_link(rt, tree, 1, &name, 2, Ok(()));
+    }
+}
+
+const FULL: &[Step] = &[
+    Link(1, b"g", 2, Err(Space::TooBig)),
+    Make(1, b"g", NewNode::File, Err(Space::TooBig)),
+    That(Names(2, 2_128)),
+];
+
+#[test]
+fn the_last_name_is_the_2128th(rt: HostRuntime) -> Result<(), AllocError> {
+    let mut tree = with_data_blocks(rt.alloc(), 300)?;
+    expect_make(&rt, &mut tree, 1, b"f", NewNode::File, Ok(2));
+    link_2127(&rt, &mut tree);
+    expect_steps(&rt, &mut tree, FULL);
+    Ok(())
+}
+
+// How many bytes a read from a place on puts into five bytes, and what stands there then.
+fn expect_read(
+    rt: &impl Abort,
+    tree: &Tree,
+    node: u16,
+    at: u32,
+    buffer: &mut [u8; 5],
+    count: usize,
+    bytes: &[u8; 5],
+) {
+    assert!(rt; tree.is_used(node));
+    assert!(rt; !tree.is_directory(node));
+    expect_same(rt, tree.read_at(node, at, buffer), count);
+    expect_equal(rt, buffer, bytes);
+}
+
+const WRITTEN: &[Step] = &[
+    Make(1, b"f", NewNode::File, Ok(2)),
+    Write(2, 510, b"abcd", Ok(())),
+];
+
+// Reads into the same five bytes in turn: from where, how many, and what they are then.
+const READS: &[(u32, usize, &[u8; 5])] = &[
+    (509, 5, b"\0abcd"),
+    (513, 1, b"dabcd"),
+    (514, 0, b"dabcd"),
+];
+
+#[test]
+fn a_file_is_read_where_it_was_written(rt: HostRuntime) -> Result<(), AllocError> {
+    let mut tree = with_data_blocks(rt.alloc(), 3)?;
+    expect_steps(&rt, &mut tree, WRITTEN);
+    let mut buffer = [255; 5];
+    for &(at, count, bytes) in READS {
+        expect_read(&rt, &tree, 2, at, &mut buffer, count, bytes);
+    }
+    Ok(())
+}
+
+const LET_GO: &[Step] = &[
+    Make(1, b"f", NewNode::File, Ok(2)),
+    Hold(2),
+    LetGo(2),
+    That(Names(2, 1)),
+    That(Holds(2, 0)),
+];
+
+#[test]
+fn a_node_with_a_name_outlives_its_holders(rt: HostRuntime) -> Result<(), AllocError> {
+    expect_run(&rt, 3, LET_GO)
+}
+
+// The greatest names of version 2 that have only one byte.
+const A: &[u8] = &[b'a'; 255];
+
+const B: &[u8] = &[b'b'; 255];
+
+const C: &[u8] = &[b'c'; 255];
+
+// The slot of the second name stands across two blocks.
+const LONG_NAMES: &[Step] = &[
+    Make(1, C, NewNode::Directory, Ok(2)),
+    Make(1, A, NewNode::File, Ok(3)),
+    Link(1, B, 3, Ok(())),
+    That(Lists(1, &[A, B, C])),
+    Rename(1, A, 2, A, Ok(())),
+    That(Lists(1, &[B, C])),
+    That(Lists(2, &[A])),
+    That(Find(1, B, 3)),
+];
+
+#[test]
+fn names_of_version_2_have_255_bytes(rt: HostRuntime) -> Result<(), AllocError> {
+    let mut tree = of_version_2(rt.alloc())?;
+    expect_steps(&rt, &mut tree, LONG_NAMES);
+    Ok(())
+}

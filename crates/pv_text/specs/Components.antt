@@ -1,0 +1,14 @@
+-- The components of a path that are still to be read.
+use Rattle.std.specs.Prelude.{ℕ, ◌+◌, List, [], length, Option, None, Some}
+use Rattle.pv_model.specs.Bytes.{Bytes}
+use Rattle.pv_model.specs.Walk.{split_slashes}
+
+-- the components after a slash, where there is one
+abbrev pub components_after : Option Bytes → List Bytes
+components_after None = []
+components_after (Some path) = split_slashes path
+
+-- the bytes that are left to look at, and one more
+abbrev pub left_in : Option Bytes → ℕ
+left_in None = 0
+left_in (Some path) = length path + 1

@@ -1,5 +1,0 @@
-use Rattle.pv_tree_laws.proofs.Trees.{well_formed-iff-sound}
-use Rattle.pv_tree_laws.proofs.tree.well_formed_by_entries.Goals as goal
-
-pub returns : goal.returns
-returns c = well_formed-iff-sound

@@ -1,7 +1,0 @@
-use Rattle.pv_model.specs.Tree.{find_entry}
-use Rattle.pv_cache.specs.Cached.{FitsMap}
-use Rattle.pv_tree_trials.proofs.cache.look_for_absent.Given as goal
-
--- what is kept is the tree's
-abbrev pub invariant-loop-number : goal.invariant-loop-number
-invariant-loop-number g l = FitsMap l.lookup.answers (find_entry l.tree.tree)

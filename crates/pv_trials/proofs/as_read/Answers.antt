@@ -1,5 +1,0 @@
-use Rattle.pv_tree_laws.proofs.Spelled.{bytes-all}
-use Rattle.pv_trials.proofs.as_read.Goals as goal
-
-pub returns-clause-bytes : goal.returns-clause-bytes
-returns-clause-bytes c = bytes-all c.args.bytes.now (λ i. (c.type_inv.bytes i).fits)

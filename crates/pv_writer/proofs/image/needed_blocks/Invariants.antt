@@ -1,7 +1,0 @@
-use Rattle.std.proofs.Common.{◌≡◌, suc}
-use Rattle.pv_writer.specs.Placed.{placed}
-use Rattle.pv_writer.specs.Spelling.{taken_before}
-use Rattle.pv_writer.proofs.image.needed_blocks.Given as goal
-
-abbrev pub invariant-loop-slot : goal.invariant-loop-slot
-invariant-loop-slot l = l.needed ≡ taken_before (placed l.tree.tree l.version 0 l.tree.tree.inodes) (suc l.slot)

@@ -1,4 +1,0 @@
-pub mod Placed
-pub mod Spelling
-pub mod Told
-pub mod Writable
