@@ -1,3 +1,5 @@
+-- Lemmas of the calls that walk: Reaching and Naming serve all; LookRows, NameRows, NodeRows, OpenRows, Renaming and UnveilRows the
+-- calls of one subject.
 pub mod LookCalls
 pub mod NameCalls
 pub mod Naming

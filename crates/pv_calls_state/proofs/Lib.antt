@@ -1,3 +1,7 @@
+-- Lemmas of the counted state.
+-- - what counts become: Counting, Alone (a process that changes alone), Changing, Releasing, Sharing, Targets, Adding (a table's
+--   entry), Descriptors, Owned (what a process owns), Ends, Opening, Growing, Writing, Reading, Reaping, Beginning
+-- - Trimming: counts let go what trim does. Attempts: what attempts come to one after another, for the system calls too
 pub mod Adding
 pub mod Alone
 pub mod Attempts

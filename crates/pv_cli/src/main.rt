@@ -1,4 +1,7 @@
 //! `pvsim`: the program of `pv_cli_line` over the files and the streams of its system.
+//!
+//! `main` hands over the words, the files, the standard input, output and errors; the output is gathered, so that many small
+//! writes are one of the system's. What is proved of the program is the contract of `run`, over any files and streams.
 #![tactic(auto)]
 
 use pv_cli_commands::HostSystem;

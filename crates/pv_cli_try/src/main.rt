@@ -1,4 +1,7 @@
 //! Runs the bundle on the standard input as `pvsim` runs one, without the parser of its command line.
+//!
+//! The parser's library is large: without it a program is built sooner, before any proof, for a first try of a bundle or of a
+//! change.
 #![tactic(auto)]
 
 use pv_cli_commands::{Command, HostSystem, perform};

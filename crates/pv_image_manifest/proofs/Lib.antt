@@ -1,3 +1,6 @@
+-- Lemmas of manifests in code: Containers (the directory in which an entry stands), NewFiles (a file made empty and then written),
+-- EntryByEntry (the tree so far); of texts FirstWords (lines by their first word), BodyLines (the lines of an executable file),
+-- ListedEntries (entries line by line), WholeManifests, Ends.
 pub mod BodyLines
 pub mod Containers
 pub mod Ends

@@ -1,3 +1,7 @@
+-- Lemmas of the grammars, from single words to whole texts.
+-- - words: Reading, OneWord, FirstWord, Decimals, QuotedTexts, FlagWords, ShortestForm, WordLists
+-- - lines: ArgumentLists, InstructionLines, EntryLines, EntryPaths, TextLines
+-- - whole texts: WholePrograms, WrittenPrograms, WholeSchedules, WholeManifests, AppliedEntries
 pub mod AppliedEntries
 pub mod ArgumentLists
 pub mod Decimals

@@ -1,3 +1,11 @@
+-- Lemmas of states, calls and runs.
+-- - trim: Trim (what it leaves), Members (what is used and held), Going (what goes), Far (what early tests refuse)
+-- - processes: Processes (find, put, update), Ending (ended, adopted, forgotten)
+-- - answers: Attempts (how an attempt ends), Outcomes (an answer by what decided it), Replies (from a call's effect), Starts
+--   (where walks begin), Rests (what is left of each call from each of its steps on)
+-- - whole states: Whole, Running, Standing, Grown; call by call ByProcess, ByTable, ByFile, ByTree, ByOpen; BySteps (steps, runs,
+--   the first state)
+-- - what a step ignores: Others (lists of processes that differ in registers and buffers), Apart (each call run beside itself)
 pub mod Trim
 pub mod Attempts
 pub mod Processes

@@ -1,4 +1,10 @@
 //! Worked runs: what the definitions of `pv_model` give of bundles, images and texts, by computing.
+//!
+//! Each module of `specs/` has runs of one subject, as theorems that hold by `refl`, and `AllWorked` names them all: whole texts
+//! of runs (`Bundles`), each error of each call (`Errors`, and the modules of single subjects), walks, promises, unveils,
+//! processes, audits, texts and faults (`Grammars`, `Texts`, `Mounts`, `Starts`). `Images` has the bytes of images.
+//!
+//! So the specification is tried before any code is.
 #![tactic(auto)]
 
 ghost use Rattle.std.specs.Prelude.{ℕ, ◌<◌};

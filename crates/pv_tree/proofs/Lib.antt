@@ -1,3 +1,8 @@
+-- Lemmas of the tree with its counts.
+-- - Names counts names, Keeping has what trimming takes, Carrying builds what is stored after every change, Parents has parents
+-- - single changes: Counting, Linking, Making (new nodes), Made (what is then stored), Moving, Contents (a file's bytes), Elsewhere
+--   (names that no change is of); Rooms (refusals), Limits (the sizes of both versions), Entries, Beginning (the root alone)
+-- - an image that was written before: Gathering (what a pass over entries has found so far), Spelling (names and contents are bytes)
 pub mod Entries
 pub mod Limits
 pub mod Names
