@@ -47,7 +47,7 @@ bare_app = record (new_app (codes "pvsim")) {
   top = record (new_app (codes "pvsim")).top { has_version = true; subcommand_required = true };
 }
 
--- with its command on bundles, then with those that make an image and list one, with those that run an image and migrate one, and whole
+-- with its command on bundles, then with those that make an image and list one, with those that run an image and audit what is left, and whole
 abbrev pub bundle_app : App
 bundle_app = with_subcommand bare_app run_tree_app.top
 
@@ -55,10 +55,10 @@ abbrev pub image_app : App
 image_app = with_subcommand (with_subcommand bundle_app make_image_app.top) list_app.top
 
 abbrev pub run_image_app : App
-run_image_app = with_subcommand (with_subcommand image_app run_app.top) migrate_app.top
+run_image_app = with_subcommand (with_subcommand image_app run_app.top) audit_app.top
 
 abbrev pub pvsim_app : App
-pvsim_app = with_subcommand run_image_app audit_app.top
+pvsim_app = with_subcommand run_image_app migrate_app.top
 
 -- a parser that reads just this
 pub record IsParserOf (app : App) (parser : Parser) : Type 0 where

@@ -1,5 +1,5 @@
 -- What a whole run of the program comes to.
-use Rattle.std.specs.Prelude.{◌≡◌, ◌≢◌, List, Result, Ok, Err}
+use Rattle.std.specs.Prelude.{◌≡◌, ◌≢◌, ℕ, List, Result, Ok, Err}
 use Rattle.pv_model.specs.declared.stream.Sink.{Ghosts as Writing}
 use Rattle.pv_model.specs.declared.stream.Source.{Ghosts as Reading}
 use Rattle.pv_model.specs.Bytes.{Bytes}
@@ -9,7 +9,7 @@ use Rattle.pv_cli_commands.specs.Commands.{Performs, ReadsFiles, WritesFile}
 use Rattle.pv_cli_commands.specs.Faults.{Answer}
 use Rattle.pv_cli_commands.specs.Streams.{Disk}
 use Rattle.pv_cli_line.specs.declared.fault.Fault.{Fault}
-use Rattle.pv_cli_line.specs.declared.fault.Fault.TheVariants.{Command as OfCommand, Line, Words}
+use Rattle.pv_cli_line.specs.declared.fault.Fault.TheVariants.{Command as OfCommand, Line, Words, Write}
 use Rattle.pv_cli_line.specs.Line.{IsAsked, RefusesLine}
 use Rattle.pv_cli_line.specs.Status.{line_status}
 
@@ -21,17 +21,24 @@ TellsErrorsAlone before after = after ≡ record before { errors = after.errors 
 abbrev pub TellsOutputAlone : {F I O E : Type 0} → HostSystem F I O E → HostSystem F I O E → Type 0
 TellsOutputAlone before after = after ≡ record before { output = after.output }
 
+-- what was asked for is new on the standard output, and nothing else where the status is 0; with another status, what was written of the
+-- failed write is new on the standard error
+pub record TellsWhatWasAsked {F I O E : Type 0} (status : ℕ) (before after : HostSystem F I O E) : Type 0 where
+  pub as_written : status ≡ 0 → TellsOutputAlone before after
+  pub written : after ≡ record before { output = after.output; errors = after.errors }
+
 -- the words ask for a command, which did what it does and left the rest alone
 abbrev pub Runs : {F R V I O E : Type 0} → Disk F R V → Reading I → Writing O → List Bytes → HostSystem F I O E → HostSystem F I O E → Answer → Type 0
 Runs disk reading writing words before after answer =
     (command : Command) × IsAsked words command × Performs disk reading writing command before after answer
     × (ReadsFiles command → after.input ≡ before.input) × (WritesFile command → after.output ≡ before.output)
 
--- what a whole run comes to: the words ask for a command, which was done or ended early; or they are refused, and what is new is what
--- was told of that
-abbrev pub ComesTo : {F R V I O E : Type 0} → Disk F R V → Reading I → Writing O → List Bytes → HostSystem F I O E → HostSystem F I O E → Result (Unit {0}) Fault → Type 0
-ComesTo disk reading writing words before after (Ok done) = Runs disk reading writing words before after (Ok done)
-ComesTo disk reading writing words before after (Err (OfCommand fault)) = Runs disk reading writing words before after (Err fault)
-ComesTo disk reading writing words before after (Err (Line fault)) =
-    RefusesLine words fault × (line_status fault ≢ 0 → TellsErrorsAlone before after) × (line_status fault ≡ 0 → TellsOutputAlone before after)
-ComesTo disk reading writing words before after (Err Words) = ⊥
+-- what a whole run comes to, with its status: the words ask for a command, which was done or ended early; or they are refused, and what is
+-- new is what was written of that
+abbrev pub ComesTo : {F R V I O E : Type 0} → Disk F R V → Reading I → Writing O → List Bytes → HostSystem F I O E → HostSystem F I O E → ℕ → Result (Unit {0}) Fault → Type 0
+ComesTo disk reading writing words before after status (Ok done) = Runs disk reading writing words before after (Ok done)
+ComesTo disk reading writing words before after status (Err (OfCommand fault)) = Runs disk reading writing words before after (Err fault)
+ComesTo disk reading writing words before after status (Err (Line fault)) =
+    RefusesLine words fault × (line_status fault ≢ 0 → TellsErrorsAlone before after) × (line_status fault ≡ 0 → TellsWhatWasAsked status before after)
+ComesTo disk reading writing words before after status (Err Words) = ⊥
+ComesTo disk reading writing words before after status (Err Write) = ⊥

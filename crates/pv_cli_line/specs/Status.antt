@@ -7,7 +7,7 @@ use Rattle.pv_cli_commands.specs.Status.{status_of as command_status}
 use Rattle.pv_cli_line.specs.declared.command.LineFault.{LineFault}
 use Rattle.pv_cli_line.specs.declared.command.LineFault.TheVariants as line
 use Rattle.pv_cli_line.specs.declared.fault.Fault.{Fault}
-use Rattle.pv_cli_line.specs.declared.fault.Fault.TheVariants.{Command, Line, Words}
+use Rattle.pv_cli_line.specs.declared.fault.Fault.TheVariants.{Command, Line, Words, Write}
 
 -- help and the version are what was asked for; else the words are wrong
 abbrev pub kind_status : ErrorKind → ℕ
@@ -24,6 +24,7 @@ abbrev pub status_of : Fault → ℕ
 status_of (Command fault) = command_status fault
 status_of (Line fault) = line_status fault
 status_of Words = 2
+status_of Write = 4
 
 -- what a run ends with
 abbrev pub status_of_result : Result (Unit {0}) Fault → ℕ

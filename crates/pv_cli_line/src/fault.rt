@@ -21,6 +21,9 @@ pub enum Fault {
     /// The words of the command line are no text.
     #[error("pvsim: the command line is not UTF-8\n")]
     Words,
+    /// Help or the version was asked for, and could not be written.
+    #[error("pvsim: write\n")]
+    Write,
 }
 
 // The status of what the parser answers in place of matches.
@@ -44,6 +47,7 @@ impl Fault {
             Fault::Line(LineFault::Parser(error)) => parser_status(error.kind()),
             Fault::Line(LineFault::Memory) => 3,
             Fault::Line(LineFault::Number) | Fault::Words => 2,
+            Fault::Write => 4,
         }
     }
 }

@@ -77,6 +77,21 @@ fn run_parser<'a>(alloc: Global) -> Result<Parser<'a>, AllocError>
         ))
 }
 
+// The parser of `audit`.
+fn audit_parser<'a>(alloc: Global) -> Result<Parser<'a>, AllocError>
+    ensures { IfOk result (IsParserOf audit_app) }
+{
+    Parser::new(alloc, "audit")
+        .about("Run a schedule on an image, and tell which files are sealed")
+        .arg(text(alloc, "IMAGE", "an image"))?
+        .arg(text(
+            alloc,
+            "SCHEDULE",
+            "a schedule: which processes take their turns",
+        ))?
+        .arg(optional_text(alloc, "PATH", "a file of the image; without it, all files"))
+}
+
 // The parser of `migrate`.
 fn migrate_parser<'a>(alloc: Global) -> Result<Parser<'a>, AllocError>
     ensures { IfOk result (IsParserOf migrate_app) }
@@ -91,21 +106,6 @@ fn migrate_parser<'a>(alloc: Global) -> Result<Parser<'a>, AllocError>
             "INODES",
             "its inodes, at most 4096, and no fewer than before",
         ))
-}
-
-// The parser of `audit`.
-fn audit_parser<'a>(alloc: Global) -> Result<Parser<'a>, AllocError>
-    ensures { IfOk result (IsParserOf audit_app) }
-{
-    Parser::new(alloc, "audit")
-        .about("Run a schedule on an image, and tell which files are sealed")
-        .arg(text(alloc, "IMAGE", "an image"))?
-        .arg(text(
-            alloc,
-            "SCHEDULE",
-            "a schedule: which processes take their turns",
-        ))?
-        .arg(optional_text(alloc, "PATH", "a file of the image; without it, all files"))
 }
 
 // The parser of the program, with its command on bundles.
@@ -130,18 +130,18 @@ fn image_parser<'a>(alloc: Global) -> Result<Parser<'a>, AllocError>
         .subcommand(list_parser(alloc)?)
 }
 
-// The same, with the commands that run an image and migrate one.
+// The same, with the commands that run an image and audit what is left.
 fn run_image_parser<'a>(alloc: Global) -> Result<Parser<'a>, AllocError>
     ensures { IfOk result (λ parser. app_of parser ≡ run_image_app) }
 {
     image_parser(alloc)?
         .subcommand(run_parser(alloc)?)?
-        .subcommand(migrate_parser(alloc)?)
+        .subcommand(audit_parser(alloc)?)
 }
 
-// The parser of the command line: the same, with the command that audits an image.
+// The parser of the command line: the same, with the command that migrates an image.
 pub(crate) fn parser<'a>(alloc: Global) -> Result<Parser<'a>, AllocError>
     ensures { IfOk result (λ parser. app_of parser ≡ pvsim_app) }
 {
-    run_image_parser(alloc)?.subcommand(audit_parser(alloc)?)
+    run_image_parser(alloc)?.subcommand(migrate_parser(alloc)?)
 }

@@ -2,7 +2,7 @@
 ghost use Rattle.std.specs.Prelude.{◌≡◌, ◌≢◌, map, Err, OnOk, Result};
 ghost use Rattle.pv_cli_commands.specs.Streams.{disk_of};
 ghost use Rattle.pv_cli_line.specs.declared.fault.Fault.{Fault as Written};
-ghost use Rattle.pv_cli_line.specs.Program.{ComesTo, TellsErrorsAlone, TellsOutputAlone};
+ghost use Rattle.pv_cli_line.specs.Program.{ComesTo, TellsErrorsAlone, TellsWhatWasAsked};
 ghost use Rattle.pv_cli_line.specs.Status.{IsStatusOf, status_of};
 
 use crate::command::command_of;
@@ -36,14 +36,15 @@ fn show<W: Sink>(fault: &Fault, sink: &mut W) -> fmt::Result
 }
 
 /// Tells a fault and answers the exit status: on the standard error, but help and the version, which were
-/// asked for, on the standard output. Where these cannot be written or flushed the status is 4.
+/// asked for, on the standard output. Where these cannot be written or flushed the status is 4, and the
+/// standard error says so.
 pub fn tell<F: Drop, I: Drop, O: Sink + Drop, E: Sink + Drop>(
     fault: &Fault,
     system: &mut HostSystem<F, I, O, E>,
 ) -> u8
     ensures status { IsStatusOf (Err fault.now) result }
     ensures errors { status_of fault.now ≢ 0 → TellsErrorsAlone system.old system.new }
-    ensures output { status_of fault.now ≡ 0 → TellsOutputAlone system.old system.new }
+    ensures output { status_of fault.now ≡ 0 → TellsWhatWasAsked result system.old system.new }
     ensures flushed { O.buffered system.old.output ≡ 0 → result ≢ 4 → O.buffered system.new.output ≡ 0 }
 {
     let status = fault.status();
@@ -53,7 +54,10 @@ pub fn tell<F: Drop, I: Drop, O: Sink + Drop, E: Sink + Drop>(
     }
     match show(fault, &mut system.output) {
         Ok(()) => status,
-        Err(_) => 4,
+        Err(_) => {
+            let _written = show(&Fault::Write, &mut system.errors);
+            Fault::Write.status()
+        }
     }
 }
 
@@ -69,7 +73,7 @@ pub fn run<S: AsStr, F: Files + Drop, I: Source + Drop, O: Sink + Drop, E: Sink 
     system: &mut HostSystem<F, I, O, E>,
 ) -> u8
     ensures comes { (outcome : Result (Unit {0}) Written) × IsStatusOf outcome result
-        × ComesTo (disk_of F.Files F.Reader.Source F.Writer.Sink) I.Source O.Sink (map S.text words.now) system.old system.new outcome }
+        × ComesTo (disk_of F.Files F.Reader.Source F.Writer.Sink) I.Source O.Sink (map S.text words.now) system.old system.new result outcome }
     ensures flushed { O.buffered system.old.output ≡ 0 → result ≢ 4 → O.buffered system.new.output ≡ 0 }
 {
     let command = match command_of(alloc, words) {

@@ -13,7 +13,8 @@ pub fn only_own_files_go()
     ensures { OnlyOwnFilesGo }
 {}
 
-/// A step that does not end its process leaves each other live process wholly as it was, its parent too.
+/// Noninterference, of what steps leave: a step that does not end its process leaves each other live process wholly as it was,
+/// its parent too.
 pub fn others_keep_all()
     ensures { OthersKeepAll }
 {}

@@ -1,4 +1,4 @@
-//! Laws of restraints that do not loosen.
+//! Laws of restraints that do not loosen: privilege is monotone in one program image.
 
 ghost use Rattle.pv_laws_access.specs.Growth.{WholeIsInOrder, GrowsNever, OthersKeepTheirs, OthersKeepTheirFiles, ChildHasTheSame, ExecveLeaves, RunsWithoutGrowth};
 
@@ -7,15 +7,15 @@ pub fn whole_is_in_order()
     ensures { WholeIsInOrder }
 {}
 
-/// In a step that begins no new program image and after which its process is live, the process loses no restraint: its
-/// promises and execpromises stay set and gain no keyword, its table stays in force, no entry goes or gains a permission, the
-/// lock stays, and under the lock the table stays as it is.
+/// Monotonicity of privilege: in a step that begins no new program image and after which its process is live, the process loses
+/// no restraint: its promises and execpromises stay set and gain no keyword, its table stays in force, no entry goes or gains a
+/// permission, the lock stays, and under the lock the table stays as it is.
 pub fn grows_never()
     ensures { GrowsNever }
 {}
 
-/// A step of another process leaves a live process live, and all of it as it was but its parent: its restraints and
-/// descriptors, its directory, its program, line, registers and buffer.
+/// Noninterference, of what steps leave: a step of another process leaves a live process live, and all of it as it was but its
+/// parent: its restraints and descriptors, its directory, its program, line, registers and buffer.
 pub fn others_keep_theirs()
     ensures { OthersKeepTheirs }
 {}

@@ -1,4 +1,4 @@
-//! Laws of what justifies each touch of a step.
+//! Laws of what justifies each touch of a step: complete mediation.
 
 ghost use Rattle.pv_laws_access.specs.Justice.{EntriesAreJustified, FilesAreJustified, TellingIsJustified, GainsAreJustified, ReadsAreJustified, TouchesAreJustified};
 
@@ -32,7 +32,7 @@ pub fn reads_are_justified()
     ensures { ReadsAreJustified }
 {}
 
-/// Each touch of each step is justified, in every state of a run.
+/// Complete mediation: each touch of each step is justified, in every state of a run.
 pub fn touches_are_justified()
     ensures { TouchesAreJustified }
 {}

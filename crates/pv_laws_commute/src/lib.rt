@@ -3,7 +3,7 @@
 //! Each function has an empty body: its contract is the law, which the check proves. The statements stand in `specs/`, one
 //! file for a subject:
 //!
-//! - `beside`: what of a process the steps of others do not depend on.
+//! - `beside`: noninterference: what of a process the steps of others do not depend on.
 //! - `commuting`: steps of different processes in either order.
 //! - `asking`: steps that ask the tree, beside steps that leave it.
 //! - `offsets`: what of open files steps do not depend on, and steps that move where one stands.

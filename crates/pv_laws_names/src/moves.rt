@@ -1,4 +1,4 @@
-//! Laws of the permissions that steps bring to nodes: unveil(2), rename(2), link(2).
+//! Laws of provenance of names and of the permissions that steps bring to nodes: unveil(2), rename(2), link(2).
 
 ghost use Rattle.pv_laws_names.specs.Moves.{NamesComeByCalls, PermissionsComeByMoves, OwnStepsGiveNothing};
 

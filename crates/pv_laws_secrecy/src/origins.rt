@@ -1,4 +1,4 @@
-//! Laws of what a step leaves to the processes and the files after it.
+//! Laws of provenance: where the processes and the names after a step come from.
 
 ghost use Rattle.pv_laws_secrecy.specs.Origins.{NamesComeByNames, EachHasAnOrigin};
 
@@ -8,8 +8,9 @@ pub fn names_come_by_names()
     ensures { NamesComeByNames }
 {}
 
-/// Each process that is live after a step has its restraints and its descriptors from one that was live before it, itself or
-/// the one whose step it is: it may do no more, or is what an execve leaves of it, and a descriptor that is new is justified.
+/// Provenance: each process that is live after a step has its restraints and its descriptors from one that was live before it,
+/// itself or the one whose step it is: it may do no more, or is what an execve leaves of it, and a descriptor that is new is
+/// justified.
 pub fn each_has_an_origin()
     ensures { EachHasAnOrigin }
 {}

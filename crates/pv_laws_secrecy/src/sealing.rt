@@ -1,13 +1,13 @@
-//! Laws of sealed and frozen files along steps and runs.
+//! Laws of sealed and frozen files along steps and runs: their confidentiality and their integrity.
 
 ghost use Rattle.pv_laws_secrecy.specs.Sealing.{SealedInvariant, FrozenInvariant, ClosedIsHeldOverExec, SealedForEver, FrozenForEver};
 
-/// A step of any process keeps a file that is sealed sealed, and a file.
+/// Confidentiality, step by step: a step of any process keeps a file that is sealed sealed, and a file.
 pub fn sealed_stays()
     ensures { SealedInvariant }
 {}
 
-/// A step of any process keeps a file that is frozen frozen, and its bytes as they are.
+/// Integrity, step by step: a step of any process keeps a file that is frozen frozen, and its bytes as they are.
 pub fn frozen_stays()
     ensures { FrozenInvariant }
 {}
@@ -18,13 +18,13 @@ pub fn closed_is_held_over_exec()
     ensures { ClosedIsHeldOverExec }
 {}
 
-/// From a state where a file is sealed, it is sealed after every run, whoever's steps it has. With other bytes in the file, as
-/// many, the run tells the same text, byte for byte, and what it leaves differs in these bytes alone.
+/// Confidentiality: from a state where a file is sealed, it is sealed after every run, whoever's steps it has. With other bytes in
+/// the file, as many, the run has the same text, byte for byte, and what it leaves differs in these bytes alone.
 pub fn sealed_for_ever()
     ensures { SealedForEver }
 {}
 
-/// From a state where a file is frozen, it is frozen after every run, with the same bytes.
+/// Integrity: from a state where a file is frozen, it is frozen after every run, with the same bytes.
 pub fn frozen_for_ever()
     ensures { FrozenForEver }
 {}

@@ -6,7 +6,7 @@
 //! - `held`: what trim keeps.
 //! - `calls`: what refused, waiting and killed calls leave; process numbers.
 //! - `courses`: how calls go along their walks, and what stops them there.
-//! - `states`: what every state of a run is, and that each call, step and run keeps it.
+//! - `states`: the invariant: what every state of a run is, and that each call, step and run keeps it.
 //! - `steps`: runs joined; what a step's text ignores.
 //!
 //! The lemmas stand in `proofs/`. Laws of trees and walks stand in `pv_laws_trees`.

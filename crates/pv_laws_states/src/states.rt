@@ -1,4 +1,4 @@
-//! Laws of whole states: what every state of a run is.
+//! Laws of whole states: the invariant of every state of a run.
 
 ghost use Rattle.pv_laws_states.specs.States.{FirstIsWhole, CallKeepsWhole, StepKeepsWhole, RunKeepsWhole};
 

@@ -7,7 +7,7 @@ pub fn runs_join()
     ensures { RunsJoin }
 {}
 
-/// The lines of a step stay as they are, whatever the registers and the buffers of other processes have.
+/// Noninterference, of lines: the lines of a step stay as they are, whatever the registers and the buffers of other processes have.
 pub fn ignores_others()
     ensures { IgnoresOthers }
 {}
