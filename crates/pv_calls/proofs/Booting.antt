@@ -1,5 +1,5 @@
 -- The first state of the kernel, and what comes next in a live process.
-use Rattle.std.proofs.Common.{◌≡◌, ◌∙◌, ap, sym, subst, refl, ℕ, zero, suc, true, false, ◌⊎◌, inl, inr, [], ◌∷◌, Option, None, Some, Result, Ok, Err}
+use Rattle.std.proofs.Common.{◌≡◌, ◌∙◌, ◌<◌, ◌≤◌, arith, ap, sym, subst, refl, ℕ, zero, suc, true, false, ◌⊎◌, inl, inr, [], ◌∷◌, Option, None, Some, Result, Ok, Err}
 use Rattle.std.specs.Prelude.{is_some}
 use Rattle.pv_model.specs.declared.fault.ParseFault.{ParseFault}
 use Rattle.pv_model.specs.declared.fault.ParseFault.TheVariants.{Line, Memory as ParseMemory}
@@ -13,13 +13,15 @@ use Rattle.pv_model.specs.RunFault.{of_init}
 use Rattle.pv_model.specs.Start.{and_then, program_in, init_of, booted}
 use Rattle.pv_model.specs.State.{Program, Process, State, first_state, process_at}
 use Rattle.pv_model.specs.Tree.{Tree, Node, directory_node, file_node, link_node}
-use Rattle.pv_calls_state.specs.Changes.{IsRegistered, MovesInside, PassesInside}
+use Rattle.pv_calls_state.specs.Changes.{IsRegistered, MovesInside, PassesInside, StepsInside}
 use Rattle.pv_calls_state.specs.Counts.{processes_of}
 use Rattle.pv_calls_state.proofs.Alone.{passes-same, some-at}
 use Rattle.pv_calls.specs.Kernel.{IsCallable}
 use Rattle.pv_procs.specs.declared.processes.Fetched.{Fetched}
 use Rattle.pv_procs.specs.declared.processes.Fetched.TheVariants.{Gone, Register, Call as AtCall}
 use Rattle.pv_procs.specs.ProcessTable.{ProcessTable, process_in}
+use Rattle.pv_procs.specs.Turns.{AwaitsCall, IsFetched, RegisterNext, context_of}
+use Rattle.pv_script.specs.Context.{is_inside}
 use Rattle.pv_laws_states.specs.States.{IsFirstTree, IsRunning, IsWhole, is_program, is_call}
 use Rattle.pv_laws_states.proofs.BySteps.{IsGoodNext, good-next, first-whole}
 use Rattle.pv_laws_states.proofs.Running.{SameHolds, whole-inside}
@@ -86,6 +88,22 @@ module _ (s t : State) (pid : ℕ) where
   pub passed-tree : (n : ℕ) → PassesInside n pid s t → t.tree ≡ s.tree
   passed-tree zero same = ap (λ (x : State). x.tree) same
   passed-tree (suc n) made = moved-tree (Passes (suc n)) made
+
+-- a call that was fetched may be made
+pub fetched-callable : (s : State) (pid : ℕ) (came : Fetched) → IsWhole s → IsFetched came (process_at s pid) → IsCallable came
+fetched-callable s pid Gone whole is = tt
+fetched-callable s pid Register whole is = tt
+fetched-callable s pid (AtCall call) whole is = callable s pid is.0 (call_of call) whole is.1 is.2
+
+-- at most one instruction, and not none where one comes next, is one
+pub registered-one : (s t : State) (pid n : ℕ) → RegisterNext (process_at s pid) → n ≤ 1 → PassesInside n pid s t → (n < 1 → AwaitsCall (process_at t pid)) → StepsInside s pid t
+registered-one s t pid zero at few same whole =
+    let call : is_inside at.0.program (context_of at.0) ≡ false = whole (omega arith) at.0 (ap (λ x. process_at x pid) same ∙ at.1) in
+    let comes = at.2 in
+    absurd cc
+registered-one s t pid (suc zero) at few made whole =
+    record { me = made.me; lives = made.lives; after = made.after; step = sym (ap next made.step.1) ∙ made.step.2; only = made.only }
+registered-one s t pid (suc (suc n)) at few made whole = absurd (omega arith)
 
 -- ---- the first state
 

@@ -1,6 +1,6 @@
 -- From what a call comes to, by its promises, to what it answers.
 use Rattle.std.proofs.Common.{◌≡◌, ◌∙◌, ap, sym, subst, refl, ℕ, negsuc, Bool, true, false, Option, None, Some, Result, Ok, Err}
-use Rattle.std.specs.Prelude.{IsSome, IfOk, option_map}
+use Rattle.std.specs.Prelude.{IsSome, IfErr, IfOk, option_map}
 use Rattle.pv_model.specs.declared.call.Call.{Call}
 use Rattle.pv_model.specs.declared.errno.Errno.TheVariants.{ENOSYS}
 use Rattle.pv_model.specs.declared.outcome.Cause.TheVariants.{Promise as ByPromise}
@@ -23,6 +23,7 @@ use Rattle.pv_promises.specs.Decision.{unless_missing, decision}
 use Rattle.pv_promises.specs.declared.pledge.Decision.TheVariants.{Allowed, Kill, Refuse}
 use Rattle.pv_calls_plain.specs.declared.answer.Answer.{Answer}
 use Rattle.pv_calls.specs.Calls.{IsCarriedOut, IsBlocked, goes_on}
+use Rattle.pv_calls.specs.Loading.{Loads, LoadsProgram}
 use Rattle.pv_calls_plain.specs.declared.answer.Refused.{Refused}
 use Rattle.pv_calls_plain.specs.Rows.{answered, IsAnswered}
 use Rattle.pv_laws_states.specs.States.{IsWhole}
@@ -174,6 +175,12 @@ pub answer-allowed-if : (s : State) (pid : ℕ) (call : Call) (me : Process) →
     → IfOk r (λ a. IsCarriedOut s pid call new a) → IfOk r (λ a. answer program_of s pid call ≡ answered new a)
 answer-allowed-if s pid call me at new (Ok a) allowed carried = answer-allowed s pid call me at new a allowed carried
 answer-allowed-if s pid call me at new (Err e) allowed carried = tt
+
+pub loads-if : (s : State) (pid : ℕ) (call : Call) (me : Process) → process_at s pid ≡ Some me → (r : Result Answer StepFault) → decision me.promises (needs call) ≡ Allowed
+    → IfErr r (λ _. (p : Process) → process_at s pid ≡ Some p → Loads s p call) → IfErr r (λ _. LoadsProgram s pid call)
+loads-if s pid call me at (Ok a) allowed loads = tt
+loads-if s pid call me at (Err e) allowed loads =
+    record { me = me; lives = at; promised = nothing_missing (is_lenient me.promises) (missing_promise me.promises (needs call)) allowed; loads = loads me at }
 
 pub killed-so : (s : State) (pid : ℕ) (call : Call) (me : Process) → process_at s pid ≡ Some me → (p : Promise) (new : State) → decision me.promises (needs call) ≡ Kill p
     → new ≡ trim (end_process s pid me 6) → answer program_of s pid call ≡ answered new (record { outcome = Killed p; walks = 0 })

@@ -4,5 +4,6 @@ pub mod Booting
 pub mod Carrying
 pub mod Executing
 pub mod Living
+pub mod Loading
 pub mod Performing
 pub mod Waiting

@@ -1,6 +1,7 @@
 //! What a call answers, from its promises on.
-ghost use Rattle.std.specs.Prelude.{◌≡◌, ◌≢◌, ◌≤◌, IfOk, OnErr, IsTrue, IsSome, Some, true, false};
+ghost use Rattle.std.specs.Prelude.{◌≡◌, ◌≢◌, ◌≤◌, IfErr, IfOk, OnErr, IsTrue, IsSome, Some, true, false};
 ghost use Rattle.pv_calls.specs.Calls.{goes_on, is_process_row, is_on_processes, is_descriptor_row, is_on_descriptors, is_path_row, is_on_paths, IsBlocked, is_execve, IsCarriedOut};
+ghost use Rattle.pv_calls.specs.Loading.{Loads, LoadsProgram};
 ghost use Rattle.pv_laws_states.specs.States.{IsWhole, is_call};
 ghost use Rattle.pv_model.specs.declared.call.Call.TheVariants.{Execve};
 ghost use Rattle.pv_model.specs.declared.limits.TheConstants.{NUMBER};
@@ -16,11 +17,11 @@ use pv_model::{CallRef, Cause, Errno, Outcome, Start, StepFault, Text};
 use pv_namei::Lookup;
 use pv_calls_state::Parts;
 use pv_calls_path::links::LinkRoom;
+use pv_calls_path::chdir::chdir;
 use pv_calls_path::execve::{ExecveFault, execve};
 use pv_calls_path::looking::{lstat, readlink, stat};
 use pv_calls_path::names::{link, mkdir, rmdir, symlink, unlink};
 use pv_calls_path::opening::open_at;
-use pv_calls_path::paths::chdir;
 use pv_calls_path::rename::rename;
 use pv_calls_path::unveil::unveil;
 use pv_promises::Decision;
@@ -252,6 +253,7 @@ fn execute<L: Lookup>(
     ensures carried { IfOk result (λ a. IsCarriedOut parts.old pid (Execve path.now) parts.new a) }
     ensures agrees { L.agrees lookup.new (find_entry parts.new.tree) }
     ensures unchanged { OnErr result (parts.new ≡ parts.old) }
+    ensures memory { IfErr result (λ _. (me : Process) → process_at parts.old pid ≡ Some me → Loads parts.old me (Execve path.now)) }
 {
     match execve(alloc, parts, lookup, links, pid, path.as_slice()) {
         Ok(told) => Ok(tell(parts, pid, Ok(told))),
@@ -292,6 +294,7 @@ fn carry_on<L: Lookup>(
     ensures carried { IfOk result (λ a. IsCarriedOut parts.old pid (call_of call.entry) parts.new a) }
     ensures agrees { L.agrees lookup.new (find_entry parts.new.tree) }
     ensures unchanged { OnErr result (parts.new ≡ parts.old) }
+    ensures memory { IfErr result (λ _. (me : Process) → process_at parts.old pid ≡ Some me → Loads parts.old me (call_of call.entry)) }
 {
     if let CallRef::Execve(path) = call {
         return execute(alloc, parts, lookup, links, pid, path);
@@ -311,7 +314,8 @@ fn carry_on<L: Lookup>(
 ///
 /// # Errors
 ///
-/// `NoMemory` where memory was refused; nothing has then changed.
+/// `NoMemory` where memory was refused for the program of an execve(2) that would have loaded one, or have been
+/// `ENOEXEC`; nothing has then changed.
 #[inline(always)]
 pub(crate) fn carry_out<L: Lookup>(
     alloc: Global,
@@ -327,6 +331,7 @@ pub(crate) fn carry_out<L: Lookup>(
     ensures answered { IfOk result (λ a. answer program_of parts.old pid (call_of call.entry) ≡ answered parts.new a) }
     ensures agrees { L.agrees lookup.new (find_entry parts.new.tree) }
     ensures unchanged { OnErr result (parts.new ≡ parts.old) }
+    ensures memory { IfErr result (λ _. LoadsProgram parts.old pid (call_of call.entry)) }
 {
     let Some(record) = parts.live_record(pid) else {
         return Ok(Answer {

@@ -1,21 +1,25 @@
 //! The kernel: the parts of the system, and the calls on them.
-ghost use Rattle.std.specs.Prelude.{◌≡◌, ◌⊎◌, ◌<◌, ◌≤◌, ℕ, IfOk, IfErr, OnErr, IsOk, IsTrue, Ok, Err, Some, length, List, Option};
+ghost use Rattle.std.specs.Prelude.{◌≡◌, ◌⊎◌, ◌<◌, ◌≤◌, ℕ, IfOk, IfErr, OnErr, IsOk, IsSome, IsTrue, Ok, Err, Some, length, List, Option};
 ghost use Rattle.pv_laws_states.specs.States.{IsFirstTree, IsWhole, is_call};
 ghost use Rattle.pv_model.specs.declared.limits.TheConstants.{BUFFER};
 ghost use Rattle.pv_model.specs.Answer.{answer};
 ghost use Rattle.pv_model.specs.CallRef.{call_of};
 ghost use Rattle.pv_model.specs.Grammar.Programs.{program_of};
+ghost use Rattle.pv_model.specs.Sealed.{is_frozen_to, leaks};
 ghost use Rattle.pv_model.specs.Start.{booted};
 ghost use Rattle.pv_model.specs.State.{Process, process_at};
 ghost use Rattle.pv_model.specs.Trace.{buffer_of};
 ghost use Rattle.pv_model.specs.Tree.{find_entry};
+ghost use Rattle.pv_audit.specs.Reasons.{first_of};
 ghost use Rattle.pv_calls.specs.Kernel.{IsCallable};
-ghost use Rattle.pv_calls_state.specs.Changes.{IsRegistered, PassesInside};
-ghost use Rattle.pv_procs.specs.Turns.{AwaitsCall};
+ghost use Rattle.pv_calls.specs.Loading.{LoadsProgram};
+ghost use Rattle.pv_calls_state.specs.Changes.{IsRegistered, PassesInside, StepsInside};
+ghost use Rattle.pv_procs.specs.Turns.{AwaitsCall, IsFetched, RegisterNext};
 
 use crate::carry::carry_out;
+use pv_audit::{frozen_to, leak};
 use pv_namei::CachedLookup;
-use pv_model::{BootFault, CallRef, Outcome, StepFault};
+use pv_model::{BootFault, CallRef, Outcome, StepFault, Why};
 use pv_namei::Lookup;
 use pv_calls_state::Parts;
 use pv_calls_path::links::LinkRoom;
@@ -94,6 +98,24 @@ impl<L: Lookup + Drop> Kernel<L> {
         })
     }
 
+    /// What comes next in a process: nothing where it is not live, an instruction on registers or a jump, or a call, with its
+    /// texts kept: past the last line, an exit. Nothing is made.
+    pub fn fetch<'a>(&self, pid: u32, texts: &'a mut CallTexts) -> Fetched<'a>
+        ensures next { IsFetched result (process_at self.now.state pid) }
+        ensures callable { IsCallable result }
+    {
+        self.parts.processes().fetch(pid, texts)
+    }
+
+    /// Makes the instruction on registers or the jump that comes next in a process. Where `fetch` answers `Register`, one does.
+    pub fn register(&mut self, pid: u32)
+        requires { RegisterNext (process_at self.old.state pid) }
+        ensures made { StepsInside self.old.state pid self.new.state }
+        ensures walks { self.new.walks ≡ self.old.walks }
+    {
+        self.pass(pid, 1);
+    }
+
     /// What comes next in a process: an instruction on registers or a jump, which is made, or a call, with its texts
     /// kept: past the last line, an exit.
     pub fn step_or_fetch<'a>(&mut self, pid: u32, texts: &'a mut CallTexts) -> Fetched<'a>
@@ -120,11 +142,13 @@ impl<L: Lookup + Drop> Kernel<L> {
     ///
     /// # Errors
     ///
-    /// `NoMemory` where memory was refused for the program of an execve(2); nothing has then changed.
+    /// `NoMemory` where memory was refused for the program of an execve(2) that would have loaded one, or have been
+    /// `ENOEXEC`; nothing has then changed.
     pub fn call(&mut self, alloc: Global, pid: u32, call: CallRef<'_>) -> Result<Outcome, StepFault>
         requires { IsTrue (is_call (call_of call)) }
         ensures answered { IfOk result (λ outcome. answer program_of self.old.state pid (call_of call.entry) ≡ record { after = self.new.state; outcome = outcome; walks = self.new.walks }) }
         ensures refused { OnErr result (self.new ≡ self.old) }
+        ensures memory { IfErr result (λ _. LoadsProgram self.old.state pid (call_of call.entry)) }
     {
         let answer = carry_out(
             alloc,
@@ -161,6 +185,24 @@ impl<L: Lookup + Drop> Kernel<L> {
         ensures { result.now.tree ≡ self.now.state.tree }
     {
         self.parts.tree()
+    }
+
+    /// Why a live process is not closed to the file of a node: the first reason, or None where it is closed to it. It takes no
+    /// memory.
+    pub fn leak(&self, pid: u32, node: u16) -> Option<Why>
+        requires { IsSome (process_at self.now.state pid) }
+        ensures { (p : Process) → process_at self.now.state pid ≡ Some p → result ≡ first_of (leaks self.now.state p node) }
+    {
+        leak(&self.parts, pid, node)
+    }
+
+    /// Whether a live process writes the file of a node by no descriptor, and never will, if it is closed to it. It takes no
+    /// memory.
+    pub fn frozen_to(&self, pid: u32, node: u16) -> bool
+        requires { IsSome (process_at self.now.state pid) }
+        ensures { (p : Process) → process_at self.now.state pid ≡ Some p → result ≡ is_frozen_to self.now.state p node }
+    {
+        frozen_to(&self.parts, pid, node)
     }
 
     /// The tree, the open files and the processes: between any two calls their state is one that a run may reach.

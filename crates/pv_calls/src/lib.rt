@@ -6,10 +6,11 @@
 //! state that a run may reach. Between calls the state is such a one, and the lookup agrees with its tree.
 //!
 //! `carry` goes from a call's promise over what it does to what its process is told. A wait that would wait, and an execve, are
-//! asked before their process goes to its next line.
+//! asked before their process goes to its next line. `law` says what want of memory stands in place of.
 #![tactic(auto)]
 
 mod carry;
 pub mod kernel;
+pub mod law;
 
 pub use kernel::Kernel;

@@ -1,20 +1,25 @@
 -- Rows that go on with the node at the end of a walk: chdir(2) and execve(2).
 use Rattle.std.proofs.Common.{◌≡◌, ◌∙◌, ℕ, Bool, true, false, not, Option, None, Some, Result, Err, option_map, refl, ap, subst}
-use Rattle.pv_calls_path.specs.Reached.{IsFound}
+use Rattle.pv_calls_path.specs.Execve.{bytes_to_load}
+use Rattle.pv_calls_path.specs.Reached.{IsFound, IsReached}
+use Rattle.pv_calls_path.proofs.Reaching.{reached_then}
 use Rattle.pv_dirs.specs.Trees.{sort_of}
-use Rattle.pv_model.specs.declared.errno.Errno.TheVariants.{EACCES, ENOEXEC, ENOTDIR}
+use Rattle.pv_model.specs.declared.errno.Errno.TheVariants.{EACCES, ENOENT, ENOEXEC, ENOTDIR}
 use Rattle.pv_model.specs.declared.fault.ParseFault.{ParseFault}
 use Rattle.pv_model.specs.declared.fault.ParseFault.TheVariants.{Line}
 use Rattle.pv_model.specs.declared.fault.What.{What}
+use Rattle.pv_model.specs.declared.follow.Follow.{Follow}
 use Rattle.pv_model.specs.declared.follow.Follow.TheVariants.{Last}
 use Rattle.pv_model.specs.declared.outcome.Cause.TheVariants.{Plain}
+use Rattle.pv_model.specs.declared.perms.Perms.{Perms}
+use Rattle.pv_model.specs.declared.place.Place.{Place}
 use Rattle.pv_model.specs.declared.sort.Kind.{Kind}
 use Rattle.pv_model.specs.declared.sort.Kind.TheVariants.{Executable}
 use Rattle.pv_model.specs.Attempt.{Attempt, done, refused, after_walks, demand, refuse_if, ◌>>=◌, ◌>>◌}
 use Rattle.pv_model.specs.Bytes.{Bytes}
 use Rattle.pv_model.specs.Calls.Paths.{chdir}
 use Rattle.pv_model.specs.Calls.Processes.{execve, executable_bytes, with_program}
-use Rattle.pv_model.specs.Effect.{Effect, answers, bytes_of, returns}
+use Rattle.pv_model.specs.Effect.{Effect, answers, bytes_of, node_of, returns}
 use Rattle.pv_model.specs.Grammar.Programs.{program_of}
 use Rattle.pv_model.specs.Perms.{permission_r, permission_x}
 use Rattle.pv_model.specs.State.{Process, Program, State, with_process}
@@ -22,6 +27,13 @@ use Rattle.pv_model.specs.Tree.{Node, directory_node, file_node, link_node, is_d
 use Rattle.pv_calls_state.specs.Changes.{with_directory}
 use Rattle.pv_script.specs.Reading.{RefusesProgram}
 use Rattle.pv_calls_state.proofs.Attempts.{given, passed, refused_before, refused_first}
+
+-- a walk reaches a place, and a node is there
+pub found_there : (s : State) (me : Process) (start : ℕ) (follow : Follow) (path : Bytes) (needed : Perms) (place : Place) (n : ℕ)
+    → IsReached s me start follow path needed place → node_of place ≡ Some n → IsFound s me start follow path needed n
+found_there s me start follow path needed place n is there rest =
+    reached_then s me start follow path needed place is (λ place. demand ENOENT (node_of place) >>= rest)
+    ∙ ap (after_walks 1) (given (demand ENOENT (node_of place)) n rest (ap (demand ENOENT) there))
 
 module _ (s : State) (pid : ℕ) (me : Process) (path : Bytes) (n : ℕ) (found : IsFound s me me.directory Last path permission_r n) where
   -- what chdir does with the node that it finds
@@ -55,6 +67,11 @@ own_bytes (Some (directory_node entries)) k is executable = cc
 own_bytes (Some (file_node false bytes)) k is executable = cc
 own_bytes (Some (file_node true bytes)) k is executable = refl
 own_bytes (Some (link_node text)) k is executable = cc
+
+-- an execve that reaches an executable file has its bytes to load
+pub leads_to : (s : State) (me : Process) (path : Bytes) (place : Place) (n : ℕ) (bytes : Bytes) → IsReached s me me.directory Last path permission_x place → node_of place ≡ Some n
+    → executable_bytes (node_at s.tree n) ≡ Some bytes → bytes_to_load s me path ≡ done 1 bytes
+leads_to s me path place n bytes is there has = rw (is.walked, is.judged, there, has) refl
 
 -- a fault of a line is a program's, so there is none
 pub unspelled : (fault : ParseFault) (line : ℕ) (what : What) (read : Result Program ParseFault) → fault ≡ Line line what → RefusesProgram fault read → read ≡ Err (Line line what)

@@ -2,16 +2,13 @@
 ghost use Rattle.std.specs.Prelude.{◌≡◌, IsSome, IsTrue, OnErr, Some};
 ghost use Rattle.pv_laws_states.specs.States.{IsWhole, is_text};
 ghost use Rattle.pv_model.specs.declared.outcome.Cause.TheVariants.{Plain};
-ghost use Rattle.pv_model.specs.Calls.Processes.{execve};
-ghost use Rattle.pv_model.specs.Grammar.Programs.{program_of};
 ghost use Rattle.pv_model.specs.State.{Process, process_at};
 ghost use Rattle.pv_model.specs.Tree.{find_entry};
-ghost use Rattle.pv_calls_state.specs.Attempts.{trimmed};
 ghost use Rattle.pv_calls_path.specs.Execve.{Executes};
 
 use crate::links::LinkRoom;
 use crate::programs::read_program;
-use crate::reach::{Walk, reach_node};
+use crate::reach::{Walk, reach_found};
 use pv_model::{Errno, Follow, ParseFault, Perms, Kind};
 use pv_namei::Lookup;
 use pv_calls_state::Parts;
@@ -39,8 +36,8 @@ fn refused(errno: Errno) -> ExecveFault
 /// # Errors
 ///
 /// An error of the walk, then of its judgement; `ENOENT` where nothing is there, `EACCES` where no executable file is,
-/// and `ENOEXEC` where its bytes are no program. `Memory` where memory was refused for the program; nothing has then
-/// changed.
+/// and `ENOEXEC` where its bytes are no program. `Memory`, in place of an answer or of `ENOEXEC`, where memory was refused
+/// for the program; nothing has then changed.
 pub fn execve<L: Lookup>(
     alloc: Global,
     parts: &mut Parts,
@@ -53,7 +50,7 @@ pub fn execve<L: Lookup>(
     requires live { IsSome (process_at parts.old pid) }
     requires text { IsTrue (is_text path.now) }
     requires agrees { L.agrees lookup.old (find_entry parts.old.tree) }
-    ensures performed { (me : Process) → process_at parts.old pid ≡ Some me → Executes (trimmed (execve parts.old pid me program_of path.now)) parts.new result }
+    ensures performed { (me : Process) → process_at parts.old pid ≡ Some me → Executes parts.old pid me path.now parts.new result }
     ensures unchanged { OnErr result (parts.new ≡ parts.old) }
     ensures agrees { L.agrees lookup.new (find_entry parts.new.tree) }
 {
@@ -62,8 +59,8 @@ pub fn execve<L: Lookup>(
         path,
         needed: Perms::X,
     };
-    let node = match reach_node(parts, lookup, pid, walk, &mut links.first) {
-        Ok(node) => node,
+    let node = match reach_found(parts, lookup, pid, walk, &mut links.first) {
+        Ok(found) => found.node,
         Err(why) => return Err(ExecveFault::Refused(why)),
     };
     if parts.tree().kind(node) != Kind::Executable {

@@ -1,16 +1,16 @@
 //! The system calls of the calls that walk a path: the walk, the judgement at its end, and what the call does there.
 //!
 //! `reach` walks and judges, and `programs` says which program a file spells. `opening` has open(2) and openat(2),
-//! `looking` the calls that tell what is there, `names` and `rename` those that change names, `paths` chdir(2), `unveil`
+//! `looking` the calls that tell what is there, `names` and `rename` those that change names, `chdir` chdir(2), `unveil`
 //! unveil(2) and `execve` execve(2). The places after links stand in a `LinkRoom`, which the caller lends.
 #![tactic(auto)]
 
 pub mod links;
+pub mod chdir;
 pub mod execve;
 pub mod looking;
 pub mod names;
 pub mod opening;
-pub mod paths;
 pub mod programs;
 mod reach;
 pub mod rename;

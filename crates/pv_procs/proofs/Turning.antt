@@ -1,5 +1,5 @@
 -- The machine of a live process turns, on the places.
-use Rattle.std.proofs.Common.{◌≡◌, ℕ, zero, suc, ◌<◌, ◌==◌, cond, position, true, false, List, [], ◌∷◌, length, None, Some, IsSome, is_some, refl, sym, subst, ap, ◌∙◌, arith}
+use Rattle.std.proofs.Common.{◌≡◌, ℕ, zero, suc, ◌<◌, ◌==◌, cond, position, true, false, List, [], ◌∷◌, length, Option, None, Some, IsSome, is_some, option_map, refl, sym, subst, ap, ◌∙◌, arith}
 use Rattle.std.proofs.Math.ListN.{get_or, set}
 use Rattle.std.proofs.lemmas.Cmp.{nat_cmp_total}
 use Rattle.std.proofs.lemmas.List.{set-get_or}
@@ -10,14 +10,16 @@ use Rattle.std.specs.Ordering.{is_eq, nat_cmp}
 use Rattle.pv_model.specs.declared.call_ref.CallRef.{CallRef}
 use Rattle.pv_model.specs.CallRef.{call_of}
 use Rattle.pv_model.specs.Program.{calls_for, next}
-use Rattle.pv_model.specs.State.{Process, live, live_process}
+use Rattle.pv_model.specs.State.{Process, Program, live, live_process}
 use Rattle.pv_script.specs.Context.{Context, in_context, is_inside}
 use Rattle.pv_script.specs.Passing.{Passes}
 use Rattle.pv_procs.specs.declared.slot.ProcessSlot.{ProcessSlot}
+use Rattle.pv_procs.specs.declared.record.ProcessRecord.{ProcessRecord}
 use Rattle.pv_procs.specs.declared.shared.Shared.{Shared}
 use Rattle.pv_procs.specs.Slots.{IsKept, process_of, ascends, program_at, table_of}
 use Rattle.pv_procs.specs.ProcessTable.{ProcessTable, process_in, with_process, update, update_live}
-use Rattle.pv_procs.specs.Turns.{AwaitsCall, CallsNext, Moves, PassesIn, context_of}
+use Rattle.pv_procs.specs.Parts.{record_of}
+use Rattle.pv_procs.specs.Turns.{AwaitsCall, CallsNext, Moves, PassesIn, RegisterNext, context_of}
 use Rattle.pv_procs.proofs.Finding.{IsAt, found-at, living, status-at, process-at, changed-at}
 use Rattle.pv_procs.proofs.Ends.{program-within}
 
@@ -103,3 +105,37 @@ module _ (slots : List ProcessSlot) (programs : List Shared) (last : ℕ) (ps : 
   pub passed : (n : ℕ) → Passes n me (in_context me me.program m) → PassesIn n pid ps (table_of (set slots k (record slot { «record» = record slot.record { context = m } })) programs last)
   passed zero same = unchanged (ap context_of same)
   passed (suc n) steps = moved (Passes (suc n)) steps
+
+-- ---- what comes next, by a process's record and its program
+
+some-is : {X : Type 0} {x y : X} → Some x ≡ Some y → x ≡ y
+some-is {X} {x} {y} is = cc is
+
+pub gone-by : (o : Option Process) → option_map record_of o ≡ None → o ≡ None
+gone-by None is = refl
+gone-by (Some me) is = absurd cc
+
+pub lives-by : (o : Option Process) (r : ProcessRecord) → option_map record_of o ≡ Some r → IsSome o
+lives-by None r is = absurd cc
+lives-by (Some p) r is = refl
+
+module _ (r : ProcessRecord) (program : Program) where
+  pub fetched-call : (o : Option Process) → option_map record_of o ≡ Some r → option_map (λ (me : Process). me.program) o ≡ Some program → (call : CallRef)
+      → ((p : Process) → next (in_context p program r.context) ≡ calls_for (call_of call)) → CallsNext call o
+  fetched-call None is own call comes = absurd cc
+  fetched-call (Some me) is own call comes =
+      let context : context_of me ≡ r.context = ap (λ (x : ProcessRecord). x.context) (some-is is) in
+      let instructions : me.program ≡ program = some-is own in (
+        me,
+        refl,
+        subst (λ (i : Program). next (in_context me i (context_of me)) ≡ calls_for (call_of call)) (sym instructions)
+            (subst (λ (m : Context). next (in_context me program m) ≡ calls_for (call_of call)) (sym context) (comes me)),
+      )
+
+  pub fetched-register : (o : Option Process) → option_map record_of o ≡ Some r → option_map (λ (me : Process). me.program) o ≡ Some program
+      → is_inside program r.context ≡ true → RegisterNext o
+  fetched-register None is own comes = absurd cc
+  fetched-register (Some me) is own comes =
+      let context : context_of me ≡ r.context = ap (λ (x : ProcessRecord). x.context) (some-is is) in
+      let instructions : me.program ≡ program = some-is own in
+      (me, refl, subst (λ (i : Program). is_inside i (context_of me) ≡ true) (sym instructions) (subst (λ (m : Context). is_inside program m ≡ true) (sym context) comes))

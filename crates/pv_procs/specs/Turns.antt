@@ -1,5 +1,5 @@
 -- What comes next in a process.
-use Rattle.std.specs.Prelude.{◌≡◌, ℕ, zero, suc, false, Option, None, Some}
+use Rattle.std.specs.Prelude.{◌≡◌, ℕ, zero, suc, true, false, Option, None, Some}
 use Rattle.pv_model.specs.declared.call_ref.CallRef.{CallRef}
 use Rattle.pv_model.specs.CallRef.{call_of}
 use Rattle.pv_model.specs.Program.{inside, calls_for, next}
@@ -20,6 +20,16 @@ CallsNext call lives = (me : Process) × (lives ≡ Some me) × (next me ≡ cal
 -- whether a process that is live has a call next
 abbrev pub AwaitsCall : Option Process → Type 0
 AwaitsCall lives = (me : Process) → lives ≡ Some me → is_inside me.program (context_of me) ≡ false
+
+-- a process is live, and an instruction on registers or a jump comes next in it
+abbrev pub RegisterNext : Option Process → Type 0
+RegisterNext lives = (me : Process) × (lives ≡ Some me) × (is_inside me.program (context_of me) ≡ true)
+
+-- what comes next in a process, or that it is not live
+abbrev pub IsFetched : Fetched → Option Process → Type 0
+IsFetched Gone lives = lives ≡ None
+IsFetched Register lives = RegisterNext lives
+IsFetched (Call call) lives = CallsNext call lives
 
 -- a live process alone changed, to one that stands to it in this relation
 pub record Moves (by : Process → Process → Type 0) (pid : ℕ) (old new : ProcessTable) : Type 0 where

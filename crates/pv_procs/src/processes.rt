@@ -78,7 +78,7 @@ impl Processes {
     ghost use Rattle.pv_procs.specs.Parts.{record_of};
     ghost use Rattle.pv_procs.specs.ProcessTable.{IsProcessTable, state_with, process_in, with_process, update, first_processes, after_inside};
     ghost use Rattle.pv_procs.specs.Reaping.{waited};
-    ghost use Rattle.pv_procs.specs.Turns.{AwaitsCall, PassesIn, Registered};
+    ghost use Rattle.pv_procs.specs.Turns.{AwaitsCall, IsFetched, PassesIn, Registered};
 
     /// Process 1 alone, with its program, before its first step.
     ///
@@ -258,6 +258,20 @@ impl Processes {
         let k = live_index(&self.slots, pid);
         let slot = &self.slots[k];
         &self.programs[slot.program].program
+    }
+
+    /// What comes next in a process: nothing where it is not live, an instruction on registers or a jump, or a call, with its
+    /// texts kept: past the last line, an exit. Nothing is made.
+    pub fn fetch<'a>(&self, pid: u32, texts: &'a mut CallTexts) -> Fetched<'a>
+        ensures { IsFetched result (process_in self.now pid) }
+    {
+        match self.live_record(pid) {
+            Some(record) => match record.context.fetch(self.program(pid), texts) {
+                Some(call) => Fetched::Call(call),
+                None => Fetched::Register,
+            },
+            None => Fetched::Gone,
+        }
     }
 
     /// What comes next in a process: an instruction on registers or a jump, which is made, or a call, with its texts

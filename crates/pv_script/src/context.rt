@@ -156,6 +156,20 @@ impl Context {
         self.buffer.as_slice()
     }
 
+    /// The line that comes next, counted from 1: at most the one past the last.
+    pub fn line(&self) -> u16
+        ensures { result ≡ self.now.line }
+    {
+        self.line
+    }
+
+    /// The eight registers, from r0 on.
+    pub fn registers(&self) -> [i32; REGISTERS]
+        ensures { result ≡ self.now.registers }
+    {
+        self.registers
+    }
+
     /// Goes on to the next line, at most to the one after the last.
     pub fn advance(&mut self, program: &Program)
         ensures { Changes at_next_line program.now self.old self.new }
@@ -342,21 +356,33 @@ impl Context {
         }
     }
 
-    /// The call that comes next, with its texts kept: past the last line, an exit. Where an instruction on registers or a
-    /// jump comes next, it is made, and the answer is None.
+    /// The call that comes next, with its texts kept: past the last line, an exit. It is None where an instruction on
+    /// registers or a jump comes next. Nothing is made.
+    #[inline]
+    pub fn fetch<'a>(&self, program: &Program, texts: &'a mut CallTexts) -> Option<CallRef<'a>>
+        ensures { IsNext program.now self.now result }
+    {
+        match program.at(self.line) {
+            Some(instruction) if is_on_registers(instruction) => None,
+            Some(instruction) => Some(self.call(instruction, texts)),
+            None => Some(CallRef::Exit(0)),
+        }
+    }
+
+    /// The call that comes next, as `fetch` gives it. Where an instruction on registers or a jump comes next, it is made, and
+    /// the answer is None.
     pub fn step_or_fetch<'a>(&mut self, program: &Program, texts: &'a mut CallTexts) -> Option<CallRef<'a>>
         ensures call { IsNext program.now self.old result }
         ensures kept { OnSome result (self.new ≡ self.old) }
         ensures made { IfNone result ((p : Process) → next (in_context p program.now self.old) ≡ inside (in_context p program.now self.new)) }
     {
-        match program.at(self.line) {
-            Some(instruction) if is_on_registers(instruction) => {
+        match self.fetch(program, texts) {
+            Some(call) => Some(call),
+            None => {
                 // By `pass`, so that `make` has one caller, and is a part of its loop.
                 self.pass(program, 1);
                 None
             }
-            Some(instruction) => Some(self.call(instruction, texts)),
-            None => Some(CallRef::Exit(0)),
         }
     }
 

@@ -8,7 +8,7 @@ use Rattle.pv_model.specs.Answer.{at_next_line}
 use Rattle.pv_model.specs.Attempt.{refused}
 use Rattle.pv_model.specs.State.{with_process}
 use Rattle.pv_laws_states.proofs.Processes.{update-is}
-use Rattle.pv_calls.proofs.Carrying.{answer-gone, answer-allowed-if, answer-refused, killed-so, next-live, decided, find-end, told-tree, live-of, gone-of}
+use Rattle.pv_calls.proofs.Carrying.{answer-gone, answer-allowed-if, answer-refused, killed-so, loads-if, next-live, decided, find-end, told-tree, live-of, gone-of}
 use Rattle.pv_calls.proofs.carry.carry_out.Goals as goal
 
 pub returns-in_default-clause-answered : goal.returns-in_default-clause-answered
@@ -27,6 +27,13 @@ returns-in-Allowed-clause-answered g c =
     let live = live-of c.args.parts.now c.args.pid c.in-Some.«record».now has in
     answer-allowed-if c.args.parts.now c.args.pid (call_of c.args.call) live.0 live.1 c.carry_on.new.parts c.carry_on.result
     (decided c.args.parts.now c.args.pid c.in-Some.«record».now (call_of c.args.call) c.decide.result has c.decide.ensures live.0 live.1 ∙ c.in-Allowed.is) c.carry_on.ensures.carried
+
+pub returns-in-Allowed-clause-memory : goal.returns-in-Allowed-clause-memory
+returns-in-Allowed-clause-memory g c =
+    let has = c.live_record.ensures ∙ ap option_copied c.in-Some.is in
+    let live = live-of c.args.parts.now c.args.pid c.in-Some.«record».now has in
+    loads-if c.args.parts.now c.args.pid (call_of c.args.call) live.0 live.1 c.carry_on.result
+    (decided c.args.parts.now c.args.pid c.in-Some.«record».now (call_of c.args.call) c.decide.result has c.decide.ensures live.0 live.1 ∙ c.in-Allowed.is) c.carry_on.ensures.memory
 
 pub returns-in-Kill-clause-answered : goal.returns-in-Kill-clause-answered
 returns-in-Kill-clause-answered g c =

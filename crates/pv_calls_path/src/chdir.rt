@@ -1,4 +1,4 @@
-//! The call that walks to the working directory: chdir(2).
+//! The call that changes the working directory along a path: chdir(2).
 ghost use Rattle.std.specs.Prelude.{◌≡◌, ◌≤◌, IfOk, IsSome, IsTrue, OnErr, Some};
 ghost use Rattle.pv_laws_states.specs.States.{IsWhole, is_text};
 ghost use Rattle.pv_model.specs.declared.limits.TheConstants.{NUMBER};

@@ -9,7 +9,7 @@ use Rattle.pv_model.specs.Tree.{find_entry, is_directory_at}
 use Rattle.pv_calls_path.proofs.Naming.{alike_update}
 use Rattle.pv_calls_path.proofs.NodeCalls.{chdir_refused, chdir_goes}
 use Rattle.pv_calls_path.proofs.UnveilCalls.{leaves}
-use Rattle.pv_calls_path.proofs.paths.chdir.Goals as goal
+use Rattle.pv_calls_path.proofs.chdir.chdir.Goals as goal
 
 pub returns-in_err-node-clause-performed : goal.returns-in_err-node-clause-performed
 returns-in_err-node-clause-performed g c =

@@ -1,0 +1,13 @@
+//! A law of the calls.
+ghost use Rattle.std.specs.Prelude.{ℕ};
+ghost use Rattle.pv_calls.specs.Loading.{IsOfLoading, LoadsProgram};
+ghost use Rattle.pv_model.specs.declared.call.Call.{Call};
+ghost use Rattle.pv_model.specs.Answer.{answer};
+ghost use Rattle.pv_model.specs.Grammar.Programs.{program_of};
+ghost use Rattle.pv_model.specs.State.{State};
+
+/// In each state, a call that has a program to load answers 0, or `ENOEXEC` where the file's bytes are no program. So want
+/// of memory stands in place of these two alone, execve(2).
+pub fn loading_answers()
+    ensures { (s : State) (pid : ℕ) (call : Call) → LoadsProgram s pid call → IsOfLoading (answer program_of s pid call).outcome }
+{}
