@@ -11,6 +11,7 @@ use Rattle.pv_laws_worked.specs.Mounts
 use Rattle.pv_laws_worked.specs.Openat
 use Rattle.pv_laws_worked.specs.Processes
 use Rattle.pv_laws_worked.specs.Promises
+use Rattle.pv_laws_worked.specs.Questions
 use Rattle.pv_laws_worked.specs.Rooms
 use Rattle.pv_laws_worked.specs.Starts
 use Rattle.pv_laws_worked.specs.Texts
@@ -186,6 +187,14 @@ pub record AllPromises : Type 0 where
   pub rename_without_promise : Stated Promises.rename_without_promise
   pub create_without_promise : Stated Promises.create_without_promise
 
+pub record AllQuestions : Type 0 where
+  pub each_is_told : Stated Questions.each_is_told
+  pub places_are_reached : Stated Questions.places_are_reached
+  pub removed_is_reached : Stated Questions.removed_is_reached
+  pub refusals_are_explained : Stated Questions.refusals_are_explained
+  pub stints_ask : Stated Questions.stints_ask
+  pub turns_are_taken : Stated Questions.turns_are_taken
+
 pub record AllRooms : Type 0 where
   pub ten_blocks : Stated Rooms.ten_blocks
   pub eleven_blocks : Stated Rooms.eleven_blocks
@@ -257,6 +266,7 @@ pub record AllWorked : Type 0 where
   pub openat : AllOpenat
   pub processes : AllProcesses
   pub promises : AllPromises
+  pub questions : AllQuestions
   pub rooms : AllRooms
   pub starts : AllStarts
   pub texts : AllTexts

@@ -12,6 +12,7 @@ pub mod Mounts
 pub mod Openat
 pub mod Processes
 pub mod Promises
+pub mod Questions
 pub mod Rooms
 pub mod Starts
 pub mod Texts

@@ -11,6 +11,7 @@ use Rattle.pv_laws_worked.specs.Mounts
 use Rattle.pv_laws_worked.specs.Openat
 use Rattle.pv_laws_worked.specs.Processes
 use Rattle.pv_laws_worked.specs.Promises
+use Rattle.pv_laws_worked.specs.Questions
 use Rattle.pv_laws_worked.specs.Rooms
 use Rattle.pv_laws_worked.specs.Starts
 use Rattle.pv_laws_worked.specs.Texts
@@ -184,6 +185,14 @@ returns c = record {
     killed_and_waited = Promises.killed_and_waited;
     rename_without_promise = Promises.rename_without_promise;
     create_without_promise = Promises.create_without_promise;
+  };
+  questions = record {
+    each_is_told = Questions.each_is_told;
+    places_are_reached = Questions.places_are_reached;
+    removed_is_reached = Questions.removed_is_reached;
+    refusals_are_explained = Questions.refusals_are_explained;
+    stints_ask = Questions.stints_ask;
+    turns_are_taken = Questions.turns_are_taken;
   };
   rooms = record {
     ten_blocks = Rooms.ten_blocks;

@@ -1,0 +1,11 @@
+-- Answers to questions of a state or of a run, line by line.
+pub mod Explain
+pub mod Levels
+pub mod Lines
+pub mod Needs
+pub mod Nodes
+pub mod OnLiterals
+pub mod Reach
+pub mod ProcessRecord
+pub mod Settings
+pub mod Turns
