@@ -1,13 +1,15 @@
 # pvsim: a teaching kernel with OpenBSD's pledge and unveil.
 #
-#   make          the proved program at bin/pvsim
+#   make          the proved program at bin/pvsim: proves it and what it stands on, side by side, and nothing else
 #   make demo     the main job at once, before any proof
 #   make try FILE=examples/held.bundle       any bundle, before any proof
 #   make try SOURCE=examples/sources/held    any text that tools/bundle makes a bundle of
 #   make examples every bundle of examples/ and cases/, its trace compared, before any proof
+#   make images   the proved program on images byte for byte, and on every change of one byte of an image
 #   make refusals the proved program with each allocation, opening, read and write refused in turn
-#   make test     the gate: every proof from nothing, the tests, the program, the wrong bodies, the examples, the refusals
-#   make wrong    the wrong bodies alone, with further ones that the gate leaves out, of every crate, or make wrong CRATE=pv_tree of one
+#   make test     the gate: every proof from nothing, the tests, the program, the wrong bodies, the examples, images, refusals (docs/GATE.md)
+#   make wrong    the wrong bodies alone, with further ones that the gate leaves out, of every crate, or make wrong CRATE=pv_tree of one; then
+#                 the same checks with the right bodies, none of which may be refused
 #   make check    every crate, over what earlier checks kept
 #   make bench    proves and runs the benchmark, and prints times
 #   make speed    times the proved program on the workloads of docs/SPEED.md, or make speed OTHER=program beside another
@@ -17,16 +19,14 @@
 PREFIX ?= /usr/local
 MANDIR ?= $(PREFIX)/share/man
 
-.PHONY: all demo try examples refusals test wrong check bench speed man install clean
+.PHONY: all demo try examples images refusals test wrong check bench speed man install clean
 
 all: bin/pvsim
 
 SOURCES := crates.txt $(shell find crates -path '*/out' -prune -o \( -name '*.rt' -o -name '*.antt' \) -print)
 
 bin/pvsim: $(SOURCES)
-	cd crates/pv_cli && rt run < stdin > /dev/null
-	mkdir -p bin
-	cp crates/pv_cli/out/pv_cli bin/pvsim
+	tools/build $@
 
 demo:
 	@cat examples/motd.bundle
@@ -44,6 +44,10 @@ try:
 examples:
 	@tools/examples
 
+images: bin/pvsim
+	@tools/images bin/pvsim
+	@tools/changes bin/pvsim
+
 refusals: bin/pvsim
 	@tools/refusals bin/pvsim
 
@@ -52,6 +56,7 @@ test:
 
 wrong:
 	tools/wrong --all $(CRATE)
+	tools/wrong --right $(CRATE)
 
 check:
 	rt all check

@@ -1,9 +1,9 @@
 //! Images that are made, migrated and run.
 use pv_images::{MigrateStop, list, make_image, migrate_image};
 use pv_model::{ImageFault, MigrateFault};
-use pv_run::run;
 use pv_run::stream::{Bytes, Gathered};
-use std::alloc::AllocError;
+use pv_run::{Summary, run};
+use std::alloc::{AllocError, Global};
 use std::process::Abort;
 use std::test::Fail;
 
@@ -87,6 +87,42 @@ fn name_maker(
         manifest.extend_from_slice(b"\"\n")?;
     }
     Ok(manifest)
+}
+
+// The smallest image: a root alone, and no data block.
+fn smallest(alloc: Global) -> Result<Vec<u8>, AllocError> {
+    let mut image = vec![in alloc; 0; 1_024]?;
+    image[..12].copy_from_slice(b"PVIMAGE1\x02\0\x01\0");
+    image[512] = 1;
+    Ok(image)
+}
+
+// A run on an image has this trace and makes so many steps and lines, and the image comes back as it is.
+fn expect_back(
+    rt: &(impl Abort + AllocGlobal),
+    image: &[u8],
+    schedule: &[u8],
+    wanted: &[u8],
+    summary: Summary,
+) {
+    let mut trace = Gathered::new(rt.alloc());
+    let mut left = Gathered::new(rt.alloc());
+    let mut bytes = Bytes::new(image);
+    let mut schedule = Bytes::new(schedule);
+    let answer = run(rt.alloc(), &mut bytes, &mut schedule, &mut trace, &mut left);
+    assert!(rt; answer == Ok(summary));
+    assert!(rt; trace.bytes.as_slice() == wanted);
+    assert!(rt; left.bytes.as_slice() == image);
+}
+
+#[test]
+fn the_smallest_image_comes_back(rt: HostRuntime) -> Result<(), AllocError> {
+    let image = smallest(rt.alloc())?;
+    let none = Summary { steps: 0, lines: 0 };
+    expect_back(&rt, &image, b"", b"", none);
+    let one = Summary { steps: 1, lines: 1 };
+    expect_back(&rt, &image, b"1\n", b"    1 CALL  exit(0)\n", one);
+    Ok(())
 }
 
 // An image of so many bytes has the listing and the trace of the first manifest.
