@@ -7,7 +7,7 @@
 use pv_cli_commands::HostSystem;
 use pv_cli_host::{HostFiles, Input, Output};
 use pv_cli_line::{Fault, LineFault, run, tell};
-use pv_trace::Buffered;
+use pv_streams::Buffered;
 use std::process::ExitCode;
 use std::{env, io};
 

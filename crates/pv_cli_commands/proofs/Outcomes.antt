@@ -8,10 +8,10 @@ use Rattle.pv_model.specs.declared.run_fault.RunFault.TheVariants.{Image, Manife
 use Rattle.pv_model.specs.declared.store_fault.ListFault.{ListFault}
 use Rattle.pv_model.specs.declared.store_fault.ListFault.TheVariants.{Image as ListedImage}
 use Rattle.pv_model.specs.declared.store_fault.MigrateFault.TheVariants.{Image as MigratedImage}
-use Rattle.pv_images.specs.declared.auditing.AuditStop.{AuditStop}
-use Rattle.pv_images.specs.declared.auditing.AuditStop.TheVariants.{Machine}
-use Rattle.pv_images.specs.declared.migrating.MigrateStop.{MigrateStop}
-use Rattle.pv_images.specs.declared.migrating.MigrateStop.TheVariants.{Refused}
+use Rattle.pv_run.specs.declared.auditing.AuditStop.{AuditStop}
+use Rattle.pv_run.specs.declared.auditing.AuditStop.TheVariants.{Machine}
+use Rattle.pv_run.specs.declared.migrating.MigrateStop.{MigrateStop}
+use Rattle.pv_run.specs.declared.migrating.MigrateStop.TheVariants.{Refused}
 use Rattle.pv_cli_commands.specs.declared.fault.Fault.{Fault}
 use Rattle.pv_cli_commands.specs.declared.fault.Fault.TheVariants.{Run, Listing, Migrating, Auditing}
 use Rattle.pv_cli_commands.specs.Faults.{Answer}

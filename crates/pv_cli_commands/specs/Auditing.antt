@@ -4,9 +4,8 @@ use Rattle.pv_model.specs.declared.run_fault.RunFault.TheVariants.{Read}
 use Rattle.pv_model.specs.declared.stream.Sink.{Ghosts as Writing}
 use Rattle.pv_model.specs.declared.stream.Source.{Ghosts as Reading}
 use Rattle.pv_model.specs.Bytes.{Bytes}
-use Rattle.pv_model.specs.Start.{image_started}
-use Rattle.pv_images.specs.declared.auditing.AuditStop.TheVariants.{Machine, Write}
-use Rattle.pv_images.specs.Auditing.{IsAuditStop, OnLeft, StandsInAudit, TellsAudit, TellsNothingUnlessStopped}
+use Rattle.pv_run.specs.declared.auditing.AuditStop.TheVariants.{Machine, Write}
+use Rattle.pv_run.specs.Auditing.{IsAuditStop, OnLeft, StandsInAudit, TellsAudit, TellsNothingUnlessStopped}
 use Rattle.pv_cli_commands.specs.declared.fault.Fault.TheVariants.{Auditing}
 use Rattle.pv_cli_commands.specs.Faults.{Answer, IsOfAuditing}
 use Rattle.pv_cli_commands.specs.Status.{Flushes}
@@ -17,10 +16,10 @@ pub record AuditsImage {S W : Type 0} (reading : Reading S) (writing : Writing W
     : Type 0 where
   -- done: the sink was given just that
   pub audited : OnOk answer (IfSome (reading.remaining first.image) (λ bytes. IfSome (reading.remaining first.schedule) (λ turns.
-      OnLeft (image_started bytes turns) (λ s. TellsAudit s path (writing.written before) (writing.written after)))))
+      OnLeft bytes turns (λ s. TellsAudit s path (writing.written before) (writing.written after)))))
   -- refused: the first fault stands in the bytes and the path, and nothing was written but where it could not be written whole
   pub refused : IfErr answer (IsOfAuditing (λ stop. IfSome (reading.remaining first.image) (λ bytes. IfSome (reading.remaining first.schedule) (λ turns.
-      StandsInAudit (image_started bytes turns) path (writing.written before) (writing.written after) stop))))
+      StandsInAudit bytes turns path (writing.written before) (writing.written after) stop))))
   pub kind : IfErr answer (IsOfAuditing IsAuditStop)
   pub unwritten : IfErr answer (IsOfAuditing (TellsNothingUnlessStopped (writing.written before) (writing.written after)))
   pub flushed : Flushes writing before after answer

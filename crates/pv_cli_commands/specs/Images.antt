@@ -17,7 +17,7 @@ pub record RunsImage {S W O : Type 0} (reading : Reading S) (tracing : Writing W
     (answer : Answer) : Type 0 where
   -- done: the trace grew by just the text of the machine's run, and the sink was given bytes that hold the tree that it leaves, none of which is still buffered
   pub ran : OnOk answer (IfSome (reading.remaining first.image) (λ bytes. IfSome (reading.remaining first.schedule) (λ turns. (summary : Summary)
-      × HasRunOn (image_started bytes turns) (tracing.written before.trace) (tracing.written after.trace) (writing.written before.image) (writing.written after.image) summary)))
+      × HasRunOn bytes turns (tracing.written before.trace) (tracing.written after.trace) (writing.written before.image) (writing.written after.image) summary)))
   pub left : OnOk answer (writing.buffered after.image ≡ 0)
   -- refused: the first fault stands in the bytes, and nothing was written but where the trace or the image could not be written whole
   pub refused : IfErr answer (IsOfRun (λ fault. IfSome (reading.remaining first.image) (λ bytes. IfSome (reading.remaining first.schedule) (λ turns.

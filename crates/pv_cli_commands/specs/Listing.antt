@@ -5,11 +5,12 @@ use Rattle.pv_model.specs.declared.stream.Sink.{Ghosts as Writing}
 use Rattle.pv_model.specs.declared.stream.Source.{Ghosts as Reading}
 use Rattle.pv_model.specs.Bytes.{Bytes}
 use Rattle.pv_model.specs.Mount.{mounted}
-use Rattle.pv_images.specs.Listings.{HasListed, IsListFault, StandsInImage, TellsNothingUnlessBegun}
+use Rattle.pv_run.specs.Listings.{HasListed, IsListFault, StandsInImage, TellsNothingUnlessBegun}
+use Rattle.pv_streams.specs.Sources.{FailsToGive}
 use Rattle.pv_cli_commands.specs.declared.fault.Fault.TheVariants.{Listing}
 use Rattle.pv_cli_commands.specs.Faults.{Answer, IsOfListing}
 use Rattle.pv_cli_commands.specs.Status.{Flushes}
-use Rattle.pv_cli_commands.specs.Streams.{Disk, FailsToGive, FailsToTake, IsOpened, IsUnknown}
+use Rattle.pv_cli_commands.specs.Streams.{Disk, FailsToTake, IsOpened, IsUnknown}
 
 -- the listing of an image was written, from a source to a sink
 pub record ListsImage {S W : Type 0} (reading : Reading S) (writing : Writing W) (first last : S) (before after : W) (answer : Answer) : Type 0 where

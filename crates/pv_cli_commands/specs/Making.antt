@@ -4,10 +4,11 @@ use Rattle.pv_model.specs.declared.run_fault.RunFault.TheVariants.{Read, Memory,
 use Rattle.pv_model.specs.declared.stream.Sink.{Ghosts as Writing}
 use Rattle.pv_model.specs.declared.stream.Source.{Ghosts as Reading}
 use Rattle.pv_model.specs.Bytes.{Bytes}
-use Rattle.pv_images.specs.Making.{HasMade, IsMakeFault, StandsInManifest, TellsNothingUnlessWritten, tree_made}
+use Rattle.pv_run.specs.Making.{HasMade, IsMakeFault, StandsInManifest, TellsNothingUnlessWritten, tree_made}
+use Rattle.pv_streams.specs.Sources.{FailsToGive}
 use Rattle.pv_cli_commands.specs.declared.fault.Fault.TheVariants.{Run}
 use Rattle.pv_cli_commands.specs.Faults.{Answer, IsOfRun}
-use Rattle.pv_cli_commands.specs.Streams.{Disk, FailsToGive, FailsToTake, IsCreatedOn, IsOpened, IsUnknown}
+use Rattle.pv_cli_commands.specs.Streams.{Disk, FailsToTake, IsCreatedOn, IsOpened, IsUnknown}
 
 -- an image was made, from the manifest of a source to a sink
 pub record MakesImage {S W : Type 0} (reading : Reading S) (writing : Writing W) (first last : S) (before after : W) (answer : Answer) : Type 0 where

@@ -5,11 +5,12 @@ use Rattle.pv_model.specs.declared.stream.Sink.{Ghosts as Writing}
 use Rattle.pv_model.specs.declared.stream.Source.{Ghosts as Reading}
 use Rattle.pv_model.specs.Bytes.{Bytes}
 use Rattle.pv_image.specs.Migrated.{migrated}
-use Rattle.pv_images.specs.declared.migrating.MigrateStop.TheVariants.{Read, Refused, Write}
-use Rattle.pv_images.specs.Migrating.{HasMigrated, IsMigrateStop, StandsInOldImage, TellsNothingUnlessBroken}
+use Rattle.pv_run.specs.declared.migrating.MigrateStop.TheVariants.{Read, Refused, Write}
+use Rattle.pv_run.specs.Migrating.{HasMigrated, IsMigrateStop, StandsInOldImage, TellsNothingUnlessBroken}
+use Rattle.pv_streams.specs.Sources.{FailsToGive}
 use Rattle.pv_cli_commands.specs.declared.fault.Fault.TheVariants.{Migrating}
 use Rattle.pv_cli_commands.specs.Faults.{Answer, IsOfMigrating}
-use Rattle.pv_cli_commands.specs.Streams.{Disk, FailsToGive, FailsToTake, IsCreatedOn, IsOpened, IsUnknown}
+use Rattle.pv_cli_commands.specs.Streams.{Disk, FailsToTake, IsCreatedOn, IsOpened, IsUnknown}
 
 -- how large an image is to be
 pub record Sizes : Type 0 where

@@ -7,16 +7,17 @@ use Rattle.pv_model.specs.Bytes.{Bytes}
 use Rattle.pv_model.specs.Start.{bundle_started}
 use Rattle.pv_run.specs.declared.turns.Summary.{Summary}
 use Rattle.pv_run.specs.Run.{HasRun, IsBundleFault, StandsIn, TellsNothingUnlessCut}
+use Rattle.pv_streams.specs.Sources.{FailsToGive}
 use Rattle.pv_cli_commands.specs.declared.fault.Fault.TheVariants.{Run}
 use Rattle.pv_cli_commands.specs.Faults.{Answer, IsOfRun}
 use Rattle.pv_cli_commands.specs.Status.{Flushes}
-use Rattle.pv_cli_commands.specs.Streams.{Disk, FailsToGive, FailsToTake, IsOpened, IsUnknown}
+use Rattle.pv_cli_commands.specs.Streams.{Disk, FailsToTake, IsOpened, IsUnknown}
 
 -- a bundle was run, from a source to a trace
 pub record RunsBundle {S W : Type 0} (reading : Reading S) (writing : Writing W) (first last : S) (before after : W) (answer : Answer) : Type 0 where
   -- done: the trace grew by just the text of the machine's run
   pub ran : OnOk answer (IfSome (reading.remaining first) (λ bytes.
-      (summary : Summary) × HasRun (bundle_started bytes) (writing.written before) (writing.written after) summary))
+      (summary : Summary) × HasRun bytes (writing.written before) (writing.written after) summary))
   -- refused: the first fault stands in the bytes, and nothing was written but where the trace could not be written whole
   pub refused : IfErr answer (IsOfRun (λ fault. IfSome (reading.remaining first) (λ bytes.
       StandsIn (bundle_started bytes) (writing.written before) (writing.written after) fault)))

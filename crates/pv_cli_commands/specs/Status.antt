@@ -8,10 +8,10 @@ use Rattle.pv_model.specs.declared.store_fault.ListFault.{ListFault}
 use Rattle.pv_model.specs.declared.store_fault.ListFault.TheVariants.{Read as ListRead, Image as ListedImage, Memory as ListMemory, Write as ListWrite}
 use Rattle.pv_model.specs.declared.store_fault.MigrateFault.TheVariants.{Image as MigratedImage, Small, Memory as MigrateMemory}
 use Rattle.pv_model.specs.declared.stream.Sink.{Ghosts as Writing}
-use Rattle.pv_images.specs.declared.auditing.AuditStop.{AuditStop}
-use Rattle.pv_images.specs.declared.auditing.AuditStop.TheVariants.{Machine, Path, Write as AuditWrite}
-use Rattle.pv_images.specs.declared.migrating.MigrateStop.{MigrateStop}
-use Rattle.pv_images.specs.declared.migrating.MigrateStop.TheVariants.{Read as MigrateRead, Refused, Write as MigrateWrite}
+use Rattle.pv_run.specs.declared.auditing.AuditStop.{AuditStop}
+use Rattle.pv_run.specs.declared.auditing.AuditStop.TheVariants.{Machine, Path, Write as AuditWrite}
+use Rattle.pv_run.specs.declared.migrating.MigrateStop.{MigrateStop}
+use Rattle.pv_run.specs.declared.migrating.MigrateStop.TheVariants.{Read as MigrateRead, Refused, Write as MigrateWrite}
 use Rattle.pv_cli_commands.specs.declared.fault.Fault.{Fault}
 use Rattle.pv_cli_commands.specs.declared.fault.Fault.TheVariants.{Run, Listing, Migrating, Auditing}
 use Rattle.pv_cli_commands.specs.Faults.{Answer}

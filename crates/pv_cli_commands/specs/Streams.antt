@@ -4,14 +4,9 @@ use Rattle.pv_model.specs.declared.stream.Sink.{Ghosts as Writing}
 use Rattle.pv_model.specs.declared.stream.Source.{Ghosts as Reading}
 use Rattle.pv_model.specs.Bytes.{Bytes}
 use Rattle.pv_model.specs.Stream.{Rose}
-use Rattle.pv_run.specs.declared.stream.TheConstants.{SOURCE_BYTES}
-use Rattle.pv_run.specs.Streams.{GivesMoreThan}
+use Rattle.pv_streams.specs.Sources.{FailsToGive}
 use Rattle.pv_cli_commands.specs.declared.system.Files.{Ghosts as Filing}
 use Rattle.pv_cli_commands.specs.Created.{IsCreated}
-
--- a source failed, or gave more than one may give
-abbrev pub FailsToGive : {S : Type 0} → Reading S → S → S → Type 0
-FailsToGive reading first last = Rose (reading.failures first) (reading.failures last) ⊎ GivesMoreThan SOURCE_BYTES (reading.remaining first)
 
 -- a sink failed
 abbrev pub FailsToTake : {W : Type 0} → Writing W → W → W → Type 0

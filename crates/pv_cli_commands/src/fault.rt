@@ -3,8 +3,8 @@ ghost use Rattle.std.specs.Prelude.{◌≡◌};
 ghost use Rattle.pv_cli_commands.specs.Status.{audit_status_of, list_status_of, migrate_status_of, run_status_of, status_of};
 ghost use Rattle.pv_cli_commands.specs.declared.fault.Fault.TheVariants.{Run as RunVariant, Listing as ListingVariant, Migrating as MigratingVariant, Auditing as AuditingVariant};
 
-use pv_images::{AuditStop, MigrateStop};
 use pv_model::{AuditFault, ImageFault, ListFault, ManifestFault, MigrateFault, RunFault};
+use pv_run::{AuditStop, MigrateStop};
 use std::fmt;
 use thiserror::Error;
 

@@ -4,7 +4,8 @@ ghost use Rattle.pv_cli_commands.specs.Streams.{disk_of, inputs_of, outputs_of};
 
 use crate::fault::Fault;
 use crate::system::Files;
-use pv_model::{RunFault, Sink, Source};
+use pv_model::RunFault;
+use pv_streams::{Sink, Source};
 use std::alloc::Global;
 
 // Runs the image that a source gives under the schedule of another.

@@ -4,8 +4,9 @@ ghost use Rattle.pv_cli_commands.specs.Streams.{disk_of};
 
 use crate::fault::Fault;
 use crate::system::Files;
-use pv_images::list;
-use pv_model::{Failed, ListFault, Sink, Source};
+use pv_model::ListFault;
+use pv_run::list;
+use pv_streams::{Failed, Sink, Source};
 use std::alloc::Global;
 
 // Lists the image that a source gives.

@@ -4,8 +4,9 @@ ghost use Rattle.pv_cli_commands.specs.Streams.{disk_of};
 
 use crate::fault::Fault;
 use crate::system::Files;
-use pv_images::make_image;
-use pv_model::{RunFault, Sink, Source};
+use pv_model::RunFault;
+use pv_run::make_image;
+use pv_streams::{Sink, Source};
 use std::alloc::Global;
 
 // Makes the image of the manifest that a source gives.

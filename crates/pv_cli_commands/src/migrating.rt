@@ -4,8 +4,9 @@ ghost use Rattle.pv_cli_commands.specs.Streams.{disk_of};
 
 use crate::fault::Fault;
 use crate::system::Files;
-use pv_images::{MigrateStop, migrate_image};
-use pv_model::{MigrateFault, Sink, Source};
+use pv_model::MigrateFault;
+use pv_run::{MigrateStop, migrate_image};
+use pv_streams::{Sink, Source};
 use std::alloc::Global;
 
 // Makes an image of version 2 of the image that a source gives.

@@ -13,7 +13,7 @@ use crate::making::make_file;
 use crate::migrating::migrate_file;
 use crate::running::{run_file, run_from};
 use crate::system::{Files, HostSystem};
-use pv_model::{Sink, Source};
+use pv_streams::{Sink, Source};
 use std::alloc::Global;
 
 /// Does what a command asks for. Its files are opened before anything is read.

@@ -4,8 +4,9 @@ ghost use Rattle.pv_cli_commands.specs.Streams.{disk_of};
 
 use crate::fault::Fault;
 use crate::system::Files;
-use pv_model::{Failed, RunFault, Sink, Source};
+use pv_model::RunFault;
 use pv_run::run_tree;
+use pv_streams::{Failed, Sink, Source};
 use std::alloc::Global;
 
 // Runs the bundle that a source gives.

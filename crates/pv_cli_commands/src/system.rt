@@ -2,7 +2,7 @@
 ghost use Rattle.std.specs.Prelude.{◌≡◌, ℕ, List, Option, IfOk, IsOk, IsSome};
 ghost use Rattle.pv_cli_commands.specs.Created.{IsCreated};
 
-use pv_model::{Failed, Sink, Source};
+use pv_streams::{Failed, Sink, Source};
 use std::alloc::{AllocError, Global};
 
 /// Files by their names.

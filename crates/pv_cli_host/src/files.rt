@@ -3,7 +3,7 @@ ghost use Rattle.std.specs.Prelude.{◌≡◌, ◌≤◌, length, None, IfOk};
 ghost use Rattle.std.specs.String.{string_bytes};
 
 use pv_cli_commands::Files;
-use pv_model::{Failed, Sink, Source};
+use pv_streams::{Failed, Sink, Source};
 use std::alloc::{AllocError, Global};
 use std::fs;
 use std::fs::File;
@@ -35,7 +35,11 @@ impl<'a> Files for HostFiles<'a> {
 
     fn open(&self, name: &str) -> Result<OpenedFile, Failed> {
         match fs::open(self.rt, name) {
-            Ok(file) => Ok(OpenedFile { file, failures: 0 }),
+            Ok(file) => Ok(OpenedFile {
+                file,
+                given: 0,
+                failures: 0,
+            }),
             Err(_) => Err(Failed),
         }
     }
@@ -109,17 +113,23 @@ impl Sink for WrittenFile<'_> {
 #[derive(Drop)]
 pub struct OpenedFile {
     file: File,
+    given: u64,
     failures: u64,
 }
 
 impl Source for OpenedFile {
     ghost remaining = { λ _. None };
 
+    ghost given = { λ s. s.given };
+
     ghost failures = { λ s. s.failures };
 
     fn read(&mut self, buffer: &mut [u8]) -> Result<usize, Failed> {
         match self.file.read(buffer) {
-            Ok(count) => Ok(count),
+            Ok(count) => {
+                self.given = self.given.saturating_add(count as u64);
+                Ok(count)
+            }
             Err(_) => {
                 self.failures = self.failures.saturating_add(1);
                 Err(Failed)

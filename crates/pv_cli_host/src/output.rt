@@ -1,7 +1,7 @@
 //! Sinks over the writers of the system.
 ghost use Rattle.std.specs.Prelude.{◌≡◌, None};
 
-use pv_model::{Failed, Sink};
+use pv_streams::{Failed, Sink};
 use std::io::Write;
 
 /// A sink over a writer. What it was given is not known.

@@ -1,7 +1,7 @@
 //! Files that every system has, and streams that fail.
 use crate::{HostFiles, Input, Output};
 use pv_cli_commands::Files;
-use pv_model::{Failed, Sink, Source};
+use pv_streams::{Failed, Sink, Source};
 use std::io;
 use std::io::{ErrorKind, Read, Write};
 

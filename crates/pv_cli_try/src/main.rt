@@ -6,7 +6,7 @@
 
 use pv_cli_commands::{Command, HostSystem, perform};
 use pv_cli_host::{HostFiles, Input, Output};
-use pv_trace::Buffered;
+use pv_streams::Buffered;
 use std::io;
 use std::process::ExitCode;
 

@@ -4,7 +4,7 @@ use Rattle.pv_model.specs.declared.store_fault.MigrateFault.TheVariants.{Memory}
 use Rattle.pv_model.specs.Bytes.{Bytes}
 use Rattle.pv_model.specs.Image.{IsWrittenImageOf}
 use Rattle.pv_model.specs.Tree.{Tree}
-use Rattle.pv_trace.specs.Streams.{and_all, TellsBeginning}
+use Rattle.pv_streams.specs.Sinks.{and_all, TellsBeginning}
 use Rattle.pv_image.specs.declared.migrating.MigratingStop.{MigratingStop}
 use Rattle.pv_image.specs.declared.migrating.MigratingStop.TheVariants.{Refused, Write}
 use Rattle.pv_image.specs.Migrated.{migrated, IsMigrated, IsMigrateFault}

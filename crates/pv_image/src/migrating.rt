@@ -7,7 +7,8 @@ ghost use Rattle.pv_image.specs.declared.migrating.MigratingStop.TheVariants.{Re
 
 use crate::first::mount_first;
 use crate::room::has_room;
-use pv_model::{MigrateFault, Sink, Version};
+use pv_model::{MigrateFault, Version};
+use pv_streams::Sink;
 use pv_tree::Store;
 use pv_image_write::{WriteFault, write_as};
 use std::alloc::Global;

@@ -2,12 +2,12 @@
 use Rattle.std.proofs.Common.{◌≡◌, ◌≤◌, [], ◌++◌, length, Option, refl, ap, sym, subst, ◌∙◌, arith}
 use Rattle.std.proofs.lemmas.List.{append_assoc, append-nil, length-append}
 use Rattle.pv_model.specs.Bytes.{Bytes}
-use Rattle.pv_trace.specs.Streams.{and_all, TellsBeginning}
-use Rattle.pv_trace.proofs.Telling.{begins_then, written_both, written_no_lines}
+use Rattle.pv_streams.specs.Sinks.{and_all, TellsBeginning}
+use Rattle.pv_streams.proofs.Telling.{begins_then, written_both, written_none}
 use Rattle.pv_image_write.specs.Written.{IsPut}
 
 pub put-start : (before : Option Bytes) (window : Bytes) → IsPut before before window window
-put-start before window = record { front = []; written = written_no_lines before; whole = refl }
+put-start before window = record { front = []; written = written_none before; whole = refl }
 
 -- bytes more stand in it
 pub put-following : (before now : Option Bytes) (window all more : Bytes) → IsPut before now window all → IsPut before now (window ++ more) (all ++ more)

@@ -7,13 +7,13 @@ use Rattle.pv_model.specs.declared.version.Version.TheVariants.{V1, V2}
 use Rattle.pv_model.specs.Bytes.{Bytes}
 use Rattle.pv_model.specs.Image.{inode_blocks, inode_length}
 use Rattle.pv_model.specs.Tree.{Node, Tree, node_at, names_of}
-use Rattle.pv_trace.specs.Streams.{TellsBeginning}
+use Rattle.pv_streams.specs.Sinks.{TellsBeginning}
 use Rattle.pv_image_write.specs.Spelling.{padded, spelled, contained, content_of, blocks_for, direct_for, index_for, content_blocks, after_content, taken_of, inode_of, blocks_of, taken_before, first_data, first_of, joined, blocks_at, first_block, all_inodes, all_contents, image_bytes}
 use Rattle.pv_image_write.specs.Written.{IsPut}
 use Rattle.pv_image_write.specs.Writable.{IsWritable, AreWritten}
 use Rattle.pv_image_write.proofs.Components.{joined-more, length-padded}
 use Rattle.pv_image_write.proofs.Places.{few-blocks, length-all_contents, length-all_inodes, length-first_block, table-fits, taken_before-grows}
-use Rattle.pv_trace.proofs.Telling.{begins_first}
+use Rattle.pv_streams.proofs.Telling.{begins_first}
 use Rattle.pv_image_write.proofs.Windows.{put-following, put-cut, put-more, put-on, put-start, put-within}
 
 -- the blocks of a content are the content, and what stands after it

@@ -3,7 +3,7 @@ use Rattle.std.specs.Prelude.{◌≡◌, ◌++◌, Option}
 use Rattle.pv_model.specs.Bytes.{Bytes}
 use Rattle.pv_model.specs.Image.{IsWrittenImageOf}
 use Rattle.pv_model.specs.Tree.{Tree}
-use Rattle.pv_trace.specs.Streams.{and_all, TellsBeginning}
+use Rattle.pv_streams.specs.Sinks.{and_all, TellsBeginning}
 
 -- what was written grew by bytes that hold a tree, just as it is
 pub record TellsImage (t : Tree) (before after : Option Bytes) : Type 0 where

@@ -2,7 +2,7 @@
 ghost use Rattle.std.specs.Prelude.{◌≡◌};
 ghost use Rattle.pv_image_write.specs.declared.fault.WriteFault.TheVariants.{Memory, Write};
 
-use pv_model::Failed;
+use pv_streams::Failed;
 use std::alloc::AllocError;
 
 /// Why an image was not written, or not whole.

@@ -2,13 +2,12 @@
 ghost use Rattle.std.specs.Prelude.{◌≡◌, ◌+◌, ◌*◌, ◌<◌, ◌≤◌, ◌++◌, vec_capacity, vec_len, replicate, OnOk, OnErr};
 ghost use Rattle.pv_model.specs.declared.limits.TheConstants.{BLOCK};
 ghost use Rattle.pv_model.specs.Stream.{Rose};
-ghost use Rattle.pv_trace.specs.Streams.{TellsBeginning};
+ghost use Rattle.pv_streams.specs.Sinks.{TellsBeginning};
 ghost use Rattle.pv_image_write.specs.Written.{IsPut};
 
 use crate::filling::put_zeros;
 use pv_model::limits::BLOCK;
-use pv_model::{Failed, Sink};
-use pv_trace::write_whole;
+use pv_streams::{Failed, Sink, write_whole};
 
 // A window of so many bytes is written.
 const CHUNK: usize = 65_536;

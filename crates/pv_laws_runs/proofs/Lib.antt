@@ -8,3 +8,4 @@ mod Images
 mod Starting
 pub mod Secrets
 mod Started
+pub mod Asked

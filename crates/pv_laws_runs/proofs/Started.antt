@@ -21,11 +21,11 @@ use Rattle.pv_laws_runs.specs.Starts.{GivesTree}
 
 -- what stands after a step that is not refused
 module _ {A B E F : Type 0} (fault_of : E → F) (next : A → Result B F) (b : B) where
-  not_refused : (r : Result A E) → and_then fault_of r next ≡ Ok b → (a : A) × (r ≡ Ok a) × (next a ≡ Ok b)
+  pub not_refused : (r : Result A E) → and_then fault_of r next ≡ Ok b → (a : A) × (r ≡ Ok a) × (next a ≡ Ok b)
   not_refused (Ok a) is = (a, refl, is)
   not_refused (Err fault) is = cc is
 
-abbrev state_or : State → Result Started RunFault → State
+abbrev pub state_or : State → Result Started RunFault → State
 state_or s (Ok started) = started.state
 state_or s (Err fault) = s
 

@@ -3,9 +3,9 @@ use Rattle.std.proofs.Common.{◌≡◌, ℕ, ◌++◌, ◌∙◌, ap, ap₂, sy
 use Rattle.std.proofs.lemmas.List.{append-nil, take-append-drop}
 use Rattle.std.proofs.lemmas.Grind.{flat_map-append}
 use Rattle.pv_model.specs.Bytes.{Bytes}
-use Rattle.pv_trace.specs.Streams.{and_all, TellsBeginning}
-use Rattle.pv_trace.proofs.Streaming.{begins_whole}
-use Rattle.pv_trace.proofs.Telling.{begins_first, begins_then, written_both, written_no_lines}
+use Rattle.pv_streams.specs.Sinks.{and_all, TellsBeginning}
+use Rattle.pv_streams.proofs.Sinks.{begins_whole}
+use Rattle.pv_streams.proofs.Telling.{begins_first, begins_then, written_both, written_none}
 
 -- a sink was given a text but for a rest
 pub record LeavesRest (rest text : Bytes) (before after : Option Bytes) : Type 0 where
@@ -15,7 +15,7 @@ pub record LeavesRest (rest text : Bytes) (before after : Option Bytes) : Type 0
 
 -- before the first component all is left
 pub rest_all : (text : Bytes) (before : Option Bytes) → LeavesRest text text before before
-rest_all text before = record { done = []; written = written_no_lines before; whole = refl }
+rest_all text before = record { done = []; written = written_none before; whole = refl }
 
 module _ (left component rest text : Bytes) (before mid after : Option Bytes) (so_far : LeavesRest left text before mid) (is : left ≡ component ++ rest) where
   split : so_far.done ++ (component ++ rest) ≡ text

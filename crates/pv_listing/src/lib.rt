@@ -2,7 +2,7 @@
 //!
 //! `remarks` has what may be said of a node at a path. `listing` goes down a tree, keeps the path of the node at which it
 //! stands, which may be of any length, and has what is said there written. A listing's own remarks stand in `line`; `path`
-//! writes a path as a line has it.
+//! writes a path as a line has it, and `verdict` the line of what an audit finds.
 //!
 //! A clause sees the lines as `pv_model`'s definitions have them.
 #![tactic(auto)]
@@ -11,7 +11,9 @@ mod line;
 mod listing;
 mod path;
 mod remarks;
+mod verdict;
 
 pub use listing::{ListStop, write_lines, write_listing};
 pub use path::write_path;
 pub use remarks::Remarks;
+pub use verdict::write_verdict;

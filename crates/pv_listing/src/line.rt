@@ -8,7 +8,8 @@ use crate::path::write_between;
 use crate::remarks::Remarks;
 use arrayvec::ArrayVec;
 use itoa::Buffer;
-use pv_model::{Failed, Sink, Kind};
+use pv_model::Kind;
+use pv_streams::{Failed, Sink};
 use pv_tree::Tree;
 
 // Bytes before the path of a line, and more.

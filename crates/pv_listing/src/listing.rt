@@ -2,7 +2,7 @@
 ghost use Rattle.std.specs.Prelude.{◌≡◌, ◌≤◌, drop, take, vec_len, IsTrue, IfOk, IfErr, OnOk, OnErr};
 ghost use Rattle.pv_model.specs.Listing.{lines_of_all, lines_within, listing};
 ghost use Rattle.pv_model.specs.Tree.{entries_at, is_directory_at, IsWellFormed};
-ghost use Rattle.pv_trace.specs.Streams.{and_all, TellsBeginning};
+ghost use Rattle.pv_streams.specs.Sinks.{and_all, TellsBeginning};
 ghost use Rattle.pv_listing.specs.Failing.{FailsBy};
 ghost use Rattle.pv_listing.specs.Lines.{IsNextChild, last_name};
 ghost use Rattle.pv_listing.specs.declared.listing.ListStop.TheVariants.{Memory, Write};
@@ -10,7 +10,7 @@ ghost use Rattle.pv_listing.specs.declared.listing.ListStop.TheVariants.{Memory,
 use crate::line::NodeLines;
 use crate::remarks::Remarks;
 use pv_model::limits::ROOT;
-use pv_model::{Failed, Sink};
+use pv_streams::{Failed, Sink};
 use pv_tree::Tree;
 use std::alloc::{AllocError, Global};
 

@@ -3,11 +3,12 @@ ghost use Rattle.std.specs.Prelude.{◌≡◌, ◌++◌, flat_map, OnOk, OnErr};
 ghost use Rattle.pv_model.specs.Listing.{listed_path as path_of_line};
 ghost use Rattle.pv_model.specs.Stream.{Rose};
 ghost use Rattle.pv_model.specs.Trace.{quote, quote_byte};
-ghost use Rattle.pv_trace.specs.Streams.{and_all, TellsBeginning};
+ghost use Rattle.pv_streams.specs.Sinks.{and_all, TellsBeginning};
 
 use arrayvec::ArrayVec;
-use pv_model::{Failed, Sink, hex_digit, is_plain};
-use pv_trace::{plain_count, write_whole};
+use pv_model::{hex_digit, is_plain};
+use pv_streams::{Failed, Sink, write_whole};
+use pv_trace::plain_count;
 
 // Bytes that one byte of a text has at most, as a program writes it.
 const QUOTED: usize = 4;
@@ -67,7 +68,7 @@ fn listed_path(path: &[u8]) -> &[u8]
 /// # Errors
 ///
 /// `Failed` where a write failed: the sink was given a beginning of it all.
-#[tactic(auto, using(pv_trace::proofs::Telling::written_both, pv_trace::proofs::Telling::begins_first, pv_trace::proofs::Telling::begins_then))]
+#[tactic(auto, using(pv_streams::proofs::Telling::written_both, pv_streams::proofs::Telling::begins_first, pv_streams::proofs::Telling::begins_then))]
 pub(crate) fn write_between<W: Sink>(
     out: &mut W,
     before: &[u8],

@@ -1,9 +1,9 @@
 //! What may be said of the nodes of a tree.
 ghost use Rattle.std.specs.Prelude.{◌≡◌, ℕ, List, OnOk, OnErr};
 ghost use Rattle.pv_model.specs.Stream.{Rose};
-ghost use Rattle.pv_trace.specs.Streams.{and_all, TellsBeginning};
+ghost use Rattle.pv_streams.specs.Sinks.{and_all, TellsBeginning};
 
-use pv_model::{Failed, Sink};
+use pv_streams::{Failed, Sink};
 
 /// What is said of each node of a tree, at each path that leads to it.
 pub trait Remarks {

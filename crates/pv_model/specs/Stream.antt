@@ -1,5 +1,5 @@
 -- What reads and writes promise.
-use Rattle.std.specs.Prelude.{⊤, ◌++◌, take, option_map, ◌≡◌, ℕ, zero, suc, ◌<◌, ◌≤◌, [], length, Option, IfSome, Result, Ok, Err}
+use Rattle.std.specs.Prelude.{⊤, ◌+◌, min, ◌++◌, take, option_map, ◌≡◌, ℕ, zero, suc, ◌<◌, ◌≤◌, [], length, Option, IfSome, Result, Ok, Err}
 use Rattle.pv_model.specs.declared.stream.Failed.{Failed}
 use Rattle.pv_model.specs.Bytes.{Bytes}
 
@@ -11,6 +11,15 @@ Rose before after = before < 18446744073709551615 → before < after
 abbrev pub ReadsAtMost : Result ℕ Failed → Bytes → Type 0
 ReadsAtMost (Ok n) buffer = n ≤ length buffer
 ReadsAtMost (Err e) buffer = ⊤
+
+-- a count rose by so many; it stops at 2^64 - 1
+abbrev pub RoseBy : ℕ → ℕ → ℕ → Type 0
+RoseBy n before after = after ≡ min (before + n) 18446744073709551615
+
+-- a source counts the bytes that a read gave
+abbrev pub CountsBytes : ℕ → ℕ → Result ℕ Failed → Type 0
+CountsBytes before after (Ok n) = RoseBy n before after
+CountsBytes before after (Err e) = after ≡ before
 
 -- a read of nothing into a buffer with room comes only at the end
 abbrev pub EndsWhereEmpty : Option Bytes → Result ℕ Failed → Bytes → Type 0

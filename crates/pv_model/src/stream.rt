@@ -1,6 +1,6 @@
 //! What a run reads from and writes to.
 ghost use Rattle.std.specs.Prelude.{◌≡◌, ℕ, List, IfOk, OnOk, OnErr, Option};
-ghost use Rattle.pv_model.specs.Stream.{Rose, and_front, front_and, ReadsAtMost, EndsWhereEmpty, WritesAtMost, CountsNothingTaken};
+ghost use Rattle.pv_model.specs.Stream.{Rose, and_front, front_and, ReadsAtMost, CountsBytes, EndsWhereEmpty, WritesAtMost, CountsNothingTaken};
 
 /// A read or a write did not succeed. What went wrong is the stream's to tell: it counts its failures.
 #[derive(Clone, Copy, Debug, PartialEq, Eq)]
@@ -8,11 +8,14 @@ pub struct Failed;
 
 /// Where bytes come from.
 ///
-/// A clause sees the bytes that are still to come, where the type knows them (a file's are not known),
-/// and how many reads have failed so far.
+/// A clause sees the bytes that are still to come, where the type knows them (a file's are not known), how many bytes have
+/// come, and how many reads have failed so far.
 pub trait Source {
     /// The bytes that reads will give from here on, where they are known.
     ghost remaining: { Self → Option (List ℕ) };
+
+    /// How many bytes reads have given: the count stops at 2^64 - 1.
+    ghost given: { Self → ℕ };
 
     /// How many reads have failed: the count stops at 2^64 - 1.
     ghost failures: { Self → ℕ };
@@ -23,6 +26,7 @@ pub trait Source {
         ensures bound { ReadsAtMost result buffer.new }
         ensures bytes { IfOk result (λ n. remaining self.old ≡ front_and n buffer.new (remaining self.new)) }
         ensures end { EndsWhereEmpty (remaining self.new) result buffer.new }
+        ensures counted { CountsBytes (given self.old) (given self.new) result }
         ensures quiet { OnOk result (failures self.new ≡ failures self.old) }
         ensures failed { OnErr result (Rose (failures self.old) (failures self.new)) };
 }

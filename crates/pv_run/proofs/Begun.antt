@@ -1,25 +1,19 @@
 -- A run that was made, whole or up to somewhere.
-use Rattle.std.proofs.Common.{◌≡◌, length, refl, ℕ, Option, Some, Result, Ok, Err, IfErr, OnErr, inr}
+use Rattle.std.proofs.Common.{◌≡◌, length, refl, ℕ, Option, Some, Result, Ok, Err, IfOk, IfErr, OnOk, OnErr, inr}
 use Rattle.pv_model.specs.declared.run_fault.RunFault.{RunFault}
 use Rattle.pv_model.specs.declared.run_fault.RunFault.TheVariants.{Read, Image, Manifest, Schedule as ScheduleLine, Init, Memory, WriteTrace, WriteImage}
 use Rattle.pv_model.specs.Bytes.{Bytes}
 use Rattle.pv_model.specs.Grammar.Programs.{program_of}
 use Rattle.pv_model.specs.State.{State}
 use Rattle.pv_model.specs.Step.{Schedule, boot, steps_of}
-use Rattle.pv_model.specs.Start.{Started}
+use Rattle.pv_model.specs.Start.{Started, bundle_started}
+use Rattle.pv_laws_runs.proofs.Asked.{bundle-asks}
 use Rattle.pv_run.specs.Run.{HasBegun, HasRun, IsSummaryOf, StandsIn, StopsBy, started_from, text_of}
 use Rattle.pv_run.specs.declared.turns.Summary.{Summary}
 use Rattle.pv_session.specs.Running.{BeginsLines, WrittenLines, run_of}
 
 module _ (asked : Result Started RunFault) (s : State) (schedule : Schedule) (is : asked ≡ Ok (started_from s schedule)) (machine : boot program_of s.tree ≡ Some s)
     (before after : Option Bytes) where
-  pub has_run : (summary : Summary) → IsSummaryOf (started_from s schedule) summary → WrittenLines (run_of s schedule).lines before after → HasRun asked before after summary
-  has_run summary counts written = record {
-    text = text_of (started_from s schedule);
-    is_run = record { it = started_from s schedule; is_asked = is; is_machine = machine; text_is = refl; counts = counts };
-    written = written;
-  }
-
   pub has_begun : BeginsLines (run_of s schedule).lines before after → HasBegun asked before after
   has_begun begun = record {
     text = text_of (started_from s schedule);
@@ -43,3 +37,17 @@ module _ (asked : Result Started RunFault) (s : State) (schedule : Schedule) (is
       → IfErr result (λ (fault : RunFault). StandsIn asked before after fault)
   stands (Ok summary) failures now begun why = tt
   stands (Err fault) failures now begun why = stops fault failures now why begun
+
+-- ---- a run of a bundle that was made
+
+module _ (bytes : Bytes) (s : State) (schedule : Schedule) (is : bundle_started bytes ≡ Ok (started_from s schedule)) (before after : Option Bytes) where
+  pub has_run : (result : Result Summary RunFault) → IfOk result (IsSummaryOf (started_from s schedule)) → OnOk result (WrittenLines (run_of s schedule).lines before after)
+      → IfOk result (HasRun bytes before after)
+  has_run (Ok summary) counts written = record {
+    it = started_from s schedule;
+    asks = bundle-asks bytes (started_from s schedule) is;
+    written = written;
+    counts = counts;
+    is_asked = is;
+  }
+  has_run (Err fault) counts written = tt

@@ -1,14 +1,19 @@
 -- The machine that a run leaves.
-use Rattle.std.proofs.Common.{◌≡◌, ◌∙◌, ap, Some, Result, Ok}
-use Rattle.pv_model.specs.declared.run_fault.RunFault.{RunFault}
-use Rattle.pv_model.specs.Grammar.Programs.{program_of}
-use Rattle.pv_model.specs.Start.{Started}
+use Rattle.std.proofs.Common.{◌≡◌, Ok}
+use Rattle.pv_model.specs.Bytes.{Bytes}
+use Rattle.pv_model.specs.Start.{image_started}
 use Rattle.pv_model.specs.State.{State}
-use Rattle.pv_model.specs.Step.{Schedule, boot}
+use Rattle.pv_model.specs.Step.{Schedule}
+use Rattle.pv_laws_runs.proofs.Asked.{image-asks}
 use Rattle.pv_run.specs.Machines.{IsLeftBy}
 use Rattle.pv_run.specs.Run.{started_from}
 use Rattle.pv_session.specs.Running.{run_of}
 
-pub left_by : (asked : Result Started RunFault) (s after : State) (schedule : Schedule) → asked ≡ Ok (started_from s schedule) → boot program_of s.tree ≡ Some s
-    → after ≡ (run_of s schedule).final → IsLeftBy asked after
-left_by asked s after schedule is machine left = record { it = started_from s schedule; is_asked = is; is_machine = machine; is_left = left }
+pub left_by : (image turns : Bytes) (s after : State) (schedule : Schedule) → image_started image turns ≡ Ok (started_from s schedule)
+    → after ≡ (run_of s schedule).final → IsLeftBy image turns after
+left_by image turns s after schedule is left = record {
+  it = started_from s schedule;
+  asks = image-asks image turns (started_from s schedule) is;
+  is_left = left;
+  is_asked = is;
+}

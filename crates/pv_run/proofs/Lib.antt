@@ -1,6 +1,7 @@
+pub mod Audited
 pub mod Begun
 pub mod Left
+pub mod Made
 pub mod Starting
-pub mod Streaming
 pub mod Unwritten
 pub mod Written

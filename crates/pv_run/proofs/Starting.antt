@@ -23,23 +23,17 @@ use Rattle.pv_model.specs.Step.{Schedule, boot}
 use Rattle.pv_model.specs.Tree.{Tree}
 use Rattle.pv_image_manifest.specs.Reading.{RefusesManifest, manifest_before}
 use Rattle.pv_image_manifest.specs.declared.manifest.Manifest.{Manifest as ParsedManifest}
-use Rattle.pv_laws_images.proofs.Starts.{starts}
 use Rattle.pv_laws_states.specs.States.{IsFirstTree}
 use Rattle.pv_script.specs.Reading.{RefusesSchedule}
 use Rattle.pv_tree.specs.Standing.{IsAtRest}
 use Rattle.pv_run.specs.Images.{IsImageFault}
 use Rattle.pv_run.specs.Run.{RefusesStart, IsFaultOnTree, IsStartFault, started_from}
 use Rattle.std.proofs.lemmas.List.{take_all, length-drop}
-use Rattle.std.specs.Result.{result_ok}
 
 -- ---- the checks of a run on a tree: its schedule, and then the first program
 
 module _ (t : Tree) (lines : List Bytes) where
   module _ (s : Schedule) (turns : schedule_of_lines lines ≡ Ok s) where
-    pub started-whole : (state : State) → booted t ≡ Ok state → started_on t lines ≡ Ok (started_from state s)
-    unfolding started_on
-    started-whole state first = rw (turns, first) refl
-
     started-no_boot : (f : BootFault) → booted t ≡ Err f → started_on t lines ≡ Err (of_boot f)
     unfolding started_on
     started-no_boot f first = rw (turns, first) refl
@@ -116,20 +110,7 @@ pub refuses_text : (f : ScheduleFault) (text : Bytes) → RefusesSchedule f (rea
 unfolding read_schedule
 refuses_text f text refused = refused
 
--- ---- the machine's first state
-
--- a machine stands on the tree on which it was booted
-tree-by : (t : Tree) (s : State) (r : Result Program BootFault) → and_then (λ (f : BootFault). f) r (λ (program : Program). Ok (first_state t program)) ≡ Ok s → s.tree ≡ t
-tree-by t s (Ok program) is = cc is
-tree-by t s (Err fault) is = cc is
-
-booted-tree : (t : Tree) (s : State) → booted t ≡ Ok s → s.tree ≡ t
-unfolding booted
-booted-tree t s is = tree-by t s (program_in (init_of t)) is
-
--- a machine that was booted starts by the programs that bytes spell
-pub boots : (t : Tree) (s : State) → booted t ≡ Ok s → boot program_of s.tree ≡ Some s
-boots t s is = ap (λ tree. boot program_of tree) (booted-tree t s is) ∙ (sym (starts t) ∙ ap result_ok is)
+-- ---- the trees and the texts
 
 -- what a store has is a tree to start from
 pub first-tree : (t : Tree) → IsAtRest t → IsFirstTree t

@@ -6,16 +6,17 @@ use Rattle.pv_model.specs.declared.run_fault.RunFault.TheVariants.{Read, Image, 
 use Rattle.pv_model.specs.Bytes.{Bytes}
 use Rattle.pv_model.specs.Grammar.Programs.{program_of}
 use Rattle.pv_model.specs.State.{State}
-use Rattle.pv_model.specs.Start.{Started}
+use Rattle.pv_model.specs.Start.{Started, image_started}
 use Rattle.pv_model.specs.Step.{Schedule, boot}
 use Rattle.pv_model.specs.Tree.{Tree}
+use Rattle.pv_laws_runs.proofs.Asked.{image-asks}
 use Rattle.pv_run.proofs.Begun.{has_begun}
 use Rattle.pv_run.specs.Images.{BeginsImage, HasRunOn, HasRunUncut, IsWriteFault, StandsOn, WrittenImage, last_tree}
 use Rattle.pv_run.specs.Run.{HasBegun, IsSummaryOf, IsTextOf, StopsBy, started_from, text_of}
 use Rattle.pv_run.specs.declared.turns.Summary.{Summary}
 use Rattle.pv_session.specs.Running.{BeginsLines, WrittenLines, run_of}
-use Rattle.pv_trace.specs.Streams.{TellsBeginning, and_all}
-use Rattle.pv_trace.proofs.Streaming.{begins_whole}
+use Rattle.pv_streams.specs.Sinks.{TellsBeginning, and_all}
+use Rattle.pv_streams.proofs.Sinks.{begins_whole}
 
 -- an answer that is this fault
 abbrev pub answered : RunFault → Result (Unit {0}) RunFault
@@ -31,14 +32,6 @@ module _ (asked : Result Started RunFault) (s : State) (schedule : Schedule) (is
       (written : WrittenLines (run_of s schedule).lines tb ta) where
     is_last : t ≡ last_tree (started_from s schedule)
     is_last = same ∙ ap (λ (x : State). x.tree) left
-
-    pub has_run_on : WrittenImage t ib ia → HasRunOn asked tb ta ib ia summary
-    has_run_on as_written = record {
-      text = text_of (started_from s schedule);
-      is_run = is_text summary counts;
-      written = written;
-      as_written = subst (λ (x : Tree). WrittenImage x ib ia) is_last as_written;
-    }
 
     -- a run whose image was not written whole
     pub unwritten : (f e : RunFault) → e ≡ f → IsWriteFault f → (answered f ≡ Err WriteImage → BeginsImage t ib ia) → (answered f ≡ Err Memory → ia ≡ ib)
@@ -69,3 +62,17 @@ module _ (asked : Result Started RunFault) (s : State) (schedule : Schedule) (is
   stops_on (ScheduleLine n) e same failures now why begun = elim why [ ]
   stops_on (Init n) e same failures now why begun = elim why [ ]
   stops_on WriteImage e same failures now why begun = elim why [ ]
+
+-- ---- a run on an image that was made
+
+module _ (bytes turns : Bytes) (s : State) (schedule : Schedule) (is : image_started bytes turns ≡ Ok (started_from s schedule)) (tb ta ib ia : Option Bytes) where
+  pub has_run_on : (t : Tree) (after : State) → t ≡ after.tree → after ≡ (run_of s schedule).final → (summary : Summary) → IsSummaryOf (started_from s schedule) summary
+      → WrittenLines (run_of s schedule).lines tb ta → WrittenImage t ib ia → HasRunOn bytes turns tb ta ib ia summary
+  has_run_on t after same left summary counts written as_written = record {
+    it = started_from s schedule;
+    asks = image-asks bytes turns (started_from s schedule) is;
+    written = written;
+    as_written = subst (λ (x : Tree). WrittenImage x ib ia) (same ∙ ap (λ (x : State). x.tree) left) as_written;
+    counts = counts;
+    is_asked = is;
+  }

@@ -1,16 +1,17 @@
 -- What a run on an image leaves.
-use Rattle.std.specs.Prelude.{◌≡◌, ◌⊎◌, ⊤, Option, Result, Err}
+use Rattle.std.specs.Prelude.{◌≡◌, ◌⊎◌, ⊤, Option, Result, Ok, Err}
 use Rattle.pv_model.specs.declared.run_fault.RunFault.{RunFault}
 use Rattle.pv_model.specs.declared.fault.ImageFault.TheVariants.{Memory as ImageMemory}
 use Rattle.pv_model.specs.declared.run_fault.RunFault.TheVariants.{Read, Image, Manifest, Schedule as ScheduleLine, Init, Memory, WriteTrace, WriteImage}
 use Rattle.pv_model.specs.Bytes.{Bytes}
 use Rattle.pv_model.specs.Held.{named_tree}
-use Rattle.pv_model.specs.Start.{Started}
+use Rattle.pv_model.specs.Start.{Started, image_started}
 use Rattle.pv_model.specs.Tree.{Tree}
-use Rattle.pv_run.specs.Run.{HasBegun, IsTextOf}
+use Rattle.pv_run.specs.Run.{HasBegun, IsSummaryOf, IsTextOf, text_of}
 use Rattle.pv_run.specs.declared.turns.Summary.{Summary}
+use Rattle.pv_laws_runs.specs.Asked.{AsksOfImage}
 use Rattle.pv_session.specs.Running.{run_of}
-use Rattle.pv_trace.specs.Streams.{and_all}
+use Rattle.pv_streams.specs.Sinks.{and_all}
 use Rattle.pv_image_write.specs.Written.{TellsImage, BeginsImage as BeginsWrittenImage}
 
 -- what was written grew by bytes that hold a tree: its root and its named nodes
@@ -25,12 +26,16 @@ BeginsImage t before after = BeginsWrittenImage (named_tree t) before after
 abbrev pub last_tree : Started → Tree
 last_tree it = (run_of it.state it.schedule).final.tree
 
--- a run was made: the trace grew by just its text, and the image by bytes that hold the tree that it leaves
-pub record HasRunOn (asked : Result Started RunFault) (trace_before trace_after image_before image_after : Option Bytes) (summary : Summary) : Type 0 where
-  pub text : Bytes
-  pub is_run : IsTextOf asked text summary
-  pub written : trace_after ≡ and_all trace_before text
-  pub as_written : WrittenImage (last_tree is_run.it) image_before image_after
+-- a run on an image was made: the bytes are an image of a tree on which the machine boots, the text spells a schedule, the trace grew by
+-- just the text of that machine's run, and the image by bytes that hold the tree that it leaves; the summary counts the steps and the lines
+pub record HasRunOn (image turns : Bytes) (trace_before trace_after image_before image_after : Option Bytes) (summary : Summary) : Type 0 where
+  pub it : Started
+  pub asks : AsksOfImage image turns it
+  pub written : trace_after ≡ and_all trace_before (text_of it)
+  pub as_written : WrittenImage (last_tree it) image_before image_after
+  pub counts : IsSummaryOf it summary
+  -- it is what the checks find
+  pub is_asked : image_started image turns ≡ Ok it
 
 -- a run was made, and the tree that it leaves was told up to somewhere
 pub record HasRunUncut (asked : Result Started RunFault) (trace_before trace_after image_before image_after : Option Bytes) : Type 0 where

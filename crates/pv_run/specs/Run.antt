@@ -5,13 +5,14 @@ use Rattle.pv_model.specs.declared.run_fault.RunFault.{RunFault}
 use Rattle.pv_model.specs.declared.run_fault.RunFault.TheVariants.{Read, Manifest, Schedule as ScheduleLine, Init, Memory, WriteTrace}
 use Rattle.pv_model.specs.Bytes.{Bytes}
 use Rattle.pv_model.specs.Grammar.Programs.{program_of}
-use Rattle.pv_model.specs.Start.{Started}
+use Rattle.pv_model.specs.Start.{Started, bundle_started}
 use Rattle.pv_model.specs.State.{State}
 use Rattle.pv_model.specs.Step.{Schedule, boot, steps_of}
 use Rattle.pv_model.specs.Stream.{Rose}
 use Rattle.pv_model.specs.Trace.{trace_bytes}
+use Rattle.pv_laws_runs.specs.Asked.{AsksOfBundle}
 use Rattle.pv_session.specs.Running.{run_of}
-use Rattle.pv_trace.specs.Streams.{and_all, TellsBeginning}
+use Rattle.pv_streams.specs.Sinks.{and_all, TellsBeginning}
 use Rattle.pv_run.specs.declared.turns.Summary.{Summary}
 
 -- what a run starts from
@@ -36,11 +37,15 @@ pub record IsTextOf (asked : Result Started RunFault) (text : Bytes) (summary : 
   pub text_is : text ≡ text_of it
   pub counts : IsSummaryOf it summary
 
--- a run was made: what was written grew by just its text
-pub record HasRun (asked : Result Started RunFault) (before after : Option Bytes) (summary : Summary) : Type 0 where
-  pub text : Bytes
-  pub is_run : IsTextOf asked text summary
-  pub written : after ≡ and_all before text
+-- the run of a bundle was made: the entries of its manifest make a tree on which the machine boots, the lines after it spell a
+-- schedule, and what was written grew by just the text of that machine's run; the summary counts the steps and the lines
+pub record HasRun (bytes : Bytes) (before after : Option Bytes) (summary : Summary) : Type 0 where
+  pub it : Started
+  pub asks : AsksOfBundle bytes it
+  pub written : after ≡ and_all before (text_of it)
+  pub counts : IsSummaryOf it summary
+  -- it is what the checks find
+  pub is_asked : bundle_started bytes ≡ Ok it
 
 -- where a line could not be written a failure was counted, and where memory was refused none was
 abbrev pub StopsBy : RunFault → ℕ → ℕ → Type 0

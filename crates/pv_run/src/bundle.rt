@@ -5,12 +5,12 @@ ghost use Rattle.pv_model.specs.Start.{bundle_started};
 ghost use Rattle.pv_model.specs.Step.{boot};
 ghost use Rattle.pv_model.specs.Stream.{Rose};
 ghost use Rattle.pv_run.specs.Run.{HasRun, IsBundleFault, IsBytesFault, IsStartFault, RefusesStart, StandsIn, TellsNothingUnlessCut, BufferedOnlyIfCut, started_from};
-ghost use Rattle.pv_run.specs.Streams.{GivesMoreThan};
+ghost use Rattle.pv_streams.specs.Sources.{FailsToGive};
 
-use crate::stream::{SOURCE_BYTES, read_whole};
 use crate::turns::{Ready, Summary, make_turns, start_on};
 use pv_image_manifest::{Bundle, build};
-use pv_model::{RunFault, Sink, Source};
+use pv_model::RunFault;
+use pv_streams::{SOURCE_BYTES, Sink, Source, read_whole};
 use std::alloc::Global;
 
 // What a bundle's run starts from.
@@ -29,7 +29,7 @@ fn start_bundle(alloc: Global, bytes: &[u8]) -> Result<Ready, RunFault>
 // Runs what the bytes of a bundle ask for.
 fn run_bytes<W: Sink>(alloc: Global, bytes: &[u8], trace: &mut W) -> Result<Summary, RunFault>
     requires { length bytes.now ≤ SOURCE_BYTES }
-    ensures ran { IfOk result (λ summary. HasRun (bundle_started bytes.now) (W.written trace.old) (W.written trace.new) summary) }
+    ensures ran { IfOk result (λ summary. HasRun bytes.now (W.written trace.old) (W.written trace.new) summary) }
     ensures refused { IfErr result (λ fault. StandsIn (bundle_started bytes.now) (W.written trace.old) (W.written trace.new) fault) }
     ensures kind { IfErr result IsBytesFault }
     ensures unwritten { IfErr result (TellsNothingUnlessCut (W.written trace.old) (W.written trace.new)) }
@@ -65,13 +65,13 @@ pub fn run_tree<S: Source, W: Sink>(
     bundle: &mut S,
     trace: &mut W,
 ) -> Result<Summary, RunFault>
-    ensures ran { IfOk result (λ summary. IfSome (S.remaining bundle.old) (λ bytes. HasRun (bundle_started bytes) (W.written trace.old) (W.written trace.new) summary)) }
+    ensures ran { IfOk result (λ summary. IfSome (S.remaining bundle.old) (λ bytes. HasRun bytes (W.written trace.old) (W.written trace.new) summary)) }
     ensures refused { IfErr result (λ fault. IfSome (S.remaining bundle.old) (λ bytes. StandsIn (bundle_started bytes) (W.written trace.old) (W.written trace.new) fault)) }
     ensures kind { IfErr result IsBundleFault }
 
     // Nothing is written but the text, and a fault of reading or writing was counted.
     ensures unwritten { IfErr result (TellsNothingUnlessCut (W.written trace.old) (W.written trace.new)) }
-    ensures read { result ≡ Err RunFault.Read → Rose (S.failures bundle.old) (S.failures bundle.new) ⊎ GivesMoreThan SOURCE_BYTES (S.remaining bundle.old) }
+    ensures read { result ≡ Err RunFault.Read → FailsToGive S.Source bundle.old bundle.new }
     ensures write { result ≡ Err RunFault.WriteTrace → Rose (W.failures trace.old) (W.failures trace.new) }
     ensures empty { OnOk result (W.buffered trace.new ≡ 0) }
     ensures stopped { IfErr result (λ fault. W.buffered trace.old ≡ 0 → BufferedOnlyIfCut fault (W.buffered trace.new)) }

@@ -7,12 +7,12 @@ ghost use Rattle.pv_model.specs.Step.{boot};
 ghost use Rattle.pv_model.specs.Stream.{Rose};
 ghost use Rattle.pv_run.specs.Images.{BeginsImage, HasRunOn, IsImageFault, IsImageRunFault, IsRunFault, IsWriteFault, StandsOn, TellsNeitherUnlessCut, WrittenImage};
 ghost use Rattle.pv_run.specs.Run.{IsStartFault, RefusesStart, BufferedOnlyIfCut, started_from};
-ghost use Rattle.pv_run.specs.Streams.{GivesMoreThan};
+ghost use Rattle.pv_streams.specs.Sources.{FailsToGive};
 
-use crate::stream::{SOURCE_BYTES, read_whole};
 use crate::turns::{Ready, Summary, make_turns, start_on};
-use pv_model::{ImageFault, RunFault, Sink, Source};
+use pv_model::{ImageFault, RunFault};
 use pv_image_mount::mount;
+use pv_streams::{SOURCE_BYTES, Sink, Source, read_whole};
 use pv_tree::{Store, Tree};
 use pv_image_write::{WriteFault, write_tree};
 use std::alloc::Global;
@@ -78,7 +78,7 @@ fn run_image<W: Sink, O: Sink>(
     image: &mut O,
 ) -> Result<Summary, RunFault>
     requires { length schedule.now ≤ SOURCE_BYTES }
-    ensures ran { IfOk result (λ summary. HasRunOn (image_started bytes.items schedule.now) (W.written trace.old) (W.written trace.new) (O.written image.old) (O.written image.new) summary) }
+    ensures ran { IfOk result (λ summary. HasRunOn bytes.items schedule.now (W.written trace.old) (W.written trace.new) (O.written image.old) (O.written image.new) summary) }
     ensures refused { IfErr result (λ fault. StandsOn (image_started bytes.items schedule.now) (W.written trace.old) (W.written trace.new) (O.written image.old) (O.written image.new) fault) }
     ensures kind { IfErr result IsImageRunFault }
     ensures write_trace { result ≡ Err RunFault.WriteTrace → Rose (W.failures trace.old) (W.failures trace.new) }
@@ -126,14 +126,13 @@ pub fn run<I: Source, S: Source, W: Sink, O: Sink>(
     image: &mut O,
 ) -> Result<Summary, RunFault>
     ensures ran { IfOk result (λ summary. IfSome (I.remaining bytes.old) (λ b. IfSome (S.remaining schedule.old) (λ turns.
-        HasRunOn (image_started b turns) (W.written trace.old) (W.written trace.new) (O.written image.old) (O.written image.new) summary))) }
+        HasRunOn b turns (W.written trace.old) (W.written trace.new) (O.written image.old) (O.written image.new) summary))) }
     ensures refused { IfErr result (λ fault. IfSome (I.remaining bytes.old) (λ b. IfSome (S.remaining schedule.old) (λ turns.
         StandsOn (image_started b turns) (W.written trace.old) (W.written trace.new) (O.written image.old) (O.written image.new) fault))) }
     ensures kind { IfErr result IsRunFault }
 
     // A fault of reading or writing was counted.
-    ensures read { result ≡ Err RunFault.Read → (Rose (I.failures bytes.old) (I.failures bytes.new) ⊎ GivesMoreThan SOURCE_BYTES (I.remaining bytes.old))
-        ⊎ (Rose (S.failures schedule.old) (S.failures schedule.new) ⊎ GivesMoreThan SOURCE_BYTES (S.remaining schedule.old)) }
+    ensures read { result ≡ Err RunFault.Read → FailsToGive I.Source bytes.old bytes.new ⊎ FailsToGive S.Source schedule.old schedule.new }
     ensures write_trace { result ≡ Err RunFault.WriteTrace → Rose (W.failures trace.old) (W.failures trace.new) }
     ensures write_image { result ≡ Err RunFault.WriteImage → Rose (O.failures image.old) (O.failures image.new) }
 

@@ -5,20 +5,20 @@ ghost use Rattle.pv_model.specs.Stream.{Rose};
 ghost use Rattle.pv_run.specs.Images.{IsImageFault};
 ghost use Rattle.pv_run.specs.Machines.{IsLeftBy, IsMachineFault, RefusesMachine};
 ghost use Rattle.pv_run.specs.Run.{RefusesStart};
-ghost use Rattle.pv_run.specs.Streams.{GivesMoreThan};
+ghost use Rattle.pv_streams.specs.Sources.{FailsToGive};
 
 use crate::image::start_image;
-use crate::stream::{SOURCE_BYTES, read_whole};
 use crate::turns::Ready;
-use pv_model::{RunFault, Source, StepFault};
+use pv_model::{RunFault, StepFault};
 use pv_session::{Session, pass_schedule};
+use pv_streams::{SOURCE_BYTES, Source, read_whole};
 use std::alloc::Global;
 
 // The machine that the bytes of a schedule leave on those of an image.
 #[tactic(auto, using(crate::proofs::Left::left_by))]
 fn machine_of(alloc: Global, image: Vec<u8>, schedule: &[u8]) -> Result<Session, RunFault>
     requires { length schedule.now ≤ SOURCE_BYTES }
-    ensures left { IfOk result (IsLeftBy (image_started image.items schedule.now)) }
+    ensures left { IfOk result (IsLeftBy image.items schedule.now) }
     ensures refused { IfErr result (λ fault. RefusesStart fault (image_started image.items schedule.now)) }
     ensures kind { IfErr result IsImageFault }
 {
@@ -49,14 +49,13 @@ pub fn machine_after<I: Source, S: Source>(
     schedule: &mut S,
 ) -> Result<Session, RunFault>
     ensures left { IfOk result (λ session. IfSome (I.remaining image.old) (λ bytes. IfSome (S.remaining schedule.old) (λ turns.
-        IsLeftBy (image_started bytes turns) session))) }
+        IsLeftBy bytes turns session))) }
     ensures refused { IfErr result (λ fault. IfSome (I.remaining image.old) (λ bytes. IfSome (S.remaining schedule.old) (λ turns.
         RefusesMachine fault (image_started bytes turns)))) }
     ensures kind { IfErr result IsMachineFault }
 
     // A fault of reading was counted.
-    ensures read { result ≡ Err RunFault.Read → (Rose (I.failures image.old) (I.failures image.new) ⊎ GivesMoreThan SOURCE_BYTES (I.remaining image.old))
-        ⊎ (Rose (S.failures schedule.old) (S.failures schedule.new) ⊎ GivesMoreThan SOURCE_BYTES (S.remaining schedule.old)) }
+    ensures read { result ≡ Err RunFault.Read → FailsToGive I.Source image.old image.new ⊎ FailsToGive S.Source schedule.old schedule.new }
 {
     let image = read_whole(alloc, image)?;
     let schedule = read_whole(alloc, schedule)?;

@@ -8,10 +8,10 @@ ghost use Rattle.pv_model.specs.Stream.{Rose};
 ghost use Rattle.pv_run.specs.Run.{IsFaultOnTree, IsSummaryOf, RefusesStart, StopsBy, BufferedOnlyIfCut, started_from};
 ghost use Rattle.pv_session.specs.Running.{BeginsLines, WrittenLines, run_of};
 
-use crate::stream::SOURCE_BYTES;
-use pv_model::{Failed, RunFault, Sink};
+use pv_model::RunFault;
 use pv_script::Schedule;
 use pv_session::{Session, Stop, run_schedule, step_count};
+use pv_streams::{Failed, SOURCE_BYTES, Sink};
 use pv_tree::Store;
 use std::alloc::Global;
 

@@ -3,6 +3,7 @@
 -- of a file, and what it says of all runs).
 pub mod Audited
 pub mod Passing
+pub mod Restrained
 pub mod Stepping
 pub mod Turns
 pub mod Writes

@@ -9,8 +9,8 @@ use Rattle.pv_model.specs.State.{State}
 use Rattle.pv_model.specs.Step.{Run, Schedule, run, steps_of}
 use Rattle.pv_model.specs.Trace.{line_bytes, trace_bytes}
 use Rattle.pv_model.proofs.Runs.{run-append}
-use Rattle.pv_trace.specs.Streams.{and_all, TellsBeginning}
-use Rattle.pv_trace.proofs.Telling.{written_both, begins_first, begins_then}
+use Rattle.pv_streams.specs.Sinks.{and_all, TellsBeginning}
+use Rattle.pv_streams.proofs.Telling.{written_both, begins_first, begins_then}
 use Rattle.pv_session.specs.Running.{stepped, turn, run_of, run_of_first, WrittenLines, BeginsLines}
 
 -- one copy more, at the end

@@ -1,2 +1,3 @@
 pub mod Audits
+pub mod Restraints
 pub mod Running

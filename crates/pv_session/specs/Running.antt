@@ -8,7 +8,7 @@ use Rattle.pv_model.specs.Trace.{Line, trace_bytes}
 use Rattle.pv_model.specs.Stream.{Rose}
 use Rattle.pv_session.specs.declared.session.Stop.{Stop}
 use Rattle.pv_session.specs.declared.session.Stop.TheVariants.{Memory, Write}
-use Rattle.pv_trace.specs.Streams.{and_all, TellsBeginning}
+use Rattle.pv_streams.specs.Sinks.{and_all, TellsBeginning}
 
 -- a step of the machine, whose programs are what files spell
 abbrev pub stepped : State → ℕ → Stepped

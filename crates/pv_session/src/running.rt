@@ -5,7 +5,8 @@ ghost use Rattle.pv_model.specs.Step.{steps_of};
 ghost use Rattle.pv_session.specs.Running.{BeginsLines, FailsBy, WrittenLines, stepped, turn, run_of};
 
 use crate::session::{Session, Stop};
-use pv_model::{Sink, StepFault};
+use pv_model::StepFault;
+use pv_streams::Sink;
 use std::alloc::Global;
 
 // Makes so many steps of a process and writes the lines of each before the next: answers how many. Those on registers

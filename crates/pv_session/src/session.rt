@@ -1,23 +1,27 @@
 //! The machine, step by step.
 ghost use Rattle.std.specs.Prelude.{◌≡◌, ◌⊎◌, ◌<◌, ◌≤◌, IfOk, IfErr, IsTrue, OnOk, OnErr, Ok, Err, Some, [], length};
-ghost use Rattle.pv_laws_states.specs.States.{IsFirstTree, is_call};
+ghost use Rattle.pv_laws_states.specs.States.{IsFirstTree, IsWhole, is_call};
 ghost use Rattle.pv_model.specs.CallRef.{call_of};
 ghost use Rattle.pv_model.specs.declared.limits.TheConstants.{BUFFER};
+ghost use Rattle.pv_model.specs.Grammar.Programs.{program_of};
 ghost use Rattle.pv_model.specs.Sealed.{audit as audit_by_definition, audit_node as audit_of};
 ghost use Rattle.pv_model.specs.Start.{booted};
-ghost use Rattle.pv_model.specs.Trace.{buffer_of};
 ghost use Rattle.pv_model.specs.State.{process_at};
+ghost use Rattle.pv_model.specs.Touch.{IsJustified};
+ghost use Rattle.pv_model.specs.Trace.{buffer_of};
 ghost use Rattle.pv_procs.specs.Turns.{AwaitsCall, CallsNext};
 ghost use Rattle.pv_session.specs.Audits.{KeepsSecret, KeepsSecretAt};
+ghost use Rattle.pv_session.specs.Restraints.{ChildBeginsAlike, GainsNothing, LeavesOthers};
 ghost use Rattle.pv_session.specs.declared.session.Stop.TheVariants.{Memory, Write};
 ghost use Rattle.pv_session.specs.Running.{BeginsLines, FailsBy, WrittenLines, stepped, turn};
 
 use pv_audit::{audit, audit_node};
 use pv_namei::CachedLookup;
 use pv_calls::Kernel;
-use pv_model::{AuditFault, BootFault, CallRef, Failed, Outcome, Sink, StepFault, Verdict};
+use pv_model::{AuditFault, BootFault, CallRef, Outcome, StepFault, Verdict};
 use pv_procs::Fetched;
 use pv_script::CallTexts;
+use pv_streams::{Failed, Sink};
 use pv_trace::{LineBuffer, write_call_lines, write_gone_line};
 use pv_tree::{Store, Tree};
 use std::alloc::Global;
@@ -115,8 +119,20 @@ impl Session {
         }
     }
 
+    // The state is one that a run may reach.
+    fn invariant(&self)
+        ensures { IsWhole self.now }
+    {
+        let _ = self.kernel.parts();
+    }
+
     /// Makes one step of a process: an instruction on registers, which answers 0, or a call. A process that is not live
     /// answers `Gone`.
+    ///
+    /// Each touch of the step is justified, in the state before it, by the promises that the process holds and by a place
+    /// that its table allows or a descriptor of its own. In one program image the process loses no restraint: its
+    /// pledge(2) promises and its unveil(2) table stay in force, and neither gains a keyword, an entry under the lock, or a
+    /// permission. The other processes keep all that they have, and a child begins with its parent's restraints.
     ///
     /// # Errors
     ///
@@ -125,7 +141,14 @@ impl Session {
         ensures after { OnOk result (self.new ≡ (stepped self.old pid).after) }
         ensures outcome { IfOk result (λ outcome. outcome ≡ (stepped self.old pid).outcome) }
         ensures unchanged { OnErr result (self.new ≡ self.old) }
+        ensures justified { IsJustified program_of self.old pid }
+
+        // In one program image nothing is gained; the others, and what a child begins with.
+        ensures own { IfOk result (λ outcome. GainsNothing self.old pid outcome self.new) }
+        ensures others { OnOk result (LeavesOthers self.old pid self.new) }
+        ensures child { IfOk result (λ outcome. ChildBeginsAlike self.old pid outcome self.new) }
     {
+        self.invariant();
         let kernel = &mut *self.kernel;
         match kernel.step_or_fetch(pid, &mut self.texts) {
             Fetched::Gone => Ok(Outcome::Gone),

@@ -5,7 +5,7 @@ use crate::audits::make_steps;
 use crate::streams::{Narrow, sink_of};
 use pv_listing::ListStop;
 use pv_model::{AuditFault, Errno, Leak, Verdict, Why};
-use pv_reports::write_report;
+use pv_run::write_report;
 use pv_session::Session;
 use pv_tests_calls::store_of;
 use std::alloc::Global;

@@ -1,7 +1,7 @@
 //! Streams that fail.
 ghost use Rattle.std.specs.Prelude.{None};
 
-use pv_model::{Failed, Sink};
+use pv_streams::{Failed, Sink};
 
 // A sink that takes so many bytes.
 #[derive(Drop)]

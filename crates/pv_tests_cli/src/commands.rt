@@ -6,12 +6,9 @@ ghost use Rattle.std.specs.String.{string_bytes};
 use crate::streams::Broken;
 use crate::texts::{BUNDLE, MOTD, MOTD_LISTING, MOTD_TRACE, SMALL, SMALL_TRACE};
 use pv_cli_commands::{Command, Fault, Files, HostSystem, perform};
-use pv_images::{AuditStop, MigrateStop};
-use pv_model::{
-    AuditFault, Errno, Failed, ImageFault, ListFault, ManifestFault, MigrateFault, RunFault, Sink,
-};
-use pv_run::stream::{Bytes, Gathered};
-use pv_trace::Buffered;
+use pv_model::{AuditFault, Errno, ImageFault, ListFault, ManifestFault, MigrateFault, RunFault};
+use pv_run::{AuditStop, MigrateStop};
+use pv_streams::{Buffered, Bytes, Failed, Gathered, Sink};
 use std::alloc::{AllocError, Global};
 use std::cell::RefCell;
 use std::process::Abort;

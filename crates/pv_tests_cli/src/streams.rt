@@ -1,7 +1,7 @@
 //! Streams that fail.
 ghost use Rattle.std.specs.Prelude.{None};
 
-use pv_model::{Failed, Sink, Source};
+use pv_streams::{Failed, Sink, Source};
 
 // A source and a sink that fail.
 #[derive(Drop)]
@@ -11,6 +11,8 @@ pub(crate) struct Broken {
 
 impl Source for Broken {
     ghost remaining = { λ _. None };
+
+    ghost given = { λ _. 0 };
 
     ghost failures = { λ source. source.failures };
 

@@ -1,9 +1,9 @@
 //! Runs of whole bundles.
 use crate::images::MOTD_TRACE;
 use crate::streams::{Cut, expect_cut, expect_front, front_of, sink_of, slow_front_of};
-use pv_model::{ManifestFault, RunFault, Source};
-use pv_run::stream::{Bytes, Gathered};
+use pv_model::{ManifestFault, RunFault};
 use pv_run::{Summary, run_tree};
+use pv_streams::{Bytes, Gathered, Source};
 use std::alloc::{AllocError, Global};
 use std::process::Abort;
 use std::test::Fail;

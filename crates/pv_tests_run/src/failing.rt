@@ -3,10 +3,9 @@ use crate::images::{MOTD, MOTD_LISTING, MOTD_TRACE, made};
 use crate::streams::{
     Cut, Endless, expect_count, expect_cut, expect_front, front_of, sink_of, slow_front_of,
 };
-use pv_images::{AuditStop, MigrateStop, audit_image, list, make_image, migrate_image};
-use pv_model::{ListFault, RunFault, Sink};
-use pv_run::run;
-use pv_run::stream::{Bytes, Gathered};
+use pv_model::{ListFault, RunFault};
+use pv_run::{AuditStop, MigrateStop, audit_image, list, make_image, migrate_image, run};
+use pv_streams::{Bytes, Gathered, Sink};
 use std::process::Abort;
 
 const SCHEDULE: &[u8] = b"1 5\n";
@@ -90,9 +89,9 @@ fn schedules_that_break_off_give_nothing(rt: HostRuntime) {
 #[test]
 fn sources_without_end_are_refused(rt: HostRuntime) {
     let mut out = Gathered::new(rt.alloc());
-    let listed = list(rt.alloc(), &mut Endless, &mut out);
+    let listed = list(rt.alloc(), &mut Endless { given: 0 }, &mut out);
     assert_eq!(rt; listed.err(), Some(ListFault::Read));
-    let answer = make_image(rt.alloc(), &mut Endless, &mut out);
+    let answer = make_image(rt.alloc(), &mut Endless { given: 0 }, &mut out);
     assert_eq!(rt; answer.err(), Some(RunFault::Read));
     assert!(rt; out.bytes.is_empty());
 }

@@ -1,8 +1,7 @@
 //! Images that are made, migrated and run.
-use pv_images::{MigrateStop, list, make_image, migrate_image};
 use pv_model::{ImageFault, MigrateFault};
-use pv_run::stream::{Bytes, Gathered};
-use pv_run::{Summary, run};
+use pv_run::{MigrateStop, Summary, list, make_image, migrate_image, run};
+use pv_streams::{Bytes, Gathered};
 use std::alloc::{AllocError, Global};
 use std::process::Abort;
 use std::test::Fail;

@@ -1,8 +1,7 @@
 //! Streams that fail: a source when it has given its bytes, a sink when it has no room; and a source without end.
 ghost use Rattle.std.specs.Prelude.{None};
 
-use pv_model::{Failed, Sink, Source};
-use pv_run::stream::Gathered;
+use pv_streams::{Failed, Gathered, Sink, Source};
 use std::process::Abort;
 
 // A source that fails when it has given its bytes, so many a read at most.
@@ -10,11 +9,14 @@ use std::process::Abort;
 pub(crate) struct Cut<'a> {
     rest: &'a [u8],
     pace: usize,
+    given: u64,
     failures: u64,
 }
 
 impl<'a> Source for Cut<'a> {
     ghost remaining = { λ _. None };
+
+    ghost given = { λ source. source.given };
 
     ghost failures = { λ source. source.failures };
 
@@ -27,6 +29,7 @@ impl<'a> Source for Cut<'a> {
         let (front, rest) = self.rest.split_at(count);
         buffer[..count].copy_from_slice(front);
         self.rest = rest;
+        self.given = self.given.saturating_add(count as u64);
         Ok(count)
     }
 }
@@ -36,6 +39,7 @@ pub(crate) fn front_of(bytes: &[u8], end: usize) -> Cut<'_> {
     Cut {
         rest: bytes.get(..end).unwrap_or(bytes),
         pace: 1_000,
+        given: 0,
         failures: 0,
     }
 }
@@ -55,15 +59,20 @@ pub(crate) fn expect_cut(rt: &impl Abort, source: &Cut<'_>) {
 
 // A source of zeros without end.
 #[derive(Drop)]
-pub(crate) struct Endless;
+pub(crate) struct Endless {
+    pub(crate) given: u64,
+}
 
 impl Source for Endless {
     ghost remaining = { λ _. None };
+
+    ghost given = { λ source. source.given };
 
     ghost failures = { λ _. 0 };
 
     fn read(&mut self, buffer: &mut [u8]) -> Result<usize, Failed> {
         buffer.fill(0);
+        self.given = self.given.saturating_add(buffer.len() as u64);
         Ok(buffer.len())
     }
 }

@@ -1,4 +1,4 @@
-//! Texts and their readers tried, and what writes traces and verdicts: programs, schedules and machines, lines and words.
+//! Texts and their readers tried, and what writes traces: programs, schedules and machines, lines and words.
 //!
 //! It has tests alone, a module for each crate that they try; `answers` has what they compare by, and `streams` the
 //! sinks that they write to.
@@ -14,5 +14,3 @@ mod streams;
 mod text;
 #[cfg(test)]
 mod trace;
-#[cfg(test)]
-mod verdicts;

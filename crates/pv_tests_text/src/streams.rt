@@ -1,7 +1,7 @@
 //! Sinks that take little.
 ghost use Rattle.std.specs.Prelude.{None};
 
-use pv_model::{Failed, Sink};
+use pv_streams::{Failed, Sink};
 
 // A sink that takes so many bytes, at most so many a write, and counts its writes.
 #[derive(Drop)]

@@ -4,12 +4,13 @@ ghost use Rattle.pv_trace.specs.Words.{HasFewBytes};
 use crate::answers::expect_equal;
 use crate::streams::{Narrow, sink_of};
 use pv_model::{
-    Call, CallRef, Cause, Errno, Failed, Mode, OpenFlags, Outcome, Perms, Promise, Sink, Start,
-    Taken, Text, Whence,
+    Call, CallRef, Cause, Errno, Mode, OpenFlags, Outcome, Perms, Promise, Start, Taken, Text,
+    Whence,
 };
+use pv_streams::{Buffered, Failed, CHUNK, Sink, write_through, write_whole};
 use pv_trace::{
-    Buffered, Line, CHUNK, PromiseVerdict, Returned, LineBuffer, UnveilVerdict, Way, Word,
-    write_call_lines, write_gone_line, write_line, write_through, write_whole,
+    Line, PromiseVerdict, Returned, LineBuffer, UnveilVerdict, Way, Word, write_call_lines,
+    write_gone_line, write_line,
 };
 use std::process::Abort;
 

@@ -4,6 +4,5 @@
 pub mod Digits
 pub mod Flags
 pub mod Fronts
+pub mod Lines
 pub mod Paths
-pub mod Streaming
-pub mod Telling

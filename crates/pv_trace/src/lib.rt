@@ -1,27 +1,22 @@
 //! The lines of a trace, in the manner of kdump(1), byte by byte.
 //!
-//! `line` has the lines as values, `steps` those of a step, `stream` writes bytes whole, and `buffered` gathers them. The lines
-//! of a step are made on a line buffer of fixed size, a `fixed_buffer`, and a sink is given them at once: `line_buffer` puts on it
+//! `line` has the lines as values, and `steps` those of a step. The lines of a step are made on a line buffer of fixed size, a `fixed_buffer`, and a sink is given them at once: `line_buffer` puts on it
 //! what lines are made of, `calls` a call with its arguments, and `words` the line of each word. `plain` tells how
 //! many bytes at the front of a text stand for themselves. No call takes memory.
 //!
 //! A clause sees a line as `pv_model`'s definitions have it.
 #![tactic(auto)]
 
-mod buffered;
 mod calls;
 mod line;
 mod fixed_buffer;
 mod plain;
 mod line_buffer;
 mod steps;
-mod stream;
 mod words;
 
-pub use buffered::{Buffered, CHUNK};
 pub use line::{Line, PromiseVerdict, Returned, UnveilVerdict, Way, Word, write_line};
 pub use fixed_buffer::FixedBuffer;
 pub use plain::plain_count;
 pub use line_buffer::{LineBuffer, put, put_decimal};
 pub use steps::{write_call_lines, write_gone_line};
-pub use stream::{write_through, write_whole};

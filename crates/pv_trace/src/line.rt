@@ -3,16 +3,16 @@ ghost use Rattle.std.specs.Prelude.{◌≡◌, ◌++◌, ◌+◌, ◌≤◌, len
 ghost use Rattle.pv_model.specs.Stream.{Rose};
 ghost use Rattle.pv_model.specs.Trace.{line, line_bytes};
 ghost use Rattle.pv_trace.specs.declared.line_buffer.TheConstants.{LINE_BYTES, LINE_BUFFER};
-ghost use Rattle.pv_trace.specs.Streams.{and_all, TellsBeginning};
+ghost use Rattle.pv_streams.specs.Sinks.{and_all, TellsBeginning};
 ghost use Rattle.pv_trace.specs.Words.{word_of, HasFewBytes};
 
 use crate::line_buffer::LineBuffer;
-use crate::stream::write_whole;
 use crate::words::{
     put_call_line, put_error_line, put_gone_line, put_killed_line, put_moved_line, put_path_line,
     put_promise_line, put_unveil_line, put_value_line, put_wait_line,
 };
-use pv_model::{CallRef, Errno, Failed, Perms, Promise, Sink, Text};
+use pv_model::{CallRef, Errno, Perms, Promise, Text};
+use pv_streams::{Failed, Sink, write_whole};
 use std::marker::Model;
 
 /// What a promise decided, pledge(2).

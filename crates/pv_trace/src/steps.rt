@@ -7,18 +7,18 @@ ghost use Rattle.pv_model.specs.Stream.{Rose};
 ghost use Rattle.pv_model.specs.Trace.{trace_bytes, needed_by, asked_permissions as permissions_asked, gone_lines};
 ghost use Rattle.pv_model.specs.Walks.{permissions_or_none, walks_of, walk_number};
 ghost use Rattle.pv_trace.specs.Steps.{path_line, path_lines_of, refusal_verdict, promise_lines_of, unveil_lines_of, moved_lines_of, end_lines_of, lines_by};
-ghost use Rattle.pv_trace.specs.Streams.{and_all, TellsBeginning};
+ghost use Rattle.pv_streams.specs.Sinks.{and_all, TellsBeginning};
 ghost use Rattle.pv_trace.specs.Words.{promise_verdict_of};
 ghost use Rattle.pv_trace.specs.declared.line_buffer.TheConstants.{LINE_BYTES, PATH_LINE_BYTES, SHORT_LINE_BYTES, LINE_BUFFER};
 
 use crate::line::{Line, PromiseVerdict, UnveilVerdict, Way, Word, write_line};
 use crate::line_buffer::LineBuffer;
-use crate::stream::write_whole;
 use crate::words::{
     put_call_line, put_error_line, put_killed_line, put_moved_line, put_path_line,
     put_promise_line, put_unveil_line, put_value_line, put_wait_line,
 };
-use pv_model::{CallRef, Cause, Errno, Failed, Outcome, Perms, Sink, Text};
+use pv_model::{CallRef, Cause, Errno, Outcome, Perms, Text};
+use pv_streams::{Failed, Sink, write_whole};
 
 // The lines of the walks along one path, of which there is at most one. It answers how many lines it put, as each call
 // below does that puts some.
@@ -247,7 +247,7 @@ fn put_end_lines(out: &mut LineBuffer, pid: u32, call: CallRef<'_>, outcome: Out
 }
 
 // Puts the lines of a call on a line buffer, whatever that had.
-#[tactic(auto, unfolding(crate::specs::Steps::lines_by), using(crate::proofs::Telling::text_joined))]
+#[tactic(auto, unfolding(crate::specs::Steps::lines_by), using(crate::proofs::Lines::text_joined))]
 fn put_lines(
     out: &mut LineBuffer,
     pid: u32,

@@ -5,7 +5,7 @@ use Rattle.std.proofs.lemmas.Result.{on_ok_weaker}
 use Rattle.pv_model.specs.Bytes.{Bytes}
 use Rattle.pv_model.specs.Image.{inode_blocks, greatest_blocks}
 use Rattle.pv_model.specs.Tree.{Tree}
-use Rattle.pv_trace.specs.Streams.{and_all, TellsBeginning}
+use Rattle.pv_streams.specs.Sinks.{and_all, TellsBeginning}
 use Rattle.pv_image_write.specs.Placed.{placed}
 use Rattle.pv_image_write.specs.Spelling.{image_bytes}
 use Rattle.pv_image_write.specs.Written.{BeginsImage, TellsImage}

@@ -1,7 +1,7 @@
 use Rattle.std.proofs.Common.{◌≡◌, ℕ, ◌+◌, ◌-◌, ◌≤◌, subst, arith}
 use Rattle.pv_model.specs.Bytes.{Bytes}
 use Rattle.pv_model.specs.Image.{inode_blocks}
-use Rattle.pv_trace.specs.Streams.{and_all, TellsBeginning}
+use Rattle.pv_streams.specs.Sinks.{and_all, TellsBeginning}
 use Rattle.pv_image_write.specs.Placed.{placed}
 use Rattle.pv_image_write.proofs.Writing.{image-as_written, length-with_table}
 use Rattle.pv_image_write.proofs.image.write_bytes.Goals as goal

@@ -6,8 +6,8 @@ use Rattle.pv_model.specs.Image.{inode_blocks}
 use Rattle.pv_model.specs.Tree.{node_at, greatest_name}
 use Rattle.pv_tree.specs.Holding.{HeldTree}
 use Rattle.pv_tree.specs.Standing.{IsStanding}
-use Rattle.pv_trace.proofs.Telling.{on_err}
-use Rattle.pv_trace.specs.Streams.{and_all, TellsBeginning}
+use Rattle.pv_streams.proofs.Telling.{on_err}
+use Rattle.pv_streams.specs.Sinks.{and_all, TellsBeginning}
 use Rattle.pv_image_write.specs.Placed.{placed, written_at}
 use Rattle.pv_image_write.specs.Spelling.{all_contents, padded}
 use Rattle.pv_image_write.proofs.PlacedTrees.{node-placed}

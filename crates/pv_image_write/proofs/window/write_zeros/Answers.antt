@@ -1,10 +1,10 @@
 use Rattle.std.proofs.Common.{◌≡◌, ℕ, ◌+◌, ◌*◌, ◌-◌, ◌≤◌, ◌++◌, replicate, ap, subst, ◌∙◌, append_assoc, arith}
 use Rattle.std.proofs.lemmas.List.{length-append, length-replicate, replicate-append-replicate}
 use Rattle.pv_model.specs.Bytes.{Bytes}
-use Rattle.pv_trace.proofs.Telling.{on_err}
-use Rattle.pv_trace.specs.Streams.{TellsBeginning}
+use Rattle.pv_streams.proofs.Telling.{on_err}
+use Rattle.pv_streams.specs.Sinks.{TellsBeginning}
 use Rattle.pv_image_write.specs.Written.{IsPut}
-use Rattle.pv_trace.proofs.Telling.{begins_first}
+use Rattle.pv_streams.proofs.Telling.{begins_first}
 use Rattle.pv_image_write.proofs.Windows.{put-cut, put-more, put-on, put-within}
 use Rattle.pv_image_write.proofs.window.write_zeros.Goals as goal
 

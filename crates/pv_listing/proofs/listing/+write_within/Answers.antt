@@ -1,7 +1,7 @@
 use Rattle.std.proofs.Common.{◌≡◌, ◌++◌, ◌-◌, ◌∙◌, ap, sym, subst, drop, take, length, codes, arith, ℕ, Option}
 use Rattle.std.proofs.lemmas.List.{take_all, drop_all}
 use Rattle.pv_model.specs.Tree.{entries_at}
-use Rattle.pv_trace.proofs.Telling.{begins_first, on_err}
+use Rattle.pv_streams.proofs.Telling.{begins_first, on_err}
 use Rattle.pv_listing.specs.Lines.{entries_after, last_name, IsNextChild}
 use Rattle.pv_listing.proofs.Children.{past-none, last-is, front-is, length-path}
 use Rattle.pv_listing.proofs.Entries.{no-entries, lines-are, node_left, entry_first}

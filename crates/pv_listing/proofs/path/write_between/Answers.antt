@@ -2,7 +2,7 @@ use Rattle.std.proofs.Common.{◌++◌, flat_map}
 use Rattle.std.proofs.lemmas.Result.{on_err_weaker}
 use Rattle.pv_model.specs.Listing.{listed_path}
 use Rattle.pv_model.specs.Trace.{quote_byte}
-use Rattle.pv_trace.proofs.Telling.{begins_first, begins_then, written_both, on_err}
+use Rattle.pv_streams.proofs.Telling.{begins_first, begins_then, written_both, on_err}
 use Rattle.pv_listing.proofs.path.write_between.Goals as goal
 
 pub returns-in_err-write_whole-clause-beginning : goal.returns-in_err-write_whole-clause-beginning

@@ -2,7 +2,7 @@ use Rattle.std.proofs.Common.{◌≡◌, ◌∙◌, ◌<◌, ◌++◌, ℕ, [], 
 use Rattle.std.proofs.lemmas.List.{append-nil, length-take-le}
 use Rattle.pv_model.specs.Bytes.{Bytes}
 use Rattle.pv_model.specs.Trace.{quote_byte}
-use Rattle.pv_trace.proofs.Telling.{on_err}
+use Rattle.pv_streams.proofs.Telling.{on_err}
 use Rattle.pv_listing.proofs.Rests.{rest_after, rest_begins, components-split}
 use Rattle.pv_listing.proofs.path.write_bytes.Goals as goal
 

@@ -21,7 +21,7 @@ returns-in_err-write_image-clause-refused g c =
 
 pub returns-clause-ran : goal.returns-clause-ran
 returns-clause-ran g c =
-    has_run_on (image_started c.args.bytes.items c.args.schedule.now) c.in_ok-ready.ready.session c.in_ok-ready.ready.schedule c.in_ok-ready.ensures.asked c.in_ok-ready.ensures.machine
+    has_run_on c.args.bytes.items c.args.schedule.now c.in_ok-ready.ready.session c.in_ok-ready.ready.schedule c.in_ok-ready.ensures.asked
     (g.W.Sink.written c.args.trace.now) (g.W.Sink.written c.make_turns.new.trace) (g.O.Sink.written c.args.image.now) (g.O.Sink.written c.write_image.new.image)
     c.tree.result.now.tree c.make_turns.new.ready.session c.tree.ensures c.in_ok-summary.ensures.after c.in_ok-summary.summary c.in_ok-summary.ensures.ran c.in_ok-summary.ensures.whole
     c.in_ok-write_image.ensures.whole

@@ -2,8 +2,8 @@ use Rattle.std.proofs.Common.{◌≡◌, ◌∙◌, subst}
 use Rattle.pv_model.specs.Step.{Schedule}
 use Rattle.pv_model.specs.Trace.{trace_bytes}
 use Rattle.pv_session.specs.Running.{WrittenLines, run_of}
-use Rattle.pv_trace.proofs.Streaming.{begins_whole}
-use Rattle.pv_trace.proofs.Telling.{on_err}
+use Rattle.pv_streams.proofs.Sinks.{begins_whole}
+use Rattle.pv_streams.proofs.Telling.{on_err}
 use Rattle.pv_run.proofs.turns.make_turns.Goals as goal
 
 pub returns-in_err-hand_on-in-Ok-clause-beginning : goal.returns-in_err-hand_on-in-Ok-clause-beginning

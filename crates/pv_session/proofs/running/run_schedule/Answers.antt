@@ -1,6 +1,6 @@
 use Rattle.std.proofs.Common.{◌∙◌, ap, sym, subst, length, get_or, drop, arith, ◌+◌}
 use Rattle.pv_model.specs.Step.{Run}
-use Rattle.pv_trace.proofs.Telling.{on_err}
+use Rattle.pv_streams.proofs.Telling.{on_err}
 use Rattle.pv_session.specs.Running.{BeginsLines, WrittenLines, turn, run_of, run_of_first}
 use Rattle.pv_session.proofs.Turns.{begun_before, begun_after, schedule_more, schedule_rest, written_after, lines_after}
 use Rattle.pv_session.proofs.running.run_schedule.Goals as goal

@@ -1,7 +1,7 @@
 use Rattle.std.proofs.Common.{◌≡◌, ◌≤◌, ◌∙◌, ap, sym, subst, length, arith, ◌+◌, ◌-◌, ℕ}
 use Rattle.pv_model.specs.State.{State}
 use Rattle.pv_model.specs.Step.{Run}
-use Rattle.pv_trace.proofs.Telling.{on_err}
+use Rattle.pv_streams.proofs.Telling.{on_err}
 use Rattle.pv_session.specs.Running.{BeginsLines, WrittenLines, turn}
 use Rattle.pv_session.proofs.Turns.{begun_before, begun_after, one_step, turn_more, turn_passed, turn_rest, written_after, lines_after}
 use Rattle.pv_session.proofs.running.run_turn.Goals as goal

@@ -2,7 +2,7 @@ use Rattle.std.proofs.Common.{ap, sym, ◌∙◌, subst, length, List}
 use Rattle.pv_model.specs.CallRef.{call_of}
 use Rattle.pv_model.specs.Step.{Stepped}
 use Rattle.pv_model.specs.Trace.{Line}
-use Rattle.pv_trace.proofs.Telling.{on_err}
+use Rattle.pv_streams.proofs.Telling.{on_err}
 use Rattle.pv_session.specs.Running.{BeginsLines, WrittenLines, stepped}
 use Rattle.pv_session.proofs.Stepping.{begins-none, called-is, called-lines}
 use Rattle.pv_session.proofs.session.trace_call.Goals as goal

@@ -1,9 +1,12 @@
 use Rattle.std.proofs.Common.{◌≡◌, ap, sym, ◌∙◌, subst}
 use Rattle.std.specs.Prelude.{IfOk, OnOk}
 use Rattle.pv_model.specs.CallRef.{call_of}
+use Rattle.pv_model.specs.Grammar.Programs.{program_of}
 use Rattle.pv_model.specs.State.{State}
 use Rattle.pv_model.specs.Step.{Stepped}
 use Rattle.pv_session.specs.Running.{stepped}
+use Rattle.pv_laws_access.proofs.JustReads.{all-justified}
+use Rattle.pv_session.proofs.Restrained.{child, others, own}
 use Rattle.pv_session.proofs.Stepping.{Asks, called-after, called-outcome, step-gone, inside-after, inside-outcome}
 use Rattle.pv_calls.specs.Kernel.{Running}
 use Rattle.pv_session.proofs.session.Session.step.Goals as goal
@@ -45,3 +48,15 @@ returns-clause-outcome c =
           (subst (λ (t : State). IfOk w.call.result (λ outcome. outcome ≡ (stepped t c.args.pid).outcome)) (comes.1 ∙ seen)
           (called-outcome s c.args.pid (call_of w.in-Call.call) w.call.new.self w.call.result asks w.call.ensures.answered))
     ]
+
+pub returns-clause-justified : goal.returns-clause-justified
+returns-clause-justified c = all-justified program_of c.args.self.now c.args.pid c.invariant.ensures
+
+pub returns-clause-own : goal.returns-clause-own
+returns-clause-own c = own c.args.self.now c.args.pid c.invariant.ensures _ _ (returns-clause-after c) (returns-clause-outcome c)
+
+pub returns-clause-others : goal.returns-clause-others
+returns-clause-others c = others c.args.self.now c.args.pid c.invariant.ensures _ _ (returns-clause-after c)
+
+pub returns-clause-child : goal.returns-clause-child
+returns-clause-child c = child c.args.self.now c.args.pid c.invariant.ensures _ _ (returns-clause-after c) (returns-clause-outcome c)

@@ -1,7 +1,7 @@
 use Rattle.std.proofs.Common.{ap, sym, ◌∙◌, subst, length, List}
 use Rattle.pv_model.specs.Step.{Stepped}
 use Rattle.pv_model.specs.Trace.{Line}
-use Rattle.pv_trace.proofs.Telling.{on_err}
+use Rattle.pv_streams.proofs.Telling.{on_err}
 use Rattle.pv_session.specs.Running.{BeginsLines, WrittenLines, stepped}
 use Rattle.pv_session.proofs.Stepping.{step-gone, gone-lines, inside-is, inside-after, written-none}
 use Rattle.pv_calls.specs.Kernel.{Running}

@@ -1,4 +1,0 @@
-pub mod Auditing
-pub mod Listings
-pub mod Making
-pub mod Migrating

@@ -1,0 +1,5 @@
+use Rattle.pv_laws_runs.proofs.Asked.{asks-bundle, bundle-asks}
+use Rattle.pv_laws_runs.proofs.starts.bundles_are_asked.Goals as goal
+
+pub returns : goal.returns
+returns c bytes it = (bundle-asks bytes it, asks-bundle bytes it)

@@ -1,0 +1,107 @@
+//! Bytes that are gathered, and flushed in large components.
+ghost use Rattle.std.specs.Prelude.{◌≡◌, ◌+◌, ◌++◌, ◌≤◌, [], drop, length, vec_len, OnOk, OnErr};
+ghost use Rattle.pv_model.specs.Stream.{Rose};
+ghost use Rattle.pv_streams.specs.Sinks.{and_all};
+ghost use Rattle.pv_streams.specs.declared.buffered.TheConstants.{CHUNK};
+
+use crate::writing::write_some;
+use pv_model::{Failed, Sink};
+use std::alloc::Global;
+
+/// How many bytes may wait.
+pub const CHUNK: usize = 65_536;
+
+/// A sink that gathers what it is given, and hands it on to another when it is full, or by `flush`. Where it has no
+/// memory for more, it flushes at once.
+///
+/// Nothing is flushed when it is dropped: its owner calls `flush` at the end.
+#[derive(Drop)]
+pub struct Buffered<W: Sink + Drop> {
+    sink: W,
+    waiting: Vec<u8>,
+    ghost few: { vec_len waiting ≤ CHUNK },
+}
+
+impl<W: Sink + Drop> Buffered<W> {
+    /// A sink that flushes to this one, and that was given nothing yet.
+    pub fn new(alloc: Global, sink: W) -> Buffered<W>
+        ensures sink { result.sink ≡ sink }
+        ensures empty { result.waiting.items ≡ [] }
+    {
+        // Room that is not written takes no page.
+        let waiting = match Vec::with_capacity(alloc, CHUNK) {
+            Ok(waiting) => waiting,
+            Err(_) => Vec::new(alloc),
+        };
+        Buffered { sink, waiting }
+    }
+
+    /// The sink that is flushed to.
+    pub fn sink(&self) -> &W
+        ensures { result.now ≡ self.now.sink }
+    {
+        &self.sink
+    }
+
+    // Forgets so many bytes at the front, which were flushed.
+    fn forget(&mut self, count: usize)
+        requires { count ≤ length self.old.waiting.items }
+        ensures waiting { self.new.waiting.items ≡ drop count self.old.waiting.items }
+        ensures sink { self.new.sink ≡ self.old.sink }
+    {
+        let left = self.waiting.len() - count;
+        self.waiting.rotate_left(count);
+        self.waiting.truncate(left);
+    }
+
+    // Flushes all that is buffered here: where that fails, what was not taken still waits.
+    #[tactic(auto, using(crate::proofs::Sinks::flushed_part, crate::proofs::Sinks::flushed_all, crate::proofs::Sinks::written_more))]
+    fn hand_on(&mut self) -> Result<(), Failed>
+        ensures written { and_all (W.written self.new.sink) self.new.waiting.items ≡ and_all (W.written self.old.sink) self.old.waiting.items }
+        ensures empty { OnOk result (self.new.waiting.items ≡ []) }
+        ensures quiet { OnOk result (W.failures self.new.sink ≡ W.failures self.old.sink) }
+        ensures failed { OnErr result (Rose (W.failures self.old.sink) (W.failures self.new.sink)) }
+    {
+        let mut at = 0;
+        while at < self.waiting.as_slice().len() {
+            match write_some(&mut self.sink, &self.waiting.as_slice()[at..]) {
+                Ok(count) => at += count,
+                Err(Failed) => {
+                    self.forget(at);
+                    return Err(Failed);
+                }
+            }
+        }
+        self.waiting.clear();
+        Ok(())
+    }
+}
+
+impl<W: Sink + Drop> Sink for Buffered<W> {
+    ghost written = { λ s. and_all (W.written s.sink) s.waiting.items };
+
+    ghost buffered = { λ s. length s.waiting.items + W.buffered s.sink };
+
+    ghost failures = { λ s. W.failures s.sink };
+
+    #[tactic(auto, using(crate::proofs::Sinks::more_buffered, crate::proofs::Sinks::written_nothing))]
+    fn write(&mut self, buffer: &[u8]) -> Result<usize, Failed> {
+        let mut bytes = buffer;
+        if bytes.len() > CHUNK - self.waiting.len() {
+            self.hand_on()?;
+            bytes = &buffer[..buffer.len().min(CHUNK)];
+        }
+        match self.waiting.extend_from_slice(bytes) {
+            Ok(()) => Ok(bytes.len()),
+            Err(_) => {
+                self.hand_on()?;
+                self.sink.write(bytes)
+            }
+        }
+    }
+
+    fn flush(&mut self) -> Result<(), Failed> {
+        self.hand_on()?;
+        self.sink.flush()
+    }
+}

@@ -1,0 +1,58 @@
+//! Sources that are read whole.
+ghost use Rattle.std.specs.Prelude.{◌≡◌, ◌<◌, ◌≤◌, [], length, vec_len, IfOk, IfErr, IfSome, OnOk, OnErr, Err};
+ghost use Rattle.pv_model.specs.Stream.{Rose, RoseBy, front_and};
+ghost use Rattle.pv_streams.specs.Sources.{FailsToGive, IsReadOrMemory};
+
+use pv_model::{Failed, RunFault, Source};
+use std::alloc::Global;
+
+/// How many bytes a source may give.
+pub const SOURCE_BYTES: usize = 67_108_864;
+
+// How many bytes a source is asked for at a time.
+const CHUNK: usize = 65_536;
+
+// Room that is asked for before a source is read: more than most give, so that it seldom grows. It costs nothing until
+// it is written.
+const ROOM: usize = 8_388_608;
+
+// Reads some bytes: none at the end.
+fn read_some<S: Source>(source: &mut S, chunk: &mut [u8]) -> Result<usize, RunFault>
+    requires { 0 < length chunk.old }
+    ensures bound { IfOk result (λ n. n ≤ length chunk.new) }
+    ensures read { IfOk result (λ n. S.remaining source.old ≡ front_and n chunk.new (S.remaining source.new)) }
+    ensures end { IfOk result (λ n. n ≡ 0 → IfSome (S.remaining source.new) (λ rest. rest ≡ [])) }
+    ensures counted { IfOk result (λ n. RoseBy n (S.given source.old) (S.given source.new)) }
+    ensures quiet { OnOk result (S.failures source.new ≡ S.failures source.old) }
+    ensures failed { OnErr result (Rose (S.failures source.old) (S.failures source.new)) }
+    ensures fault { IfErr result (λ fault. fault ≡ RunFault.Read) }
+{
+    match source.read(chunk) {
+        Ok(count) => Ok(count),
+        Err(Failed) => Err(RunFault::Read),
+    }
+}
+
+/// Reads all that a source gives, in as many reads as it takes.
+///
+/// # Errors
+///
+/// `Read` where a read failed, or the source gave more than 67,108,864 bytes; `Memory` where memory was refused.
+#[tactic(auto, using(crate::proofs::Sources::read_more, crate::proofs::Sources::read_all, crate::proofs::Sources::gave_more))]
+pub fn read_whole<S: Source>(alloc: Global, source: &mut S) -> Result<Vec<u8>, RunFault>
+    ensures whole { IfOk result (λ bytes. IfSome (S.remaining source.old) (λ all. all ≡ bytes.items)) }
+    ensures size { IfOk result (λ bytes. vec_len bytes ≤ SOURCE_BYTES) }
+    ensures read { result ≡ Err RunFault.Read → FailsToGive S.Source source.old source.new }
+    ensures fault { IfErr result IsReadOrMemory }
+{
+    let mut bytes = Vec::with_capacity(alloc, ROOM)?;
+    let mut chunk = [0; CHUNK];
+    while bytes.len() <= SOURCE_BYTES {
+        let count = read_some(source, &mut chunk)?;
+        if count == 0 {
+            return Ok(bytes);
+        }
+        bytes.extend_from_slice(&chunk[..count])?;
+    }
+    Err(RunFault::Read)
+}
