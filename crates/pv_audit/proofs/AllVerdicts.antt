@@ -13,7 +13,7 @@ use Rattle.pv_model.specs.Held.{live_processes}
 use Rattle.pv_model.specs.Sealed
 use Rattle.pv_model.specs.State.{State, process_at}
 use Rattle.pv_model.specs.Tree.{names_of}
-use Rattle.pv_laws_access.proofs.Members.{In}
+use Rattle.pv_laws_trees.proofs.Members.{In}
 use Rattle.pv_laws_access.proofs.Verdicts.{verdicts-exact}
 use Rattle.pv_audit.specs.declared.suspects.Suspect.{Suspect}
 use Rattle.pv_audit.specs.Findings.{suspect, noted_by}

@@ -4,7 +4,7 @@ use Rattle.std.proofs.lemmas.Bool.{cases_lt}
 use Rattle.pv_model.specs.declared.perms.Perms.{Perms}
 use Rattle.pv_model.specs.Numbered.{Numbered, at_number, numbered}
 use Rattle.pv_model.specs.State.{OpenFile, Descriptor}
-use Rattle.pv_laws_access.proofs.Members.{In, in-map, map-in, in-filter, filter-in, numbered-at, at-numbered}
+use Rattle.pv_laws_trees.proofs.Members.{In, in-map, map-in, in-filter, filter-in, numbered-at, at-numbered}
 use Rattle.pv_audit.specs.Findings.{least}
 use Rattle.pv_audit.specs.Reasons.{is_on, descriptors_for}
 use Rattle.pv_audit.proofs.LeastOnes.{least-is, least-empty}

@@ -13,9 +13,9 @@ use Rattle.pv_laws_trees.proofs.Changes.{has_entry-directory}
 use Rattle.pv_audit.specs.declared.found.Found.{Found}
 use Rattle.pv_audit.specs.declared.suspects.Suspect.{Suspect}
 use Rattle.pv_audit.specs.Findings.{lesser, least, governing, passing, entries_passing, least_above, noted, table_of, note_of, noted_by, are_live}
-use Rattle.pv_audit.specs.NextName.{first_after, IsNextName}
+use Rattle.pv_tree.specs.NodeNames.{first_after, IsNextNameOfNode}
 use Rattle.pv_audit.proofs.LeastOnes.{lesser-none, lesser-assoc, least-cons, passing-append}
-use Rattle.pv_audit.proofs.Rising.{Named, names_after, names_on, rises, after-next, after-none}
+use Rattle.pv_tree.proofs.Rising.{Named, names_after, names_on, rises, after-next, after-none}
 
 -- ---- name by name
 
@@ -143,7 +143,7 @@ pub IsOfNode : Tree → ℕ → Option Named → Type 0
 IsOfNode t n None = ⊤
 IsOfNode t n (Some x) = find_entry t x.0 x.1 ≡ Some n
 
-pub of-next : (t : Tree) (n : ℕ) (last next : Option Named) → IsNextName t n last next → IsOfNode t n next
+pub of-next : (t : Tree) (n : ℕ) (last next : Option Named) → IsNextNameOfNode t n last next → IsOfNode t n next
 unfolding IsOfNode
 of-next t n last None is = tt
 of-next t n last (Some x) is = is.named

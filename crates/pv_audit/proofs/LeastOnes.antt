@@ -5,7 +5,7 @@ use Rattle.std.proofs.lemmas.Bool.{cases_lt}
 use Rattle.std.proofs.Math.Nat.{min-eq_left, min-eq_right}
 use Rattle.pv_model.specs.declared.perms.Perms.{Perms}
 use Rattle.pv_model.specs.Unveil.{Table, permissions_at}
-use Rattle.pv_laws_access.proofs.Members.{In, in-map, map-in, in-filter, filter-in, in-kept, kept-in}
+use Rattle.pv_laws_trees.proofs.Members.{In, in-map, map-in, in-filter, filter-in, in-kept, kept-in}
 use Rattle.pv_audit.specs.Findings.{lesser, least, passing, entries_passing}
 
 pub lesser-none : (a : Option ℕ) → lesser a None ≡ a

@@ -1,9 +1,7 @@
 -- Lemmas of audits.
--- - names in order: Rising, NextOnes. The least of some numbers: LeastOnes
+-- - the least of some numbers: LeastOnes
 -- - what is found: TableEntries, FoundOnes (what all names add), DescriptorOnes, LiveOnes (the processes that are live)
 -- - what is told: FirstReasons (it is the first of `leaks`), AllVerdicts
-pub mod Rising
-pub mod NextOnes
 pub mod LeastOnes
 pub mod TableEntries
 pub mod FoundOnes

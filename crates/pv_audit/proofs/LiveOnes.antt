@@ -11,10 +11,10 @@ use Rattle.std.proofs.lemmas.List.{map-append}
 use Rattle.pv_model.specs.Held.{live_processes}
 use Rattle.pv_model.specs.State.{Process, ProcessRecord, live, ended_record, State, live_process, process_at}
 use Rattle.pv_laws_states.proofs.Members.{find_number_after}
-use Rattle.pv_laws_access.proofs.Members.{In}
+use Rattle.pv_laws_trees.proofs.Members.{In}
 use Rattle.pv_audit.specs.declared.suspects.Suspect.{Suspect}
 use Rattle.pv_audit.specs.Findings.{suspect, are_live}
-use Rattle.pv_audit.proofs.Rising.{never}
+use Rattle.pv_tree.proofs.Rising.{never}
 
 abbrev pub Living : Type 0
 Living = ℕ × Process

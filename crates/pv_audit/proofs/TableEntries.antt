@@ -7,7 +7,7 @@ use Rattle.pv_model.specs.Tree.{Tree, root, parent, above_or_none, ancestors_wit
 use Rattle.pv_model.specs.Unveil.{Table, entry_for, directory_rights, Governs, own, from_above}
 use Rattle.pv_model.proofs.Rights.{Governs-directory_rights, directory_rights-Governs}
 use Rattle.pv_laws_trees.proofs.Above.{ancestors-above}
-use Rattle.pv_laws_access.proofs.Members.{any-in, in-any}
+use Rattle.pv_laws_trees.proofs.Members.{any-in, in-any}
 use Rattle.pv_unveil.specs.Up.{up}
 use Rattle.pv_audit.specs.Findings.{lesser, least, passing, entries_passing, least_above}
 use Rattle.pv_audit.proofs.LeastOnes.{lesser-none, lesser-assoc, least-same, least-cons, in-passing, passing-in}

@@ -1,3 +1,2 @@
-pub mod NextName
 pub mod Findings
 pub mod Reasons

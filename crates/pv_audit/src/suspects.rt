@@ -8,7 +8,6 @@ ghost use Rattle.pv_model.specs.State.{process_at};
 ghost use Rattle.pv_model.specs.Tree.{is_directory_at, names_of};
 
 use crate::found::Found;
-use crate::names::next_name;
 use arrayvec::ArrayVec;
 use pv_model::Name;
 use pv_model::limits::{LAST_PROCESS, PROCESSES};
@@ -67,10 +66,10 @@ pub(crate) fn note_names(parts: &Parts, node: u16, suspects: &mut [Suspect])
     let tree = parts.tree();
     // What its sizes tell with them: every tree is well-formed.
     let _ = tree.sizes();
-    let mut next = next_name(tree, node, None);
+    let mut next = tree.next_name(node, None);
     while let Some((directory, name)) = next {
         note_name(parts, suspects, directory, &name);
-        next = next_name(tree, node, Some((directory, name.as_slice())));
+        next = tree.next_name(node, Some((directory, name.as_slice())));
     }
 }
 

@@ -3,9 +3,8 @@ ghost use Rattle.std.specs.Prelude.{◌≡◌};
 ghost use Rattle.pv_cli_commands.specs.Status.{audit_status_of, list_status_of, migrate_status_of, run_status_of, status_of};
 ghost use Rattle.pv_cli_commands.specs.declared.fault.Fault.TheVariants.{Run as RunVariant, Listing as ListingVariant, Migrating as MigratingVariant, Auditing as AuditingVariant};
 
-use pv_model::{AuditFault, ImageFault, ListFault, ManifestFault, MigrateFault, RunFault};
+use pv_model::{ImageFault, ListFault, ManifestFault, MigrateFault, RunFault};
 use pv_run::{AuditStop, MigrateStop};
-use std::fmt;
 use thiserror::Error;
 
 /// Why a command ends without what it was asked for. Its `Display` is the whole text for a person, with the LF at its
@@ -13,16 +12,16 @@ use thiserror::Error;
 #[derive(Clone, Copy, Debug, PartialEq, Eq, Error)]
 pub enum Fault {
     /// A run, or the making of an image, was refused, or ended early.
-    #[error("pvsim: {}\n", RunText(*.0))]
+    #[error("pvsim: {0}\n")]
     Run(RunFault),
     /// An image was not listed, or not whole.
-    #[error("pvsim: {}\n", ListText(*.0))]
+    #[error("pvsim: {0}\n")]
     Listing(ListFault),
     /// An image was not migrated, or not whole.
-    #[error("pvsim: {}\n", MigrateText(*.0))]
+    #[error("pvsim: {0}\n")]
     Migrating(MigrateStop),
     /// The files of an image were not audited, or not all.
-    #[error("pvsim: {}\n", AuditText(*.0))]
+    #[error("pvsim: {0}\n")]
     Auditing(AuditStop),
 }
 
@@ -114,109 +113,6 @@ impl Fault {
             Fault::Listing(fault) => list_status(*fault),
             Fault::Migrating(stop) => migrate_status(*stop),
             Fault::Auditing(stop) => audit_status(*stop),
-        }
-    }
-}
-
-// What a fault of a run is called.
-#[derive(Clone, Copy)]
-struct RunText(RunFault);
-
-impl fmt::Display for RunText {
-    fn fmt<W: fmt::Write>(&self, f: &mut fmt::Formatter<W>) -> fmt::Result {
-        match self.0 {
-            RunFault::Read => write!(f, "read"),
-            RunFault::Image(fault) => write!(f, "{}", ImageText(fault)),
-            RunFault::Manifest(fault) => write!(f, "{}", ManifestText(fault)),
-            RunFault::Schedule(line) => write!(f, "schedule: line {line}"),
-            RunFault::Init(line) => write!(f, "init: line {line}"),
-            RunFault::Memory => write!(f, "memory"),
-            RunFault::WriteTrace | RunFault::WriteImage => write!(f, "write"),
-        }
-    }
-}
-
-// What a fault of a listing is called.
-#[derive(Clone, Copy)]
-struct ListText(ListFault);
-
-impl fmt::Display for ListText {
-    fn fmt<W: fmt::Write>(&self, f: &mut fmt::Formatter<W>) -> fmt::Result {
-        match self.0 {
-            ListFault::Read => write!(f, "read"),
-            ListFault::Image(fault) => write!(f, "{}", ImageText(fault)),
-            ListFault::Memory => write!(f, "memory"),
-            ListFault::Write => write!(f, "write"),
-        }
-    }
-}
-
-// What the end of a migration is called.
-#[derive(Clone, Copy)]
-struct MigrateText(MigrateStop);
-
-impl fmt::Display for MigrateText {
-    fn fmt<W: fmt::Write>(&self, f: &mut fmt::Formatter<W>) -> fmt::Result {
-        match self.0 {
-            MigrateStop::Read => write!(f, "read"),
-            MigrateStop::Refused(MigrateFault::Image(fault)) => write!(f, "{}", ImageText(fault)),
-            MigrateStop::Refused(MigrateFault::Small) => write!(f, "migrate: too small"),
-            MigrateStop::Refused(MigrateFault::Memory) => write!(f, "memory"),
-            MigrateStop::Write => write!(f, "write"),
-        }
-    }
-}
-
-// What the end of an audit is called.
-#[derive(Clone, Copy)]
-struct AuditText(AuditStop);
-
-impl fmt::Display for AuditText {
-    fn fmt<W: fmt::Write>(&self, f: &mut fmt::Formatter<W>) -> fmt::Result {
-        match self.0 {
-            AuditStop::Machine(fault) => write!(f, "{}", RunText(fault)),
-            AuditStop::Path(AuditFault::Walk(errno)) => {
-                write!(f, "audit: errno {} {}", errno.number(), errno.name())
-            }
-            AuditStop::Path(AuditFault::NotFile) => write!(f, "audit: not a file"),
-            AuditStop::Write => write!(f, "write"),
-        }
-    }
-}
-
-// What a fault of an image is called.
-#[derive(Clone, Copy)]
-struct ImageText(ImageFault);
-
-impl fmt::Display for ImageText {
-    fn fmt<W: fmt::Write>(&self, f: &mut fmt::Formatter<W>) -> fmt::Result {
-        match self.0 {
-            ImageFault::Short => write!(f, "image: short"),
-            ImageFault::Magic => write!(f, "image: magic"),
-            ImageFault::Size => write!(f, "image: size"),
-            ImageFault::Inode(number) => write!(f, "image: inode {number}"),
-            ImageFault::Block(number) => write!(f, "image: block {number}"),
-            ImageFault::Dir(number) => write!(f, "image: directory {number}"),
-            ImageFault::Tree(number) => write!(f, "image: tree {number}"),
-            ImageFault::Memory => write!(f, "memory"),
-        }
-    }
-}
-
-// What a fault of a manifest is called.
-#[derive(Clone, Copy)]
-struct ManifestText(ManifestFault);
-
-impl fmt::Display for ManifestText {
-    fn fmt<W: fmt::Write>(&self, f: &mut fmt::Formatter<W>) -> fmt::Result {
-        match self.0 {
-            ManifestFault::Form(line) => write!(f, "manifest: line {line}: form"),
-            ManifestFault::Size => write!(f, "manifest: size"),
-            ManifestFault::Parent(line) => write!(f, "manifest: line {line}: parent"),
-            ManifestFault::Exists(line) => write!(f, "manifest: line {line}: exists"),
-            ManifestFault::Source(line) => write!(f, "manifest: line {line}: source"),
-            ManifestFault::Room(line) => write!(f, "manifest: line {line}: room"),
-            ManifestFault::Memory => write!(f, "memory"),
         }
     }
 }

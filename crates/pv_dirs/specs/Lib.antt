@@ -1,4 +1,5 @@
 pub mod Counts
+pub mod Dirs
 pub mod Images
 pub mod Index
 pub mod Listing

@@ -14,11 +14,9 @@ mod counting;
 mod image;
 mod ordering;
 
+use crate::dir::{Dir, is_directory};
 use crate::index::Index;
 use crate::indexing::ascends;
-use crate::scan::{
-    count, find, is_directory, least_past, next_entry, next_with, number, slot, start,
-};
 use crate::slot::Slot;
 use pv_inodes::{Inodes, Space};
 use pv_model::{Name, Kind, Version};
@@ -142,7 +140,13 @@ impl Directories {
         ensures allowed { result ≤ greatest_length self.now.version }
     {
         match self.inodes.kind(inode) {
-            Kind::Directory => count(&self.inodes, inode),
+            Kind::Directory => {
+                let dir = Dir {
+                    inodes: &self.inodes,
+                    directory: inode,
+                };
+                dir.count()
+            }
             _ => self.inodes.size(inode),
         }
     }
@@ -152,8 +156,12 @@ impl Directories {
         requires { IsTrue (is_directory_at self.now directory) }
         ensures { result ≡ find_entry self.now directory name.now }
     {
-        let k = find(&self.inodes, &self.index, directory, name)?;
-        Some(number(&self.inodes, directory, k))
+        let dir = Dir {
+            inodes: &self.inodes,
+            directory,
+        };
+        let k = dir.find(&self.index, name)?;
+        Some(dir.number(k))
     }
 
     /// The least name of a directory, in byte order, that comes after the last one; without a last one
@@ -163,7 +171,11 @@ impl Directories {
         ensures value { result ≡ next_name (option_copied last.entry) (entries_at self.now directory) }
         ensures least { IsNextName (option_copied last.entry) (entries_at self.now directory) result }
     {
-        least_past(&self.inodes, &self.index, directory, last)
+        let dir = Dir {
+            inodes: &self.inodes,
+            directory,
+        };
+        dir.next_name(&self.index, last)
     }
 
     /// The least name of a directory, in byte order, that comes after the last one, and the number of its node; without
@@ -180,7 +192,11 @@ impl Directories {
         ensures least { IsNextName (option_copied last.entry) (entries_at self.now directory) (option_map (λ e. e.0) result) }
         ensures node { IfSome result (λ e. find_entry self.now directory e.0 ≡ Some e.1) }
     {
-        next_entry(&self.inodes, &self.index, directory, last, before)
+        let dir = Dir {
+            inodes: &self.inodes,
+            directory,
+        };
+        dir.next_entry(&self.index, last, before)
     }
 
     /// The least name of a directory, in byte order, that names a node and comes after the last one; without a last one
@@ -189,7 +205,11 @@ impl Directories {
         requires { IsTrue (is_directory_at self.now directory) }
         ensures { IsNextNameOf self.now directory node (option_copied last.entry) result }
     {
-        next_with(&self.inodes, directory, node, last)
+        let dir = Dir {
+            inodes: &self.inodes,
+            directory,
+        };
+        dir.next_with(node, last)
     }
 
     /// Whether a directory has no entry.
@@ -197,7 +217,11 @@ impl Directories {
         requires { IsTrue (is_directory_at self.now directory) }
         ensures { IsTrue result ↔ (entries_at self.now directory ≡ []) }
     {
-        count(&self.inodes, directory) == 0
+        let dir = Dir {
+            inodes: &self.inodes,
+            directory,
+        };
+        dir.count() == 0
     }
 
     /// Adds an entry to a directory that has none of this name. `TooBig` comes where the directory would be
@@ -212,8 +236,12 @@ impl Directories {
         ensures full { (result ≡ Err Space.Full) ↔ ((grown_length self.old directory ≤ greatest_length self.old.version) × LacksRoom (with_entry self.old directory name.now inode)) }
     {
         let end = self.inodes.size(directory);
-        let number = count(&self.inodes, directory);
-        let ascends = ascends(&self.inodes, &self.index, directory, number, name);
+        let dir = Dir {
+            inodes: &self.inodes,
+            directory,
+        };
+        let number = dir.count();
+        let ascends = ascends(&dir, &self.index, number, name);
         let slot = Slot::new(self.inodes.version(), name, inode);
         let added = self.inodes.write_at(directory, end, slot.as_bytes());
         if added.is_ok() {
@@ -230,12 +258,16 @@ impl Directories {
         ensures left { IfSome result (λ _. self.new ≡ without_entry self.old directory name.now) }
         ensures none { IfNone result (self.new ≡ self.old) }
     {
-        let hole = find(&self.inodes, &self.index, directory, name)?;
-        let gone = number(&self.inodes, directory, hole);
-        let last = count(&self.inodes, directory) - 1;
-        let moved = slot(&self.inodes, directory, last);
-        let at = start(&self.inodes, hole);
-        let end = start(&self.inodes, last);
+        let dir = Dir {
+            inodes: &self.inodes,
+            directory,
+        };
+        let hole = dir.find(&self.index, name)?;
+        let gone = dir.number(hole);
+        let last = dir.count() - 1;
+        let moved = dir.slot(last);
+        let at = dir.start(hole);
+        let end = dir.start(last);
         self.inodes.overwrite(directory, at, moved.as_bytes());
         self.inodes.shrink(directory, end);
         let index = &mut *self.index;

@@ -7,16 +7,11 @@ ghost use Rattle.pv_dirs.specs.Slots.{slot_name, slot_number};
 
 use byteorder::{ByteOrder, LittleEndian};
 use pv_model::Version;
+use pv_model::format::{NAME_AT, NAME_LENGTH_AT, SLOT_V2};
 use std::marker::Model;
 
 /// Bytes of the longest slot, that of version 2.
-pub(crate) const LONGEST: usize = 260;
-
-// Where a slot has the length of its name.
-const LENGTH: usize = 2;
-
-// Where a slot's name begins; it ends with the slot at the latest.
-const NAME: usize = 4;
+pub(crate) const LONGEST: usize = SLOT_V2;
 
 /// An entry of a directory as it is stored: the number of an inode in 2 bytes, the length of the name in
 /// one, a byte that is not read, and the name. A contract sees the slot's bytes.
@@ -45,7 +40,7 @@ pub(crate) fn room_in(slot: &[u8]) -> &[u8]
     requires { 4 ≤ length slot.now }
     ensures { result.now ≡ drop 4 slot.now }
 {
-    &slot[NAME..]
+    &slot[NAME_AT..]
 }
 
 /// The name in the bytes of a slot.
@@ -56,8 +51,8 @@ pub(crate) fn name_in(slot: &[u8]) -> &[u8]
     ensures value { result.now ≡ slot_name slot.now }
     ensures short { length result.now ≤ NAME_V2 }
 {
-    let end = (NAME + slot[LENGTH] as usize).min(slot.len());
-    &slot[NAME..end]
+    let end = (NAME_AT + slot[NAME_LENGTH_AT] as usize).min(slot.len());
+    &slot[NAME_AT..end]
 }
 
 // The bytes of an entry, and zeros after them.
@@ -71,8 +66,8 @@ fn spelled(name: &[u8], inode: u16) -> [u8; LONGEST]
 {
     let mut bytes = [0; LONGEST];
     LittleEndian::write_u16(&mut bytes, inode);
-    bytes[LENGTH] = name.len() as u8;
-    bytes[NAME..NAME + name.len()].copy_from_slice(name);
+    bytes[NAME_LENGTH_AT] = name.len() as u8;
+    bytes[NAME_AT..NAME_AT + name.len()].copy_from_slice(name);
     bytes
 }
 

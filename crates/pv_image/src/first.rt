@@ -1,21 +1,23 @@
 //! Images of version 1.
 ghost use Rattle.std.specs.Prelude.{◌≡◌, ◌⊎◌, ◌≤◌, length, take, bytes_eq, Ok, Err, IfOk, IfErr};
+ghost use Rattle.pv_model.specs.declared.format.TheConstants.{MAGIC};
 ghost use Rattle.pv_model.specs.declared.version.Version.TheVariants.{V1};
 ghost use Rattle.pv_model.specs.Image.{magic};
 ghost use Rattle.pv_image.specs.Migrated.{mounted_first};
 
-use pv_model::ImageFault;
+use pv_model::format::MAGIC;
 use pv_model::limits::BLOCK;
+use pv_model::{ImageFault, Version};
 use pv_image_mount::mount;
 use pv_tree::Store;
 use std::alloc::Global;
 
 // Whether bytes begin as an image of version 1 does.
 fn is_first(bytes: &[u8]) -> bool
-    requires { 8 ≤ length bytes.now }
+    requires { MAGIC ≤ length bytes.now }
     ensures { result ≡ bytes_eq (take 8 bytes.now) (magic V1) }
 {
-    &bytes[..8] == b"PVIMAGE1".as_slice()
+    &bytes[..MAGIC] == Version::V1.magic()
 }
 
 /// The store of the tree that bytes hold as an image of version 1.

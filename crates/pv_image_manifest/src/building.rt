@@ -202,6 +202,6 @@ pub fn build(alloc: Global, manifest: &Manifest) -> Result<Store, ManifestFault>
     for entry in &manifest.entries {
         add(&mut *tree, entry)?;
     }
-    tree.sort_slots();
+    tree.order_entries();
     Ok(Store::of_tree(tree))
 }

@@ -1,22 +1,26 @@
 //! Bytes whose sizes are in order, and the fields of their inodes.
 ghost use Rattle.std.specs.Prelude.{◌≡◌, ◌+◌, ◌*◌, ◌<◌, ◌≤◌, length, IfOk, IfErr};
+ghost use Rattle.pv_model.specs.declared.format.TheConstants.{HEADER, MAGIC};
 ghost use Rattle.pv_model.specs.declared.limits.TheConstants.{BLOCK, INODES};
 ghost use Rattle.pv_model.specs.Image.{block, greatest_blocks, inode, inode_blocks, inode_length, size, stored_count};
 ghost use Rattle.pv_model.specs.Mount.{are_image_sizes, block_number, has_sizes, inode_number, is_data_block, kind, version_of, HasSizes, IsFaultOf};
 ghost use Rattle.pv_image_mount.specs.Numbers.{IsNumber};
 
 use crate::fields::{u8_at, u16_at, u32_at};
+use pv_model::format::{
+    BLOCKS_AT, HEADER, INODES_AT, KIND_AT, MAGIC, NAMES_AT_V1, NAMES_AT_V2, SIZE_AT,
+};
 use pv_model::limits::{BLOCK, INODES};
 use pv_model::{ImageFault, Version};
 
 // The version whose image begins as the bytes do.
 fn version_of(bytes: &[u8]) -> Option<Version>
-    requires { 8 ≤ length bytes.now }
+    requires { MAGIC ≤ length bytes.now }
     ensures { result ≡ version_of bytes.now }
 {
-    if &bytes[..8] == b"PVIMAGE1".as_slice() {
+    if &bytes[..MAGIC] == Version::V1.magic() {
         Some(Version::V1)
-    } else if &bytes[..8] == b"PVIMAGE2".as_slice() {
+    } else if &bytes[..MAGIC] == Version::V2.magic() {
         Some(Version::V2)
     } else {
         None
@@ -42,11 +46,12 @@ fn are_image_sizes(version: Version, blocks: u16, inodes: u16) -> bool
 
 // Whether the sizes that the bytes tell are allowed, and their own.
 fn has_sizes(version: Version, bytes: &[u8]) -> bool
-    requires { 12 ≤ length bytes.now }
+    requires { HEADER ≤ length bytes.now }
     ensures { result ≡ has_sizes version bytes.now }
 {
-    let blocks = u16_at(bytes, 8);
-    are_image_sizes(version, blocks, u16_at(bytes, 10)) && bytes.len() == BLOCK * blocks as usize
+    let blocks = u16_at(bytes, BLOCKS_AT);
+    are_image_sizes(version, blocks, u16_at(bytes, INODES_AT))
+        && bytes.len() == BLOCK * blocks as usize
 }
 
 /// The bytes of an image whose sizes are in order.
@@ -86,8 +91,8 @@ impl<'a> Image<'a> {
         Ok(Image {
             bytes,
             version,
-            blocks: u16_at(bytes, 8),
-            inodes: u16_at(bytes, 10),
+            blocks: u16_at(bytes, BLOCKS_AT),
+            inodes: u16_at(bytes, INODES_AT),
         })
     }
 
@@ -102,12 +107,12 @@ impl<'a> Image<'a> {
         &self.bytes[start..start + length]
     }
 
-    /// What an inode is, as a number: 0 is free.
+    /// What an inode is, as the number of its kind.
     pub(crate) fn kind(&self, n: u16) -> u8
         requires { IsNumber self.now.bytes.now n }
         ensures { result ≡ kind self.now.version self.now.bytes.now n }
     {
-        u8_at(self.inode(n), 0)
+        u8_at(self.inode(n), KIND_AT)
     }
 
     /// The length of an inode's content, in bytes.
@@ -115,7 +120,7 @@ impl<'a> Image<'a> {
         requires { IsNumber self.now.bytes.now n }
         ensures { result ≡ size self.now.version self.now.bytes.now n }
     {
-        u32_at(self.inode(n), 4)
+        u32_at(self.inode(n), SIZE_AT)
     }
 
     /// The number of entries that name an inode, as it is stored.
@@ -124,8 +129,8 @@ impl<'a> Image<'a> {
         ensures { result ≡ stored_count self.now.version (inode self.now.version self.now.bytes.now n) }
     {
         match self.version {
-            Version::V1 => u16_at(self.inode(n), 2) as u32,
-            Version::V2 => u32_at(self.inode(n), 38),
+            Version::V1 => u16_at(self.inode(n), NAMES_AT_V1) as u32,
+            Version::V2 => u32_at(self.inode(n), NAMES_AT_V2),
         }
     }
 

@@ -4,16 +4,8 @@ ghost use Rattle.pv_model.specs.Mount.{has_bad_inode, PassesLeast, PassesNone};
 ghost use Rattle.pv_image_mount.specs.Numbers.{IsNumber};
 
 use crate::image::Image;
+use pv_model::format::{DIRECTORY, FREE, LINK};
 use pv_model::limits::LINK_TEXT;
-
-/// The kind of a free inode.
-pub(crate) const FREE: u8 = 0;
-
-/// The kind of a directory.
-pub(crate) const DIRECTORY: u8 = 1;
-
-/// The kind of a symbolic link, the last kind.
-pub(crate) const LINK: u8 = 4;
 
 impl Image<'_> {
     // Whether an inode is of no sort, or has a size that its sort may not have.

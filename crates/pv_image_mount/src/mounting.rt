@@ -5,11 +5,9 @@ ghost use Rattle.pv_model.specs.Mount.{mounted};
 use crate::check;
 use crate::fields::u16_at;
 use pv_model::ImageFault;
+use pv_model::format::INODES_AT;
 use pv_tree::Store;
 use std::alloc::Global;
-
-// Where the first block has the number of inodes.
-const INODES_AT: usize = 10;
 
 /// The store of the tree that the bytes of an image hold: the bytes are its blocks from then on, and nothing is copied.
 ///

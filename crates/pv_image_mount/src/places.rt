@@ -5,8 +5,8 @@ ghost use Rattle.pv_model.specs.Mount.{has_bad_block, has_bad_content, has_bad_i
 ghost use Rattle.pv_image_mount.specs.Numbers.{IsNumber};
 
 use crate::image::Image;
-use crate::inodes::{DIRECTORY, FREE};
 use pv_blocks::BlockSet;
+use pv_model::format::{DIRECTORY, FREE};
 use pv_model::limits::ROOT;
 use std::alloc::{AllocError, Global};
 

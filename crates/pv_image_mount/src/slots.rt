@@ -10,15 +10,9 @@ ghost use Rattle.pv_image_mount.specs.Slots.{are_bad_slots, name_key, slot_at, s
 
 use crate::fields::{u8_at, u16_at};
 use crate::image::Image;
-use crate::inodes::{DIRECTORY, FREE, LINK};
+use pv_model::format::{DIRECTORY, FREE, LINK, NAME_AT, NAME_LENGTH_AT, NUMBER_AT};
 use pv_model::is_name;
 use std::alloc::{AllocError, Global};
-
-// Where a slot has the length of its name.
-const LENGTH: usize = 2;
-
-// Where a slot has its name.
-const NAME: usize = 4;
 
 // In the key of a name, a byte counts so many times as much as the one after it.
 const FACTOR: u64 = 0x9E37_79B9_7F4A_7C15;
@@ -28,8 +22,8 @@ fn slot_name(slot: &[u8]) -> &[u8]
     requires { 4 + slot_length slot.now ≤ length slot.now }
     ensures { result.now ≡ slot_name slot.now }
 {
-    let length = u8_at(slot, LENGTH) as usize;
-    &slot[NAME..NAME + length]
+    let length = u8_at(slot, NAME_LENGTH_AT) as usize;
+    &slot[NAME_AT..NAME_AT + length]
 }
 
 // Whether a name comes before another one.
@@ -100,11 +94,11 @@ impl Image<'_> {
         requires { length slot.now ≡ entry_length self.now.version }
         ensures { result ≡ is_bad_slot self.now.version self.now.bytes.now slot.now }
     {
-        let number = u16_at(slot, 0);
+        let number = u16_at(slot, NUMBER_AT);
         if number < 1 || number > self.inodes || self.kind(number) == FREE {
             return true;
         }
-        let length = u8_at(slot, LENGTH) as usize;
+        let length = u8_at(slot, NAME_LENGTH_AT) as usize;
         length > self.version.layout().name_limit || !is_name(self.version, slot_name(slot))
     }
 

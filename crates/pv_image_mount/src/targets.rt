@@ -7,7 +7,7 @@ ghost use Rattle.pv_image_mount.specs.Places.{targets_of, times};
 
 use crate::fields::u16_at;
 use crate::image::Image;
-use crate::inodes::DIRECTORY;
+use pv_model::format::{DIRECTORY, NUMBER_AT};
 use std::alloc::{AllocError, Global};
 
 // Counts numbers, each at its own place.
@@ -29,7 +29,7 @@ impl Image<'_> {
         let count = self.slot_count(content);
         let mut numbers = Vec::with_capacity(alloc, count)?;
         for i in 0..count {
-            numbers.push(u16_at(self.slot(content, i), 0))?;
+            numbers.push(u16_at(self.slot(content, i), NUMBER_AT))?;
         }
         Ok(numbers)
     }

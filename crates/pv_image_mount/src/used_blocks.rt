@@ -10,22 +10,16 @@ ghost use Rattle.pv_image_mount.specs.Rows.{pointed_row, pointer_row};
 
 use crate::fields::u16_at;
 use crate::image::Image;
-use crate::inodes::FREE;
 use pv_blocks::BlockSet;
+use pv_model::format::{DIRECT, FREE, INDEX_POINTERS_AT, POINTED, POINTERS_AT};
 use pv_model::limits::BLOCK;
 use std::alloc::{AllocError, Global};
 
-// Where an inode has its pointers to blocks of content.
-const POINTERS: usize = 8;
+// Blocks of content to which an inode points itself.
+const DIRECT_BLOCKS: usize = DIRECT as usize;
 
-// How many they are.
-const DIRECT: usize = 10;
-
-// Where an inode has its pointers to index blocks.
-const INDEX_POINTERS: usize = 28;
-
-// How many pointers an index block has.
-const POINTED: usize = 256;
+// Blocks of content to which an index block points.
+const POINTED_BLOCKS: usize = POINTED as usize;
 
 // Adds pointers that stand in bytes, so many.
 fn add_pointers(list: &mut Vec<u16>, bytes: &[u8], count: usize) -> Result<(), AllocError>
@@ -53,9 +47,12 @@ impl Image<'_> {
         requires size { size self.now.version self.now.bytes.now n ≤ greatest_length self.now.version }
         ensures { IfOk result (λ list. list.items ≡ used_index self.now.version self.now.bytes.now n) }
     {
-        let count = self.block_count(n).saturating_sub(DIRECT).div_ceil(POINTED);
+        let count = self
+            .block_count(n)
+            .saturating_sub(DIRECT_BLOCKS)
+            .div_ceil(POINTED_BLOCKS);
         let mut list = Vec::with_capacity(alloc, count)?;
-        add_pointers(&mut list, &self.inode(n)[INDEX_POINTERS..], count)?;
+        add_pointers(&mut list, &self.inode(n)[INDEX_POINTERS_AT..], count)?;
         Ok(list)
     }
 
@@ -73,10 +70,14 @@ impl Image<'_> {
     {
         let count = self.block_count(n);
         let mut list = Vec::with_capacity(alloc, count)?;
-        add_pointers(&mut list, &self.inode(n)[POINTERS..], count.min(DIRECT))?;
+        add_pointers(
+            &mut list,
+            &self.inode(n)[POINTERS_AT..],
+            count.min(DIRECT_BLOCKS),
+        )?;
         for k in index {
             let left = count.saturating_sub(list.len());
-            add_pointers(&mut list, self.block(*k), left.min(POINTED))?;
+            add_pointers(&mut list, self.block(*k), left.min(POINTED_BLOCKS))?;
         }
         Ok(list)
     }
@@ -106,10 +107,10 @@ impl Image<'_> {
         ensures refused { result ≡ is_refused (is_data_block self.now.version self.now.bytes.now) (is_member used.old) (pointed_row count self.now.bytes.now (pointer_row (rounded_up count 256) index.now)) }
         ensures after { result ≡ false → (k : ℕ) → is_member used.new k ≡ is_taken_by (is_member used.old) (pointed_row count self.now.bytes.now (pointer_row (rounded_up count 256) index.now)) k }
     {
-        for i in 0..count.div_ceil(POINTED) {
+        for i in 0..count.div_ceil(POINTED_BLOCKS) {
             let block = self.block(u16_at(index, 2 * i));
-            let left = count.saturating_sub(POINTED * i);
-            if self.claim_row(block, left.min(POINTED), used) {
+            let left = count.saturating_sub(POINTED_BLOCKS * i);
+            if self.claim_row(block, left.min(POINTED_BLOCKS), used) {
                 return true;
             }
         }
@@ -126,12 +127,12 @@ impl Image<'_> {
     {
         let inode = self.inode(n);
         let count = self.block_count(n);
-        let pointed = count.saturating_sub(DIRECT);
-        let index = &inode[INDEX_POINTERS..];
-        if self.claim_row(index, pointed.div_ceil(POINTED), used) {
+        let pointed = count.saturating_sub(DIRECT_BLOCKS);
+        let index = &inode[INDEX_POINTERS_AT..];
+        if self.claim_row(index, pointed.div_ceil(POINTED_BLOCKS), used) {
             return true;
         }
-        if self.claim_row(&inode[POINTERS..], count.min(DIRECT), used) {
+        if self.claim_row(&inode[POINTERS_AT..], count.min(DIRECT_BLOCKS), used) {
             return true;
         }
         self.claim_pointed(index, pointed, used)

@@ -58,7 +58,7 @@ fn put_slots(bytes: &mut Vec<u8>, tree: &Tree, version: Version, directory: u16)
     }
 }
 
-// Appends the bytes of a file, or of a link's text, block by block.
+// Appends the bytes of a file, or of a link's text, run by run.
 fn put_bytes(bytes: &mut Vec<u8>, tree: &Tree, node: u16)
     requires used { IsSome (node_at tree.now.tree node) }
     requires other { is_directory_at tree.now.tree node ≡ false }

@@ -4,6 +4,8 @@ ghost use Rattle.std.specs.List.{range_with_len};
 ghost use Rattle.pv_model.specs.Bytes.{little_endian};
 ghost use Rattle.pv_image_write.specs.Spelling.{padded, spelled};
 
+use byteorder::{ByteOrder, LittleEndian};
+
 /// Appends bytes.
 pub(crate) fn put(bytes: &mut Vec<u8>, more: &[u8])
     requires { vec_len bytes.old + length more.now ≤ vec_capacity bytes.old }
@@ -47,7 +49,9 @@ pub(crate) fn put_u16(bytes: &mut Vec<u8>, number: u16)
     ensures len { vec_len bytes.new ≡ vec_len bytes.old + 2 }
     ensures capacity { vec_capacity bytes.old ≤ vec_capacity bytes.new }
 {
-    put(bytes, &number.to_le_bytes());
+    let mut spelled = [0; 2];
+    LittleEndian::write_u16(&mut spelled, number);
+    put(bytes, &spelled);
 }
 
 /// Appends a number in four bytes, the lowest first.
@@ -57,7 +61,9 @@ pub(crate) fn put_u32(bytes: &mut Vec<u8>, number: u32)
     ensures len { vec_len bytes.new ≡ vec_len bytes.old + 4 }
     ensures capacity { vec_capacity bytes.old ≤ vec_capacity bytes.new }
 {
-    put(bytes, &number.to_le_bytes());
+    let mut spelled = [0; 4];
+    LittleEndian::write_u32(&mut spelled, number);
+    put(bytes, &spelled);
 }
 
 /// Appends the numbers of so many blocks in a row, in two bytes each, and zeros after them, so that there are

@@ -2,7 +2,7 @@
 ghost use Rattle.std.specs.Prelude.{◌≡◌, ◌+◌, ◌-◌, ◌*◌, ◌^◌, ◌<◌, ◌≤◌, ◌++◌, false, length, vec_capacity, vec_len, IsTrue, IsSome, None, Err, IfOk, OnOk, OnErr};
 ghost use Rattle.pv_model.specs.declared.limits.TheConstants.{BLOCK, INODES};
 ghost use Rattle.pv_model.specs.Held.{named_tree};
-ghost use Rattle.pv_model.specs.Image.{inode_blocks, inode_length, magic};
+ghost use Rattle.pv_model.specs.Image.{inode_blocks, inode_length};
 ghost use Rattle.pv_model.specs.Mount.{are_image_sizes};
 ghost use Rattle.pv_model.specs.Stream.{Rose};
 ghost use Rattle.pv_model.specs.Tree.{greatest_name, names_of, node_at};
@@ -18,6 +18,7 @@ use crate::filling::{fill, put, put_u16, put_zeros};
 use crate::inode::{extent_of, put_after_content, put_inode};
 use crate::window::{write_full, write_zeros};
 use pv_model::Version;
+use pv_model::format::HEADER;
 use pv_model::limits::{BLOCK, ROOT};
 use pv_streams::{Failed, Sink, write_through};
 use pv_tree::Tree;
@@ -86,16 +87,6 @@ fn table_blocks(version: Version, inodes: u16) -> u16
     (inodes as usize * version.layout().inode_length).div_ceil(BLOCK) as u16
 }
 
-// The bytes with which an image begins.
-fn magic_of(version: Version) -> &'static [u8]
-    ensures { result.now ≡ magic version }
-{
-    match version {
-        Version::V1 => b"PVIMAGE1",
-        Version::V2 => b"PVIMAGE2",
-    }
-}
-
 // The first block of an image of so many blocks and inodes, with room after it for the others. It costs nothing until
 // it is written.
 #[tactic(auto, unfolding(crate::specs::Spelling::first_block))]
@@ -110,10 +101,10 @@ fn beginning(
     ensures room { IfOk result (λ bytes. BLOCK * blocks ≤ vec_capacity bytes) }
 {
     let mut bytes = Vec::with_capacity(alloc, BLOCK * blocks as usize)?;
-    put(&mut bytes, magic_of(version));
+    put(&mut bytes, version.magic());
     put_u16(&mut bytes, blocks);
     put_u16(&mut bytes, inodes);
-    put_zeros(&mut bytes, 500);
+    put_zeros(&mut bytes, BLOCK - HEADER);
     Ok(bytes)
 }
 

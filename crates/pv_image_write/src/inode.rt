@@ -8,13 +8,8 @@ ghost use Rattle.pv_image_write.specs.Spelling.{before_size, after_content, afte
 
 use crate::filling::{put, put_pointers, put_u16, put_u32, put_zeros};
 use pv_model::Version;
+use pv_model::format::{DIRECT, POINTED};
 use pv_model::limits::BLOCK;
-
-// Pointers of an inode to blocks of its content.
-const DIRECT: u16 = 10;
-
-// Numbers of blocks in a block.
-const POINTED: u16 = 256;
 
 /// The blocks that a content of a length takes.
 #[derive(Clone, Copy)]

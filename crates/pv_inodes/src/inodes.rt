@@ -14,6 +14,7 @@ use crate::fields::{put, put_zeros};
 use crate::layout::{BLOCK_LENGTH, place, room};
 use crate::table::{content_block, kind_of, owned_by, push_block, set_kind, set_size, size_of};
 use pv_blocks::{BlockSet, Blocks};
+use pv_model::format::{DIRECTORY, EXECUTABLE, FILE, FREE};
 use pv_model::limits::{BLOCK, INODES};
 use pv_model::{Kind, Version};
 use std::marker::Model;
@@ -111,7 +112,7 @@ impl Inodes {
         if inode == 0 || inode > self.inodes {
             return false;
         }
-        kind_of(&self.blocks, self.version, inode - 1) != 0
+        kind_of(&self.blocks, self.version, inode - 1) != FREE
     }
 
     /// The bytes of an inode from `at` on, as far as they stand in one block: they end with that block, or with
@@ -257,7 +258,7 @@ impl Inodes {
     {
         self.shrink(inode, 0);
         let slot = self.slot(inode);
-        set_kind(&mut self.blocks, self.version, slot, 0);
+        set_kind(&mut self.blocks, self.version, slot, FREE);
         self.least = self.least.min(slot);
     }
 
@@ -270,7 +271,7 @@ impl Inodes {
         ensures used { IfSome result (AllUsed self.now) }
     {
         for slot in self.least..self.inodes {
-            if kind_of(&self.blocks, self.version, slot) == 0 {
+            if kind_of(&self.blocks, self.version, slot) == FREE {
                 return Some(slot);
             }
         }
@@ -421,9 +422,9 @@ fn sort_from(kind: u8) -> Kind
     ensures { result ≡ sort_of kind }
 {
     match kind {
-        1 => Kind::Directory,
-        2 => Kind::File,
-        3 => Kind::Executable,
+        DIRECTORY => Kind::Directory,
+        FILE => Kind::File,
+        EXECUTABLE => Kind::Executable,
         _ => Kind::Symlink,
     }
 }
@@ -435,10 +436,5 @@ fn number_of(sort: Kind) -> u8
     ensures few { result ≤ 4 }
     ensures back { sort_of result ≡ sort }
 {
-    match sort {
-        Kind::Directory => 1,
-        Kind::File => 2,
-        Kind::Executable => 3,
-        Kind::Symlink => 4,
-    }
+    sort as u8
 }

@@ -5,28 +5,12 @@ ghost use Rattle.pv_model.specs.declared.version.Version.TheVariants.{V2};
 ghost use Rattle.pv_model.specs.Room.{greatest_length};
 ghost use Rattle.pv_inodes.specs.Layout.{home, offset, pointer_count, after_index, pointer_of, place_of, wanted};
 
+use pv_model::Version;
+use pv_model::format::{BLOCK_INODES_V1, BLOCK_INODES_V2, DIRECT, INODE_V1, INODE_V2, POINTED};
 use pv_model::limits::BLOCK;
-use pv_model::{Layout, Version};
-
-/// Blocks of content to which an inode points itself.
-pub(crate) const DIRECT: u16 = 10;
-
-/// Blocks of content to which an index block points.
-pub(crate) const POINTED: u16 = 256;
-
-/// Where an inode has its size, in 4 bytes.
-pub(crate) const SIZE: usize = 4;
-
-/// Where an inode has its pointers, of 2 bytes each: those to blocks of content, then those to index blocks.
-pub(crate) const POINTERS: usize = 8;
 
 /// Bytes of a block, as a length of a content.
 pub(crate) const BLOCK_LENGTH: u32 = BLOCK as u32;
-
-// Inodes of a block.
-const INODES_V1: u16 = 16;
-
-const INODES_V2: u16 = 8;
 
 /// The block in which an inode stands.
 #[tactic(auto, unfolding(crate::specs::Layout::home))]
@@ -34,8 +18,8 @@ pub(crate) fn home(version: Version, slot: u16) -> u16
     ensures { result ≡ home version slot }
 {
     match version {
-        Version::V1 => slot / INODES_V1 + 1,
-        Version::V2 => slot / INODES_V2 + 1,
+        Version::V1 => slot / BLOCK_INODES_V1 + 1,
+        Version::V2 => slot / BLOCK_INODES_V2 + 1,
     }
 }
 
@@ -46,8 +30,8 @@ pub(crate) fn offset(version: Version, slot: u16) -> usize
     ensures fits { result + 8 + 2 * pointer_count version ≤ BLOCK }
 {
     match version {
-        Version::V1 => Layout::V1.inode_length * (slot % INODES_V1) as usize,
-        Version::V2 => Layout::V2.inode_length * (slot % INODES_V2) as usize,
+        Version::V1 => INODE_V1 * (slot % BLOCK_INODES_V1) as usize,
+        Version::V2 => INODE_V2 * (slot % BLOCK_INODES_V2) as usize,
     }
 }
 

@@ -7,13 +7,12 @@ ghost use Rattle.pv_inodes.specs.Layout.{home, kind_at, size_at, pointer_at, poi
 ghost use Rattle.pv_inodes.specs.Sound.{pushed};
 
 use crate::fields::{byte_at, put, put_u16, put_u32, u16_at, u32_at};
-use crate::layout::{
-    DIRECT, POINTED, POINTERS, SIZE, after_index, home, offset, pointer_of, room,
-};
+use crate::layout::{after_index, home, offset, pointer_of, room};
 use pv_blocks::Blocks;
 use pv_model::Version;
+use pv_model::format::{DIRECT, FREE, POINTED, POINTERS_AT, SIZE_AT};
 
-/// What an inode is, as a number; 0 is free.
+/// What an inode is, as the number of its kind; that of a free one is `FREE`.
 #[tactic(auto, unfolding(crate::specs::Layout::kind_at))]
 pub(crate) fn kind_of(blocks: &Blocks, version: Version, slot: u16) -> u8
     requires { home version slot < length blocks.now.blocks }
@@ -28,7 +27,7 @@ pub(crate) fn size_of(blocks: &Blocks, version: Version, slot: u16) -> u32
     requires { home version slot < length blocks.now.blocks }
     ensures { result ≡ size_at version blocks.now.blocks slot }
 {
-    u32_at(blocks, home(version, slot), offset(version, slot) + SIZE)
+    u32_at(blocks, home(version, slot), offset(version, slot) + SIZE_AT)
 }
 
 /// How many blocks an inode owns, its index blocks among them; a free one owns none.
@@ -38,7 +37,7 @@ pub(crate) fn owned_count(blocks: &Blocks, version: Version, slot: u16) -> u16
     requires allowed { 0 < kind_at version blocks.now.blocks slot → size_at version blocks.now.blocks slot ≤ greatest_length V2 }
     ensures { result ≡ owned_count version blocks.now.blocks slot }
 {
-    if kind_of(blocks, version, slot) == 0 {
+    if kind_of(blocks, version, slot) == FREE {
         0
     } else {
         room(size_of(blocks, version, slot))
@@ -55,7 +54,7 @@ fn pointer(blocks: &Blocks, version: Version, slot: u16, p: u16) -> u16
     u16_at(
         blocks,
         home(version, slot),
-        offset(version, slot) + POINTERS + 2 * p as usize,
+        offset(version, slot) + POINTERS_AT + 2 * p as usize,
     )
 }
 
@@ -110,7 +109,7 @@ pub(crate) fn set_size(blocks: &mut Blocks, version: Version, slot: u16, size: u
     put_u32(
         blocks,
         home(version, slot),
-        offset(version, slot) + SIZE,
+        offset(version, slot) + SIZE_AT,
         size,
     );
 }
@@ -128,7 +127,7 @@ pub(crate) fn set_owned(blocks: &mut Blocks, version: Version, slot: u16, i: u16
         put_u16(
             blocks,
             home(version, slot),
-            offset(version, slot) + POINTERS + 2 * pointer_of(i) as usize,
+            offset(version, slot) + POINTERS_AT + 2 * pointer_of(i) as usize,
             k,
         );
     } else {

@@ -29,7 +29,6 @@ pub mod JustReads
 pub mod ExampleRuns
 pub mod Closed
 pub mod Frames
-pub mod Members
 pub mod Verdicts
 pub mod Promised
 -- Lemmas of what steps leave of others: Ended (exit and kills, record by record), Framed (which open files stay, come and go),

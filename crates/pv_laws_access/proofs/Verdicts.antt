@@ -27,7 +27,7 @@ use Rattle.pv_model.proofs.Rights.{Governs-directory_rights, directory_rights-Go
 use Rattle.pv_laws_trees.proofs.Above.{ancestors-above}
 use Rattle.pv_laws_trees.proofs.Trees.{IsOrdered, ordered, sound}
 use Rattle.pv_laws_access.specs.Reasons.{IsFirstReason, IsFirstLeak, IsExact}
-use Rattle.pv_laws_access.proofs.Members.{In, empty-from, none-in, in-map, map-in, in-filter, filter-in, in-kept, kept-in, in-flat, flat-in, any-in, in-any, least-in, least-low, numbered-at, at-numbered, entry-in, in-entry}
+use Rattle.pv_laws_trees.proofs.Members.{In, empty-from, none-in, in-map, map-in, in-filter, filter-in, in-kept, kept-in, in-flat, flat-in, any-in, in-any, least-in, least-low, numbered-at, at-numbered, entry-in, in-entry}
 
 -- ---- promises
 

@@ -11,7 +11,7 @@ use Rattle.pv_model.specs.declared.promise.Promise.TheVariants.{Stdio, Rpath, Wp
 use Rattle.pv_model.specs.Needs.{needs, needs_of_mode, needs_cpath}
 use Rattle.pv_model.specs.Promise.{all_promises, promise_bit}
 use Rattle.pv_model.specs.Promises.{Promises, Need, contains, first_increase, is_met, missing_promise}
-use Rattle.pv_laws_access.proofs.Members.{In}
+use Rattle.pv_laws_trees.proofs.Members.{In}
 use Rattle.pv_laws_sandbox.specs.Promises.{IsFirstMissing, IsFirstIncrease}
 
 -- ---- the order of promises

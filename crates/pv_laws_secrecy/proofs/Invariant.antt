@@ -45,7 +45,7 @@ use Rattle.pv_laws_access.proofs.Closed.{live-passes, lacking, frozen-not_change
 use Rattle.pv_laws_access.proofs.HasEffect
 use Rattle.pv_laws_access.proofs.JustFiles.{fine-name, many, between-directory}
 use Rattle.pv_laws_access.proofs.JustGains.{Opens}
-use Rattle.pv_laws_access.proofs.Members.{In, entry-in, in-entry}
+use Rattle.pv_laws_trees.proofs.Members.{In, entry-in, in-entry}
 use Rattle.pv_laws_access.proofs.Touched.{touched}
 use Rattle.pv_laws_access.proofs.Verdicts.{leaks-closed, frozen-tested}
 use Rattle.pv_laws_secrecy.specs.Sealing.{IsSealedFile, IsFrozenFile, IsLeftFrozen}

@@ -19,3 +19,5 @@ pub mod Places
 pub mod Empty
 pub mod NewNodes
 pub mod Found
+pub mod Members
+pub mod NameOrder

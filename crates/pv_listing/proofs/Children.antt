@@ -1,41 +1,19 @@
 -- The names of a directory, one after the other.
 use Rattle.std.proofs.Common.{◌≡◌, ℕ, ◌-◌, true, false, cond, [], ◌∷◌, ◌++◌, length, take, drop, codes, Option, None, Some, refl, ap, sym, subst, ◌∙◌, append_assoc, arith, ◌+◌, ◌<◌, ◌≤◌, Bor, ⊎_elim, add-one, length-append, length-drop, drop-cons}
-use Rattle.std.specs.Ordering.{is_lt, eq_by_cmp, ordering_reverse}
+use Rattle.std.specs.Ordering.{is_lt, eq_by_cmp}
 use Rattle.std.specs.FinMap.Entries.{find, is_sorted, below_all}
-use Rattle.std.specs.declared.cmp.Ordering.{Ordering}
-use Rattle.std.specs.declared.cmp.Ordering.TheVariants.{Less, Equal, Greater}
+use Rattle.std.specs.declared.cmp.Ordering.TheVariants.{Less}
 use Rattle.std.proofs.Math.Seq.{take-append_seam, drop-append_seam}
 use Rattle.std.proofs.lemmas.Bool.{and_parts}
 use Rattle.std.proofs.lemmas.List.{take_all, drop_all}
 use Rattle.std.specs.Option.{option_copied}
 use Rattle.std.specs.Slice.{IsGetRangeResult}
-use Rattle.std.proofs.lemmas.Cmp.{nat_list_cmp_total}
 use Rattle.pv_model.specs.Bytes.{Bytes}
 use Rattle.pv_model.specs.Calls.Descriptors.{is_past, next_name}
 use Rattle.pv_model.specs.Tree.{Entries}
 use Rattle.pv_laws_trees.proofs.Entries.{by_name, tied_itself, tied-same, find_after}
+use Rattle.pv_laws_trees.proofs.NameOrder.{less_from, not_after, not_after_itself, after_more}
 use Rattle.pv_listing.specs.Lines.{entries_after, last_name, IsNextChild}
-
-pub less_from : (o : Ordering) → is_lt o ≡ true → o ≡ Less
-less_from Less is = refl
-less_from Equal is = cc
-less_from Greater is = cc
-
--- a name is not after one that it comes before
-pub not_after : (a b : Bytes) → by_name a b ≡ Less → is_past (Some b) a ≡ false
-not_after a b less = ap is_lt (nat_list_cmp_total.antisymm b a ∙ ap ordering_reverse less)
-
-pub not_after_itself : (a : Bytes) → is_past (Some a) a ≡ false
-not_after_itself a =
-    elim (is_past (Some a) a) as (λ b. is_past (Some a) a ≡ b → b ≡ false) [
-      | true ↦ λ is. sym is ∙ not_after a a (less_from (by_name a a) is)
-      | false ↦ λ is. refl
-    ] refl
-
--- what is after a name after the last one is after the last one
-pub after_more : (last : Option Bytes) (a b : Bytes) → is_past last a ≡ true → is_lt (by_name a b) ≡ true → is_past last b ≡ true
-after_more None a b is less = refl
-after_more (Some l) a b is less = ap is_lt (nat_list_cmp_total.trans l a b (less_from (by_name l a) is) (less_from (by_name a b) less))
 
 -- all entries above a name are after it
 all_past : (name : Bytes) (es : Entries) → below_all by_name name es ≡ true → entries_after (Some name) es ≡ es

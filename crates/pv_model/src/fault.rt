@@ -6,6 +6,7 @@ ghost use Rattle.pv_model.specs.declared.fault.ManifestFault.TheVariants.{Memory
 ghost use Rattle.pv_model.specs.declared.fault.ImageFault.TheVariants.{Memory as ImageMemory};
 
 use std::alloc::{AllocError, AllocFailed};
+use std::fmt;
 
 /// What is wrong with a line of a program.
 #[derive(Clone, Copy, Debug, PartialEq, Eq)]
@@ -45,6 +46,16 @@ impl<T: Drop> From<AllocFailed<T>> for ParseFault {
     }
 }
 
+/// The text for a person, without an LF: the line, or `memory`.
+impl fmt::Display for ParseFault {
+    fn fmt<W: fmt::Write>(&self, f: &mut fmt::Formatter<W>) -> fmt::Result {
+        match self {
+            ParseFault::Line(line, _) => write!(f, "program: line {line}"),
+            ParseFault::Memory => write!(f, "memory"),
+        }
+    }
+}
+
 /// Why bytes are no schedule.
 #[derive(Clone, Copy, Debug, PartialEq, Eq)]
 pub enum ScheduleFault {
@@ -67,6 +78,16 @@ impl<T: Drop> From<AllocFailed<T>> for ScheduleFault {
 
     fn from(_error: AllocFailed<T>) -> ScheduleFault {
         ScheduleFault::Memory
+    }
+}
+
+/// The text for a person, without an LF: the line, or `memory`.
+impl fmt::Display for ScheduleFault {
+    fn fmt<W: fmt::Write>(&self, f: &mut fmt::Formatter<W>) -> fmt::Result {
+        match self {
+            ScheduleFault::Line(line) => write!(f, "schedule: line {line}"),
+            ScheduleFault::Memory => write!(f, "memory"),
+        }
     }
 }
 
@@ -105,6 +126,21 @@ impl<T: Drop> From<AllocFailed<T>> for ManifestFault {
     }
 }
 
+/// The text for a person, without an LF: the line and what is wrong with it, or `memory`.
+impl fmt::Display for ManifestFault {
+    fn fmt<W: fmt::Write>(&self, f: &mut fmt::Formatter<W>) -> fmt::Result {
+        match self {
+            ManifestFault::Form(line) => write!(f, "manifest: line {line}: form"),
+            ManifestFault::Size => write!(f, "manifest: size"),
+            ManifestFault::Parent(line) => write!(f, "manifest: line {line}: parent"),
+            ManifestFault::Exists(line) => write!(f, "manifest: line {line}: exists"),
+            ManifestFault::Source(line) => write!(f, "manifest: line {line}: source"),
+            ManifestFault::Room(line) => write!(f, "manifest: line {line}: room"),
+            ManifestFault::Memory => write!(f, "memory"),
+        }
+    }
+}
+
 /// Why bytes are no image. Numbers are those of inodes.
 #[derive(Clone, Copy, Debug, PartialEq, Eq)]
 pub enum ImageFault {
@@ -131,5 +167,21 @@ impl From<AllocError> for ImageFault {
 
     fn from(_error: AllocError) -> ImageFault {
         ImageFault::Memory
+    }
+}
+
+/// The text for a person, without an LF: what is wrong, with the number of the inode, or `memory`.
+impl fmt::Display for ImageFault {
+    fn fmt<W: fmt::Write>(&self, f: &mut fmt::Formatter<W>) -> fmt::Result {
+        match self {
+            ImageFault::Short => write!(f, "image: short"),
+            ImageFault::Magic => write!(f, "image: magic"),
+            ImageFault::Size => write!(f, "image: size"),
+            ImageFault::Inode(number) => write!(f, "image: inode {number}"),
+            ImageFault::Block(number) => write!(f, "image: block {number}"),
+            ImageFault::Dir(number) => write!(f, "image: directory {number}"),
+            ImageFault::Tree(number) => write!(f, "image: tree {number}"),
+            ImageFault::Memory => write!(f, "memory"),
+        }
     }
 }

@@ -4,6 +4,7 @@ ghost use Rattle.pv_model.specs.declared.kernel_fault.BootFault.TheVariants.{Mem
 ghost use Rattle.pv_model.specs.declared.kernel_fault.StepFault.TheVariants.{NoMemory};
 
 use std::alloc::{AllocError, AllocFailed};
+use std::fmt;
 
 /// Why a kernel does not start on a tree.
 #[derive(Clone, Copy, Debug, PartialEq, Eq)]
@@ -30,6 +31,16 @@ impl<T: Drop> From<AllocFailed<T>> for BootFault {
     }
 }
 
+/// The text for a person, without an LF: the line of `init`, or `memory`.
+impl fmt::Display for BootFault {
+    fn fmt<W: fmt::Write>(&self, f: &mut fmt::Formatter<W>) -> fmt::Result {
+        match self {
+            BootFault::Init(line) => write!(f, "init: line {line}"),
+            BootFault::Memory => write!(f, "memory"),
+        }
+    }
+}
+
 /// Why a step was not made: the simulator's fault, and no error of the process.
 #[derive(Clone, Copy, Debug, PartialEq, Eq)]
 pub enum StepFault {
@@ -42,5 +53,14 @@ impl From<AllocError> for StepFault {
 
     fn from(_error: AllocError) -> StepFault {
         StepFault::NoMemory
+    }
+}
+
+/// The text for a person, without an LF.
+impl fmt::Display for StepFault {
+    fn fmt<W: fmt::Write>(&self, f: &mut fmt::Formatter<W>) -> fmt::Result {
+        match self {
+            StepFault::NoMemory => write!(f, "memory"),
+        }
     }
 }

@@ -5,7 +5,15 @@ ghost use Rattle.pv_model.specs.Room.{entry_length, greatest_entries, greatest_l
 ghost use Rattle.pv_model.specs.Tree.{greatest_name};
 
 use crate::Version;
-use crate::limits::{BLOCKS_V1, BLOCKS_V2, NAME_V1, NAME_V2};
+use crate::format::{
+    DIRECT, INDEX_POINTERS_V1, INDEX_POINTERS_V2, INODE_V1, INODE_V2, POINTED, SLOT_V1, SLOT_V2,
+};
+use crate::limits::{BLOCK, BLOCKS_V1, BLOCKS_V2, NAME_V1, NAME_V2};
+
+// The greatest length of a content, which fills all blocks that an inode's pointers lead to.
+const LENGTH_V1: usize = BLOCK * (DIRECT + POINTED * INDEX_POINTERS_V1) as usize;
+
+const LENGTH_V2: usize = BLOCK * (DIRECT + POINTED * INDEX_POINTERS_V2) as usize;
 
 /// What an image of one version has room for.
 #[derive(Clone, Copy, Debug, PartialEq, Eq)]
@@ -16,7 +24,7 @@ pub struct Layout {
     pub slot_length: usize,
     /// The greatest length of a name, in bytes.
     pub name_limit: usize,
-    /// Pointers of an inode to index blocks, after the ten to blocks of content.
+    /// Pointers of an inode to index blocks, past the ten to blocks of content.
     pub index_pointers: u16,
     /// The greatest length of a content, in bytes.
     pub greatest_length: u32,
@@ -29,23 +37,23 @@ pub struct Layout {
 impl Layout {
     /// The sizes of version 1.
     pub const V1: Layout = Layout {
-        inode_length: 32,
-        slot_length: 64,
+        inode_length: INODE_V1,
+        slot_length: SLOT_V1,
         name_limit: NAME_V1,
-        index_pointers: 1,
-        greatest_length: 136_192,
-        greatest_entries: 2_128,
+        index_pointers: INDEX_POINTERS_V1,
+        greatest_length: LENGTH_V1 as u32,
+        greatest_entries: (LENGTH_V1 / SLOT_V1) as u32,
         greatest_blocks: BLOCKS_V1 as u16,
     };
 
     /// The sizes of version 2.
     pub const V2: Layout = Layout {
-        inode_length: 64,
-        slot_length: 260,
+        inode_length: INODE_V2,
+        slot_length: SLOT_V2,
         name_limit: NAME_V2,
-        index_pointers: 5,
-        greatest_length: 660_480,
-        greatest_entries: 2_540,
+        index_pointers: INDEX_POINTERS_V2,
+        greatest_length: LENGTH_V2 as u32,
+        greatest_entries: (LENGTH_V2 / SLOT_V2) as u32,
         greatest_blocks: BLOCKS_V2 as u16,
     };
 }

@@ -5,6 +5,7 @@ ghost use Rattle.pv_model.specs.RunFault.{of_boot, of_image, of_manifest, of_pro
 
 use crate::{BootFault, ImageFault, ManifestFault, ParseFault, ScheduleFault};
 use std::alloc::{AllocError, AllocFailed};
+use std::fmt;
 
 /// Why a run is refused, or ends early.
 #[derive(Clone, Copy, Debug, PartialEq, Eq)]
@@ -94,6 +95,21 @@ impl From<BootFault> for RunFault {
         match fault {
             BootFault::Init(line) => RunFault::Init(line),
             BootFault::Memory => RunFault::Memory,
+        }
+    }
+}
+
+/// The text for a person, without an LF.
+impl fmt::Display for RunFault {
+    fn fmt<W: fmt::Write>(&self, f: &mut fmt::Formatter<W>) -> fmt::Result {
+        match self {
+            RunFault::Read => write!(f, "read"),
+            RunFault::Image(fault) => write!(f, "{fault}"),
+            RunFault::Manifest(fault) => write!(f, "{fault}"),
+            RunFault::Schedule(line) => write!(f, "{}", ScheduleFault::Line(*line)),
+            RunFault::Init(line) => write!(f, "{}", BootFault::Init(*line)),
+            RunFault::Memory => write!(f, "memory"),
+            RunFault::WriteTrace | RunFault::WriteImage => write!(f, "write"),
         }
     }
 }

@@ -6,6 +6,7 @@ ghost use Rattle.pv_model.specs.declared.store_fault.MigrateFault.TheVariants.{M
 
 use crate::ImageFault;
 use std::alloc::AllocError;
+use std::fmt;
 
 /// Why an image is not listed.
 #[derive(Clone, Copy, Debug, PartialEq, Eq)]
@@ -39,6 +40,18 @@ impl From<ImageFault> for ListFault {
     }
 }
 
+/// The text for a person, without an LF.
+impl fmt::Display for ListFault {
+    fn fmt<W: fmt::Write>(&self, f: &mut fmt::Formatter<W>) -> fmt::Result {
+        match self {
+            ListFault::Read => write!(f, "read"),
+            ListFault::Image(fault) => write!(f, "{fault}"),
+            ListFault::Memory => write!(f, "memory"),
+            ListFault::Write => write!(f, "write"),
+        }
+    }
+}
+
 /// Why an image of version 1 is not made into one of version 2.
 #[derive(Clone, Copy, Debug, PartialEq, Eq)]
 pub enum MigrateFault {
@@ -65,6 +78,17 @@ impl From<ImageFault> for MigrateFault {
         match fault {
             ImageFault::Memory => MigrateFault::Memory,
             fault => MigrateFault::Image(fault),
+        }
+    }
+}
+
+/// The text for a person, without an LF.
+impl fmt::Display for MigrateFault {
+    fn fmt<W: fmt::Write>(&self, f: &mut fmt::Formatter<W>) -> fmt::Result {
+        match self {
+            MigrateFault::Image(fault) => write!(f, "{fault}"),
+            MigrateFault::Small => write!(f, "migrate: too small"),
+            MigrateFault::Memory => write!(f, "memory"),
         }
     }
 }

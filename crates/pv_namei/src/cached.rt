@@ -1,20 +1,17 @@
 //! A lookup that keeps the tree's answers.
 ghost use Rattle.std.specs.Prelude.{◌≡◌, ◌⊎◌, ℕ, List, Option, Some, None, [], IsTrue, IfOk, ◌≤◌, length};
-ghost use Rattle.pv_namei.specs.declared.cached.TheConstants.{MOST};
+ghost use Rattle.pv_model.specs.declared.limits.TheConstants.{ANSWERS};
 ghost use Rattle.pv_model.specs.Tree.{is_directory_at, find_entry};
 ghost use Rattle.pv_laws_trees.specs.Found.{AlikeBut};
 ghost use Rattle.pv_namei.specs.Cached.{kept_of, IsPut, FitsMap};
 
 use crate::short_name::ShortName;
 use lru::LruCache;
-use pv_model::limits::NAME_V2;
+use pv_model::limits::{ANSWERS, NAME_V2};
 use crate::Lookup;
 use pv_tree::Tree;
 use std::alloc::{AllocError, Global};
 use std::num::NonZeroUsize;
-
-// The most answers that are kept.
-const MOST: usize = 512;
 
 /// What an answer is kept under: the number of a directory, and a name of at most 255 bytes.
 #[derive(Drop, PartialEq, Eq, Hash)]
@@ -66,7 +63,7 @@ pub struct CachedLookup {
     answers: LruCache<Pair, Option<u16>>,
     // What was asked last: each next question takes its place.
     asked: Pair,
-    ghost capacity: { answers.cap ≡ MOST },
+    ghost capacity: { answers.cap ≡ ANSWERS },
 }
 
 impl CachedLookup {
@@ -76,7 +73,7 @@ impl CachedLookup {
         ensures agrees { IfOk result (λ lookup. (map : ℕ → List ℕ → Option ℕ) → FitsMap lookup.answers map) }
     {
         Ok(CachedLookup {
-            answers: LruCache::new(alloc, NonZeroUsize::new(MOST).unwrap())?,
+            answers: LruCache::new(alloc, NonZeroUsize::new(ANSWERS).unwrap())?,
             asked: Pair::empty(),
         })
     }

@@ -16,6 +16,7 @@ use pv_model::{AuditFault, RunFault, Verdict};
 use pv_session::Session;
 use pv_streams::{Failed, Sink, Source};
 use std::alloc::Global;
+use std::fmt;
 
 /// Why an audit is not told, or not whole.
 #[derive(Clone, Copy, Debug, PartialEq, Eq)]
@@ -49,6 +50,17 @@ impl From<Failed> for AuditStop {
 
     fn from(_failed: Failed) -> AuditStop {
         AuditStop::Write
+    }
+}
+
+/// The text for a person, without an LF.
+impl fmt::Display for AuditStop {
+    fn fmt<W: fmt::Write>(&self, f: &mut fmt::Formatter<W>) -> fmt::Result {
+        match self {
+            Self::Machine(fault) => write!(f, "{fault}"),
+            Self::Path(fault) => write!(f, "{fault}"),
+            Self::Write => write!(f, "write"),
+        }
     }
 }
 

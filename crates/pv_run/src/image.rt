@@ -18,14 +18,14 @@ use pv_image_write::{WriteFault, write_tree};
 use std::alloc::Global;
 
 // The store of the tree that an image holds. `listed` tells whether all its directories will be listed, so that it is worth
-// to put their slots in order.
+// to put their entries in order.
 fn store_of(alloc: Global, image: Vec<u8>, listed: bool) -> Result<Store, ImageFault>
     ensures mounted { IfOk result (λ store. mounted image.items ≡ Ok store) }
     ensures refused { IfErr result (λ fault. (fault ≡ ImageFault.Memory) ⊎ (mounted image.items ≡ Err fault)) }
 {
     let mut store = mount(alloc, image)?;
     if listed {
-        store.sort_slots();
+        store.order_entries();
     }
     Ok(store)
 }

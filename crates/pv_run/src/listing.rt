@@ -60,7 +60,7 @@ fn list_bytes<W: Sink>(alloc: Global, bytes: Vec<u8>, out: &mut W) -> Result<(),
     ensures stopped { IfErr result (λ fault. W.buffered out.old ≡ 0 → BufferedOnlyIfUnlisted fault (W.buffered out.new)) }
 {
     let mut store = mount(alloc, bytes)?;
-    store.sort_slots();
+    store.order_entries();
     match write_all(alloc, store.tree(), out) {
         Ok(()) => Ok(()),
         Err(ListStop::Memory) => Err(ListFault::Memory),

@@ -9,6 +9,7 @@ use pv_image::{MigratingStop, migrate};
 use pv_model::{MigrateFault, RunFault};
 use pv_streams::{Sink, Source, read_whole};
 use std::alloc::Global;
+use std::fmt;
 
 /// Why an image is not made into one of version 2, or not whole.
 #[derive(Clone, Copy, Debug, PartialEq, Eq)]
@@ -19,6 +20,17 @@ pub enum MigrateStop {
     Refused(MigrateFault),
     /// The sink failed.
     Write,
+}
+
+/// The text for a person, without an LF.
+impl fmt::Display for MigrateStop {
+    fn fmt<W: fmt::Write>(&self, f: &mut fmt::Formatter<W>) -> fmt::Result {
+        match self {
+            Self::Read => write!(f, "read"),
+            Self::Refused(fault) => write!(f, "{fault}"),
+            Self::Write => write!(f, "write"),
+        }
+    }
 }
 
 // Reads an image whole.

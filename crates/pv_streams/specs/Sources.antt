@@ -5,7 +5,7 @@ use Rattle.pv_model.specs.declared.run_fault.RunFault.TheVariants.{Read, Memory}
 use Rattle.pv_model.specs.declared.stream.Source.{Ghosts as Reading}
 use Rattle.pv_model.specs.Bytes.{Bytes}
 use Rattle.pv_model.specs.Stream.{Rose}
-use Rattle.pv_streams.specs.declared.reading.TheConstants.{SOURCE_BYTES}
+use Rattle.pv_model.specs.declared.limits.TheConstants.{SOURCE_BYTES}
 
 -- some bytes, and then what remains
 abbrev pub before_all : Bytes → Option Bytes → Option Bytes

@@ -3,11 +3,9 @@ ghost use Rattle.std.specs.Prelude.{◌≡◌, ◌<◌, ◌≤◌, [], length, v
 ghost use Rattle.pv_model.specs.Stream.{Rose, RoseBy, front_and};
 ghost use Rattle.pv_streams.specs.Sources.{FailsToGive, IsReadOrMemory};
 
+use pv_model::limits::SOURCE_BYTES;
 use pv_model::{Failed, RunFault, Source};
 use std::alloc::Global;
-
-/// How many bytes a source may give.
-pub const SOURCE_BYTES: usize = 67_108_864;
 
 // How many bytes a source is asked for at a time.
 const CHUNK: usize = 65_536;

@@ -20,3 +20,6 @@ pub mod Beginning
 pub mod Contents
 pub mod Gathering
 pub mod Spelling
+pub mod Rising
+pub mod NextOnes
+pub mod Lending

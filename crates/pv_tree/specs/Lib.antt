@@ -1,5 +1,6 @@
 pub mod Changes
 pub mod Holding
+pub mod NodeNames
 pub mod Places
 pub mod Rooms
 pub mod Standing

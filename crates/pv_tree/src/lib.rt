@@ -6,7 +6,7 @@
 //! holders each node has, are stored, and stand in the invariant alone.
 //!
 //! `tree` has `Tree` and what it answers; below it `image` has the tree of an image that was written before,
-//! `making` new nodes, `names` links, unlinks and renames, `holding` holders, and `contents` the bytes of
+//! `making` new nodes, `names` links, unlinks and renames, `node_names` the names of a node, `holding` holders, and `contents` the bytes of
 //! files. `store` has `Store`, a tree before boot, and `place` a place whose name stands elsewhere.
 #![tactic(auto)]
 

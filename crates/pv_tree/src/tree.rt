@@ -1,5 +1,5 @@
 //! A tree on the blocks of an image, with who holds what.
-ghost use Rattle.std.specs.Prelude.{◌≡◌, ◌+◌, ◌-◌, ◌*◌, ◌%◌, ◌<◌, ◌≤◌, ◌↔◌, min, replicate, slice_set, vec_len, ◌==◌, All, false, [], ◌++◌, length, take, drop, IfOk, IfSome, IsTrue, Some, IsSome, option_map};
+ghost use Rattle.std.specs.Prelude.{◌≡◌, ◌+◌, ◌-◌, ◌*◌, ◌<◌, ◌≤◌, ◌↔◌, min, replicate, slice_set, vec_len, ◌==◌, All, false, [], ◌++◌, length, take, drop, IfOk, IfSome, IsTrue, Some, IsSome, option_map};
 ghost use Rattle.std.specs.Option.{option_copied};
 ghost use Rattle.pv_model.specs.Calls.Descriptors.{next_name};
 ghost use Rattle.pv_model.specs.Effect.{size_of};
@@ -20,6 +20,7 @@ mod holding;
 mod image;
 mod making;
 mod names;
+mod node_names;
 
 use pv_dirs::Directories;
 use pv_model::limits::{INODES, ROOT};
@@ -266,13 +267,15 @@ impl Tree {
         self.directories.is_empty(directory)
     }
 
-    /// The bytes of a file, or of a link's text, from `at` on, as far as they stand in one block, where they stand: they
-    /// end with that block, or where the bytes end.
+    /// A run of the bytes of a file, or of a link's text, from `at` on, where they stand: at least one, and as many as
+    /// stand together there.
     pub fn lend(&self, node: u16, at: u32) -> &[u8]
         requires used { IsSome (node_at self.now.tree node) }
         requires other { is_directory_at self.now.tree node ≡ false }
         requires within { at < length (bytes_at self.now.tree node) }
-        ensures { result.now ≡ take (BLOCK - at % BLOCK) (drop at (bytes_at self.now.tree node)) }
+        ensures run { result.now ≡ take (length result.now) (drop at (bytes_at self.now.tree node)) }
+        ensures some { 1 ≤ length result.now }
+        ensures within { at + length result.now ≤ length (bytes_at self.now.tree node) }
     {
         self.directories.lend(node, at)
     }

@@ -7,7 +7,7 @@ ghost use Rattle.pv_model.specs.Tree.{entries_at, is_directory_at, find_entry};
 ghost use Rattle.pv_dirs.specs.Counts.{count_in};
 
 use super::Directories;
-use crate::scan::{count, number};
+use crate::dir::Dir;
 
 impl Directories {
     /// Counts the entries of a directory by the nodes that they are for, in one pass. Where so many are for
@@ -20,8 +20,12 @@ impl Directories {
         ensures counts { (n : ℕ) → slice_index counts.new n ≡ slice_index counts.old n + count_in n (entries_at self.now directory) }
         ensures parents { (n : ℕ) → slice_index parents.new n ≡ (if nat_lt 0 (count_in n (entries_at self.now directory)) then directory else slice_index parents.old n) }
     {
-        for k in 0..count(&self.inodes, directory) {
-            let node = number(&self.inodes, directory, k) as usize;
+        let dir = Dir {
+            inodes: &self.inodes,
+            directory,
+        };
+        for k in 0..dir.count() {
+            let node = dir.number(k) as usize;
             counts[node] += 1;
             parents[node] = directory;
         }

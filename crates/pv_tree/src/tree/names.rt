@@ -62,9 +62,9 @@ fn move_entry(
 }
 
 impl Tree {
-    /// Puts the slots of the directories in the order of the names, where they are not known to stand so. The
+    /// Puts the entries of the directories in the order of the names, where they are not known to stand so. The
     /// tree is the same, but names are found and listed in fewer steps.
-    pub fn sort_slots(&mut self)
+    pub fn order_entries(&mut self)
         ensures { self.new ≡ self.old }
     {
         self.directories.sort_slots();

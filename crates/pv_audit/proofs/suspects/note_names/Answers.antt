@@ -2,9 +2,9 @@ use Rattle.std.proofs.Common.{◌≡◌, ◌<◌, ℕ, true, Option, None, Some,
 use Rattle.pv_model.specs.Bytes.{Bytes}
 use Rattle.pv_model.specs.Tree.{Tree, names_of, IsWellFormed}
 use Rattle.pv_laws_trees.proofs.Trees.{ordered}
-use Rattle.pv_audit.specs.NextName.{first_after, IsNextName}
+use Rattle.pv_tree.specs.NodeNames.{first_after, IsNextNameOfNode}
 use Rattle.pv_audit.proofs.FoundOnes.{IsNotedTo, IsOfNode, noted-all, noted-first, noted-next, noted-fewer, of-next, of-directory}
-use Rattle.pv_audit.proofs.Rising.{Named, names_on, rises, names-rise}
+use Rattle.pv_tree.proofs.Rising.{Named, names_on, rises, names-rise}
 use Rattle.pv_audit.proofs.suspects.note_names.Goals as goal
 
 up : (t u : Tree) (n : ℕ) → u ≡ t → IsWellFormed u → rises (names_of t n) ≡ true
@@ -18,7 +18,7 @@ loop-next-init c =
     record {
       noted = noted-first c.args.parts.now (names_of t n) rise c.next_name-next.result c.args.suspects.now c.requires
           (c.next_name-next.ensures.value ∙ ap (λ (u : Tree). first_after None (names_of u n)) c.tree-tree.ensures);
-      of_node = of-next t n None c.next_name-next.result (subst (λ (u : Tree). IsNextName u n None c.next_name-next.result) c.tree-tree.ensures c.next_name-next.ensures.least);
+      of_node = of-next t n None c.next_name-next.result (subst (λ (u : Tree). IsNextNameOfNode u n None c.next_name-next.result) c.tree-tree.ensures c.next_name-next.ensures.least);
     }
 
 pub note_name-requires-clause-directory : goal.note_name-requires-clause-directory
@@ -52,7 +52,7 @@ loop-next-preserved c =
       noted = noted-next s (names_of t n) rise x c.next_name-next-in-Some.result c.args.suspects.now c.loop-next.suspects c.note_name.new.suspects
           (subst (λ (o : Option Named). IsNotedTo s (names_of t n) o c.args.suspects.now c.loop-next.suspects) c.in-Some.is c.loop-next.invariant.noted) next c.note_name.ensures;
       of_node = of-next t n (Some (c.in-Some.directory, c.as_slice.result.now)) c.next_name-next-in-Some.result
-          (subst (λ (u : Tree). IsNextName u n (Some (c.in-Some.directory, c.as_slice.result.now)) c.next_name-next-in-Some.result) c.tree-tree.ensures c.next_name-next-in-Some.ensures.least);
+          (subst (λ (u : Tree). IsNextNameOfNode u n (Some (c.in-Some.directory, c.as_slice.result.now)) c.next_name-next-in-Some.result) c.tree-tree.ensures c.next_name-next-in-Some.ensures.least);
     }
 
 pub returns : goal.returns

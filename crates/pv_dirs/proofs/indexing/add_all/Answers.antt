@@ -10,8 +10,8 @@ use Rattle.pv_dirs.proofs.TreeOf.{directory_used}
 use Rattle.pv_dirs.proofs.indexing.add_all.Goals as goal
 use Rattle.pv_dirs.proofs.indexing.add_all.Goals.{then-is_directory, else-is_directory}
 
-pub add_slots-requires : goal.add_slots-requires
-add_slots-requires c = record { used = directory_used c.args.inodes.now c.loop-inode.inode (sym c.is_directory.ensures ∙ c.if-is_directory.true) }
+pub invariant_of-dir : goal.invariant_of-dir
+invariant_of-dir c = record { used = directory_used c.args.inodes.now c.loop-inode.inode (sym c.is_directory.ensures ∙ c.if-is_directory.true) }
 
 pub loop-inode-preserved : goal.loop-inode-preserved
 loop-inode-preserved c = λ n held_there below there sort.

@@ -1,6 +1,6 @@
 use Rattle.std.proofs.Common.{sym, subst, arith, inl, inr}
 use Rattle.std.proofs.lemmas.Bool.{cases_eq}
-use Rattle.pv_inodes.specs.Files.{bytes_at}
+use Rattle.pv_dirs.specs.Dirs.{bytes_in}
 use Rattle.pv_dirs.specs.Index.{AscendTo}
 use Rattle.pv_dirs.specs.Slots.{slot_at, slot_name}
 use Rattle.pv_dirs.proofs.Ascending.{ascend_more}
@@ -8,12 +8,12 @@ use Rattle.pv_dirs.proofs.indexing.add_name.Goals as goal
 
 pub returns-clause-led : goal.returns-clause-led
 returns-clause-led c =
-    let v = c.args.inodes.now.version in
-    let bytes = bytes_at c.args.inodes.now c.args.directory in
+    let v = c.args.dir.now.inodes.now.version in
+    let bytes = bytes_in c.args.dir.now in
     record {
       slots = λ k below. elim (cases_eq k c.args.k) [
         | inl here ↦ rw (here, sym c.requires.named) c.add.ensures.this
-        | inr other ↦ c.add.ensures.others c.args.directory k (slot_name (slot_at v bytes k)) (c.requires.led.slots k (omega arith))
+        | inr other ↦ c.add.ensures.others c.args.dir.now.directory k (slot_name (slot_at v bytes k)) (c.requires.led.slots k (omega arith))
       ];
-      ordered = λ is. ascend_more v bytes c.args.k (subst (AscendTo v bytes c.args.k) c.requires.named (c.ascends_after-ascends.ensures (c.add.ensures.ascends is)));
+      ordered = λ is. ascend_more v bytes c.args.k (subst (AscendTo v bytes c.args.k) c.requires.named (c.ascends_past-ascends.ensures (c.add.ensures.ascends is)));
     }

@@ -2,7 +2,7 @@ use Rattle.std.proofs.Common.{◌≡◌, ◌+◌, ◌-◌, ◌≤◌, length, ta
 use Rattle.std.specs.Prelude.{IfSome}
 use Rattle.std.proofs.lemmas.Option.{IfSome_then}
 use Rattle.pv_model.specs.Room.{entry_length}
-use Rattle.pv_inodes.specs.Files.{bytes_at}
+use Rattle.pv_dirs.specs.Dirs.{bytes_in}
 use Rattle.pv_dirs.specs.Index.{AreLedUpTo}
 use Rattle.pv_dirs.specs.Slots.{slot_at, slot_count, slot_name}
 use Rattle.pv_dirs.proofs.Outcomes.{if_some_both}
@@ -24,10 +24,10 @@ loop-k-init c = record {
 }
 
 -- the name in the run, if it has a whole one, is that of the slot
-named : (c : After-name_in_run-name) → IfSome c.name_in_run-name.result (λ name. name.now ≡ slot_name (slot_at c.args.inodes.now.version (bytes_at c.args.inodes.now c.args.directory) c.loop-k.k))
+named : (c : After-name_in_run-name) → IfSome c.name_in_run-name.result (λ name. name.now ≡ slot_name (slot_at c.args.dir.now.inodes.now.version (bytes_in c.args.dir.now) c.loop-k.k))
 named c =
-    let v = c.args.inodes.now.version in
-    let bytes = bytes_at c.args.inodes.now c.args.directory in
+    let v = c.args.dir.now.inodes.now.version in
+    let bytes = bytes_in c.args.dir.now in
     let run = c.run_at-run.result.now in
     let whole = c.layout-length.ensures.slot_length ∙ ap entry_length c.version.ensures in
     if_some_both c.name_in_run-name.result (λ name. name.now ≡ slot_name (take c.layout-length.result.slot_length run)) (λ name. c.layout-length.result.slot_length ≤ length run)
@@ -39,12 +39,12 @@ add_slot-requires-clause-named c = named (goal.at.add_slot-requires-clause-named
 
 pub loop-k-preserved : goal.loop-k-preserved
 loop-k-preserved c =
-    let v = c.args.inodes.now.version in
-    let bytes = bytes_at c.args.inodes.now c.args.directory in
+    let v = c.args.dir.now.inodes.now.version in
+    let bytes = bytes_in c.args.dir.now in
     let whole = c.layout-length.ensures.slot_length ∙ ap entry_length c.version.ensures in
     let here : c.loop-k.k ≡ c.loop-k.k + 1 - 1 = omega arith in
     record {
-      run = rw c.following-left.ensures (run_after v bytes c.run_at-run.result.now c.loop-k.k c.layout-length.result.slot_length whole c.run_at-run.ensures);
+      run = rw c.rest_of-left.ensures (run_after v bytes c.run_at-run.result.now c.loop-k.k c.layout-length.result.slot_length whole c.run_at-run.ensures);
       some = IfSome_then c.name_in_run-name.result (named (goal.at.loop-k-preserved c).After-name_in_run-name) (λ name is. omega arith);
       last = subst (λ k. IfSome c.name_in_run-name.result (λ name. name.now ≡ slot_name (slot_at v bytes k))) here (named (goal.at.loop-k-preserved c).After-name_in_run-name);
       led = c.add_slot.ensures.led;
@@ -54,7 +54,7 @@ loop-k-preserved c =
 
 pub returns-clause-led : goal.returns-clause-led
 returns-clause-led c =
-    let v = c.args.inodes.now.version in
-    let bytes = bytes_at c.args.inodes.now c.args.directory in
+    let v = c.args.dir.now.inodes.now.version in
+    let bytes = bytes_in c.args.dir.now in
     let all : c.loop-k.k ≡ slot_count v bytes = omega (arith, c.count-k-end.ensures.value) in
-    subst (AreLedUpTo c.loop-k.index v c.args.directory bytes) all c.loop-k.invariant.led
+    subst (AreLedUpTo c.loop-k.index v c.args.dir.now.directory bytes) all c.loop-k.invariant.led

@@ -41,11 +41,11 @@ loop-entry-preserved c =
     (subst (λ (h : HeldTree). Makes (Ok c.in_ok-add.field-0) (add_entry c.entry-item.result.line h.tree (entry_of_line c.entry-item.result).1) h c.add.new.tree) c.deref_mut.ensures.value c.in_ok-add.ensures)
 
 pub of_tree-requires : goal.of_tree-requires
-of_tree-requires c = subst (λ (h : HeldTree). IsUnheld h.holds) (sym (c.sort_slots.ensures ∙ c.deref_mut-2.ensures.value)) c.loop-entry.invariant.unheld
+of_tree-requires c = subst (λ (h : HeldTree). IsUnheld h.holds) (sym (c.order_entries.ensures ∙ c.deref_mut-2.ensures.value)) c.loop-entry.invariant.unheld
 
 pub returns : goal.returns
 returns c =
     let items = c.deref-entry-items.result.now in
     let i = c.loop-entry.entry-index in
     IsBuiltSoFar-end (drop i items) c.loop-entry.tree.value (manifest_before c.args.manifest.now []) c.loop-entry.invariant (drop_of_length-le items c.loop-entry-test.false)
-    ∙ ap (λ t. Ok t) (sym (c.of_tree.ensures ∙ ap (λ (h : HeldTree). h.tree) (c.sort_slots.ensures ∙ c.deref_mut-2.ensures.value)))
+    ∙ ap (λ t. Ok t) (sym (c.of_tree.ensures ∙ ap (λ (h : HeldTree). h.tree) (c.order_entries.ensures ∙ c.deref_mut-2.ensures.value)))

@@ -16,5 +16,5 @@ unfolding first_block
 returns-clause-items c =
     one-by-one (magic c.args.version) (little_endian 2 c.args.blocks) (little_endian 2 c.args.inodes) (replicate 500 0)
     c.in_ok-bytes.bytes.items c.put.new.bytes.items c.put_u16.new.bytes.items c.put_u16-2.new.bytes.items c.put_zeros.new.bytes.items
-    c.in_ok-bytes.ensures.items (c.put.ensures.items ∙ ap (λ (xs : Bytes). c.in_ok-bytes.bytes.items ++ xs) c.magic_of.ensures)
+    c.in_ok-bytes.ensures.items (c.put.ensures.items ∙ ap (λ (xs : Bytes). c.in_ok-bytes.bytes.items ++ xs) c.magic.ensures.value)
     c.put_u16.ensures.items c.put_u16-2.ensures.items c.put_zeros.ensures.items

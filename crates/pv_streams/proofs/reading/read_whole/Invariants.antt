@@ -1,6 +1,6 @@
 use Rattle.std.proofs.Common.{◌≡◌, ◌≤◌, ◌-◌, ◌+◌, min, length, vec_len}
 use Rattle.pv_streams.specs.Sources.{before_all}
-use Rattle.pv_streams.specs.declared.reading.TheConstants.{SOURCE_BYTES}
+use Rattle.pv_model.specs.declared.limits.TheConstants.{SOURCE_BYTES}
 use Rattle.pv_streams.proofs.reading.read_whole.Given as goal
 
 abbrev pub invariant-loop-chunk : goal.invariant-loop-chunk

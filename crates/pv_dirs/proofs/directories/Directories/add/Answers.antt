@@ -17,14 +17,11 @@ use Rattle.pv_dirs.proofs.Viewed.{viewed_version, viewed_directory, viewed_direc
 use Rattle.pv_dirs.proofs.directories.Directories.add.Goals as goal
 use Rattle.pv_dirs.proofs.directories.Directories.add.Goals.{After-write_at-added, After-add}
 
+pub invariant_of-dir : goal.invariant_of-dir
+invariant_of-dir c = record { used = viewed_directory_used c.self.inside.inodes c.args.self.now c.args.directory c.self.view_is c.requires.directory }
+
 pub size-end-requires : goal.size-end-requires
 size-end-requires c = viewed_directory_used c.self.inside.inodes c.args.self.now c.args.directory c.self.view_is c.requires.directory
-
-pub count-number-requires : goal.count-number-requires
-count-number-requires c = viewed_directory_used c.self.inside.inodes c.args.self.now c.args.directory c.self.view_is c.requires.directory
-
-pub ascends-ascends-requires-clause-used : goal.ascends-ascends-requires-clause-used
-ascends-ascends-requires-clause-used c = viewed_directory_used c.self.inside.inodes c.args.self.now c.args.directory c.self.view_is c.requires.directory
 
 pub ascends-ascends-requires-clause-ordered : goal.ascends-ascends-requires-clause-ordered
 ascends-ascends-requires-clause-ordered c =

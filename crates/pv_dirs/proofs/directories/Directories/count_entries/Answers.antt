@@ -30,14 +30,11 @@ placed c k within =
     (ap (λ (t : Tree). find_entry t c.args.directory name) (sym c.self.view_is) ∙ find_entry-tree_of c.self.inside.inodes c.args.directory name (is_directory c)
     ∙ find-slot_entries v bytes k name (slotted c).distinct within (λ i. name))
 
-pub count-k-end-requires : goal.count-k-end-requires
-count-k-end-requires c = directory_used c.self.inside.inodes c.args.directory (is_directory (goal.at.count-k-end-requires c).After-self)
+pub invariant_of-dir : goal.invariant_of-dir
+invariant_of-dir c = record { used = directory_used c.self.inside.inodes c.args.directory (is_directory (goal.at.invariant_of-dir c).After-self) }
 
 pub loop-k-init : goal.loop-k-init
 loop-k-init c = counted_none _ _ _ _
-
-pub number-node-requires-clause-used : goal.number-node-requires-clause-used
-number-node-requires-clause-used c = directory_used c.self.inside.inodes c.args.directory (is_directory (goal.at.number-node-requires-clause-used c).After-self)
 
 pub bounds-counts-node : goal.bounds-counts-node
 bounds-counts-node c =

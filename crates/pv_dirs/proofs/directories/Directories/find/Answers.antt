@@ -17,11 +17,11 @@ is_directory c = subst (λ (t : Tree). is_directory_at t c.args.directory ≡ tr
 found : (c : After-self) → find_entry c.args.self.now c.args.directory c.args.name.now ≡ find by_name c.args.name.now (slot_entries c.self.inside.inodes.version (bytes_at c.self.inside.inodes c.args.directory))
 found c = ap (λ (t : Tree). find_entry t c.args.directory c.args.name.now) (sym c.self.view_is) ∙ find_entry-tree_of c.self.inside.inodes c.args.directory c.args.name.now (is_directory c)
 
-pub find-requires-clause-used : goal.find-requires-clause-used
-find-requires-clause-used c = directory_used c.self.inside.inodes c.args.directory (is_directory (goal.at.find-requires-clause-used c).After-self)
+pub invariant_of-dir : goal.invariant_of-dir
+invariant_of-dir c = record { used = directory_used c.self.inside.inodes c.args.directory (is_directory (goal.at.invariant_of-dir c).After-self) }
 
-pub find-requires-clause-led : goal.find-requires-clause-led
-find-requires-clause-led c = rw c.deref.ensures (directory_led c.self.inside.inodes c.args.directory c.self.inside.index.value c.self.invariant.indexed (is_directory (goal.at.find-requires-clause-led c).After-self))
+pub find-requires : goal.find-requires
+find-requires c = record { led = rw c.deref.ensures (directory_led c.self.inside.inodes c.args.directory c.self.inside.index.value c.self.invariant.indexed (is_directory (goal.at.find-requires c).After-self)) }
 
 pub returns-in_err-k : goal.returns-in_err-k
 returns-in_err-k c =

@@ -3,8 +3,8 @@ use Rattle.std.proofs.lemmas.Bool.{eqb-true, eq-eqb}
 use Rattle.pv_dirs.proofs.Viewed.{viewed_directory_used, viewed_empty, viewed_none}
 use Rattle.pv_dirs.proofs.directories.Directories.is_empty.Goals as goal
 
-pub count-requires : goal.count-requires
-count-requires c = viewed_directory_used c.self.inside.inodes c.args.self.now c.args.directory c.self.view_is c.requires
+pub invariant_of-dir : goal.invariant_of-dir
+invariant_of-dir c = record { used = viewed_directory_used c.self.inside.inodes c.args.self.now c.args.directory c.self.view_is c.requires }
 
 pub returns : goal.returns
 returns c = (

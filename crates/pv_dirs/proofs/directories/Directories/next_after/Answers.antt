@@ -11,23 +11,23 @@ use Rattle.pv_dirs.proofs.TreeOf.{directory_slotted}
 use Rattle.pv_dirs.proofs.Viewed.{viewed_directory, viewed_directory_used, viewed_entries}
 use Rattle.pv_dirs.proofs.directories.Directories.next_after.Goals as goal
 
-pub least_past-requires-clause-used : goal.least_past-requires-clause-used
-least_past-requires-clause-used c = viewed_directory_used c.self.inside.inodes c.args.self.now c.args.directory c.self.view_is c.requires
+pub invariant_of-dir : goal.invariant_of-dir
+invariant_of-dir c = record { used = viewed_directory_used c.self.inside.inodes c.args.self.now c.args.directory c.self.view_is c.requires }
 
-pub least_past-requires-clause-led : goal.least_past-requires-clause-led
-least_past-requires-clause-led c =
+pub next_name-requires-clause-led : goal.next_name-requires-clause-led
+next_name-requires-clause-led c =
     rw c.deref.ensures
     (directory_led c.self.inside.inodes c.args.directory c.self.inside.index.value c.self.invariant.indexed (viewed_directory c.self.inside.inodes c.args.self.now c.args.directory c.self.view_is c.requires))
 
-pub least_past-requires-clause-distinct : goal.least_past-requires-clause-distinct
-least_past-requires-clause-distinct c =
+pub next_name-requires-clause-distinct : goal.next_name-requires-clause-distinct
+next_name-requires-clause-distinct c =
     (directory_slotted c.self.inside.inodes c.self.inside.block_count c.args.directory c.self.invariant.holding (viewed_directory c.self.inside.inodes c.args.self.now c.args.directory c.self.view_is c.requires)).distinct
 
 pub returns-clause-value : goal.returns-clause-value
-returns-clause-value c = c.least_past.ensures ∙ ap (next_name (option_copied c.args.last)) (sym (viewed_entries c.self.inside.inodes c.args.self.now c.args.directory c.self.view_is c.requires))
+returns-clause-value c = c.next_name.ensures ∙ ap (next_name (option_copied c.args.last)) (sym (viewed_entries c.self.inside.inodes c.args.self.now c.args.directory c.self.view_is c.requires))
 
 pub returns-clause-least : goal.returns-clause-least
 returns-clause-least c =
     let entries = slot_entries c.self.inside.inodes.version (bytes_at c.self.inside.inodes c.args.directory) in
-    subst (λ (es : Entries). IsNextName (option_copied c.args.last) es c.least_past.result) (sym (viewed_entries c.self.inside.inodes c.args.self.now c.args.directory c.self.view_is c.requires))
-    (subst (IsNextName (option_copied c.args.last) (in_order entries)) (sym c.least_past.ensures) (next_name_in_order (option_copied c.args.last) entries))
+    subst (λ (es : Entries). IsNextName (option_copied c.args.last) es c.next_name.result) (sym (viewed_entries c.self.inside.inodes c.args.self.now c.args.directory c.self.view_is c.requires))
+    (subst (IsNextName (option_copied c.args.last) (in_order entries)) (sym c.next_name.ensures) (next_name_in_order (option_copied c.args.last) entries))

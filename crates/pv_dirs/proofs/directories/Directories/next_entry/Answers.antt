@@ -16,8 +16,8 @@ use Rattle.pv_dirs.proofs.TreeOf.{directory_slotted}
 use Rattle.pv_dirs.proofs.Viewed.{viewed_directory, viewed_directory_used, viewed_entries, viewed_find}
 use Rattle.pv_dirs.proofs.directories.Directories.next_entry.Goals as goal
 
-pub next_entry-requires-clause-used : goal.next_entry-requires-clause-used
-next_entry-requires-clause-used c = viewed_directory_used c.self.inside.inodes c.args.self.now c.args.directory c.self.view_is c.requires
+pub invariant_of-dir : goal.invariant_of-dir
+invariant_of-dir c = record { used = viewed_directory_used c.self.inside.inodes c.args.self.now c.args.directory c.self.view_is c.requires }
 
 pub next_entry-requires-clause-led : goal.next_entry-requires-clause-led
 next_entry-requires-clause-led c =

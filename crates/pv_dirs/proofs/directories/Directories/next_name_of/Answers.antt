@@ -3,8 +3,8 @@ use Rattle.pv_dirs.proofs.Named.{next-viewed}
 use Rattle.pv_dirs.proofs.Viewed.{viewed_directory_used}
 use Rattle.pv_dirs.proofs.directories.Directories.next_name_of.Goals as goal
 
-pub next_with-requires : goal.next_with-requires
-next_with-requires c = viewed_directory_used c.self.inside.inodes c.args.self.now c.args.directory c.self.view_is c.requires
+pub invariant_of-dir : goal.invariant_of-dir
+invariant_of-dir c = record { used = viewed_directory_used c.self.inside.inodes c.args.self.now c.args.directory c.self.view_is c.requires }
 
 pub returns : goal.returns
 returns c =

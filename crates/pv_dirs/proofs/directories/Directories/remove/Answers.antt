@@ -19,14 +19,11 @@ use Rattle.pv_dirs.proofs.Viewed.{viewed_directory, viewed_directory_used}
 use Rattle.pv_dirs.proofs.directories.Directories.remove.Goals as goal
 use Rattle.pv_dirs.proofs.directories.Directories.remove.Goals.{After-self, After-slot-moved, After-as_bytes, After-shrink}
 
-pub find-requires-clause-led : goal.find-requires-clause-led
-find-requires-clause-led c =
-    rw c.deref.ensures
-    (directory_led c.self.inside.inodes c.args.directory c.self.inside.index.value c.self.invariant.indexed
-    (viewed_directory c.self.inside.inodes c.args.self.now c.args.directory c.self.view_is c.requires))
+pub invariant_of-dir : goal.invariant_of-dir
+invariant_of-dir c = record { used = viewed_directory_used c.self.inside.inodes c.args.self.now c.args.directory c.self.view_is c.requires }
 
-pub find-requires-clause-used : goal.find-requires-clause-used
-find-requires-clause-used c = viewed_directory_used c.self.inside.inodes c.args.self.now c.args.directory c.self.view_is c.requires
+pub find-requires : goal.find-requires
+find-requires c = record { led = rw c.deref.ensures (directory_led c.self.inside.inodes c.args.directory c.self.inside.index.value c.self.invariant.indexed (viewed_directory c.self.inside.inodes c.args.self.now c.args.directory c.self.view_is c.requires)) }
 
 found : (c : After-self) → find_entry c.args.self.now c.args.directory c.args.name.now ≡ find by_name c.args.name.now (slot_entries c.self.inside.inodes.version (bytes_at c.self.inside.inodes c.args.directory))
 found c =

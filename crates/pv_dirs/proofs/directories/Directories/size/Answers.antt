@@ -9,6 +9,9 @@ use Rattle.pv_dirs.proofs.Strides.{few_allowed}
 use Rattle.pv_dirs.proofs.Viewed.{viewed_version}
 use Rattle.pv_dirs.proofs.directories.Directories.size.Goals as goal
 
+pub invariant_of-dir : goal.invariant_of-dir
+invariant_of-dir c = record { used = used_in c.self.inside.inodes c.args.inode (subst (λ (t : Tree). IsSome (node_at t c.args.inode)) (sym c.self.view_is) c.requires) }
+
 pub kind-requires : goal.kind-requires
 kind-requires c = used_in c.self.inside.inodes c.args.inode (subst (λ (t : Tree). IsSome (node_at t c.args.inode)) (sym c.self.view_is) c.requires)
 

@@ -1,0 +1,19 @@
+use Rattle.std.proofs.Common.{◌≡◌, ◌≢◌, ℕ, ◌-◌, ◌<◌, ◌≤◌}
+use Rattle.std.specs.declared.cmp.Ordering.TheVariants.{Less}
+use Rattle.pv_dirs.specs.Dirs.{bytes_in}
+use Rattle.pv_dirs.specs.Slots.{slot_at, slot_count, slot_name}
+use Rattle.pv_dirs.proofs.Entries.{by_name}
+use Rattle.pv_dirs.proofs.dir.Dir.count_before.Given as goal
+
+-- the names in front of `from` come before the name, and those from `to` on do not
+abbrev pub invariant-loop-from : goal.invariant-loop-from
+invariant-loop-from l = record {
+  ordered : l.from ≤ l.to;
+  within : l.to ≤ slot_count l.self.inodes.now.version (bytes_in l.self);
+  few : l.to ≤ 2540;
+  before : (k : ℕ) → k < l.from → by_name (slot_name (slot_at l.self.inodes.now.version (bytes_in l.self) k)) l.name ≡ Less;
+  past : (k : ℕ) → l.to ≤ k → k < slot_count l.self.inodes.now.version (bytes_in l.self) → by_name (slot_name (slot_at l.self.inodes.now.version (bytes_in l.self) k)) l.name ≢ Less;
+}
+
+abbrev pub decreases-loop-from : goal.decreases-loop-from
+decreases-loop-from l = l.to - l.from

@@ -1,9 +1,0 @@
-use Rattle.std.proofs.Common.{Option, Bor, sym, ap, ◌∙◌}
-use Rattle.std.specs.Option.{option_copied}
-use Rattle.pv_model.specs.Bytes.{Bytes}
-use Rattle.pv_model.specs.Calls.Descriptors.{is_past}
-use Rattle.pv_dirs.proofs.Next.{bytes_less}
-use Rattle.pv_dirs.proofs.scan.is_past.Goals as goal
-
-pub returns-in-Some : goal.returns-in-Some
-returns-in-Some c = c.lt.ensures ∙ bytes_less c.in-Some.last.now c.args.name.now ∙ ap (λ (last : Option (Bor Bytes)). is_past (option_copied last) c.args.name.now) (sym c.in-Some.is)

@@ -1,0 +1,181 @@
+//! A directory as slots, each read where it stands.
+ghost use Rattle.std.specs.Prelude.{◌≡◌, ◌+◌, ◌*◌, ◌<◌, ◌≤◌, length, take, drop, IfSome};
+ghost use Rattle.std.specs.Cmp.Lexicographic.{slice_cmp};
+ghost use Rattle.std.specs.Ordering.{nat_cmp, is_lt};
+ghost use Rattle.pv_model.specs.declared.limits.TheConstants.{NAME_V2};
+ghost use Rattle.pv_model.specs.declared.version.Version.TheVariants.{V2};
+ghost use Rattle.pv_model.specs.Room.{entry_length, greatest_entries, greatest_length};
+ghost use Rattle.pv_model.specs.Tree.{is_directory_at};
+ghost use Rattle.pv_inodes.specs.Files.{IsUsed};
+ghost use Rattle.pv_dirs.specs.Slots.{slot_name};
+ghost use Rattle.pv_dirs.specs.Trees.{tree_of};
+
+use crate::slot::{LONGEST, Slot, name_in};
+use byteorder::{ByteOrder, LittleEndian};
+use pv_inodes::Inodes;
+use pv_model::{Name, Kind};
+
+/// A directory: an inode in use, whose bytes are slots.
+#[derive(Clone, Copy)]
+pub(crate) struct Dir<'a> {
+    /// All inodes.
+    pub(crate) inodes: &'a Inodes,
+    /// The number of the directory's inode.
+    pub(crate) directory: u16,
+    ghost used: { IsUsed inodes.now directory },
+}
+
+/// Whether an inode is a directory.
+pub(crate) fn is_directory(inodes: &Inodes, inode: u16) -> bool
+    ensures { result ≡ is_directory_at (tree_of inodes.now) inode }
+{
+    inodes.is_used(inode) && matches!(inodes.kind(inode), Kind::Directory)
+}
+
+/// What is left of a run after its first slot; nothing where the slot ends past it.
+pub(crate) fn rest_of(run: &[u8], length: usize) -> &[u8]
+    ensures { result.now ≡ drop length run.now }
+{
+    &run[length.min(run.len())..]
+}
+
+/// The name in the slot that a run begins with, where it lies; None where the slot ends past the run.
+pub(crate) fn name_in_run(run: &[u8], slot_length: usize) -> Option<&[u8]>
+    requires { 4 ≤ slot_length }
+    ensures value { IfSome result (λ name. name.now ≡ slot_name (take slot_length run.now)) }
+    ensures whole { IfSome result (λ _. slot_length ≤ length run.now) }
+    ensures short { IfSome result (λ name. length name.now ≤ NAME_V2) }
+{
+    if run.len() < slot_length {
+        return None;
+    }
+    Some(name_in(&run[..slot_length]))
+}
+
+impl<'a> Dir<'a> {
+    ghost use Rattle.pv_dirs.specs.Dirs.{bytes_in, slots_in, slot_in, name_in, number_in, any_name_in, IsRunIn};
+
+    /// How many slots an inode's bytes are.
+    pub(crate) fn count(&self) -> u32
+        ensures value { result ≡ slots_in self.now }
+        ensures few { result ≤ greatest_entries V2 }
+        ensures allowed { length (bytes_in self.now) ≤ greatest_length self.now.inodes.now.version }
+    {
+        self.inodes.size(self.directory) / self.inodes.version().layout().slot_length as u32
+    }
+
+    /// Where slot `k` begins.
+    pub(crate) fn start(&self, k: u32) -> u32
+        requires few { k ≤ greatest_entries V2 }
+        ensures { result ≡ entry_length self.now.inodes.now.version * k }
+    {
+        self.inodes.version().layout().slot_length as u32 * k
+    }
+
+    /// The number in slot `k`. A slot's first four bytes stand in one block.
+    pub(crate) fn number(&self, k: u32) -> u16
+        requires within { k < slots_in self.now }
+        requires few { k ≤ greatest_entries V2 }
+        ensures { result ≡ number_in self.now k }
+    {
+        LittleEndian::read_u16(self.inodes.lend(self.directory, self.start(k)))
+    }
+
+    /// Slot `k`.
+    pub(crate) fn slot(&self, k: u32) -> Slot
+        requires within { k < slots_in self.now }
+        requires few { k ≤ greatest_entries V2 }
+        ensures { result ≡ slot_in self.now k }
+    {
+        let length = self.inodes.version().layout().slot_length;
+        let at = self.start(k);
+        let mut bytes = [0; LONGEST];
+        self.inodes
+            .read_at(self.directory, at, &mut bytes[..length]);
+        Slot { bytes, length }
+    }
+
+    /// The bytes from slot `k` on, as far as they stand in one block. A slot of version 2 may end past them.
+    pub(crate) fn run_from(&self, k: u32) -> &'a [u8]
+        requires within { k < slots_in self.now }
+        requires few { k ≤ greatest_entries V2 }
+        ensures { IsRunIn self.now k result.now }
+    {
+        self.inodes.lend(self.directory, self.start(k))
+    }
+
+    /// The same: what the slots before it left of a block, or else the bytes of the next block.
+    pub(crate) fn run_at(&self, k: u32, left: &'a [u8]) -> &'a [u8]
+        requires within { k < slots_in self.now }
+        requires few { k ≤ greatest_entries V2 }
+        requires left { IsRunIn self.now k left.now }
+        ensures { IsRunIn self.now k result.now }
+    {
+        if left.is_empty() {
+            self.run_from(k)
+        } else {
+            left
+        }
+    }
+
+    // The number in slot `k`. The run begins with that slot, or with a part of it.
+    pub(crate) fn number_in(&self, k: u32, run: &[u8]) -> u16
+        requires within { k < slots_in self.now }
+        requires few { k ≤ greatest_entries V2 }
+        requires run { IsRunIn self.now k run.now }
+        ensures { result ≡ number_in self.now k }
+    {
+        if run.len() < 2 {
+            return self.number(k);
+        }
+        LittleEndian::read_u16(run)
+    }
+
+    /// The name in slot `k` where it lies; None where the slot stands across two blocks.
+    pub(crate) fn lent_name(&self, k: u32) -> Option<&[u8]>
+        requires within { k < slots_in self.now }
+        requires few { k ≤ greatest_entries V2 }
+        ensures value { IfSome result (λ name. name.now ≡ name_in self.now k) }
+        ensures short { IfSome result (λ name. length name.now ≤ NAME_V2) }
+    {
+        let length = self.inodes.version().layout().slot_length;
+        name_in_run(self.run_from(k), length)
+    }
+
+    /// The name in slot `k`; None past the last slot.
+    pub(crate) fn name_at(&self, k: u32) -> Option<Name>
+        ensures value { result ≡ any_name_in self.now k }
+        ensures within { IfSome result (λ _. k < slots_in self.now) }
+        ensures few { IfSome result (λ _. k ≤ greatest_entries V2) }
+    {
+        if k >= self.count() {
+            return None;
+        }
+        match self.lent_name(k) {
+            Some(name) => Name::new(name),
+            None => Name::new(self.slot(k).name()),
+        }
+    }
+
+    // Whether the name in slot `k`, which stands across two blocks, comes before another name.
+    #[inline(never)]
+    fn is_less_across(&self, k: u32, name: &[u8]) -> bool
+        requires within { k < slots_in self.now }
+        requires few { k ≤ greatest_entries V2 }
+        ensures { result ≡ is_lt (slice_cmp nat_cmp (name_in self.now k) name.now) }
+    {
+        self.slot(k).name() < name
+    }
+
+    /// Whether the name in slot `k` comes before another name.
+    pub(crate) fn is_less(&self, k: u32, name: &[u8]) -> bool
+        requires within { k < slots_in self.now }
+        requires few { k ≤ greatest_entries V2 }
+        ensures { result ≡ is_lt (slice_cmp nat_cmp (name_in self.now k) name.now) }
+    {
+        match self.lent_name(k) {
+            Some(before) => before < name,
+            None => self.is_less_across(k, name),
+        }
+    }
+}

@@ -1,0 +1,157 @@
+//! The next name of a directory.
+ghost use Rattle.std.specs.Prelude.{◌≡◌, ◌<◌, ◌≤◌, Some, IfSome, IfOk, option_map};
+ghost use Rattle.std.specs.Cmp.Lexicographic.{slice_cmp};
+ghost use Rattle.std.specs.FinMap.Entries.{find};
+ghost use Rattle.std.specs.Option.{option_copied};
+ghost use Rattle.std.specs.Ordering.{nat_cmp};
+ghost use Rattle.pv_model.specs.Calls.Descriptors.{next_name};
+ghost use Rattle.pv_model.specs.declared.version.Version.TheVariants.{V2};
+ghost use Rattle.pv_model.specs.Room.{greatest_entries};
+ghost use Rattle.pv_dirs.specs.Dirs.{slots_in, name_in, any_name_in, entries_in, IsNamedIn, IsPast, IsLedBy};
+ghost use Rattle.pv_dirs.specs.Listing.{better_of, IsNextOf, IsShared};
+ghost use Rattle.pv_dirs.specs.Slots.{in_order, IsDistinct};
+
+use crate::best::{Best, Mark, has_mark, improve, is_better, mark_of};
+use crate::dir::{Dir, rest_of};
+use crate::index::Index;
+use pv_model::Name;
+
+impl<'a> Dir<'a> {
+    // The same with the name of slot `k`, wherever it stands: of a better name it keeps a copy.
+    #[inline(never)]
+    fn improve_by_copy(&self, best: &mut Best, mark: &mut Option<Mark>, last: Option<&[u8]>, k: u32)
+        requires within { k < slots_in self.now }
+        requires few { k ≤ greatest_entries V2 }
+        requires shared { IfSome mark.old (λ m. IsShared (option_copied last) best.old m.at m.byte) }
+        ensures best { best.new ≡ better_of (option_copied last.entry) (name_in self.now k) best.old }
+        ensures shared { IfSome mark.new (λ m. IsShared (option_copied last.entry) best.new m.at m.byte) }
+    {
+        let slot = self.slot(k);
+        let name = slot.name();
+        if has_mark(*mark, name) && is_better(name, best, last) {
+            *mark = mark_of(last, name);
+            best.copy(name);
+        }
+    }
+
+    /// The least name after the last one, in one pass. It begins with the name in slot `first`, if there
+    /// is such a slot: the answer is the same with any, and where that is the next name, most others are passed over at
+    /// one byte.
+    fn best_of_pass(&self, last: Option<&[u8]>, first: u32) -> Option<Name>
+        requires distinct { IsDistinct (entries_in self.now) }
+        ensures { result ≡ next_name (option_copied last.entry) (in_order (entries_in self.now)) }
+    {
+        let length = self.inodes.version().layout().slot_length;
+        let count = self.count();
+        let mut best = Best::none();
+        let mut mark = None;
+        if first < count {
+            self.improve_by_copy(&mut best, &mut mark, last, first);
+        }
+        let mut left: &[u8] = &[];
+        for k in 0..count {
+            let run = self.run_at(k, left);
+            if run.len() < length {
+                self.improve_by_copy(&mut best, &mut mark, last, k);
+                left = &[];
+            } else {
+                let (slot, rest) = run.split_at(length);
+                improve(&mut best, &mut mark, last, slot);
+                left = rest;
+            }
+        }
+        best.into_name()
+    }
+
+    /// The least name after the last one among the names in the slots that have the number of a node.
+    /// Such slots are few, so their names are copied.
+    pub(crate) fn next_with(&self, node: u16, last: Option<&[u8]>) -> Option<Name>
+        ensures { IsNextOf (IsNamedIn self.now node) (option_copied last.entry) result }
+    {
+        let length = self.inodes.version().layout().slot_length;
+        let mut best = Best::none();
+        let mut left: &[u8] = &[];
+        for k in 0..self.count() {
+            let run = self.run_at(k, left);
+            if self.number_in(k, run) == node {
+                self.improve_by_copy(&mut best, &mut None, last, k);
+            }
+            left = rest_of(run, length);
+        }
+        best.into_name()
+    }
+
+    // The slot after the one of the last name, or the first slot where there is no last name. It has the next name
+    // where names were added in byte order. None where no slot has the last name. `before` is a guess of the answer: one
+    // name is compared where it is right.
+    fn slot_past(&self, index: &Index, last: Option<&[u8]>, before: u32) -> Option<u32>
+        requires led { IsLedBy self.now index.now }
+        ensures within { IfSome result (λ k. k ≤ slots_in self.now) }
+        ensures past { IfSome result (λ k. IsPast self.now (option_copied last.entry) k) }
+    {
+        let Some(last) = last else {
+            return Some(0);
+        };
+        if before > 0 {
+            if let Some(k) = self.slot_with(before - 1, last) {
+                return Some(k + 1);
+            }
+        }
+        Some(self.find(index, last)? + 1)
+    }
+
+    // The slot of the next name, or the one after the last slot where no name is next, if the names are known to ascend.
+    // An error where they are not: the slot with which a pass may best begin.
+    fn next_slot(&self, index: &Index, last: Option<&[u8]>, before: u32) -> Result<u32, u32>
+        requires led { IsLedBy self.now index.now }
+        requires distinct { IsDistinct (entries_in self.now) }
+        ensures { IfOk result (λ k. any_name_in self.now k ≡ next_name (option_copied last.entry) (in_order (entries_in self.now))) }
+    {
+        match self.slot_past(index, last, before) {
+            Some(slot) if index.ascends(self.directory) => Ok(slot),
+            Some(slot) => Err(slot),
+            None => Err(0),
+        }
+    }
+
+    /// The least name after the last one: the name in the slot after that of the last one, where the
+    /// names are known to ascend, and otherwise the best one of a pass.
+    pub(crate) fn next_name(&self, index: &Index, last: Option<&[u8]>) -> Option<Name>
+        requires led { IsLedBy self.now index.now }
+        requires distinct { IsDistinct (entries_in self.now) }
+        ensures { result ≡ next_name (option_copied last.entry) (in_order (entries_in self.now)) }
+    {
+        match self.next_slot(index, last, 0) {
+            Ok(slot) => self.name_at(slot),
+            Err(first) => self.best_of_pass(last, first),
+        }
+    }
+
+    /// The least name after the last one, and the number of its node. `before` is a guess of how many names
+    /// come before it: the answer is the same with any.
+    pub(crate) fn next_entry(
+        &self,
+        index: &Index,
+        last: Option<&[u8]>,
+        before: u32,
+    ) -> Option<(Name, u16)>
+        requires led { IsLedBy self.now index.now }
+        requires distinct { IsDistinct (entries_in self.now) }
+        ensures value { option_map (λ e. e.0) result ≡ next_name (option_copied last.entry) (in_order (entries_in self.now)) }
+        ensures node { IfSome result (λ e. find (slice_cmp nat_cmp) e.0 (entries_in self.now) ≡ Some e.1) }
+    {
+        match self.next_slot(index, last, before) {
+            Ok(slot) => {
+                let name = self.name_at(slot)?;
+                Some((name, self.number(slot)))
+            }
+            Err(first) => {
+                let name = self.best_of_pass(last, first)?;
+                let Some(slot) = self.find(index, name.as_slice()) else {
+                    unreachable!()
+                };
+                Some((name, self.number(slot)))
+            }
+        }
+    }
+}

@@ -1,0 +1,32 @@
+//! The names of a node, one after the other.
+ghost use Rattle.std.specs.Prelude.{◌≡◌};
+ghost use Rattle.pv_model.specs.Tree.{names_of};
+ghost use Rattle.pv_tree.specs.NodeNames.{first_after, last_of, IsNextNameOfNode};
+
+use super::Tree;
+use pv_model::Name;
+
+impl Tree {
+    /// The next name of a node, with the number of the directory in which it stands: the least that is greater than the
+    /// last one, by directory, and then by the bytes of the name. With no last one it is the least of all. None where
+    /// there is no greater one.
+    pub fn next_name(&self, node: u16, last: Option<(u16, &[u8])>) -> Option<(u16, Name)>
+        ensures value { result ≡ first_after (last_of last.entry) (names_of self.now.tree node) }
+        ensures least { IsNextNameOfNode self.now.tree node (last_of last.entry) result }
+    {
+        let (first, past) = match last {
+            Some((directory, name)) => (directory, Some(name)),
+            None => (0, None),
+        };
+        for directory in first..self.sizes().inodes + 1 {
+            if !self.is_directory(directory) {
+                continue;
+            }
+            let from = if directory == first { past } else { None };
+            if let Some(name) = self.next_name_of(directory, node, from) {
+                return Some((directory, name));
+            }
+        }
+        None
+    }
+}
