@@ -11,10 +11,10 @@ ghost use Rattle.pv_model.specs.State.{Process, process_at};
 use crate::found::Found;
 use crate::suspects::{Suspect, note_names};
 use bitflags::Flags;
+use pv_calls_state::Parts;
 use pv_files::{Descriptors, OpenFiles};
 use pv_model::limits::DESCRIPTORS;
 use pv_model::{Perms, Promise, Promises, Why};
-use pv_calls_state::Parts;
 use pv_procs::ProcessRecord;
 use pv_promises::Pledge;
 

@@ -9,9 +9,9 @@ ghost use Rattle.pv_model.specs.Tree.{is_directory_at, names_of};
 
 use crate::found::Found;
 use arrayvec::ArrayVec;
+use pv_calls_state::Parts;
 use pv_model::Name;
 use pv_model::limits::{LAST_PROCESS, PROCESSES};
-use pv_calls_state::Parts;
 
 /// A live process, with what is found of its table and a file.
 #[derive(Clone, Copy, Debug, PartialEq, Eq, Default)]

@@ -9,10 +9,10 @@ ghost use Rattle.pv_model.specs.Tree.{node_at};
 
 use crate::reasons::{is_kept_from, reason_for};
 use crate::suspects::{Suspect, found_suspects};
-use pv_model::limits::ROOT;
-use pv_model::{AuditFault, Errno, Follow, Leak, Place, Kind, Verdict};
-use pv_namei::{PlainLookup, resolve};
 use pv_calls_state::Parts;
+use pv_model::limits::ROOT;
+use pv_model::{AuditFault, Errno, Follow, Kind, Leak, Place, Verdict};
+use pv_namei::{PlainLookup, resolve};
 use pv_tree::{PlaceRef, Tree};
 
 // The first process that is not closed to a file, with its first reason.

@@ -3,7 +3,7 @@ use crate::image::{INODES, blocks_of};
 use anyhow::{Context, Result, ensure};
 use pv_dirs::Directories;
 use pv_model::limits::BLOCK;
-use pv_model::{Name, Kind, Version, is_name};
+use pv_model::{Kind, Name, Version, is_name};
 use std::alloc::{AllocError, Global};
 
 /// The greatest number of names.

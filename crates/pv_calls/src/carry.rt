@@ -13,23 +13,23 @@ ghost use Rattle.pv_model.specs.Tree.{find_entry};
 ghost use Rattle.pv_calls_state.specs.Attempts.{trimmed};
 ghost use Rattle.pv_calls_plain.specs.Rows.{answered, attempt_of, IsAnswered};
 
-use pv_model::{CallRef, Cause, Errno, Outcome, Start, StepFault, Text};
-use pv_namei::Lookup;
-use pv_calls_state::Parts;
-use pv_calls_path::links::LinkRoom;
 use pv_calls_path::chdir::chdir;
 use pv_calls_path::execve::{ExecveFault, execve};
+use pv_calls_path::links::LinkRoom;
 use pv_calls_path::looking::{lstat, readlink, stat};
 use pv_calls_path::names::{link, mkdir, rmdir, symlink, unlink};
 use pv_calls_path::opening::open_at;
 use pv_calls_path::rename::rename;
 use pv_calls_path::unveil::unveil;
-use pv_promises::Decision;
 use pv_calls_plain::answer::{Answer, Done, Refused, tell};
 use pv_calls_plain::descriptors::{close, dup, dup2, fchdir};
 use pv_calls_plain::files::{fstat, ftruncate, getdents, lseek, read, write};
 use pv_calls_plain::processes::{exit_status, fork, getpid, getppid, wait, would_wait};
 use pv_calls_plain::restraints::pledge;
+use pv_calls_state::Parts;
+use pv_model::{CallRef, Cause, Errno, Outcome, Start, StepFault, Text};
+use pv_namei::Lookup;
+use pv_promises::Decision;
 use std::alloc::Global;
 
 // What a call on processes and restraints comes to, where its system call answers a number.

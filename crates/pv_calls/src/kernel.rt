@@ -18,12 +18,11 @@ ghost use Rattle.pv_procs.specs.Turns.{AwaitsCall, IsFetched, RegisterNext};
 
 use crate::carry::carry_out;
 use pv_audit::{frozen_to, leak};
-use pv_namei::CachedLookup;
-use pv_model::{BootFault, CallRef, Outcome, StepFault, Why};
-use pv_namei::Lookup;
-use pv_calls_state::Parts;
 use pv_calls_path::links::LinkRoom;
 use pv_calls_path::programs::init;
+use pv_calls_state::Parts;
+use pv_model::{BootFault, CallRef, Outcome, StepFault, Why};
+use pv_namei::{CachedLookup, Lookup};
 use pv_procs::Fetched;
 use pv_script::CallTexts;
 use pv_tree::{Store, Tree};

@@ -10,10 +10,10 @@ ghost use Rattle.pv_calls_plain.specs.Rows.{attempt_of};
 
 use crate::links::LinkRoom;
 use crate::reach::{Walk, reach_node};
+use pv_calls_plain::answer::{Done, Refused, answer_of, refusal};
+use pv_calls_state::Parts;
 use pv_model::{Errno, Follow, Perms};
 use pv_namei::Lookup;
-use pv_calls_state::Parts;
-use pv_calls_plain::answer::{Done, Refused, answer_of, refusal};
 
 /// Makes the directory at a path the working directory of a live process, chdir(2): the answer is 0.
 ///

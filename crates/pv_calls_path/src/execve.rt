@@ -9,10 +9,10 @@ ghost use Rattle.pv_calls_path.specs.Execve.{Executes};
 use crate::links::LinkRoom;
 use crate::programs::read_program;
 use crate::reach::{Walk, reach_found};
-use pv_model::{Errno, Follow, ParseFault, Perms, Kind};
-use pv_namei::Lookup;
-use pv_calls_state::Parts;
 use pv_calls_plain::answer::{Done, Refused, refusal};
+use pv_calls_state::Parts;
+use pv_model::{Errno, Follow, Kind, ParseFault, Perms};
+use pv_namei::Lookup;
 use std::alloc::Global;
 
 /// Why a process has no other program.

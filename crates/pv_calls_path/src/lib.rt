@@ -5,9 +5,9 @@
 //! unveil(2) and `execve` execve(2). The places after links stand in a `LinkRoom`, which the caller lends.
 #![tactic(auto)]
 
-pub mod links;
 pub mod chdir;
 pub mod execve;
+pub mod links;
 pub mod looking;
 pub mod names;
 pub mod opening;

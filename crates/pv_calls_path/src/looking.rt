@@ -11,12 +11,12 @@ ghost use Rattle.pv_calls_plain.specs.Rows.{IsAnswered};
 use crate::links::LinkRoom;
 use crate::opening::is_link;
 use crate::reach::{Walk, reach_node};
+use pv_calls_plain::answer::{Answer, Done, refusal, tell, tell_bytes};
+use pv_calls_plain::status::status;
+use pv_calls_state::Parts;
 use pv_model::limits::LINK_TEXT;
 use pv_model::{Errno, Follow, Perms};
 use pv_namei::Lookup;
-use pv_calls_state::Parts;
-use pv_calls_plain::answer::{Answer, Done, refusal, tell, tell_bytes};
-use pv_calls_plain::status::status;
 
 // Tells what is at the end of a walk.
 fn stat_at<L: Lookup>(

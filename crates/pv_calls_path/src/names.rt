@@ -16,11 +16,11 @@ ghost use Rattle.pv_tree.specs.Changes.{new_node};
 
 use crate::links::LinkRoom;
 use crate::reach::{Walk, reach, reach_both, reach_found};
+use pv_calls_plain::answer::{Done, Refused, answer_of, refusal, space_errno};
+use pv_calls_state::Parts;
 use pv_model::limits::LINK_TEXT;
 use pv_model::{Errno, Follow, NewNode, Perms};
 use pv_namei::{Lookup, ends_in_dot};
-use pv_calls_state::Parts;
-use pv_calls_plain::answer::{Done, Refused, answer_of, refusal, space_errno};
 use pv_tree::PlaceRef;
 
 // The directory and the name of a place at which nothing is, after so many walks: `EEXIST` where something is, or the

@@ -18,12 +18,12 @@ ghost use Rattle.pv_laws_trees.specs.Found.{Alike};
 
 use crate::links::LinkRoom;
 use crate::reach::{Walk, reach_from};
-use pv_model::{Errno, Follow, OpenFlags, Kind, Start};
-use pv_namei::{Lookup, is_absolute};
-use pv_calls_state::Parts;
 use pv_calls_plain::answer::{Done, Refused, answer_of, refusal, space_errno};
 use pv_calls_plain::descriptors::open_file;
 use pv_calls_plain::files::writes;
+use pv_calls_state::Parts;
+use pv_model::{Errno, Follow, Kind, OpenFlags, Start};
+use pv_namei::{Lookup, is_absolute};
 use pv_tree::{PlaceRef, Tree};
 
 // Whether flags do not go together.

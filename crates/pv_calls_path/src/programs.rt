@@ -9,7 +9,7 @@ ghost use Rattle.pv_model.specs.Tree.{node_at};
 ghost use Rattle.pv_script.specs.Reading.{GivesProgram};
 
 use pv_model::limits::ROOT;
-use pv_model::{BootFault, ParseFault, Kind};
+use pv_model::{BootFault, Kind, ParseFault};
 use pv_script::Program;
 use pv_tree::Tree;
 use std::alloc::Global;

@@ -9,11 +9,11 @@ ghost use Rattle.pv_model.specs.Walk.{begins_walk};
 ghost use Rattle.pv_calls_path.specs.Reached.{IsFound, IsLost, IsMissed, IsMissedByBoth, IsReached, IsStopped, IsStoppedSecond};
 
 use crate::links::LinkRoom;
+use pv_calls_plain::answer::{Refused, refusal};
+use pv_calls_state::Parts;
 use pv_model::limits::PATH;
 use pv_model::{Cause, Errno, Follow, Judgement, Perms, Place};
 use pv_namei::{Lookup, resolve_ref};
-use pv_calls_state::Parts;
-use pv_calls_plain::answer::{Refused, refusal};
 use pv_tree::PlaceRef;
 
 /// How many walks a path begins: none where it is empty or too long.

@@ -14,10 +14,10 @@ ghost use Rattle.pv_calls_plain.specs.Rows.{attempt_of};
 
 use crate::links::LinkRoom;
 use crate::reach::{Walk, reach_both};
+use pv_calls_plain::answer::{Done, Refused, answer_of, refusal, space_errno};
+use pv_calls_state::Parts;
 use pv_model::{Errno, Follow, Perms};
 use pv_namei::{Lookup, ends_in_dot};
-use pv_calls_state::Parts;
-use pv_calls_plain::answer::{Done, Refused, answer_of, refusal, space_errno};
 use pv_tree::Tree;
 
 // Whether what is there is this node.

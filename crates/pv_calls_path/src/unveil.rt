@@ -13,10 +13,10 @@ ghost use Rattle.pv_unveil.specs.Added.{refusal as refusal_of};
 
 use crate::links::LinkRoom;
 use crate::reach::walk_to;
+use pv_calls_plain::answer::{Done, Refused, answer_of, refusal};
+use pv_calls_state::Parts;
 use pv_model::{Cause, Errno, Follow, Perms, Place, Target, Text};
 use pv_namei::Lookup;
-use pv_calls_state::Parts;
-use pv_calls_plain::answer::{Done, Refused, answer_of, refusal};
 use pv_tree::Tree;
 use pv_unveil::AddFault;
 

@@ -12,9 +12,9 @@ ghost use Rattle.pv_calls_state.specs.Attempts.{trimmed};
 ghost use Rattle.pv_calls_plain.specs.Rows.{attempt_of, answered};
 ghost use Rattle.pv_calls_plain.specs.Space.{space_errno};
 
+use pv_calls_state::Parts;
 use pv_model::limits::BUFFER;
 use pv_model::{Cause, Errno, Outcome, Taken};
-use pv_calls_state::Parts;
 use pv_tree::Space;
 
 /// What a call answered, and how many walks it began.

@@ -11,8 +11,8 @@ ghost use Rattle.pv_calls_plain.specs.Rows.{IsOn, attempt_of};
 
 use crate::answer::{Done, Refused, answer_of, refusal};
 use crate::processes::plain;
-use pv_model::Errno;
 use pv_calls_state::Parts;
+use pv_model::Errno;
 
 /// The number of the open file that a descriptor of a live process is on, where it is open.
 pub fn open_file(parts: &Parts, pid: u32, d: i32) -> Option<usize>

@@ -18,9 +18,9 @@ use crate::answer::{
 };
 use crate::descriptors::open_file;
 use crate::status::status;
+use pv_calls_state::Parts;
 use pv_model::limits::{BUFFER, OFFSET};
 use pv_model::{Errno, Mode, Name, Whence};
-use pv_calls_state::Parts;
 use pv_tree::Tree;
 
 // A number from 0 to a limit.

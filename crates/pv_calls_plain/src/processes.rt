@@ -12,8 +12,8 @@ ghost use Rattle.pv_calls_plain.specs.Rows.{IsAnswered, attempt_of};
 
 use crate::answer::{Answer, Done, Refused, answer_of, refusal, tell, tell_bytes};
 use crate::status::four_bytes;
-use pv_model::Errno;
 use pv_calls_state::Parts;
+use pv_model::Errno;
 use pv_procs::Reap;
 
 /// What a call that walks no path comes to.

@@ -11,8 +11,8 @@ ghost use Rattle.pv_promises.specs.Pledge.{bits_of};
 ghost use Rattle.pv_calls_plain.specs.Rows.{attempt_of};
 
 use crate::answer::{Done, Refused, answer_of, refusal};
-use pv_model::{Cause, Errno, Promises, Text};
 use pv_calls_state::Parts;
+use pv_model::{Cause, Errno, Promises, Text};
 use pv_promises::read_promises;
 
 // The set that is asked for, if one is.

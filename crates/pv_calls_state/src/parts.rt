@@ -18,7 +18,7 @@ mod process;
 
 use pv_files::OpenFiles;
 use pv_model::limits::ROOT;
-use pv_procs::{Processes, ProcessRecord};
+use pv_procs::{ProcessRecord, Processes};
 use pv_script::Program;
 use pv_tree::{Store, Tree};
 use std::alloc::{AllocError, Global};

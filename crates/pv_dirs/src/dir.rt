@@ -13,7 +13,7 @@ ghost use Rattle.pv_dirs.specs.Trees.{tree_of};
 use crate::slot::{LONGEST, Slot, name_in};
 use byteorder::{ByteOrder, LittleEndian};
 use pv_inodes::Inodes;
-use pv_model::{Name, Kind};
+use pv_model::{Kind, Name};
 
 /// A directory: an inode in use, whose bytes are slots.
 #[derive(Clone, Copy)]

@@ -19,7 +19,7 @@ use crate::index::Index;
 use crate::indexing::ascends;
 use crate::slot::Slot;
 use pv_inodes::{Inodes, Space};
-use pv_model::{Name, Kind, Version};
+use pv_model::{Kind, Name, Version};
 use std::alloc::{AllocError, Global};
 use std::marker::Model;
 

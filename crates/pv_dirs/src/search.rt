@@ -9,7 +9,7 @@ ghost use Rattle.pv_model.specs.Room.{greatest_entries};
 ghost use Rattle.pv_dirs.specs.Dirs.{slots_in, name_in, entries_in, IsRunIn, AscendIn, IsLedBy};
 
 use crate::dir::{Dir, rest_of};
-use crate::index::{Index, Bucket};
+use crate::index::{Bucket, Index};
 use crate::slot::name_in;
 
 impl<'a> Dir<'a> {

@@ -5,10 +5,10 @@ ghost use Rattle.pv_model.specs.declared.version.Version.TheVariants.{V1};
 ghost use Rattle.pv_model.specs.Image.{magic};
 ghost use Rattle.pv_image.specs.Migrated.{mounted_first};
 
+use pv_image_mount::mount;
 use pv_model::format::MAGIC;
 use pv_model::limits::BLOCK;
 use pv_model::{ImageFault, Version};
-use pv_image_mount::mount;
 use pv_tree::Store;
 use std::alloc::Global;
 

@@ -7,10 +7,10 @@ ghost use Rattle.pv_image.specs.declared.migrating.MigratingStop.TheVariants.{Re
 
 use crate::first::mount_first;
 use crate::room::has_room;
+use pv_image_write::{WriteFault, write_as};
 use pv_model::{MigrateFault, Version};
 use pv_streams::Sink;
 use pv_tree::Store;
-use pv_image_write::{WriteFault, write_as};
 use std::alloc::Global;
 
 /// Why an image is not made into one of version 2, or not whole.

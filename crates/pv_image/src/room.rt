@@ -6,10 +6,10 @@ ghost use Rattle.pv_model.specs.Mount.{are_image_sizes};
 ghost use Rattle.pv_image.specs.Migrated.{data_blocks, has_room};
 ghost use Rattle.pv_laws_trees.specs.Kept.{EachIsNamed};
 
+use pv_image_write::needed_blocks;
 use pv_model::limits::{BLOCK, BLOCKS_V2, INODES};
 use pv_model::{Layout, Version};
 use pv_tree::Tree;
-use pv_image_write::needed_blocks;
 
 // The blocks that hold so many inodes.
 fn table_blocks(inodes: u32) -> usize

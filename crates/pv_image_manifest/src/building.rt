@@ -15,7 +15,7 @@ ghost use Rattle.pv_laws_trees.specs.Tree.{Stands};
 use crate::entry::{Content, Entry};
 use crate::manifest::Manifest;
 use pv_model::limits::{BLOCK, ROOT};
-use pv_model::{NewNode, ManifestFault, Version};
+use pv_model::{ManifestFault, NewNode, Version};
 use pv_text::components::split_component;
 use pv_tree::{Store, Tree};
 use std::alloc::Global;

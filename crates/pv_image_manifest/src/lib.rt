@@ -13,8 +13,8 @@ mod entry;
 mod lines;
 mod manifest;
 mod paths;
-mod reading;
 mod read_entry;
+mod reading;
 mod taking;
 
 pub use building::build;

@@ -5,7 +5,7 @@ ghost use Rattle.pv_model.specs.Grammar.Manifests.{entry_of, entries_from, manif
 ghost use Rattle.pv_image_manifest.specs.Reading.{IsEnd, GivesListed, GivesManifest, GivesManifestAndRest};
 
 use crate::entry::Entry;
-use crate::lines::{are_image_sizes, after_lines, ends_manifest, sizes};
+use crate::lines::{after_lines, are_image_sizes, ends_manifest, sizes};
 use crate::manifest::Manifest;
 use crate::taking::taken_by;
 use pv_model::ManifestFault;

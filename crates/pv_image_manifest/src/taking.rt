@@ -15,7 +15,11 @@ use pv_text::lines::split_word;
 use std::alloc::{AllocError, Global};
 
 // What a line `dir` takes.
-fn directory(alloc: Global, arguments: &[u8], following: &[u8]) -> Result<Option<ReadEntry>, AllocError>
+fn directory(
+    alloc: Global,
+    arguments: &[u8],
+    following: &[u8],
+) -> Result<Option<ReadEntry>, AllocError>
     ensures { IfOk result (λ o. Takes o (directory_line (one_argument text_at arguments.now)) (lines_of following.now)) }
 {
     let _ = following;
@@ -55,7 +59,11 @@ fn file(alloc: Global, arguments: &[u8], following: &[u8]) -> Result<Option<Read
 }
 
 // What a line `exec` takes: the lines after it that are the program's.
-fn executable(alloc: Global, arguments: &[u8], following: &[u8]) -> Result<Option<ReadEntry>, AllocError>
+fn executable(
+    alloc: Global,
+    arguments: &[u8],
+    following: &[u8],
+) -> Result<Option<ReadEntry>, AllocError>
     ensures { IfOk result (λ o. Takes o (program_line (lines_of following.now) (two_arguments text_at (word_at decimal_of) arguments.now)) (lines_of following.now)) }
 {
     let Some((path, lines)) = text_and_size(arguments) else {
@@ -97,7 +105,11 @@ fn link(alloc: Global, arguments: &[u8], following: &[u8]) -> Result<Option<Read
 }
 
 // What a line `name` takes.
-fn further_name(alloc: Global, arguments: &[u8], following: &[u8]) -> Result<Option<ReadEntry>, AllocError>
+fn further_name(
+    alloc: Global,
+    arguments: &[u8],
+    following: &[u8],
+) -> Result<Option<ReadEntry>, AllocError>
     ensures { IfOk result (λ o. Takes o (name_line (two_arguments text_at text_at arguments.now)) (lines_of following.now)) }
 {
     let _ = following;
@@ -145,7 +157,11 @@ fn by_word(
 /// What a line takes, with the text after it; nothing of a line that is no entry.
 ///
 /// `Err` says that memory was refused.
-pub fn taken_by(alloc: Global, line: &[u8], following: &[u8]) -> Result<Option<ReadEntry>, AllocError>
+pub fn taken_by(
+    alloc: Global,
+    line: &[u8],
+    following: &[u8],
+) -> Result<Option<ReadEntry>, AllocError>
     ensures { IfOk result (λ o. Takes o (entry_of line.now (lines_of following.now)) (lines_of following.now)) }
 {
     let (word, arguments) = split_word(line);

@@ -62,9 +62,10 @@ module _ (t : Tree) (lines : List Bytes) (it : Started) where
   unfolding started_on
   started-by is =
       let given = not_refused of_schedule (λ (schedule : Schedule). and_then of_boot (booted t) (λ (state : State). Ok (record { state = state; schedule = schedule }))) it (schedule_of_lines lines) is in
-      let at = not_refused of_boot (λ (state : State). Ok (record { state = state; schedule = given.0 })) it (booted t) given.2 in
-      (subst (λ (s : Schedule). schedule_of_lines lines ≡ Ok s) (ap (schedule_or given.0) at.2) given.1,
-      subst (λ (s : State). booted t ≡ Ok s) (ap (state_or at.0) at.2) at.1)
+      let at = not_refused of_boot (λ (state : State). Ok (record { state = state; schedule = given.0 })) it (booted t) given.2 in (
+        subst (λ (s : Schedule). schedule_of_lines lines ≡ Ok s) (ap (schedule_or given.0) at.2) given.1,
+        subst (λ (s : State). booted t ≡ Ok s) (ap (state_or at.0) at.2) at.1,
+      )
 
   pub started-whole : schedule_of_lines lines ≡ Ok it.schedule → booted t ≡ Ok it.state → started_on t lines ≡ Ok it
   unfolding started_on

@@ -5,10 +5,10 @@ ghost use Rattle.pv_model.specs.Tree.{is_directory_at, find_entry};
 ghost use Rattle.pv_laws_trees.specs.Found.{AlikeBut};
 ghost use Rattle.pv_namei.specs.Cached.{kept_of, IsPut, FitsMap};
 
+use crate::Lookup;
 use crate::short_name::ShortName;
 use lru::LruCache;
 use pv_model::limits::{ANSWERS, NAME_V2};
-use crate::Lookup;
 use pv_tree::Tree;
 use std::alloc::{AllocError, Global};
 use std::num::NonZeroUsize;

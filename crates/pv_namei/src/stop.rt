@@ -36,7 +36,11 @@ impl<'a> End<'a> {
         ensures { result ≡ place_of self.entry }
     {
         match self {
-            End::Named { dir, component, node } => PlaceRef::at(dir, component, node),
+            End::Named {
+                dir,
+                component,
+                node,
+            } => PlaceRef::at(dir, component, node),
             End::Unnamed(node) => PlaceRef::of_node(node),
         }
     }

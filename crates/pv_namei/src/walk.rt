@@ -5,14 +5,14 @@ ghost use Rattle.pv_model.specs.Tree.{node_at, is_directory_at, find_entry, IsWe
 ghost use Rattle.pv_model.specs.Walk.{follows_last, end_mark, resolve};
 ghost use Rattle.pv_namei.specs.Onward.{first_walk, remaining, followed, entered, settled, arrived, passed, IsStop, IsNearer};
 
-use crate::lead::{Lead, lead_along};
 use crate::along::Along;
-use crate::joined::Joined;
-use crate::lookup::Lookup;
 use crate::component::{ends_in_slash, is_absolute};
+use crate::joined::Joined;
+use crate::lead::{Lead, lead_along};
+use crate::lookup::Lookup;
 use crate::stop::{End, Stop};
 use pv_model::limits::{LINKS, NAME_V2, PATH, ROOT};
-use pv_model::{Errno, Follow, Place, Kind};
+use pv_model::{Errno, Follow, Kind, Place};
 use pv_tree::{PlaceRef, Tree};
 
 /// A walk on its way. The components that it has still before it stand beside it.

@@ -8,10 +8,10 @@
 #![tactic(auto)]
 
 mod ending;
-mod slot;
 pub mod processes;
 pub mod record;
 mod shared;
+mod slot;
 
 pub use processes::{Fetched, Processes, Reap};
 pub use record::ProcessRecord;

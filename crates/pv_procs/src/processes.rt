@@ -16,11 +16,11 @@ ghost use Rattle.pv_model.specs.Tree.{Tree};
 
 use crate::ProcessRecord;
 use crate::ending::settle;
-use crate::slot::{
-    ProcessSlot, adopter, blank, ended_child_of, has_child, has_ended_child, index_of, index_of_live,
-    live_index, make_child, spare_slots,
-};
 use crate::shared::{Shared, first_programs, free_program, let_go, take_up};
+use crate::slot::{
+    ProcessSlot, adopter, blank, ended_child_of, has_child, has_ended_child, index_of,
+    index_of_live, live_index, make_child, spare_slots,
+};
 use pv_model::limits::{LAST_PROCESS, PROCESSES};
 use pv_model::{CallRef, Errno};
 use pv_script::{CallTexts, Program};
@@ -284,7 +284,12 @@ impl Processes {
         };
         let slot = &mut self.slots[k];
         let shared = &self.programs[slot.program];
-        match slot.record.get_mut().context.step_or_fetch(&shared.program, texts) {
+        match slot
+            .record
+            .get_mut()
+            .context
+            .step_or_fetch(&shared.program, texts)
+        {
             Some(call) => Fetched::Call(call),
             None => Fetched::Register,
         }

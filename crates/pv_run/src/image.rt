@@ -10,11 +10,11 @@ ghost use Rattle.pv_run.specs.Run.{IsStartFault, RefusesStart, BufferedOnlyIfCut
 ghost use Rattle.pv_streams.specs.Sources.{FailsToGive};
 
 use crate::turns::{Ready, Summary, make_turns, start_on};
-use pv_model::{ImageFault, RunFault};
 use pv_image_mount::mount;
+use pv_image_write::{WriteFault, write_tree};
+use pv_model::{ImageFault, RunFault};
 use pv_streams::{SOURCE_BYTES, Sink, Source, read_whole};
 use pv_tree::{Store, Tree};
-use pv_image_write::{WriteFault, write_tree};
 use std::alloc::Global;
 
 // The store of the tree that an image holds. `listed` tells whether all its directories will be listed, so that it is worth

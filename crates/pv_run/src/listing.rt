@@ -7,9 +7,9 @@ ghost use Rattle.pv_streams.specs.Sources.{FailsToGive};
 ghost use Rattle.pv_streams.specs.Sinks.{and_all, TellsBeginning};
 ghost use Rattle.pv_run.specs.Listings.{HasListed, IsListFault, IsListingFault, IsReadOrWant, StandsInImage, TellsNothingUnlessBegun, BufferedOnlyIfUnlisted};
 
+use pv_image_mount::mount;
 use pv_listing::{ListStop, write_listing};
 use pv_model::{ListFault, RunFault};
-use pv_image_mount::mount;
 use pv_streams::{Sink, Source, read_whole};
 use pv_tree::Tree;
 use std::alloc::Global;

@@ -371,7 +371,11 @@ impl Context {
 
     /// The call that comes next, as `fetch` gives it. Where an instruction on registers or a jump comes next, it is made, and
     /// the answer is None.
-    pub fn step_or_fetch<'a>(&mut self, program: &Program, texts: &'a mut CallTexts) -> Option<CallRef<'a>>
+    pub fn step_or_fetch<'a>(
+        &mut self,
+        program: &Program,
+        texts: &'a mut CallTexts,
+    ) -> Option<CallRef<'a>>
         ensures call { IsNext program.now self.old result }
         ensures kept { OnSome result (self.new ≡ self.old) }
         ensures made { IfNone result ((p : Process) → next (in_context p program.now self.old) ≡ inside (in_context p program.now self.new)) }

@@ -167,7 +167,8 @@ fn process_call(word: &[u8], rest: &[u8]) -> Option<Result<Instruction, What>>
     }
     if is(word, b"unveil") {
         return or_argument(two_texts_or_null(rest).map(|(path, permissions)| Instruction::Unveil(
-            path, permissions,
+            path,
+            permissions,
         )));
     }
     if is(word, b"execve") {

@@ -8,8 +8,8 @@
 #![tactic(auto)]
 
 mod buffer;
-pub mod instruction;
 pub mod context;
+pub mod instruction;
 pub mod program;
 pub mod schedule;
 pub mod texts;

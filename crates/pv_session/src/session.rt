@@ -16,9 +16,9 @@ ghost use Rattle.pv_session.specs.declared.session.Stop.TheVariants.{Memory, Wri
 ghost use Rattle.pv_session.specs.Running.{BeginsLines, FailsBy, WrittenLines, stepped, turn};
 
 use pv_audit::{audit, audit_node};
-use pv_namei::CachedLookup;
 use pv_calls::Kernel;
 use pv_model::{AuditFault, BootFault, CallRef, Outcome, StepFault, Verdict};
+use pv_namei::CachedLookup;
 use pv_procs::Fetched;
 use pv_script::CallTexts;
 use pv_streams::{Failed, Sink};
@@ -241,7 +241,14 @@ impl Session {
                 Ok(1)
             }
             Fetched::Register => Ok(0),
-            Fetched::Call(call) => trace_call(alloc, kernel, &mut *self.line_buffer, pid, call, trace),
+            Fetched::Call(call) => trace_call(
+                alloc,
+                kernel,
+                &mut *self.line_buffer,
+                pid,
+                call,
+                trace,
+            ),
         }
     }
 }

@@ -14,7 +14,7 @@ pub mod writing;
 
 pub use buffered::{Buffered, CHUNK};
 pub use memory::{Bytes, Gathered};
-pub use pv_model::{Failed, Sink, Source};
 pub use pv_model::limits::SOURCE_BYTES;
+pub use pv_model::{Failed, Sink, Source};
 pub use reading::read_whole;
 pub use writing::{write_through, write_whole};

@@ -13,8 +13,8 @@ ghost use Rattle.pv_laws_trees.specs.Spelled.{are_bytes};
 mod tests;
 
 use pv_image_manifest::{Manifest, build};
-use pv_model::ManifestFault;
 use pv_laws_runs::starts::manifests_make_first_trees;
+use pv_model::ManifestFault;
 use pv_tree::Store;
 use std::alloc::Global;
 

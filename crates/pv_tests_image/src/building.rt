@@ -1,7 +1,7 @@
 //! Trees that manifests make.
 use crate::answers::{expect_equal, expect_same, expect_same_of};
 use pv_image_manifest::{Manifest, build};
-use pv_model::{ManifestFault, Kind};
+use pv_model::{Kind, ManifestFault};
 use pv_tree::Tree;
 use std::alloc::{AllocError, Global};
 use std::process::Abort;

@@ -264,7 +264,14 @@ fn expect_chain<R: Abort + AllocGlobal>(rt: &R, wanted: &ChainListed) -> Result<
     let listing = listing_of(rt, &tree);
     let count = wanted.count as usize;
     expect_lines(rt, &listing, wanted.first, count + 1);
-    expect_last_path(rt, rt.alloc(), &listing, count, wanted.component, wanted.length)
+    expect_last_path(
+        rt,
+        rt.alloc(),
+        &listing,
+        count,
+        wanted.component,
+        wanted.length,
+    )
 }
 
 #[test]

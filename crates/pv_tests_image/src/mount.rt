@@ -1,8 +1,8 @@
 //! Images that are judged, and mounted.
 use crate::answers::{expect, expect_same_of};
 use crate::bytes::{front, put_all};
-use pv_model::{ImageFault, Name, Version};
 use pv_image_mount::{check, mount};
+use pv_model::{ImageFault, Name, Version};
 use pv_tree::Tree;
 use std::alloc::{AllocError, AllocGlobal, Global};
 use std::process::Abort;

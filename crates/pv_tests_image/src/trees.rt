@@ -5,7 +5,7 @@ ghost use Rattle.pv_model.specs.Tree.{find_entry, is_directory_at, is_name, is_n
 ghost use Rattle.pv_tree.specs.Changes.{new_node};
 
 use crate::answers::expect_same;
-use pv_model::{NewNode, Kind, Version, is_name};
+use pv_model::{Kind, NewNode, Version, is_name};
 use pv_tree::{Store, Tree};
 use std::alloc::{AllocError, Global};
 use std::process::Abort;

@@ -6,9 +6,9 @@ use crate::bytes::{expect_components, front, put_all};
 use crate::sinks::{sink_of, wide_sink};
 use crate::trees::Step::{Make, Write};
 use crate::trees::{Step, tree_of};
+use pv_image_write::{WriteFault, needed_blocks, write_as, write_tree};
 use pv_model::{Kind, Version};
 use pv_tree::{Store, Tree};
-use pv_image_write::{WriteFault, needed_blocks, write_as, write_tree};
 use std::alloc::{AllocError, Global};
 use std::process::Abort;
 

@@ -4,7 +4,7 @@ ghost use Rattle.pv_procs.specs.ProcessTable.{process_in};
 
 use crate::answers::expect_same;
 use pv_model::{CallRef, Errno, Perms, Promises, Target};
-use pv_procs::{Fetched, Processes, Reap, ProcessRecord};
+use pv_procs::{Fetched, ProcessRecord, Processes, Reap};
 use pv_script::{CallTexts, Program};
 use std::process::Abort;
 
@@ -200,7 +200,7 @@ enum Step {
     Pass(u32),
 }
 
-use Step::{HasEffect, Has, Is, Next, Pass, Registers, Wait};
+use Step::{Has, HasEffect, Is, Next, Pass, Registers, Wait};
 
 fn pass<R: Abort + AllocGlobal>(rt: &R, processes: &mut Processes, below: u32) {
     for number in 2..below {
@@ -264,7 +264,11 @@ const PARENTS_AND_ORPHANS: &[Step] = &[
     HasEffect(4, Fork(Ok(5))),
 ];
 
-const CHILD_HAS_A_COPY: &[Step] = &[HasEffect(1, Fill), HasEffect(1, Fork(Ok(2))), Has(2, Copied)];
+const CHILD_HAS_A_COPY: &[Step] = &[
+    HasEffect(1, Fill),
+    HasEffect(1, Fork(Ok(2))),
+    Has(2, Copied),
+];
 
 const LOADED_PROGRAMS: &[Step] = &[
     HasEffect(1, Fork(Ok(2))),

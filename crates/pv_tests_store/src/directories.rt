@@ -4,7 +4,7 @@ ghost use Rattle.std.specs.Prelude.{◌<◌, ◌≤◌};
 use crate::answers::expect_same;
 use pv_dirs::Directories;
 use pv_inodes::Space;
-use pv_model::{Name, Kind, Version, is_name};
+use pv_model::{Kind, Name, Version, is_name};
 use std::alloc::{AllocError, AllocGlobal, Global};
 use std::process::Abort;
 

@@ -639,7 +639,12 @@ fn expect_buffer<R: Abort>(rt: &R, context: &Context, bytes: &[u8]) {
 // The machine asks for its number next.
 fn expect_getpid<R: Abort>(rt: &R, context: &mut Context, program: &Program) {
     let mut texts = CallTexts::new();
-    assert!(rt; matches!(context.step_or_fetch(program, &mut texts), Some(CallRef::GetPid)));
+    assert!(rt;
+        matches!(
+            context.step_or_fetch(program, &mut texts),
+            Some(CallRef::GetPid)
+        )
+    );
 }
 
 fn fresh<R: Abort + AllocGlobal>(rt: &R) -> Context {
@@ -717,7 +722,12 @@ fn advance_twice(context: &mut Context, program: &Program) {
 // The machine exits next, with 0.
 fn expect_end<R: Abort>(rt: &R, context: &mut Context, program: &Program) {
     let mut texts = CallTexts::new();
-    assert!(rt; matches!(context.step_or_fetch(program, &mut texts), Some(CallRef::Exit(0))));
+    assert!(rt;
+        matches!(
+            context.step_or_fetch(program, &mut texts),
+            Some(CallRef::Exit(0))
+        )
+    );
 }
 
 // Past the last line stands an exit, and nothing after it.

@@ -5,8 +5,8 @@ use pv_text::arguments::{
     one_text, origin_text_and_flags, text_and_size, two_operands_and_whence, two_sizes,
     two_texts_or_null,
 };
-use pv_text::lines::{count_lines, first_of, split_line, split_word};
 use pv_text::components::split_component;
+use pv_text::lines::{count_lines, first_of, split_line, split_word};
 use pv_text::texts::{text, text_or_null};
 use pv_text::words::{decimal, flags, number, operand, origin, register};
 use std::alloc::{AllocError, Global};

@@ -7,9 +7,9 @@ use pv_model::{
     Call, CallRef, Cause, Errno, Mode, OpenFlags, Outcome, Perms, Promise, Start, Taken, Text,
     Whence,
 };
-use pv_streams::{Buffered, Failed, CHUNK, Sink, write_through, write_whole};
+use pv_streams::{Buffered, CHUNK, Failed, Sink, write_through, write_whole};
 use pv_trace::{
-    Line, PromiseVerdict, Returned, LineBuffer, UnveilVerdict, Way, Word, write_call_lines,
+    Line, LineBuffer, PromiseVerdict, Returned, UnveilVerdict, Way, Word, write_call_lines,
     write_gone_line, write_line,
 };
 use std::process::Abort;
@@ -241,7 +241,15 @@ fn lines_of<R: Abort + AllocGlobal>(rt: &R, call: CallRef, written: &Written) ->
     let mut out = sink_of(rt, 1_000, 1_000);
     let line_buffer = &mut LineBuffer::new();
     let (outcome, walks) = (written.outcome, written.walks);
-    let lines = write_call_lines(&mut out, line_buffer, written.pid, written.buffer, call, outcome, walks);
+    let lines = write_call_lines(
+        &mut out,
+        line_buffer,
+        written.pid,
+        written.buffer,
+        call,
+        outcome,
+        walks,
+    );
     assert!(rt; matches!(lines, Ok(count) if count == written.count));
     assert!(rt; out.writes == 1);
     let Narrow { bytes, .. } = out;

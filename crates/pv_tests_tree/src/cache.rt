@@ -4,9 +4,8 @@ ghost use Rattle.pv_model.specs.Tree.{find_entry};
 
 use crate::answers::expect_same;
 use crate::trees::{expect_make, with_64_inodes};
-use pv_namei::CachedLookup;
 use pv_model::{Follow, NewNode, Place};
-use pv_namei::{Lookup, resolve};
+use pv_namei::{CachedLookup, Lookup, resolve};
 use pv_tree::Tree;
 use std::alloc::{AllocError, Global};
 use std::process::Abort;

@@ -113,7 +113,14 @@ fn make_long_link(
 ) -> Result<(), AllocError> {
     let mut text = link.component.repeat(alloc, link.count)?;
     text.extend_from_slice(link.end)?;
-    expect_make(rt, tree, 1, link.name, NewNode::Symlink(&text), Ok(link.node));
+    expect_make(
+        rt,
+        tree,
+        1,
+        link.name,
+        NewNode::Symlink(&text),
+        Ok(link.node),
+    );
     Ok(())
 }
 

@@ -5,7 +5,7 @@ use crate::answers::{expect_equal, expect_name, expect_same};
 use crate::trees::{
     expect_find, expect_make, expect_new, hold, of_version_2, remove_directory, with_data_blocks,
 };
-use pv_model::{NewNode, Kind, is_name};
+use pv_model::{Kind, NewNode, is_name};
 use pv_tree::{Space, Tree};
 use std::alloc::{AllocError, AllocGlobal};
 use std::process::Abort;

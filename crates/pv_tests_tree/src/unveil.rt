@@ -3,7 +3,7 @@ use crate::answers::expect_same;
 use crate::trees::{
     expect_find, expect_make, hold, make_all, of_version_2, remove_directory, with_data_blocks,
 };
-use pv_model::{Judgement, NewNode, Name, Perms, Place, Target};
+use pv_model::{Judgement, Name, NewNode, Perms, Place, Target};
 use pv_tree::{PlaceRef, Tree};
 use pv_unveil::{AddFault, Table};
 use std::alloc::{AllocError, AllocGlobal, Global};
@@ -95,7 +95,11 @@ fn expect_add(
     permissions: Perms,
     answer: Result<u8, AddFault>,
 ) {
-    expect_same(rt, table.add(Target::Directory(directory), permissions), answer);
+    expect_same(
+        rt,
+        table.add(Target::Directory(directory), permissions),
+        answer,
+    );
 }
 
 // What it answers that an entry is added for a name in a directory.
@@ -132,7 +136,13 @@ use Step::{Add, AddName, ByName, ByNode};
 
 fn expect_step(rt: &impl Abort, table: &mut Table, tree: &Tree, step: Step) {
     match step {
-        Add(directory, permissions, answer) => expect_add(rt, table, directory, permissions, answer),
+        Add(directory, permissions, answer) => expect_add(
+            rt,
+            table,
+            directory,
+            permissions,
+            answer,
+        ),
         AddName(dir, text, permissions, answer) => {
             expect_add_name(rt, table, dir, text, permissions, answer);
         }
@@ -321,9 +331,19 @@ fn expect_table(rt: &impl Abort, table: &Table, entries: usize, locked: bool) {
 }
 
 // The permissions of a table's two entries, and of the second its directory and its name.
-fn expect_two(rt: &impl Abort, table: &Table, permissions: [Perms; 2], directory: u16, text: &[u8]) {
+fn expect_two(
+    rt: &impl Abort,
+    table: &Table,
+    permissions: [Perms; 2],
+    directory: u16,
+    text: &[u8],
+) {
     assert!(rt; table.len() == 2);
-    expect_same(rt, [table.permissions(0), table.permissions(1)], permissions);
+    expect_same(
+        rt,
+        [table.permissions(0), table.permissions(1)],
+        permissions,
+    );
     assert!(rt;
         matches!(table.target(1), Target::Name { dir, name } if *dir == directory && name.as_slice() == text)
     );

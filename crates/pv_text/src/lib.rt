@@ -7,7 +7,7 @@
 #![tactic(auto)]
 
 pub mod arguments;
-pub mod lines;
 pub mod components;
+pub mod lines;
 pub mod texts;
 pub mod words;

@@ -8,15 +8,15 @@
 #![tactic(auto)]
 
 mod calls;
-mod line;
 mod fixed_buffer;
-mod plain;
+mod line;
 mod line_buffer;
+mod plain;
 mod steps;
 mod words;
 
-pub use line::{Line, PromiseVerdict, Returned, UnveilVerdict, Way, Word, write_line};
 pub use fixed_buffer::FixedBuffer;
-pub use plain::plain_count;
+pub use line::{Line, PromiseVerdict, Returned, UnveilVerdict, Way, Word, write_line};
 pub use line_buffer::{LineBuffer, put, put_decimal};
+pub use plain::plain_count;
 pub use steps::{write_call_lines, write_gone_line};

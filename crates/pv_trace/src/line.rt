@@ -128,7 +128,11 @@ fn put_line(out: &mut LineBuffer, pid: u32, word: &Word)
 /// # Errors
 ///
 /// `Failed` where a write failed: the sink was given a beginning of the line.
-pub fn write_line<W: Sink>(out: &mut W, line_buffer: &mut LineBuffer, line: &Line) -> Result<(), Failed>
+pub fn write_line<W: Sink>(
+    out: &mut W,
+    line_buffer: &mut LineBuffer,
+    line: &Line,
+) -> Result<(), Failed>
     ensures whole { OnOk result (W.written out.new ≡ and_all (W.written out.old) (line_bytes line.now)) }
     ensures beginning { OnErr result (TellsBeginning (line_bytes line.now) (W.written out.old) (W.written out.new)) }
     ensures failed { OnErr result (Rose (W.failures out.old) (W.failures out.new)) }

@@ -164,7 +164,13 @@ fn second_permissions(call: CallRef<'_>) -> Perms
 }
 
 // The line of an unveil table that decided.
-fn put_unveil_lines(out: &mut LineBuffer, pid: u32, call: CallRef<'_>, walks: u8, outcome: Outcome) -> u8
+fn put_unveil_lines(
+    out: &mut LineBuffer,
+    pid: u32,
+    call: CallRef<'_>,
+    walks: u8,
+    outcome: Outcome,
+) -> u8
     requires { length out.old.items + SHORT_LINE_BYTES ≤ LINE_BUFFER }
     ensures text { out.new.items ≡ out.old.items ++ trace_bytes (unveil_lines_of pid (call_of call.entry) walks outcome) }
     ensures count { result ≡ length (unveil_lines_of pid (call_of call.entry) walks outcome) }
@@ -305,7 +311,11 @@ pub fn write_call_lines<W: Sink>(
 /// # Errors
 ///
 /// `Failed` where a write failed: the sink was given a beginning of the line.
-pub fn write_gone_line<W: Sink>(out: &mut W, line_buffer: &mut LineBuffer, pid: u32) -> Result<(), Failed>
+pub fn write_gone_line<W: Sink>(
+    out: &mut W,
+    line_buffer: &mut LineBuffer,
+    pid: u32,
+) -> Result<(), Failed>
     ensures whole { OnOk result (W.written out.new ≡ and_all (W.written out.old) (trace_bytes (gone_lines pid))) }
     ensures beginning { OnErr result (TellsBeginning (trace_bytes (gone_lines pid)) (W.written out.old) (W.written out.new)) }
     ensures failed { OnErr result (Rose (W.failures out.old) (W.failures out.new)) }

@@ -24,7 +24,7 @@ mod node_names;
 
 use pv_dirs::Directories;
 use pv_model::limits::{INODES, ROOT};
-use pv_model::{Name, Kind, Version};
+use pv_model::{Kind, Name, Version};
 use std::alloc::{AllocError, Global};
 use std::marker::Model;
 

@@ -14,7 +14,7 @@ ghost use Rattle.pv_tree.specs.Standing.{IsShaped};
 use super::Tree;
 use pv_dirs::Directories;
 use pv_inodes::Space;
-use pv_model::{NewNode, Kind};
+use pv_model::{Kind, NewNode};
 
 // What a node of a kind is.
 fn sort_of(kind: NewNode) -> Kind
