@@ -3,3 +3,4 @@
 pub mod Named
 pub mod Enlarged
 pub mod Migrations
+pub mod Traces

@@ -1,2 +1,3 @@
 pub mod Migrated
 pub mod Written
+pub mod Traces

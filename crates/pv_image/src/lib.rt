@@ -7,6 +7,7 @@
 #![tactic(auto)]
 
 ghost use Rattle.pv_image.specs.Migrated.{ImagesAreJudgedFirst, MigratesImages, SmallIsWantOfRoom};
+ghost use Rattle.pv_image.specs.Traces.{MigratedKeepTraces};
 
 mod first;
 mod migrating;
@@ -28,4 +29,12 @@ pub fn small_is_want_of_room()
 /// What is refused as no image is so whatever the sizes.
 pub fn images_are_judged_first()
     ensures { ImagesAreJudgedFirst }
+{}
+
+/// With at least five times the data blocks, and at least the inodes, a schedule that starts on an image starts on the one that
+/// it becomes, with the same turns; and where the run on the first answers no ENAMETOOLONG, EFBIG or ENOSPC, the one on the second
+/// has the same text, byte for byte, and leaves a tree with equal nodes. Five is the least:
+/// `pv_laws_larger::examples::five_is_least`.
+pub fn migrated_keep_traces()
+    ensures { MigratedKeepTraces }
 {}

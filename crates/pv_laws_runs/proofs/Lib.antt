@@ -5,7 +5,7 @@ pub mod Ranges
 mod Entries
 mod Trees
 mod Images
-mod Starting
+pub mod Starting
 pub mod Secrets
-mod Started
+pub mod Started
 pub mod Asked

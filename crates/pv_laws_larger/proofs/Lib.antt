@@ -1,0 +1,12 @@
+pub mod Padded
+pub mod Needs
+pub mod Enlarged
+pub mod Walked
+pub mod Fine
+pub mod Follows
+pub mod Changed
+pub mod Calls
+pub mod Steps
+pub mod LargerRuns
+pub mod LargerImages
+pub mod Least
