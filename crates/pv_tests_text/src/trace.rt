@@ -36,7 +36,7 @@ fn expect_line<R: Abort + AllocGlobal>(rt: &R, word: Word, wanted: &[u8])
 {
     let mut out = sink_of(rt, 20_000, 20_000);
     let line = Line { pid: 1, word };
-    assert!(rt; write_line(&mut out, &mut LineBuffer::new(), &line).is_ok());
+    assert!(rt; write_line(&mut out, &line).is_ok());
     assert!(rt; out.bytes.as_slice() == wanted);
     assert!(rt; out.writes == 1);
 }
@@ -147,7 +147,7 @@ fn longest_lines_are_written_at_once(rt: HostRuntime) {
         pid: 4_294_967_295,
         word: Word::Call(call.as_ref()),
     };
-    assert!(rt; write_line(&mut out, &mut LineBuffer::new(), &line).is_ok());
+    assert!(rt; write_line(&mut out, &line).is_ok());
     assert!(rt; out.writes == 1);
     assert!(rt; out.bytes.len() == 17 + 7 + 2 * 4_402 + 2 + 1 + 1);
 }
@@ -159,7 +159,7 @@ fn longest_bytes_are_written_at_once(rt: HostRuntime) {
         pid: 1,
         word: Word::Gio(Way::Took, &[171; 4_096]),
     };
-    assert!(rt; write_line(&mut out, &mut LineBuffer::new(), &line).is_ok());
+    assert!(rt; write_line(&mut out, &line).is_ok());
     assert!(rt; out.writes == 1);
     assert!(rt; out.bytes.len() == 12 + 11 + 2 * 4_096 + 1);
     assert!(rt; out.bytes.ends_with(b"abab\n"));

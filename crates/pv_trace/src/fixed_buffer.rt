@@ -23,7 +23,7 @@ impl<const N: usize> Model for FixedBuffer<N> {
 }
 
 impl<const N: usize> FixedBuffer<N> {
-    /// A page with nothing on it.
+    /// A buffer with nothing in it.
     pub fn new() -> FixedBuffer<N>
         ensures { result.items ≡ [] }
     {
@@ -33,7 +33,7 @@ impl<const N: usize> FixedBuffer<N> {
         }
     }
 
-    /// Has nothing on it from then on.
+    /// Has nothing in it from then on.
     pub fn clear(&mut self)
         ensures { self.new.items ≡ [] }
     {

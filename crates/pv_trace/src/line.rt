@@ -123,12 +123,9 @@ fn put_line(out: &mut LineBuffer, pid: u32, word: &Word)
     }
 }
 
-/// Writes a line that is made on a line buffer, whatever that had. It takes no memory.
-///
-/// # Errors
-///
-/// `Failed` where a write failed: the sink was given a beginning of the line.
-pub fn write_line<W: Sink>(
+// Writes a line that is made on a line buffer, whatever that had. It takes no memory. Where a write failed the sink was
+// given a beginning of the line.
+pub(crate) fn write_line_on<W: Sink>(
     out: &mut W,
     line_buffer: &mut LineBuffer,
     line: &Line,
@@ -141,4 +138,18 @@ pub fn write_line<W: Sink>(
     line_buffer.clear();
     put_line(line_buffer, line.pid, &line.word);
     write_whole(out, line_buffer.as_slice())
+}
+
+/// Writes a line. It takes no memory.
+///
+/// # Errors
+///
+/// `Failed` where a write failed: the sink was given a beginning of the line.
+pub fn write_line<W: Sink>(out: &mut W, line: &Line) -> Result<(), Failed>
+    ensures whole { OnOk result (W.written out.new ≡ and_all (W.written out.old) (line_bytes line.now)) }
+    ensures beginning { OnErr result (TellsBeginning (line_bytes line.now) (W.written out.old) (W.written out.new)) }
+    ensures failed { OnErr result (Rose (W.failures out.old) (W.failures out.new)) }
+    ensures quiet { OnOk result (W.failures out.new ≡ W.failures out.old) }
+{
+    write_line_on(out, &mut LineBuffer::new(), line)
 }

@@ -11,7 +11,7 @@ ghost use Rattle.pv_streams.specs.Sinks.{and_all, TellsBeginning};
 ghost use Rattle.pv_trace.specs.Words.{promise_verdict_of};
 ghost use Rattle.pv_trace.specs.declared.line_buffer.TheConstants.{LINE_BYTES, PATH_LINE_BYTES, SHORT_LINE_BYTES, LINE_BUFFER};
 
-use crate::line::{Line, PromiseVerdict, UnveilVerdict, Way, Word, write_line};
+use crate::line::{Line, PromiseVerdict, UnveilVerdict, Way, Word, write_line_on};
 use crate::line_buffer::LineBuffer;
 use crate::words::{
     put_call_line, put_error_line, put_killed_line, put_moved_line, put_path_line,
@@ -325,5 +325,5 @@ pub fn write_gone_line<W: Sink>(
         pid,
         word: Word::Gone,
     };
-    write_line(out, line_buffer, &line)
+    write_line_on(out, line_buffer, &line)
 }

@@ -16,5 +16,6 @@ mod marks;
 mod rights;
 pub mod table;
 
+pub use pv_model::Judgement;
 pub use rights::above;
 pub use table::{AddFault, Table};
