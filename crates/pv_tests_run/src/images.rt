@@ -28,7 +28,7 @@ pub(crate) fn made(rt: &(impl Abort + AllocGlobal), manifest: &[u8]) -> Gathered
 }
 
 // The image of version 2 of a manifest.
-pub(crate) fn migrated(
+fn migrated(
     rt: &(impl Abort + AllocGlobal),
     manifest: &[u8],
     blocks: u32,
