@@ -1,5 +1,5 @@
 -- What an execve comes to that has a program to load.
-use Rattle.std.proofs.Common.{◌≡◌, ℕ, ◌⊎◌, inl, inr, List, Option, None, Some, refl, sym, subst}
+use Rattle.std.proofs.Common.{◌≡◌, ℕ, inl, inr, Option, None, Some, refl, sym, subst}
 use Rattle.pv_calls.specs.Loading.{IsOfLoading, LoadsProgram}
 use Rattle.pv_calls.proofs.Executing.{execve-next}
 use Rattle.pv_model.specs.declared.call.Call.{Call}

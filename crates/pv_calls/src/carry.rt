@@ -1,5 +1,5 @@
 //! What a call answers, from its promises on.
-ghost use Rattle.std.specs.Prelude.{◌≡◌, ◌≢◌, ◌≤◌, IfErr, IfOk, OnErr, IsTrue, IsSome, Some, true, false};
+ghost use Rattle.std.specs.Prelude.{◌≡◌, ◌≤◌, IfErr, IfOk, OnErr, IsTrue, IsSome, Some, true, false};
 ghost use Rattle.pv_calls.specs.Calls.{goes_on, is_process_row, is_on_processes, is_descriptor_row, is_on_descriptors, is_path_row, is_on_paths, IsBlocked, is_execve, IsCarriedOut};
 ghost use Rattle.pv_calls.specs.Loading.{Loads, LoadsProgram};
 ghost use Rattle.pv_laws_states.specs.States.{IsWhole, is_call};
@@ -143,29 +143,22 @@ fn path_row<L: Lookup>(
                 links,
                 pid,
                 Start::WorkingDirectory,
-                path.as_slice(),
+                path,
                 flags,
             )
         }
         CallRef::OpenAt(start, path, flags) => {
-            open_at(parts, lookup, links, pid, start, path.as_slice(), flags)
+            open_at(parts, lookup, links, pid, start, path, flags)
         }
-        CallRef::Chdir(path) => chdir(parts, lookup, links, pid, path.as_slice()),
-        CallRef::Mkdir(path) => mkdir(parts, lookup, links, pid, path.as_slice()),
+        CallRef::Chdir(path) => chdir(parts, lookup, links, pid, path),
+        CallRef::Mkdir(path) => mkdir(parts, lookup, links, pid, path),
         CallRef::Symlink(text, path) => {
-            let (text, path) = (text.as_slice(), path.as_slice());
-            symlink(parts, lookup, links, pid, text, path)
+            symlink(parts, lookup, links, pid, text.as_slice(), path)
         }
-        CallRef::Link(path, new) => {
-            let (path, new) = (path.as_slice(), new.as_slice());
-            link(parts, lookup, links, pid, path, new)
-        }
-        CallRef::Unlink(path) => unlink(parts, lookup, links, pid, path.as_slice()),
-        CallRef::Rmdir(path) => rmdir(parts, lookup, links, pid, path.as_slice()),
-        CallRef::Rename(path, new) => {
-            let (path, new) = (path.as_slice(), new.as_slice());
-            rename(parts, lookup, links, pid, path, new)
-        }
+        CallRef::Link(path, new) => link(parts, lookup, links, pid, path, new),
+        CallRef::Unlink(path) => unlink(parts, lookup, links, pid, path),
+        CallRef::Rmdir(path) => rmdir(parts, lookup, links, pid, path),
+        CallRef::Rename(path, new) => rename(parts, lookup, links, pid, path, new),
         _ => unreachable!(),
     }
 }
@@ -187,9 +180,9 @@ fn on_paths<L: Lookup>(
     ensures agrees { L.agrees lookup.new (find_entry parts.new.tree) }
 {
     match call {
-        CallRef::Stat(path) => stat(parts, lookup, links, pid, path.as_slice()),
-        CallRef::Lstat(path) => lstat(parts, lookup, links, pid, path.as_slice()),
-        CallRef::Readlink(path) => readlink(parts, lookup, links, pid, path.as_slice()),
+        CallRef::Stat(path) => stat(parts, lookup, links, pid, path),
+        CallRef::Lstat(path) => lstat(parts, lookup, links, pid, path),
+        CallRef::Readlink(path) => readlink(parts, lookup, links, pid, path),
         _ => {
             let performed = path_row(parts, lookup, links, pid, call);
             tell(parts, pid, performed)
@@ -255,7 +248,7 @@ fn execute<L: Lookup>(
     ensures unchanged { OnErr result (parts.new ≡ parts.old) }
     ensures memory { IfErr result (λ _. (me : Process) → process_at parts.old pid ≡ Some me → Loads parts.old me (Execve path.now)) }
 {
-    match execve(alloc, parts, lookup, links, pid, path.as_slice()) {
+    match execve(alloc, parts, lookup, links, pid, path) {
         Ok(told) => Ok(tell(parts, pid, Ok(told))),
         Err(ExecveFault::Refused(why)) => {
             parts.advance(pid);

@@ -1,5 +1,5 @@
 //! The kernel: the parts of the system, and the calls on them.
-ghost use Rattle.std.specs.Prelude.{◌≡◌, ◌⊎◌, ◌<◌, ◌≤◌, ℕ, IfOk, IfErr, OnErr, IsOk, IsSome, IsTrue, Ok, Err, Some, length, List, Option};
+ghost use Rattle.std.specs.Prelude.{◌≡◌, ◌⊎◌, ◌<◌, ◌≤◌, IfOk, IfErr, OnErr, IsSome, IsTrue, Ok, Err, Some, length};
 ghost use Rattle.pv_laws_states.specs.States.{IsFirstTree, IsWhole, is_call};
 ghost use Rattle.pv_model.specs.declared.limits.TheConstants.{BUFFER};
 ghost use Rattle.pv_model.specs.Answer.{answer};

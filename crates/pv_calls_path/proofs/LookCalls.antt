@@ -7,20 +7,20 @@ use Rattle.pv_calls_plain.specs.Rows.{answered}
 use Rattle.pv_calls_path.specs.Reached.{IsFound}
 use Rattle.pv_dirs.specs.Trees.{bytes_at, bytes_of}
 use Rattle.pv_laws_states.specs.States.{IsWhole}
-use Rattle.pv_model.specs.declared.errno.Errno.TheVariants.{EINVAL}
-use Rattle.pv_model.specs.declared.follow.Follow.TheVariants.{Keep}
+use Rattle.pv_model.specs.declared.call.Start.TheVariants.{WorkingDirectory}
+use Rattle.pv_model.specs.declared.errno.Errno.TheVariants.{EINVAL, ENOENT}
 use Rattle.pv_model.specs.declared.outcome.Cause.TheVariants.{Plain}
 use Rattle.pv_model.specs.Answer.{Answered, answer_by_attempt, with_front}
-use Rattle.pv_model.specs.Attempt.{Attempt, done, refused, after_walks, demand, ◌>>=◌}
+use Rattle.pv_model.specs.Attempt.{Attempt, done, refused, after_walks, demand, ◌>>=◌, ◌>>◌}
 use Rattle.pv_model.specs.Bytes.{Bytes}
 use Rattle.pv_model.specs.Calls.Descriptors.{is_link}
-use Rattle.pv_model.specs.Calls.Paths.{link_text, readlink}
+use Rattle.pv_model.specs.Calls.Paths.{link_text, readlink, stat_at}
 use Rattle.pv_model.specs.Calls.Processes.{with_result}
-use Rattle.pv_model.specs.Effect.{Effect, answers_bytes, returns_bytes}
+use Rattle.pv_model.specs.Effect.{Effect, answers_bytes, judge_for, node_of, returns_bytes, status, walk_from}
 use Rattle.pv_model.specs.Errno.{errno_number}
-use Rattle.pv_model.specs.Perms.{permission_r}
 use Rattle.pv_model.specs.State.{Process, State, process_at}
 use Rattle.pv_model.specs.Tree.{Node, directory_node, file_node, link_node, Tree, find_entry, is_directory, is_link_text, node_at}
+use Rattle.pv_model.specs.Walks.{Walk, readlink_walk}
 use Rattle.pv_laws_trees.specs.Found.{Alike}
 use Rattle.pv_calls_state.proofs.Attempts.{given, refused_first}
 use Rattle.pv_calls_path.proofs.Naming.{alike_update, update_tree}
@@ -37,6 +37,11 @@ pub names-told : (s : State) → IsWhole s → (pid : ℕ) (me : Process) (walks
     → answer_by_attempt s s pid me (done walks (s, returns_bytes value bytes)) ≡ answered new answer → Alike (find_entry s.tree) (find_entry new.tree)
 names-told s whole pid me walks value bytes new answer is =
     alike_update s whole pid (λ p. with_front bytes (with_result p (pos value) 0)) new (sym (ap (λ (x : Answered). x.after) is))
+
+-- what stat does at the end of a walk from where the process works
+pub stat-walks : (s : State) (pid : ℕ) (me : Process) (w : Walk) → w.start ≡ WorkingDirectory
+    → stat_at s pid me w ≡ (walk_from s me.directory w.follow w.path >>= (λ place. judge_for s me place w.needed >> (demand ENOENT (node_of place) >>= (λ n. answers_bytes s 0 (status s.tree n)))))
+stat-walks s pid me w here = rw here refl
 
 -- ---- links
 
@@ -85,7 +90,7 @@ whole-text count bytes old new short room number is =
 abbrev pub link_rest : State → ℕ → Attempt Effect
 link_rest s n = demand EINVAL (link_text (node_at s.tree n)) >>= (λ text. answers_bytes s (length text) text)
 
-module _ (s : State) (pid : ℕ) (me : Process) (path : Bytes) (n : ℕ) (found : IsFound s me me.directory Keep path permission_r n) where
+module _ (s : State) (pid : ℕ) (me : Process) (path : Bytes) (n : ℕ) (found : IsFound s me me.directory (readlink_walk path) n) where
   pub readlink-is : is_link (node_at s.tree n) ≡ true → readlink s pid me path ≡ done 1 (s, returns_bytes (length (bytes_at s.tree n)) (bytes_at s.tree n))
   readlink-is link =
       found (link_rest s)

@@ -6,7 +6,6 @@ use Rattle.pv_calls_plain.specs.declared.answer.Refused.{Refused}
 use Rattle.pv_calls_path.specs.Reached.{IsMissed, IsReached}
 use Rattle.pv_calls_state.proofs.Attempts.{passed}
 use Rattle.pv_calls_plain.proofs.Room.{crowded}
-use Rattle.pv_calls_path.proofs.Reaching.{reached_then}
 use Rattle.pv_calls_path.proofs.Naming.{but_trim}
 use Rattle.pv_inodes.specs.declared.space.Space.{Space}
 use Rattle.pv_laws_states.specs.States.{IsWhole, IsFinePlace, is_text, is_text_byte, is_byte}
@@ -15,8 +14,7 @@ use Rattle.pv_laws_states.proofs.Grown.{new-below}
 use Rattle.pv_laws_states.proofs.Standing.{text-bytes}
 use Rattle.pv_laws_trees.proofs.Places.{list_all-weaker, not_zero}
 use Rattle.pv_laws_states.proofs.Trim.{held_after, tree-trim}
-use Rattle.pv_model.specs.declared.follow.Follow.{Follow}
-use Rattle.pv_model.specs.declared.follow.Follow.TheVariants.{Last, Keep}
+use Rattle.pv_model.specs.declared.call.Start.TheVariants.{WorkingDirectory}
 use Rattle.pv_model.specs.declared.outcome.Cause.TheVariants.{Plain}
 use Rattle.pv_model.specs.declared.place.Place.{Place}
 use Rattle.pv_model.specs.Attempt.{refused, refuse_if}
@@ -25,11 +23,10 @@ use Rattle.pv_model.specs.Bytes.{Bytes, is_empty}
 use Rattle.pv_model.specs.Calls.Paths.{make, link, symlink, rmdir, ends_in_dot}
 use Rattle.pv_model.specs.Effect.{node_of, name_of}
 use Rattle.pv_model.specs.Held.{trim}
-use Rattle.pv_model.specs.Perms.{permission_r, permission_c}
 use Rattle.pv_model.specs.Room.{fits}
 use Rattle.pv_model.specs.State.{Process, State, with_tree}
 use Rattle.pv_model.specs.Tree.{Node, directory_node, file_node, link_node, node_at, entries_of, entries_at, is_directory, is_directory_at, find_entry, is_node, is_link_text, with_entry, without_entry, with_new_node}
-use Rattle.pv_model.specs.Walks.{from_here}
+use Rattle.pv_model.specs.Walks.{Walk, linked_walk, new_link_walk, rmdir_walk, symlink_walk}
 use Rattle.pv_tree.specs.Rooms.{refusal}
 use Rattle.pv_laws_trees.specs.Found.{AlikeBut}
 use Rattle.pv_laws_trees.proofs.Edits.{stays-new_node, stays-with_entry, stays-without_entry}
@@ -60,25 +57,25 @@ link_text_good text is filled short =
     (list_all-weaker is_text_byte not_zero (λ b good. (and_parts (not_zero b) (is_byte b) good).0) text (text-bytes text is))
 
 module _ (s : State) (pid : ℕ) (me : Process) where
-  pub symlink_makes : (text path : Bytes) → is_empty text ≡ false → nat_lt 1023 (length text) ≡ false → symlink s pid me text path ≡ make s pid me (from_here Keep path permission_c) (link_node text)
+  pub symlink_makes : (text path : Bytes) → is_empty text ≡ false → nat_lt 1023 (length text) ≡ false → symlink s pid me text path ≡ make s pid me (symlink_walk path) (link_node text)
   symlink_makes text path filled short =
       passed (refuse_if ENOENT (is_empty text)) tt _ (ap (refuse_if ENOENT) filled)
-      ∙ passed (refuse_if ENAMETOOLONG (nat_lt 1023 (length text))) tt (make s pid me (from_here Keep path permission_c) (link_node text)) (ap (refuse_if ENAMETOOLONG) short)
+      ∙ passed (refuse_if ENAMETOOLONG (nat_lt 1023 (length text))) tt (make s pid me (symlink_walk path) (link_node text)) (ap (refuse_if ENAMETOOLONG) short)
 
-  pub rmdir_missed : (path : Bytes) → ends_in_dot path ≡ false → (r : Refused) → IsMissed s me me.directory Keep path permission_c r → rmdir s pid me path ≡ refused r.walks r.errno r.cause
+  pub rmdir_missed : (path : Bytes) → ends_in_dot path ≡ false → (r : Refused) → IsMissed s me me.directory (rmdir_walk path) r → rmdir s pid me path ≡ refused r.walks r.errno r.cause
   rmdir_missed path fine r missed = passed (refuse_if EINVAL (ends_in_dot path)) tt _ (ap (refuse_if EINVAL) fine) ∙ missed _
 
-  pub rmdir_full : (path : Bytes) → ends_in_dot path ≡ false → (place : Place) → IsReached s me me.directory Keep path permission_c place → (n : ℕ) → node_of place ≡ Some n
+  pub rmdir_full : (path : Bytes) → ends_in_dot path ≡ false → (place : Place) → IsReached s me me.directory (rmdir_walk path) place → (n : ℕ) → node_of place ≡ Some n
       → is_directory_at s.tree n ≡ true → (d : ℕ) (name : Bytes) → name_of place ≡ Some (d, name) → is_empty (entries_at s.tree n) ≡ false → rmdir s pid me path ≡ refused 1 ENOTEMPTY Plain
   rmdir_full path fine place reached n there directory d name named full = rw (fine, reached.walked, reached.judged, there, directory, named, full) refl
 
-  pub make_crowded : (follow : Follow) (path : Bytes) (node : Node) (place : Place) → IsReached s me me.directory follow path permission_c place
+  pub make_crowded : (w : Walk) → w.start ≡ WorkingDirectory → (node : Node) (place : Place) → IsReached s me me.directory w place
       → is_some (node_of place) ≡ false → (d : ℕ) (name : Bytes) → name_of place ≡ Some (d, name) → (why : Space)
-      → refusal (trim (with_tree s (with_new_node s.tree d name node))).tree ≡ Some why → make s pid me (from_here follow path permission_c) node ≡ refused 1 (space_errno why) Plain
-  make_crowded follow path node place reached free d name named why is =
-      reached_then s me me.directory follow path permission_c place reached _ ∙ rw (free, named, crowded (with_tree s (with_new_node s.tree d name node)) why is) refl
+      → refusal (trim (with_tree s (with_new_node s.tree d name node))).tree ≡ Some why → make s pid me w node ≡ refused 1 (space_errno why) Plain
+  make_crowded w here node place reached free d name named why is =
+      rw (here, reached.walked, reached.judged, free, named, crowded (with_tree s (with_new_node s.tree d name node)) why is) refl
 
-  pub link_crowded : (path new : Bytes) (place other : Place) → IsReached s me me.directory Last path permission_r place → IsReached s me me.directory Keep new permission_c other
+  pub link_crowded : (path new : Bytes) (place other : Place) → IsReached s me me.directory (linked_walk path) place → IsReached s me me.directory (new_link_walk new) other
       → (n : ℕ) → node_of place ≡ Some n → is_directory_at s.tree n ≡ false → is_some (node_of other) ≡ false → (d : ℕ) (name : Bytes) → name_of other ≡ Some (d, name) → (why : Space)
       → refusal (trim (with_tree s (with_entry s.tree d name n))).tree ≡ Some why → link s pid me path new ≡ refused 2 (space_errno why) Plain
   link_crowded path new place other first second n there plain free d name named why is =

@@ -8,10 +8,7 @@ use Rattle.pv_model.specs.declared.errno.Errno.TheVariants.{EACCES, ENOENT, ENOE
 use Rattle.pv_model.specs.declared.fault.ParseFault.{ParseFault}
 use Rattle.pv_model.specs.declared.fault.ParseFault.TheVariants.{Line}
 use Rattle.pv_model.specs.declared.fault.What.{What}
-use Rattle.pv_model.specs.declared.follow.Follow.{Follow}
-use Rattle.pv_model.specs.declared.follow.Follow.TheVariants.{Last}
 use Rattle.pv_model.specs.declared.outcome.Cause.TheVariants.{Plain}
-use Rattle.pv_model.specs.declared.perms.Perms.{Perms}
 use Rattle.pv_model.specs.declared.place.Place.{Place}
 use Rattle.pv_model.specs.declared.sort.Kind.{Kind}
 use Rattle.pv_model.specs.declared.sort.Kind.TheVariants.{Executable}
@@ -21,21 +18,20 @@ use Rattle.pv_model.specs.Calls.Paths.{chdir}
 use Rattle.pv_model.specs.Calls.Processes.{execve, executable_bytes, with_program}
 use Rattle.pv_model.specs.Effect.{Effect, answers, bytes_of, node_of, returns}
 use Rattle.pv_model.specs.Grammar.Programs.{program_of}
-use Rattle.pv_model.specs.Perms.{permission_r, permission_x}
 use Rattle.pv_model.specs.State.{Process, Program, State, with_process}
 use Rattle.pv_model.specs.Tree.{Node, directory_node, file_node, link_node, is_directory_at, node_at}
+use Rattle.pv_model.specs.Walks.{Walk, chdir_walk, execve_walk}
 use Rattle.pv_calls_state.specs.Changes.{with_directory}
 use Rattle.pv_script.specs.Reading.{RefusesProgram}
 use Rattle.pv_calls_state.proofs.Attempts.{given, passed, refused_before, refused_first}
 
 -- a walk reaches a place, and a node is there
-pub found_there : (s : State) (me : Process) (start : ℕ) (follow : Follow) (path : Bytes) (needed : Perms) (place : Place) (n : ℕ)
-    → IsReached s me start follow path needed place → node_of place ≡ Some n → IsFound s me start follow path needed n
-found_there s me start follow path needed place n is there rest =
-    reached_then s me start follow path needed place is (λ place. demand ENOENT (node_of place) >>= rest)
+pub found_there : (s : State) (me : Process) (start : ℕ) (w : Walk) (place : Place) (n : ℕ) → IsReached s me start w place → node_of place ≡ Some n → IsFound s me start w n
+found_there s me start w place n is there rest =
+    reached_then s me start w place is (λ place. demand ENOENT (node_of place) >>= rest)
     ∙ ap (after_walks 1) (given (demand ENOENT (node_of place)) n rest (ap (demand ENOENT) there))
 
-module _ (s : State) (pid : ℕ) (me : Process) (path : Bytes) (n : ℕ) (found : IsFound s me me.directory Last path permission_r n) where
+module _ (s : State) (pid : ℕ) (me : Process) (path : Bytes) (n : ℕ) (found : IsFound s me me.directory (chdir_walk path) n) where
   -- what chdir does with the node that it finds
   chdir_rest : ℕ → Attempt Effect
   chdir_rest n = refuse_if ENOTDIR (not (is_directory_at s.tree n)) >> answers (with_process s pid (with_directory n me)) 0
@@ -69,7 +65,7 @@ own_bytes (Some (file_node true bytes)) k is executable = refl
 own_bytes (Some (link_node text)) k is executable = cc
 
 -- an execve that reaches an executable file has its bytes to load
-pub leads_to : (s : State) (me : Process) (path : Bytes) (place : Place) (n : ℕ) (bytes : Bytes) → IsReached s me me.directory Last path permission_x place → node_of place ≡ Some n
+pub leads_to : (s : State) (me : Process) (path : Bytes) (place : Place) (n : ℕ) (bytes : Bytes) → IsReached s me me.directory (execve_walk path) place → node_of place ≡ Some n
     → executable_bytes (node_at s.tree n) ≡ Some bytes → bytes_to_load s me path ≡ done 1 bytes
 leads_to s me path place n bytes is there has = rw (is.walked, is.judged, there, has) refl
 
@@ -77,7 +73,7 @@ leads_to s me path place n bytes is there has = rw (is.walked, is.judged, there,
 pub unspelled : (fault : ParseFault) (line : ℕ) (what : What) (read : Result Program ParseFault) → fault ≡ Line line what → RefusesProgram fault read → read ≡ Err (Line line what)
 unspelled fault line what read is refuses = subst (λ (f : ParseFault). RefusesProgram f read) is refuses
 
-module _ (s : State) (pid : ℕ) (me : Process) (path : Bytes) (n : ℕ) (found : IsFound s me me.directory Last path permission_x n) where
+module _ (s : State) (pid : ℕ) (me : Process) (path : Bytes) (n : ℕ) (found : IsFound s me me.directory (execve_walk path) n) where
   -- what execve does with the bytes of an executable file, and with the node that it finds
   load_rest : Bytes → Attempt Effect
   load_rest bytes = demand ENOEXEC (program_of bytes) >>= (λ program. answers (with_process s pid (with_program s pid me program)) 0)

@@ -24,8 +24,6 @@ use Rattle.pv_laws_states.proofs.Trim.{held_after, tree-trim}
 use Rattle.pv_model.specs.declared.call.Start.{Start}
 use Rattle.pv_model.specs.declared.errno.Errno.{Errno}
 use Rattle.pv_model.specs.declared.errno.Errno.TheVariants.{EINVAL, EMFILE, ENFILE}
-use Rattle.pv_model.specs.declared.follow.Follow.{Follow}
-use Rattle.pv_model.specs.declared.perms.Perms.{Perms}
 use Rattle.pv_model.specs.declared.open_flags.OpenFlags.{OpenFlags}
 use Rattle.pv_model.specs.declared.outcome.Cause.TheVariants.{Plain}
 use Rattle.pv_model.specs.declared.place.Place.{Place}
@@ -39,7 +37,7 @@ use Rattle.pv_model.specs.Numbered.{Numbered, least_free}
 use Rattle.pv_model.specs.Room.{fits}
 use Rattle.pv_model.specs.State.{OpenFile, Process, State, process_at, writes}
 use Rattle.pv_model.specs.Tree.{file_node, Tree, find_entry, with_new_node, new_number, IsWellFormed}
-use Rattle.pv_model.specs.Walks.{follow_of}
+use Rattle.pv_model.specs.Walks.{follow_of, open_walk}
 use Rattle.pv_laws_trees.specs.Found.{Alike, AlikeBut}
 use Rattle.pv_laws_trees.proofs.Edits.{stays-content, stays-new_node}
 use Rattle.pv_laws_trees.proofs.Found.{alike-new, alike-content}
@@ -100,17 +98,14 @@ module _ (s : State) (pid : ℕ) (me : Process) (start : Start) (path : Bytes) (
             ∙ passed (refuse_if EMFILE (nat_le 16 (least_free me.descriptors))) tt _ (ap (refuse_if EMFILE) few)
             ∙ passed (refuse_if ENFILE (nat_le 128 (least_free s.files))) tt _ (ap (refuse_if ENFILE) few_files)
 
-        module _ (d : ℕ) (is : start_directory s me start path ≡ d) (follow : Follow) (fo : follow ≡ follow_of f) (needed : Perms) (ne : needed ≡ permissions_of_open f) where
-          pub open_stopped : (r : Refused) → IsStopped s me d follow path needed r → open_at s pid me start path f ≡ refused r.walks r.errno r.cause
-          open_stopped r stopped =
-              open_after ∙ subst (λ e. IsStopped s me e (follow_of f) path (permissions_of_open f) r) (sym is)
-              (subst (λ w. IsStopped s me d w path (permissions_of_open f) r) fo (subst (λ n. IsStopped s me d follow path n r) ne stopped)) (open_place s pid me f)
+        module _ (d : ℕ) (is : start_directory s me start path ≡ d) where
+          pub open_stopped : (r : Refused) → IsStopped s me d (open_walk start path f) r → open_at s pid me start path f ≡ refused r.walks r.errno r.cause
+          open_stopped r stopped = open_after ∙ subst (λ e. IsStopped s me e (open_walk start path f) r) (sym is) stopped (open_place s pid me f)
 
-          pub open_reached : (place : Place) → IsReached s me d follow path needed place → open_at s pid me start path f ≡ after_walks 1 (open_place s pid me f place)
+          pub open_reached : (place : Place) → IsReached s me d (open_walk start path f) place → open_at s pid me start path f ≡ after_walks 1 (open_place s pid me f place)
           open_reached place reached =
-              open_after ∙ reached_then s me (start_directory s me start path) (follow_of f) path (permissions_of_open f) place
-              (subst (λ e. IsReached s me e (follow_of f) path (permissions_of_open f) place) (sym is)
-              (subst (λ w. IsReached s me d w path (permissions_of_open f) place) fo (subst (λ n. IsReached s me d follow path n place) ne reached))) (open_place s pid me f)
+              open_after ∙ reached_then s me (start_directory s me start path) (open_walk start path f) place
+              (subst (λ e. IsReached s me e (open_walk start path f) place) (sym is) reached) (open_place s pid me f)
 
 -- ---- names
 

@@ -1,7 +1,8 @@
 -- A walk with its judgement, as the parts make it.
-use Rattle.std.proofs.Common.{◌≡◌, ◌∙◌, ℕ, true, if◌then◌else◌, nat_le, nat_lt, [], ◌∷◌, length, Option, Some, Ok, Err, option_map, refl, sym, ap, arith}
+use Rattle.std.proofs.Common.{◌≡◌, ◌∙◌, ℕ, true, if◌then◌else◌, nat_le, nat_lt, [], ◌∷◌, length, Option, Some, Ok, Err, option_map, refl, sym, ap, arith, subst}
 use Rattle.std.proofs.lemmas.Bool.Decides.{nat_tests}
-use Rattle.pv_calls_path.specs.Reached.{IsReached, IsStopped}
+use Rattle.pv_calls_path.specs.Reached.{IsFound, IsMissed, IsMissedByBoth, IsReached, IsStopped}
+use Rattle.pv_calls_plain.specs.declared.answer.Refused.{Refused}
 use Rattle.pv_laws_states.specs.States.{IsWhole, is_text, IsFinePlace}
 use Rattle.pv_laws_states.proofs.Standing.{resolve-fine}
 use Rattle.pv_model.specs.declared.errno.Errno.{Errno}
@@ -20,6 +21,7 @@ use Rattle.pv_model.specs.State.{Process, State, process_at}
 use Rattle.pv_model.specs.Tree.{Tree, is_directory_at}
 use Rattle.pv_model.specs.Unveil.{judgement}
 use Rattle.pv_model.specs.Walk.{Walked, resolve, begins_walk}
+use Rattle.pv_model.specs.Walks.{Walk}
 use Rattle.pv_procs.specs.declared.record.ProcessRecord.{ProcessRecord}
 use Rattle.pv_procs.specs.Parts.{record_of}
 use Rattle.pv_calls_state.proofs.Attempts.{after_none}
@@ -62,14 +64,30 @@ module _ (s : State) (start : ℕ) (follow : Follow) (path : Bytes) where
   pub found_fine : IsWhole s → is_directory_at s.tree start ≡ true → is_text path ≡ true → (place : Place) → resolve s.tree follow start path ≡ Ok place → IsFinePlace s.tree place
   found_fine whole directory text place found = resolve-fine s.tree whole.tree follow start path place directory text found
 
-  -- the table refuses the place
-  pub judged_stop : (me : Process) (needed : Perms) (place : Place) (j : Judgement) (e : Errno) (cause : Cause)
-      → walk_from s start follow path ≡ done 1 place → judgement s.tree me.table place needed ≡ j
-      → judgement_or_refusal j ≡ refused 0 e cause → IsStopped s me start follow path needed (record { walks = 1; errno = e; cause = cause })
-  judged_stop me needed place j e cause walked judged refuses rest = rw (walked, judged, refuses) refl
+-- the table refuses the place
+pub judged_stop : (s : State) (me : Process) (start : ℕ) (w : Walk) (place : Place) (j : Judgement) (e : Errno) (cause : Cause)
+    → walk_from s start w.follow w.path ≡ done 1 place → judgement s.tree me.table place w.needed ≡ j
+    → judgement_or_refusal j ≡ refused 0 e cause → IsStopped s me start w (record { walks = 1; errno = e; cause = cause })
+judged_stop s me start w place j e cause walked judged refuses rest = rw (walked, judged, refuses) refl
 
 -- after a walk that leads somewhere there is the rest, one walk later
-pub reached_then : (s : State) (me : Process) (start : ℕ) (follow : Follow) (path : Bytes) (needed : Perms) (place : Place)
-    → IsReached s me start follow path needed place → (rest : Place → Attempt Effect)
-    → (walk_from s start follow path >>= (λ place. judge_for s me place needed >> rest place)) ≡ after_walks 1 (rest place)
-reached_then s me start follow path needed place is rest = rw (is.walked, is.judged) (ap (after_walks 1) (after_none (rest place)))
+pub reached_then : (s : State) (me : Process) (start : ℕ) (w : Walk) (place : Place) → IsReached s me start w place → (rest : Place → Attempt Effect)
+    → (walk_from s start w.follow w.path >>= (λ place. judge_for s me place w.needed >> rest place)) ≡ after_walks 1 (rest place)
+reached_then s me start w place is rest = rw (is.walked, is.judged) (ap (after_walks 1) (after_none (rest place)))
+
+-- ---- what is so of a walk is so of one that is the same
+
+pub reached-as : (s : State) (me : Process) (start : ℕ) {w v : Walk} → w ≡ v → (place : Place) → IsReached s me start w place → IsReached s me start v place
+reached-as s me start same place is = subst (λ x. IsReached s me start x place) same is
+
+pub stopped-as : (s : State) (me : Process) (start : ℕ) {w v : Walk} → w ≡ v → (r : Refused) → IsStopped s me start w r → IsStopped s me start v r
+stopped-as s me start same r is = subst (λ x. IsStopped s me start x r) same is
+
+pub found-as : (s : State) (me : Process) (start : ℕ) {w v : Walk} → w ≡ v → (n : ℕ) → IsFound s me start w n → IsFound s me start v n
+found-as s me start same n is = subst (λ x. IsFound s me start x n) same is
+
+pub missed-as : (s : State) (me : Process) (start : ℕ) {w v : Walk} → w ≡ v → (r : Refused) → IsMissed s me start w r → IsMissed s me start v r
+missed-as s me start same r is = subst (λ x. IsMissed s me start x r) same is
+
+pub both-missed-as : (s : State) (me : Process) {w v x y : Walk} → w ≡ x → v ≡ y → (r : Refused) → IsMissedByBoth s me w v r → IsMissedByBoth s me x y r
+both-missed-as s me {w} {v} {x} {y} one two r is = subst (λ u. IsMissedByBoth s me x u r) two (subst (λ u. IsMissedByBoth s me u v r) one is)

@@ -12,7 +12,6 @@ use Rattle.pv_inodes.specs.declared.space.Space.{Space}
 use Rattle.pv_laws_states.specs.States.{IsWhole}
 use Rattle.pv_model.specs.declared.errno.Errno.{Errno}
 use Rattle.pv_model.specs.declared.errno.Errno.TheVariants.{ENOTDIR, EISDIR, EINVAL, ENOTEMPTY}
-use Rattle.pv_model.specs.declared.follow.Follow.TheVariants.{Keep}
 use Rattle.pv_model.specs.declared.outcome.Cause.TheVariants.{Plain}
 use Rattle.pv_model.specs.declared.place.Place.{Place}
 use Rattle.pv_model.specs.Attempt.{Attempt, done, refused, give, refuse_if, ◌>>◌, ◌>>=◌}
@@ -20,7 +19,7 @@ use Rattle.pv_model.specs.Bytes.{Bytes, is_empty}
 use Rattle.pv_model.specs.Calls.Paths.{contains_directory, entries_there, same_node, ends_in_dot, move_entry, rename}
 use Rattle.pv_model.specs.Effect.{Effect, answers, returns, with_room, node_of, name_of}
 use Rattle.pv_model.specs.Held.{trim}
-use Rattle.pv_model.specs.Perms.{permission_c}
+use Rattle.pv_model.specs.Walks.{rename_walk}
 use Rattle.pv_model.specs.Room.{fits, is_too_long}
 use Rattle.pv_model.specs.State.{Process, State, with_tree}
 use Rattle.pv_model.specs.Tree.{Tree, is_directory_at, find_entry, is_name, with_entry, without_entry}
@@ -107,11 +106,11 @@ module _ (s : State) (pid : ℕ) (me : Process) (path new : Bytes) (fine : ends_
   no_dots : refuse_if EINVAL (ends_in_dot path || ends_in_dot new) ≡ give tt
   no_dots = rw (fine, other_fine) refl
 
-  pub rename_missed : (r : Refused) → IsMissedByBoth s me Keep path permission_c Keep new permission_c r → rename s pid me path new ≡ refused r.walks r.errno r.cause
+  pub rename_missed : (r : Refused) → IsMissedByBoth s me (rename_walk path) (rename_walk new) r → rename s pid me path new ≡ refused r.walks r.errno r.cause
   rename_missed r missed = passed (refuse_if EINVAL (ends_in_dot path || ends_in_dot new)) tt _ no_dots ∙ missed _
 
 module _ (s : State) (pid : ℕ) (me : Process) (path new : Bytes) (fine : ends_in_dot path ≡ false) (other_fine : ends_in_dot new ≡ false)
-    (place other : Place) (first : IsReached s me me.directory Keep path permission_c place) (second : IsReached s me me.directory Keep new permission_c other)
+    (place other : Place) (first : IsReached s me me.directory (rename_walk path) place) (second : IsReached s me me.directory (rename_walk new) other)
     (n : ℕ) (there : node_of place ≡ Some n) (d : ℕ) (name : Bytes) (named : name_of place ≡ Some (d, name))
     (e : ℕ) (new_name : Bytes) (new_named : name_of other ≡ Some (e, new_name)) (differs : same_node (node_of other) n ≡ false) where
   pub rename_refused : (errno : Errno) → move_entry s pid me n d name e new_name (node_of other) ≡ refused 0 errno Plain → rename s pid me path new ≡ refused 2 errno Plain

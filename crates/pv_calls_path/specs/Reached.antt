@@ -4,18 +4,18 @@ use Rattle.pv_laws_states.specs.States.{IsFinePlace}
 use Rattle.pv_model.specs.declared.errno.Errno.TheVariants.{EEXIST, ENOENT}
 use Rattle.pv_model.specs.declared.follow.Follow.{Follow}
 use Rattle.pv_model.specs.declared.outcome.Cause.TheVariants.{Plain}
-use Rattle.pv_model.specs.declared.perms.Perms.{Perms}
 use Rattle.pv_model.specs.declared.place.Place.{Place}
 use Rattle.pv_model.specs.Attempt.{Attempt, done, refused, after_walks, demand, give, refuse_if, ◌>>=◌, ◌>>◌}
 use Rattle.pv_model.specs.Bytes.{Bytes}
 use Rattle.pv_model.specs.Effect.{Effect, walk_from, judge_for, name_of, node_of}
 use Rattle.pv_model.specs.State.{Process, State}
+use Rattle.pv_model.specs.Walks.{Walk}
 use Rattle.pv_calls_plain.specs.declared.answer.Refused.{Refused}
 
--- a walk that the table allows leads to a place
-pub record IsReached (s : State) (me : Process) (start : ℕ) (follow : Follow) (path : Bytes) (needed : Perms) (place : Place) : Type 0 where
-  pub walked : walk_from s start follow path ≡ done 1 place
-  pub judged : judge_for s me place needed ≡ give tt
+-- a walk that the table allows leads from a directory to a place
+pub record IsReached (s : State) (me : Process) (start : ℕ) (w : Walk) (place : Place) : Type 0 where
+  pub walked : walk_from s start w.follow w.path ≡ done 1 place
+  pub judged : judge_for s me place w.needed ≡ give tt
   pub fine : IsFinePlace s.tree place
 
 -- a walk is refused, and so is all that begins with it
@@ -23,35 +23,35 @@ abbrev pub IsLost : State → ℕ → Follow → Bytes → Refused → Type 0
 IsLost s start follow path r = (next : Place → Attempt Effect) → (walk_from s start follow path >>= next) ≡ refused r.walks r.errno r.cause
 
 -- a walk, or the judgement at its end, is refused, and so is all that begins with it
-abbrev pub IsStopped : State → Process → ℕ → Follow → Bytes → Perms → Refused → Type 0
-IsStopped s me start follow path needed r =
+abbrev pub IsStopped : State → Process → ℕ → Walk → Refused → Type 0
+IsStopped s me start w r =
     (rest : Place → Attempt Effect)
-    → (walk_from s start follow path >>= (λ place. judge_for s me place needed >> rest place)) ≡ refused r.walks r.errno r.cause
+    → (walk_from s start w.follow w.path >>= (λ place. judge_for s me place w.needed >> rest place)) ≡ refused r.walks r.errno r.cause
 
 -- the same after a first walk, which counts too
-abbrev pub IsStoppedSecond : State → Process → ℕ → Follow → Bytes → Perms → Refused → Type 0
-IsStoppedSecond s me start follow path needed r =
+abbrev pub IsStoppedSecond : State → Process → ℕ → Walk → Refused → Type 0
+IsStoppedSecond s me start w r =
     (rest : Place → Attempt Effect)
-    → after_walks 1 (walk_from s start follow path >>= (λ place. judge_for s me place needed >> rest place)) ≡ refused r.walks r.errno r.cause
+    → after_walks 1 (walk_from s start w.follow w.path >>= (λ place. judge_for s me place w.needed >> rest place)) ≡ refused r.walks r.errno r.cause
 
 -- a walk that the table allows leads to a node, and what begins with it goes on with the node
-abbrev pub IsFound : State → Process → ℕ → Follow → Bytes → Perms → ℕ → Type 0
-IsFound s me start follow path needed n =
+abbrev pub IsFound : State → Process → ℕ → Walk → ℕ → Type 0
+IsFound s me start w n =
     (rest : ℕ → Attempt Effect)
-    → (walk_from s start follow path >>= (λ place. judge_for s me place needed >> (demand ENOENT (node_of place) >>= rest))) ≡ after_walks 1 (rest n)
+    → (walk_from s start w.follow w.path >>= (λ place. judge_for s me place w.needed >> (demand ENOENT (node_of place) >>= rest))) ≡ after_walks 1 (rest n)
 
 -- a walk, its judgement, or that nothing is at its end, refuses all that begins with it
-abbrev pub IsMissed : State → Process → ℕ → Follow → Bytes → Perms → Refused → Type 0
-IsMissed s me start follow path needed r =
+abbrev pub IsMissed : State → Process → ℕ → Walk → Refused → Type 0
+IsMissed s me start w r =
     (rest : Place → ℕ → Attempt Effect)
-    → (walk_from s start follow path >>= (λ place. judge_for s me place needed >> (demand ENOENT (node_of place) >>= rest place))) ≡ refused r.walks r.errno r.cause
+    → (walk_from s start w.follow w.path >>= (λ place. judge_for s me place w.needed >> (demand ENOENT (node_of place) >>= rest place))) ≡ refused r.walks r.errno r.cause
 
 -- one of two walks from where the process works, a judgement of theirs, or that nothing is at the end of the first, refuses all that begins with both
-abbrev pub IsMissedByBoth : State → Process → Follow → Bytes → Perms → Follow → Bytes → Perms → Refused → Type 0
-IsMissedByBoth s me follow path needed second_follow second_path second_needed r =
+abbrev pub IsMissedByBoth : State → Process → Walk → Walk → Refused → Type 0
+IsMissedByBoth s me first second r =
     (rest : Place → Place → ℕ → Attempt Effect)
-    → (walk_from s me.directory follow path >>= (λ place. judge_for s me place needed >>
-    (walk_from s me.directory second_follow second_path >>= (λ other. judge_for s me other second_needed >> (demand ENOENT (node_of place) >>= rest place other)))))
+    → (walk_from s me.directory first.follow first.path >>= (λ place. judge_for s me place first.needed >>
+    (walk_from s me.directory second.follow second.path >>= (λ other. judge_for s me other second.needed >> (demand ENOENT (node_of place) >>= rest place other)))))
     ≡ refused r.walks r.errno r.cause
 
 -- something is at a place, or it has no name, and so all is refused that begins with a new name there

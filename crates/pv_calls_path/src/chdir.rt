@@ -9,10 +9,10 @@ ghost use Rattle.pv_calls_state.specs.Attempts.{trimmed};
 ghost use Rattle.pv_calls_plain.specs.Rows.{attempt_of};
 
 use crate::links::LinkRoom;
-use crate::reach::{Walk, reach_node};
+use crate::reach::reach_node;
 use pv_calls_plain::answer::{Done, Refused, answer_of, refusal};
 use pv_calls_state::Parts;
-use pv_model::{Errno, Follow, Perms};
+use pv_model::{Errno, Text, Walk};
 use pv_namei::Lookup;
 
 /// Makes the directory at a path the working directory of a live process, chdir(2): the answer is 0.
@@ -25,7 +25,7 @@ pub fn chdir<L: Lookup>(
     lookup: &mut L,
     links: &mut LinkRoom,
     pid: u32,
-    path: &[u8],
+    path: &Text,
 ) -> Result<Done, Refused>
     requires whole { IsWhole parts.old }
     requires live { IsSome (process_at parts.old pid) }
@@ -36,11 +36,7 @@ pub fn chdir<L: Lookup>(
     ensures small { IfOk result (λ d. d.value ≤ NUMBER) }
     ensures agrees { L.agrees lookup.new (find_entry parts.new.tree) }
 {
-    let walk = Walk {
-        follow: Follow::Last,
-        path,
-        needed: Perms::R,
-    };
+    let walk = Walk::chdir(path);
     let node = reach_node(parts, lookup, pid, walk, &mut links.first)?;
     if !parts.tree().is_directory(node) {
         return Err(refusal(1, Errno::ENOTDIR));

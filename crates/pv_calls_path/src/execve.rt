@@ -8,10 +8,10 @@ ghost use Rattle.pv_calls_path.specs.Execve.{Executes};
 
 use crate::links::LinkRoom;
 use crate::programs::read_program;
-use crate::reach::{Walk, reach_found};
+use crate::reach::reach_found;
 use pv_calls_plain::answer::{Done, Refused, refusal};
 use pv_calls_state::Parts;
-use pv_model::{Errno, Follow, Kind, ParseFault, Perms};
+use pv_model::{Errno, Kind, ParseFault, Text, Walk};
 use pv_namei::Lookup;
 use std::alloc::Global;
 
@@ -44,7 +44,7 @@ pub fn execve<L: Lookup>(
     lookup: &mut L,
     links: &mut LinkRoom,
     pid: u32,
-    path: &[u8],
+    path: &Text,
 ) -> Result<Done, ExecveFault>
     requires whole { IsWhole parts.old }
     requires live { IsSome (process_at parts.old pid) }
@@ -54,11 +54,7 @@ pub fn execve<L: Lookup>(
     ensures unchanged { OnErr result (parts.new ≡ parts.old) }
     ensures agrees { L.agrees lookup.new (find_entry parts.new.tree) }
 {
-    let walk = Walk {
-        follow: Follow::Last,
-        path,
-        needed: Perms::X,
-    };
+    let walk = Walk::execve(path);
     let node = match reach_found(parts, lookup, pid, walk, &mut links.first) {
         Ok(found) => found.node,
         Err(why) => return Err(ExecveFault::Refused(why)),

@@ -1,44 +1,39 @@
 //! Calls that tell what is at a path: stat(2), lstat(2), readlink(2).
-ghost use Rattle.std.specs.Prelude.{IsSome, IsTrue};
+ghost use Rattle.std.specs.Prelude.{◌≡◌, IsSome, IsTrue};
 ghost use Rattle.pv_laws_states.specs.States.{IsWhole, is_text};
+ghost use Rattle.pv_model.specs.declared.call.Start.TheVariants.{WorkingDirectory};
+ghost use Rattle.pv_model.specs.CallRef.{walk_of};
 ghost use Rattle.pv_model.specs.Calls.Paths.{lstat, readlink, stat, stat_at};
-ghost use Rattle.pv_model.specs.Perms.{permission_r};
 ghost use Rattle.pv_model.specs.State.{process_at};
 ghost use Rattle.pv_model.specs.Tree.{find_entry};
-ghost use Rattle.pv_model.specs.Walks.{from_here};
 ghost use Rattle.pv_calls_plain.specs.Rows.{IsAnswered};
 
 use crate::links::LinkRoom;
 use crate::opening::is_link;
-use crate::reach::{Walk, reach_node};
+use crate::reach::reach_node;
 use pv_calls_plain::answer::{Answer, Done, refusal, tell, tell_bytes};
 use pv_calls_plain::status::status;
 use pv_calls_state::Parts;
 use pv_model::limits::LINK_TEXT;
-use pv_model::{Errno, Follow, Perms};
+use pv_model::{Errno, Text, Walk};
 use pv_namei::Lookup;
 
-// Tells what is at the end of a walk.
+// Tells what is at the end of a walk from the working directory.
 fn stat_at<L: Lookup>(
     parts: &mut Parts,
     lookup: &mut L,
     links: &mut LinkRoom,
     pid: u32,
-    follow: Follow,
-    path: &[u8],
+    walk: Walk<'_>,
 ) -> Answer
     requires whole { IsWhole parts.old }
     requires live { IsSome (process_at parts.old pid) }
-    requires text { IsTrue (is_text path.now) }
+    requires here { walk.start ≡ WorkingDirectory }
+    requires text { IsTrue (is_text walk.path.now) }
     requires agrees { L.agrees lookup.old (find_entry parts.old.tree) }
-    ensures performed { IsAnswered (λ s me. stat_at s pid me (from_here follow path.now permission_r)) parts.old pid parts.new result }
+    ensures performed { IsAnswered (λ s me. stat_at s pid me (walk_of walk.entry)) parts.old pid parts.new result }
     ensures agrees { L.agrees lookup.new (find_entry parts.new.tree) }
 {
-    let walk = Walk {
-        follow,
-        path,
-        needed: Perms::R,
-    };
     match reach_node(parts, lookup, pid, walk, &mut links.first) {
         Ok(node) => {
             parts.facts();
@@ -58,7 +53,7 @@ pub fn stat<L: Lookup>(
     lookup: &mut L,
     links: &mut LinkRoom,
     pid: u32,
-    path: &[u8],
+    path: &Text,
 ) -> Answer
     requires whole { IsWhole parts.old }
     requires live { IsSome (process_at parts.old pid) }
@@ -67,7 +62,7 @@ pub fn stat<L: Lookup>(
     ensures performed { IsAnswered (λ s me. stat s pid me path.now) parts.old pid parts.new result }
     ensures agrees { L.agrees lookup.new (find_entry parts.new.tree) }
 {
-    stat_at(parts, lookup, links, pid, Follow::Last, path)
+    stat_at(parts, lookup, links, pid, Walk::stat(path))
 }
 
 /// The same of a final link itself, lstat(2).
@@ -78,7 +73,7 @@ pub fn lstat<L: Lookup>(
     lookup: &mut L,
     links: &mut LinkRoom,
     pid: u32,
-    path: &[u8],
+    path: &Text,
 ) -> Answer
     requires whole { IsWhole parts.old }
     requires live { IsSome (process_at parts.old pid) }
@@ -87,7 +82,7 @@ pub fn lstat<L: Lookup>(
     ensures performed { IsAnswered (λ s me. lstat s pid me path.now) parts.old pid parts.new result }
     ensures agrees { L.agrees lookup.new (find_entry parts.new.tree) }
 {
-    stat_at(parts, lookup, links, pid, Follow::Keep, path)
+    stat_at(parts, lookup, links, pid, Walk::lstat(path))
 }
 
 /// Reads the text of a link, readlink(2): it comes to the front of the buffer, and the answer is its length.
@@ -100,7 +95,7 @@ pub fn readlink<L: Lookup>(
     lookup: &mut L,
     links: &mut LinkRoom,
     pid: u32,
-    path: &[u8],
+    path: &Text,
 ) -> Answer
     requires whole { IsWhole parts.old }
     requires live { IsSome (process_at parts.old pid) }
@@ -109,11 +104,7 @@ pub fn readlink<L: Lookup>(
     ensures performed { IsAnswered (λ s me. readlink s pid me path.now) parts.old pid parts.new result }
     ensures agrees { L.agrees lookup.new (find_entry parts.new.tree) }
 {
-    let walk = Walk {
-        follow: Follow::Keep,
-        path,
-        needed: Perms::R,
-    };
+    let walk = Walk::readlink(path);
     let node = match reach_node(parts, lookup, pid, walk, &mut links.first) {
         Ok(node) => node,
         Err(refused) => return tell(parts, pid, Err(refused)),

@@ -1,26 +1,26 @@
 //! Calls that make, take away or change names: mkdir(2), symlink(2), link(2), unlink(2), rmdir(2).
 ghost use Rattle.std.specs.Prelude.{◌≡◌, ◌≤◌, IfErr, IfOk, IsSome, IsTrue, OnErr, None, Some};
 ghost use Rattle.pv_laws_states.specs.States.{IsWhole, is_text};
+ghost use Rattle.pv_model.specs.declared.call.Start.TheVariants.{WorkingDirectory};
 ghost use Rattle.pv_model.specs.declared.limits.TheConstants.{NUMBER};
 ghost use Rattle.pv_model.specs.declared.outcome.Cause.TheVariants.{Plain};
+ghost use Rattle.pv_model.specs.CallRef.{walk_of};
 ghost use Rattle.pv_model.specs.Calls.Paths.{make, mkdir, symlink, link, unlink, rmdir};
 ghost use Rattle.pv_model.specs.Effect.{name_of, node_of};
-ghost use Rattle.pv_model.specs.Perms.{permission_c};
 ghost use Rattle.pv_model.specs.State.{Process, process_at};
 ghost use Rattle.pv_model.specs.Tree.{find_entry, is_node};
-ghost use Rattle.pv_model.specs.Walks.{from_here};
 ghost use Rattle.pv_calls_state.specs.Attempts.{trimmed};
 ghost use Rattle.pv_calls_path.specs.Reached.{IsTaken};
 ghost use Rattle.pv_calls_plain.specs.Rows.{attempt_of};
 ghost use Rattle.pv_tree.specs.Changes.{new_node};
 
 use crate::links::LinkRoom;
-use crate::reach::{Walk, reach, reach_both, reach_found};
+use crate::reach::{ends_in_dot, reach, reach_both, reach_found};
 use pv_calls_plain::answer::{Done, Refused, answer_of, refusal, space_errno};
 use pv_calls_state::Parts;
 use pv_model::limits::LINK_TEXT;
-use pv_model::{Errno, Follow, NewNode, Perms};
-use pv_namei::{Lookup, ends_in_dot};
+use pv_model::{Errno, NewNode, Text, Walk};
+use pv_namei::Lookup;
 use pv_tree::PlaceRef;
 
 // The directory and the name of a place at which nothing is, after so many walks: `EEXIST` where something is, or the
@@ -37,31 +37,26 @@ fn free_name<'a>(place: &PlaceRef<'a>, walks: u8) -> Result<(u16, &'a [u8]), Ref
     }
 }
 
-// A new node at a place where there is none: the answer is 0.
+// A new node at the end of a walk from the working directory, where there is none: the answer is 0.
 fn make<L: Lookup>(
     parts: &mut Parts,
     lookup: &mut L,
     links: &mut LinkRoom,
     pid: u32,
-    follow: Follow,
-    path: &[u8],
+    walk: Walk<'_>,
     kind: NewNode,
 ) -> Result<Done, Refused>
     requires whole { IsWhole parts.old }
     requires live { IsSome (process_at parts.old pid) }
-    requires text { IsTrue (is_text path.now) }
+    requires here { walk.start ≡ WorkingDirectory }
+    requires text { IsTrue (is_text walk.path.now) }
     requires node { IsTrue (is_node parts.old.tree.version (new_node kind)) }
     requires agrees { L.agrees lookup.old (find_entry parts.old.tree) }
-    ensures performed { (me : Process) → process_at parts.old pid ≡ Some me → trimmed (make parts.old pid me (from_here follow path.now permission_c) (new_node kind.entry)) ≡ attempt_of parts.new result }
+    ensures performed { (me : Process) → process_at parts.old pid ≡ Some me → trimmed (make parts.old pid me (walk_of walk.entry) (new_node kind.entry)) ≡ attempt_of parts.new result }
     ensures unchanged { OnErr result (parts.new ≡ parts.old) }
     ensures small { IfOk result (λ d. d.value ≤ NUMBER) }
     ensures agrees { L.agrees lookup.new (find_entry parts.new.tree) }
 {
-    let walk = Walk {
-        follow,
-        path,
-        needed: Perms::C,
-    };
     let place = reach(parts, lookup, pid, walk, &mut links.first)?;
     let (directory, name) = free_name(&place, 1)?;
     if let Err(space) = parts.make(directory, name, kind) {
@@ -84,7 +79,7 @@ pub fn mkdir<L: Lookup>(
     lookup: &mut L,
     links: &mut LinkRoom,
     pid: u32,
-    path: &[u8],
+    path: &Text,
 ) -> Result<Done, Refused>
     requires whole { IsWhole parts.old }
     requires live { IsSome (process_at parts.old pid) }
@@ -95,8 +90,8 @@ pub fn mkdir<L: Lookup>(
     ensures small { IfOk result (λ d. d.value ≤ NUMBER) }
     ensures agrees { L.agrees lookup.new (find_entry parts.new.tree) }
 {
-    let follow = Follow::KeepTrimmed;
-    make(parts, lookup, links, pid, follow, path, NewNode::Directory)
+    let walk = Walk::mkdir(path);
+    make(parts, lookup, links, pid, walk, NewNode::Directory)
 }
 
 /// Makes a symbolic link with a text, symlink(2): the answer is 0.
@@ -110,7 +105,7 @@ pub fn symlink<L: Lookup>(
     links: &mut LinkRoom,
     pid: u32,
     text: &[u8],
-    path: &[u8],
+    path: &Text,
 ) -> Result<Done, Refused>
     requires whole { IsWhole parts.old }
     requires live { IsSome (process_at parts.old pid) }
@@ -128,8 +123,8 @@ pub fn symlink<L: Lookup>(
     if text.len() > LINK_TEXT {
         return Err(refusal(0, Errno::ENAMETOOLONG));
     }
-    let kind = NewNode::Symlink(text);
-    make(parts, lookup, links, pid, Follow::Keep, path, kind)
+    let walk = Walk::symlink(path);
+    make(parts, lookup, links, pid, walk, NewNode::Symlink(text))
 }
 
 /// Gives the node at a path, which is no directory, a further name, link(2): the answer is 0.
@@ -144,8 +139,8 @@ pub fn link<L: Lookup>(
     lookup: &mut L,
     links: &mut LinkRoom,
     pid: u32,
-    path: &[u8],
-    new: &[u8],
+    path: &Text,
+    new: &Text,
 ) -> Result<Done, Refused>
     requires whole { IsWhole parts.old }
     requires live { IsSome (process_at parts.old pid) }
@@ -157,17 +152,9 @@ pub fn link<L: Lookup>(
     ensures small { IfOk result (λ d. d.value ≤ NUMBER) }
     ensures agrees { L.agrees lookup.new (find_entry parts.new.tree) }
 {
-    let old_walk = Walk {
-        follow: Follow::Last,
-        path,
-        needed: Perms::R,
-    };
-    let new_walk = Walk {
-        follow: Follow::Keep,
-        path: new,
-        needed: Perms::C,
-    };
-    let both = reach_both(parts, lookup, pid, old_walk, new_walk, links)?;
+    let first = Walk::linked(path);
+    let second = Walk::new_link(new);
+    let both = reach_both(parts, lookup, pid, first, second, links)?;
     let node = both.node;
     if parts.tree().is_directory(node) {
         return Err(refusal(2, Errno::EPERM));
@@ -192,7 +179,7 @@ pub fn unlink<L: Lookup>(
     lookup: &mut L,
     links: &mut LinkRoom,
     pid: u32,
-    path: &[u8],
+    path: &Text,
 ) -> Result<Done, Refused>
     requires whole { IsWhole parts.old }
     requires live { IsSome (process_at parts.old pid) }
@@ -203,11 +190,7 @@ pub fn unlink<L: Lookup>(
     ensures small { IfOk result (λ d. d.value ≤ NUMBER) }
     ensures agrees { L.agrees lookup.new (find_entry parts.new.tree) }
 {
-    let walk = Walk {
-        follow: Follow::Keep,
-        path,
-        needed: Perms::C,
-    };
+    let walk = Walk::unlink(path);
     let found = reach_found(parts, lookup, pid, walk, &mut links.first)?;
     let node = found.node;
     if parts.tree().is_directory(node) {
@@ -234,7 +217,7 @@ pub fn rmdir<L: Lookup>(
     lookup: &mut L,
     links: &mut LinkRoom,
     pid: u32,
-    path: &[u8],
+    path: &Text,
 ) -> Result<Done, Refused>
     requires whole { IsWhole parts.old }
     requires live { IsSome (process_at parts.old pid) }
@@ -248,11 +231,7 @@ pub fn rmdir<L: Lookup>(
     if ends_in_dot(path) {
         return Err(refusal(0, Errno::EINVAL));
     }
-    let walk = Walk {
-        follow: Follow::Keep,
-        path,
-        needed: Perms::C,
-    };
+    let walk = Walk::rmdir(path);
     let found = reach_found(parts, lookup, pid, walk, &mut links.first)?;
     let node = found.node;
     if !parts.tree().is_directory(node) {

@@ -10,19 +10,18 @@ ghost use Rattle.pv_model.specs.Effect.{directory_of_file, node_of, open_file, s
 ghost use Rattle.pv_model.specs.Numbered.{least_free};
 ghost use Rattle.pv_model.specs.State.{Process, process_at, writes};
 ghost use Rattle.pv_model.specs.Tree.{find_entry, is_directory_at, node_at};
-ghost use Rattle.pv_model.specs.Walks.{follow_of};
 ghost use Rattle.pv_calls_state.specs.Attempts.{trimmed};
 ghost use Rattle.pv_calls_path.specs.Opening.{open_place};
 ghost use Rattle.pv_calls_plain.specs.Rows.{attempt_of};
 ghost use Rattle.pv_laws_trees.specs.Found.{Alike};
 
 use crate::links::LinkRoom;
-use crate::reach::{Walk, reach_from};
+use crate::reach::reach_from;
 use pv_calls_plain::answer::{Done, Refused, answer_of, refusal, space_errno};
 use pv_calls_plain::descriptors::open_file;
 use pv_calls_plain::files::writes;
 use pv_calls_state::Parts;
-use pv_model::{Errno, Follow, Kind, OpenFlags, Start};
+use pv_model::{Errno, Kind, OpenFlags, Start, Text, Walk};
 use pv_namei::{Lookup, is_absolute};
 use pv_tree::{PlaceRef, Tree};
 
@@ -33,17 +32,6 @@ fn contradicts(flags: OpenFlags) -> bool
     (flags.truncate && !writes(flags.mode))
         || (flags.exclusive && !flags.create)
         || (flags.create && flags.directory)
-}
-
-// What is done with a final link.
-fn follow_of(flags: OpenFlags) -> Follow
-    ensures { result ≡ follow_of flags }
-{
-    if flags.no_follow || (flags.create && flags.exclusive) {
-        Follow::Keep
-    } else {
-        Follow::Last
-    }
 }
 
 /// Whether a node is a symbolic link.
@@ -74,7 +62,7 @@ fn directory_of(parts: &Parts, pid: u32, d: i32) -> Result<u16, Errno>
 }
 
 // The directory from which a walk starts: a relative path asks its descriptor for one.
-fn start_of(parts: &Parts, pid: u32, start: Start, path: &[u8]) -> Result<u16, Errno>
+fn start_of(parts: &Parts, pid: u32, start: Start, path: &Text) -> Result<u16, Errno>
     requires whole { IsWhole parts.now }
     requires live { IsSome (process_at parts.now pid) }
     ensures directory { IfOk result (λ n. IsTrue (is_directory_at parts.now.tree n)) }
@@ -83,7 +71,7 @@ fn start_of(parts: &Parts, pid: u32, start: Start, path: &[u8]) -> Result<u16, E
     ensures refused { IfErr result (λ e. (me : Process) → process_at parts.now pid ≡ Some me → check_start parts.now pid me start path.now ≡ refused 0 e Plain) }
 {
     match start {
-        Start::Descriptor(d) if !is_absolute(path) => directory_of(parts, pid, d),
+        Start::Descriptor(d) if !is_absolute(path.as_slice()) => directory_of(parts, pid, d),
         _ => Ok(parts.record(pid).directory),
     }
 }
@@ -176,7 +164,7 @@ pub fn open_at<L: Lookup>(
     links: &mut LinkRoom,
     pid: u32,
     start: Start,
-    path: &[u8],
+    path: &Text,
     flags: OpenFlags,
 ) -> Result<Done, Refused>
     requires whole { IsWhole parts.old }
@@ -201,11 +189,7 @@ pub fn open_at<L: Lookup>(
     if !parts.files().has_room() {
         return Err(refusal(0, Errno::ENFILE));
     }
-    let walk = Walk {
-        follow: follow_of(flags),
-        path,
-        needed: flags.permissions(),
-    };
+    let walk = Walk::open(start, path, flags);
     let place = reach_from(parts, lookup, pid, directory, walk, &mut links.first)?;
     match place.node() {
         Some(node) => open_there(parts, pid, node, flags),

@@ -2,6 +2,8 @@
 ghost use Rattle.std.specs.Prelude.{◌≡◌, ◌≤◌, if◌then◌else◌, IfOk, IfErr, IsSome, IsTrue, Some};
 ghost use Rattle.pv_laws_states.specs.States.{IsWhole, IsFinePlace, is_text};
 ghost use Rattle.pv_model.specs.Attempt.{done};
+ghost use Rattle.pv_model.specs.Calls.Paths.{ends_in_dot};
+ghost use Rattle.pv_model.specs.CallRef.{walk_of};
 ghost use Rattle.pv_model.specs.Effect.{node_of, walk_from};
 ghost use Rattle.pv_model.specs.State.{Process, process_at};
 ghost use Rattle.pv_model.specs.Tree.{find_entry, is_directory_at, node_at};
@@ -12,7 +14,8 @@ use crate::links::LinkRoom;
 use pv_calls_plain::answer::{Refused, refusal};
 use pv_calls_state::Parts;
 use pv_model::limits::PATH;
-use pv_model::{Cause, Errno, Follow, Judgement, Perms, Place};
+use pv_model::{Cause, Errno, Follow, Judgement, Place, Text, Walk};
+use pv_namei as namei;
 use pv_namei::{Lookup, resolve_ref};
 use pv_tree::PlaceRef;
 
@@ -27,15 +30,11 @@ pub(crate) fn walks_begun(path: &[u8]) -> u8
     }
 }
 
-/// What a call asks of a walk.
-#[derive(Clone, Copy)]
-pub(crate) struct Walk<'a> {
-    /// What is done with a final link.
-    pub(crate) follow: Follow,
-    /// The path that it goes along.
-    pub(crate) path: &'a [u8],
-    /// The permissions that the entry of the place at its end must have.
-    pub(crate) needed: Perms,
+/// Whether a path ends in `.` or `..`.
+pub(crate) fn ends_in_dot(path: &Text) -> bool
+    ensures { result ≡ ends_in_dot path.now }
+{
+    namei::ends_in_dot(path.as_slice())
 }
 
 // `walk_to` and `reach_from` become parts of their callers, so that a place is not copied at each on its way up.
@@ -92,13 +91,20 @@ pub(crate) fn reach_from<'a, L: Lookup>(
     requires start { IsTrue (is_directory_at parts.now.tree start) }
     requires text { IsTrue (is_text walk.path.now) }
     requires agrees { L.agrees lookup.old (find_entry parts.now.tree) }
-    ensures reached { IfOk result (λ place. (me : Process) → process_at parts.now pid ≡ Some me → IsReached parts.now me start walk.entry.follow walk.entry.path.now walk.entry.needed place) }
-    ensures stopped { IfErr result (λ r. (me : Process) → process_at parts.now pid ≡ Some me → IsStopped parts.now me start walk.entry.follow walk.entry.path.now walk.entry.needed r) }
+    ensures reached { IfOk result (λ place. (me : Process) → process_at parts.now pid ≡ Some me → IsReached parts.now me start (walk_of walk.entry) place) }
+    ensures stopped { IfErr result (λ r. (me : Process) → process_at parts.now pid ≡ Some me → IsStopped parts.now me start (walk_of walk.entry) r) }
     ensures fine { IfOk result (IsFinePlace parts.now.tree) }
     ensures few { IfErr result (λ r. r.walks ≤ 1) }
     ensures agrees { L.agrees lookup.new (find_entry parts.now.tree) }
 {
-    let place = walk_to(parts, lookup, start, walk.follow, walk.path, links)?;
+    let place = walk_to(
+        parts,
+        lookup,
+        start,
+        walk.follow,
+        walk.path.as_slice(),
+        links,
+    )?;
     let unveiled = &parts.record(pid).unveiled;
     match unveiled.judge(parts.tree(), &place, walk.needed) {
         Judgement::Allowed => Ok(place),
@@ -127,8 +133,8 @@ pub(crate) fn reach<'a, L: Lookup>(
     requires live { IsSome (process_at parts.now pid) }
     requires text { IsTrue (is_text walk.path.now) }
     requires agrees { L.agrees lookup.old (find_entry parts.now.tree) }
-    ensures reached { IfOk result (λ place. (me : Process) → process_at parts.now pid ≡ Some me → IsReached parts.now me me.directory walk.entry.follow walk.entry.path.now walk.entry.needed place) }
-    ensures stopped { IfErr result (λ r. (me : Process) → process_at parts.now pid ≡ Some me → IsStopped parts.now me me.directory walk.entry.follow walk.entry.path.now walk.entry.needed r) }
+    ensures reached { IfOk result (λ place. (me : Process) → process_at parts.now pid ≡ Some me → IsReached parts.now me me.directory (walk_of walk.entry) place) }
+    ensures stopped { IfErr result (λ r. (me : Process) → process_at parts.now pid ≡ Some me → IsStopped parts.now me me.directory (walk_of walk.entry) r) }
     ensures fine { IfOk result (IsFinePlace parts.now.tree) }
     ensures few { IfErr result (λ r. r.walks ≤ 1) }
     ensures agrees { L.agrees lookup.new (find_entry parts.now.tree) }
@@ -149,8 +155,8 @@ fn reach_second<'a, L: Lookup>(
     requires live { IsSome (process_at parts.now pid) }
     requires text { IsTrue (is_text walk.path.now) }
     requires agrees { L.agrees lookup.old (find_entry parts.now.tree) }
-    ensures reached { IfOk result (λ place. (me : Process) → process_at parts.now pid ≡ Some me → IsReached parts.now me me.directory walk.entry.follow walk.entry.path.now walk.entry.needed place) }
-    ensures stopped { IfErr result (λ r. (me : Process) → process_at parts.now pid ≡ Some me → IsStoppedSecond parts.now me me.directory walk.entry.follow walk.entry.path.now walk.entry.needed r) }
+    ensures reached { IfOk result (λ place. (me : Process) → process_at parts.now pid ≡ Some me → IsReached parts.now me me.directory (walk_of walk.entry) place) }
+    ensures stopped { IfErr result (λ r. (me : Process) → process_at parts.now pid ≡ Some me → IsStoppedSecond parts.now me me.directory (walk_of walk.entry) r) }
     ensures fine { IfOk result (IsFinePlace parts.now.tree) }
     ensures agrees { L.agrees lookup.new (find_entry parts.now.tree) }
 {
@@ -186,9 +192,9 @@ pub(crate) fn reach_found<'a, L: Lookup>(
     requires live { IsSome (process_at parts.now pid) }
     requires text { IsTrue (is_text walk.path.now) }
     requires agrees { L.agrees lookup.old (find_entry parts.now.tree) }
-    ensures reached { IfOk result (λ f. (me : Process) → process_at parts.now pid ≡ Some me → IsReached parts.now me me.directory walk.entry.follow walk.entry.path.now walk.entry.needed f.place) }
+    ensures reached { IfOk result (λ f. (me : Process) → process_at parts.now pid ≡ Some me → IsReached parts.now me me.directory (walk_of walk.entry) f.place) }
     ensures there { IfOk result (λ f. node_of f.place ≡ Some f.node) }
-    ensures missed { IfErr result (λ r. (me : Process) → process_at parts.now pid ≡ Some me → IsMissed parts.now me me.directory walk.entry.follow walk.entry.path.now walk.entry.needed r) }
+    ensures missed { IfErr result (λ r. (me : Process) → process_at parts.now pid ≡ Some me → IsMissed parts.now me me.directory (walk_of walk.entry) r) }
     ensures fine { IfOk result (λ f. IsFinePlace parts.now.tree f.place) }
     ensures agrees { L.agrees lookup.new (find_entry parts.now.tree) }
 {
@@ -211,8 +217,8 @@ pub(crate) fn reach_node<L: Lookup>(
     requires live { IsSome (process_at parts.now pid) }
     requires text { IsTrue (is_text walk.path.now) }
     requires agrees { L.agrees lookup.old (find_entry parts.now.tree) }
-    ensures found { IfOk result (λ n. (me : Process) → process_at parts.now pid ≡ Some me → IsFound parts.now me me.directory walk.entry.follow walk.entry.path.now walk.entry.needed n) }
-    ensures missed { IfErr result (λ r. (me : Process) → process_at parts.now pid ≡ Some me → IsMissed parts.now me me.directory walk.entry.follow walk.entry.path.now walk.entry.needed r) }
+    ensures found { IfOk result (λ n. (me : Process) → process_at parts.now pid ≡ Some me → IsFound parts.now me me.directory (walk_of walk.entry) n) }
+    ensures missed { IfErr result (λ r. (me : Process) → process_at parts.now pid ≡ Some me → IsMissed parts.now me me.directory (walk_of walk.entry) r) }
     ensures there { IfOk result (λ n. IsSome (node_at parts.now.tree n)) }
     ensures agrees { L.agrees lookup.new (find_entry parts.now.tree) }
 {
@@ -246,11 +252,11 @@ pub(crate) fn reach_both<'a, L: Lookup>(
     requires text { IsTrue (is_text first.path.now) }
     requires other { IsTrue (is_text second.path.now) }
     requires agrees { L.agrees lookup.old (find_entry parts.now.tree) }
-    ensures first { IfOk result (λ b. (me : Process) → process_at parts.now pid ≡ Some me → IsReached parts.now me me.directory first.entry.follow first.entry.path.now first.entry.needed b.first) }
-    ensures second { IfOk result (λ b. (me : Process) → process_at parts.now pid ≡ Some me → IsReached parts.now me me.directory second.entry.follow second.entry.path.now second.entry.needed b.second) }
+    ensures first { IfOk result (λ b. (me : Process) → process_at parts.now pid ≡ Some me → IsReached parts.now me me.directory (walk_of first.entry) b.first) }
+    ensures second { IfOk result (λ b. (me : Process) → process_at parts.now pid ≡ Some me → IsReached parts.now me me.directory (walk_of second.entry) b.second) }
     ensures there { IfOk result (λ b. node_of b.first ≡ Some b.node) }
     ensures missed { IfErr result (λ r. (me : Process) → process_at parts.now pid ≡ Some me
-        → IsMissedByBoth parts.now me first.entry.follow first.entry.path.now first.entry.needed second.entry.follow second.entry.path.now second.entry.needed r) }
+        → IsMissedByBoth parts.now me (walk_of first.entry) (walk_of second.entry) r) }
     ensures fine { IfOk result (λ b. IsFinePlace parts.now.tree b.first) }
     ensures second_fine { IfOk result (λ b. IsFinePlace parts.now.tree b.second) }
     ensures agrees { L.agrees lookup.new (find_entry parts.now.tree) }

@@ -1,23 +1,23 @@
 //! The call that gives a node another name: rename(2).
-ghost use Rattle.std.specs.Prelude.{◌≡◌, ◌≤◌, IfOk, IfSome, IsSome, IsTrue, MatchResult, OnErr, Some};
+ghost use Rattle.std.specs.Prelude.{◌≡◌, ◌≤◌, IfOk, IsSome, IsTrue, MatchResult, OnErr, Some};
 ghost use Rattle.pv_laws_states.specs.States.{IsWhole, is_text};
 ghost use Rattle.pv_model.specs.declared.limits.TheConstants.{NUMBER};
 ghost use Rattle.pv_model.specs.declared.outcome.Cause.TheVariants.{Plain};
 ghost use Rattle.pv_model.specs.Attempt.{give, refused};
 ghost use Rattle.pv_model.specs.Calls.Paths.{entries_there, is_directory_there, rename, same_node};
 ghost use Rattle.pv_model.specs.State.{Process, process_at};
-ghost use Rattle.pv_model.specs.Tree.{find_entry, is_directory_at, node_at};
+ghost use Rattle.pv_model.specs.Tree.{find_entry, is_directory_at};
 ghost use Rattle.pv_model.specs.Bytes.{is_empty};
 ghost use Rattle.pv_calls_state.specs.Attempts.{trimmed};
 ghost use Rattle.pv_calls_path.specs.Moving.{check_move};
 ghost use Rattle.pv_calls_plain.specs.Rows.{attempt_of};
 
 use crate::links::LinkRoom;
-use crate::reach::{Walk, reach_both};
+use crate::reach::{ends_in_dot, reach_both};
 use pv_calls_plain::answer::{Done, Refused, answer_of, refusal, space_errno};
 use pv_calls_state::Parts;
-use pv_model::{Errno, Follow, Perms};
-use pv_namei::{Lookup, ends_in_dot};
+use pv_model::{Errno, Text, Walk};
+use pv_namei::Lookup;
 use pv_tree::Tree;
 
 // Whether what is there is this node.
@@ -88,8 +88,8 @@ pub fn rename<L: Lookup>(
     lookup: &mut L,
     links: &mut LinkRoom,
     pid: u32,
-    path: &[u8],
-    new: &[u8],
+    path: &Text,
+    new: &Text,
 ) -> Result<Done, Refused>
     requires whole { IsWhole parts.old }
     requires live { IsSome (process_at parts.old pid) }
@@ -104,17 +104,9 @@ pub fn rename<L: Lookup>(
     if ends_in_dot(path) || ends_in_dot(new) {
         return Err(refusal(0, Errno::EINVAL));
     }
-    let old_walk = Walk {
-        follow: Follow::Keep,
-        path,
-        needed: Perms::C,
-    };
-    let new_walk = Walk {
-        follow: Follow::Keep,
-        path: new,
-        needed: Perms::C,
-    };
-    let both = reach_both(parts, lookup, pid, old_walk, new_walk, links)?;
+    let first = Walk::rename(path);
+    let second = Walk::rename(new);
+    let both = reach_both(parts, lookup, pid, first, second, links)?;
     let node = both.node;
     let (Some((from, name)), Some((to, other))) = (both.first.name(), both.second.name()) else {
         return Err(refusal(2, Errno::EBUSY));

@@ -1,9 +1,13 @@
--- Calls whose texts stand elsewhere.
-use Rattle.std.specs.Prelude.{option_copied}
+-- Calls and walks whose texts stand elsewhere.
+use Rattle.std.specs.Prelude.{List, [], ◌∷◌, option_copied}
 use Rattle.pv_model.specs.declared.call.Call.{Call}
 use Rattle.pv_model.specs.declared.call.Call.TheVariants.{Exit, GetPid, GetPpid, Fork, Wait, Pledge, Unveil, Execve, Open, OpenAt, Close, Dup, Dup2, Read, Write, Lseek, Fstat, Ftruncate, Getdents, Fchdir, Chdir, Stat, Lstat, Readlink, Mkdir, Symlink, Link, Unlink, Rmdir, Rename}
 use Rattle.pv_model.specs.declared.call_ref.CallRef.{CallRef}
 use Rattle.pv_model.specs.declared.call_ref.CallRef.TheVariants.{Exit as ExitRef, GetPid as GetPidRef, GetPpid as GetPpidRef, Fork as ForkRef, Wait as WaitRef, Pledge as PledgeRef, Unveil as UnveilRef, Execve as ExecveRef, Open as OpenRef, OpenAt as OpenAtRef, Close as CloseRef, Dup as DupRef, Dup2 as Dup2Ref, Read as ReadRef, Write as WriteRef, Lseek as LseekRef, Fstat as FstatRef, Ftruncate as FtruncateRef, Getdents as GetdentsRef, Fchdir as FchdirRef, Chdir as ChdirRef, Stat as StatRef, Lstat as LstatRef, Readlink as ReadlinkRef, Mkdir as MkdirRef, Symlink as SymlinkRef, Link as LinkRef, Unlink as UnlinkRef, Rmdir as RmdirRef, Rename as RenameRef}
+use Rattle.pv_model.specs.declared.walk.Walk.{Walk as WalkRef}
+use Rattle.pv_model.specs.declared.walk.Walks.{Walks}
+use Rattle.pv_model.specs.declared.walk.Walks.TheVariants.{Zero, One, Two}
+use Rattle.pv_model.specs.Walks.{Walk}
 
 -- the call
 abbrev pub call_of : CallRef → Call
@@ -37,3 +41,13 @@ call_of (LinkRef path new) = Link path.now new.now
 call_of (UnlinkRef path) = Unlink path.now
 call_of (RmdirRef path) = Rmdir path.now
 call_of (RenameRef path new) = Rename path.now new.now
+
+-- the walk
+abbrev pub walk_of : WalkRef → Walk
+walk_of w = record { start = w.start; follow = w.follow; path = w.path.now; needed = w.needed }
+
+-- the walks, in order
+abbrev pub walks_in : Walks → List Walk
+walks_in Zero = []
+walks_in (One w) = walk_of w ∷ []
+walks_in (Two w v) = walk_of w ∷ walk_of v ∷ []

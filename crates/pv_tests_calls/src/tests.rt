@@ -1,7 +1,7 @@
 //! Each call once, as two lookups answer it, full tables, and memory that is refused.
 use crate::store_of;
 use pv_calls::Kernel;
-use pv_model::{Cause, Errno, Outcome, StepFault, Taken};
+use pv_model::{CallRef, Cause, Errno, Outcome, StepFault, Taken, Why};
 use pv_namei::Lookup;
 use pv_procs::Fetched;
 use pv_script::CallTexts;
@@ -108,6 +108,43 @@ fn step<L: Lookup + Drop>(
         Fetched::Gone => Ok(Outcome::Gone),
         Fetched::Register => Ok(Outcome::Value(0)),
         Fetched::Call(call) => kernel.call(alloc, pid, call),
+    }
+}
+
+// Makes the instruction on registers that comes next in a process, if one does.
+fn register<L: Lookup + Drop>(kernel: &mut Kernel<L>, pid: u32) {
+    let mut texts = CallTexts::new();
+    if let Fetched::Register = kernel.fetch(pid, &mut texts) {
+        kernel.register(pid);
+    }
+}
+
+// Checks the line of a live process, and its register r1.
+fn expect_line<L: Lookup + Drop>(
+    rt: &impl Abort,
+    kernel: &Kernel<L>,
+    pid: u32,
+    line: u16,
+    value: i32,
+) {
+    match kernel.parts().live_record(pid) {
+        Some(owned) => {
+            assert_eq!(rt; owned.context.line(), line);
+            assert_eq!(rt; owned.context.registers()[1], value);
+        }
+        None => panic!(rt; "nobody is live there"),
+    }
+}
+
+// Why a process is not closed to a file, and whether it is kept from writing it: None where it is not live.
+fn leak_and_frozen<L: Lookup + Drop>(
+    kernel: &Kernel<L>,
+    pid: u32,
+    node: u16,
+) -> Option<(Option<Why>, bool)> {
+    match kernel.parts().live_record(pid) {
+        Some(_) => Some((kernel.leak(pid, node), kernel.frozen_to(pid, node))),
+        None => None,
     }
 }
 
@@ -227,5 +264,38 @@ fn execve_comes_after_want_of_memory(rt: HostRuntime) -> Result<(), Fail> {
     assert_eq!(rt; kernel.walks(), 1);
     expect(&rt, alloc, &mut kernel, 1, value(1));
     expect(&rt, alloc, &mut kernel, 1, Outcome::Exited);
+    Ok(())
+}
+
+#[test]
+fn what_comes_next_is_asked_and_then_made(rt: HostRuntime) -> Result<(), Fail> {
+    let alloc = rt.alloc();
+    let store = store_of(alloc, b"image 16 16\nexec \"/init\" 2\nset r1 5\ngetpid\n")?;
+    let mut kernel = Kernel::boot(alloc, store)?;
+    let mut texts = CallTexts::new();
+    assert!(rt; matches!(kernel.fetch(2, &mut texts), Fetched::Gone));
+    assert!(rt; matches!(kernel.fetch(1, &mut texts), Fetched::Register));
+    expect_line(&rt, &kernel, 1, 1, 0);
+    register(&mut kernel, 1);
+    expect_line(&rt, &kernel, 1, 2, 5);
+    assert!(rt; matches!(kernel.fetch(1, &mut texts), Fetched::Call(CallRef::GetPid)));
+    register(&mut kernel, 1);
+    expect_line(&rt, &kernel, 1, 2, 5);
+    Ok(())
+}
+
+#[test]
+fn a_process_without_a_table_leaks_its_file(rt: HostRuntime) -> Result<(), Fail> {
+    let alloc = rt.alloc();
+    let store = store_of(
+        alloc,
+        b"image 16 16\nbytes \"/f\" \"x\"\nexec \"/init\" 1\ngetpid\n",
+    )?;
+    let kernel = Kernel::boot(alloc, store)?;
+    assert_eq!(rt;
+        leak_and_frozen(&kernel, 1, 2),
+        Some((Some(Why::NoTable), false))
+    );
+    assert_eq!(rt; leak_and_frozen(&kernel, 2, 2), None);
     Ok(())
 }

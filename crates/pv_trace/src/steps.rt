@@ -2,10 +2,8 @@
 ghost use Rattle.std.specs.Prelude.{◌≡◌, ◌++◌, ◌+◌, ◌*◌, ◌≤◌, [], ◌∷◌, length, take, map, IfOk, OnOk, OnErr};
 ghost use Rattle.pv_model.specs.declared.limits.TheConstants.{BUFFER};
 ghost use Rattle.pv_model.specs.CallRef.{call_of};
-ghost use Rattle.pv_model.specs.Perms.{read_permissions};
 ghost use Rattle.pv_model.specs.Stream.{Rose};
-ghost use Rattle.pv_model.specs.Trace.{trace_bytes, needed_by, asked_permissions as permissions_asked, gone_lines};
-ghost use Rattle.pv_model.specs.Walks.{permissions_or_none, walks_of, walk_number};
+ghost use Rattle.pv_model.specs.Trace.{trace_bytes, asked_permissions as permissions_asked, gone_lines};
 ghost use Rattle.pv_trace.specs.Steps.{path_line, path_lines_of, refusal_verdict, promise_lines_of, unveil_lines_of, moved_lines_of, end_lines_of, lines_by};
 ghost use Rattle.pv_streams.specs.Sinks.{and_all, TellsBeginning};
 ghost use Rattle.pv_trace.specs.Words.{promise_verdict_of};
@@ -17,7 +15,7 @@ use crate::words::{
     put_call_line, put_error_line, put_killed_line, put_moved_line, put_path_line,
     put_promise_line, put_unveil_line, put_value_line, put_wait_line,
 };
-use pv_model::{CallRef, Cause, Errno, Outcome, Perms, Text};
+use pv_model::{CallRef, Cause, Errno, Outcome, Perms, Text, Walks};
 use pv_streams::{Failed, Sink, write_whole};
 
 // The lines of the walks along one path, of which there is at most one. It answers how many lines it put, as each call
@@ -65,23 +63,10 @@ fn put_path_lines(out: &mut LineBuffer, pid: u32, call: CallRef<'_>, walks: u8) 
     ensures few { result ≤ 2 }
     ensures growth { length out.new.items ≤ length out.old.items + 2 * PATH_LINE_BYTES }
 {
-    match call {
-        CallRef::Unveil(Some(path), Some(_))
-        | CallRef::Execve(path)
-        | CallRef::Open(path, _)
-        | CallRef::OpenAt(_, path, _)
-        | CallRef::Chdir(path)
-        | CallRef::Stat(path)
-        | CallRef::Lstat(path)
-        | CallRef::Readlink(path)
-        | CallRef::Mkdir(path)
-        | CallRef::Symlink(_, path)
-        | CallRef::Unlink(path)
-        | CallRef::Rmdir(path) => put_one_path(out, pid, path, walks),
-        CallRef::Link(first, second) | CallRef::Rename(first, second) => {
-            put_two_paths(out, pid, first, second, walks)
-        }
-        _ => 0,
+    match call.walks() {
+        Walks::Zero => 0,
+        Walks::One(walk) => put_one_path(out, pid, walk.path, walks),
+        Walks::Two(first, second) => put_two_paths(out, pid, first.path, second.path, walks),
     }
 }
 
@@ -112,53 +97,14 @@ fn put_promise_lines(out: &mut LineBuffer, pid: u32, call: CallRef<'_>, outcome:
     1
 }
 
-// The permissions that a text asks for, or none.
-fn permissions_of(text: &Text) -> Perms
-    ensures { result ≡ permissions_or_none (read_permissions text.now) }
-{
-    Perms::read(text.as_slice()).unwrap_or(Perms::NONE)
-}
-
 // The permissions that a call asks of the last place that it walked to.
 #[tactic(auto, unfolding(pv_model::specs::Trace::asked_permissions))]
 fn asked_permissions(call: CallRef<'_>, walks: u8) -> Perms
     ensures { result ≡ permissions_asked (call_of call.entry) walks }
 {
-    match walks {
-        1 => first_permissions(call),
-        2 => second_permissions(call),
-        _ => Perms::NONE,
-    }
-}
-
-// The permissions that a call asks of the place of its first walk.
-fn first_permissions(call: CallRef<'_>) -> Perms
-    ensures { result ≡ needed_by (walk_number (walks_of (call_of call.entry)) 1) }
-{
-    match call {
-        CallRef::Unveil(Some(_), Some(text)) => permissions_of(text),
-        CallRef::Execve(_) => Perms::X,
-        CallRef::Open(_, flags) | CallRef::OpenAt(_, _, flags) => flags.permissions(),
-        CallRef::Chdir(_)
-        | CallRef::Stat(_)
-        | CallRef::Lstat(_)
-        | CallRef::Readlink(_)
-        | CallRef::Link(_, _) => Perms::R,
-        CallRef::Mkdir(_)
-        | CallRef::Symlink(_, _)
-        | CallRef::Unlink(_)
-        | CallRef::Rmdir(_)
-        | CallRef::Rename(_, _) => Perms::C,
-        _ => Perms::NONE,
-    }
-}
-
-// The permissions that a call asks of the place of its second walk.
-fn second_permissions(call: CallRef<'_>) -> Perms
-    ensures { result ≡ needed_by (walk_number (walks_of (call_of call.entry)) 2) }
-{
-    match call {
-        CallRef::Link(_, _) | CallRef::Rename(_, _) => Perms::C,
+    match (call.walks(), walks) {
+        (Walks::One(walk) | Walks::Two(walk, _), 1) => walk.needed,
+        (Walks::Two(_, walk), 2) => walk.needed,
         _ => Perms::NONE,
     }
 }

@@ -1,13 +1,12 @@
 use Rattle.std.proofs.Common.{◌∙◌, ap, sym, subst, Ok, Err}
 use Rattle.std.specs.Prelude.{IsSome}
 use Rattle.pv_model.specs.Answer.{at_next_line, effect, update}
-use Rattle.pv_model.specs.Bytes.{Bytes}
 use Rattle.pv_model.specs.Calls.Processes.{execve}
 use Rattle.pv_model.specs.Grammar.Programs.{program_of}
 use Rattle.pv_model.specs.State.{process_at, with_process}
 use Rattle.pv_laws_states.proofs.Processes.{update-is}
 use Rattle.pv_calls_state.specs.Attempts.{trimmed}
-use Rattle.pv_calls_path.specs.Execve.{Executes, LeadsToProgram}
+use Rattle.pv_calls_path.specs.Execve.{Executes}
 use Rattle.pv_calls_state.proofs.Alone.{some-at}
 use Rattle.pv_calls.proofs.Carrying.{next-live}
 use Rattle.pv_calls.proofs.Executing.{execve-next}
@@ -19,8 +18,8 @@ pub tell-requires-clause-live : goal.tell-requires-clause-live
 tell-requires-clause-live g c =
     let s = c.args.parts.now in
     let mine = some-at (process_at s c.args.pid) c.requires.live in
-    performed-live s c.execve.new.parts c.args.pid (Ok c.in-Ok.told) (execve s c.args.pid mine.0 program_of c.as_slice.result.now) (c.in-Ok.ensures.performed mine.0 mine.1) tt c.requires.live
-    (lives-execve s c.args.pid mine.0 mine.1 c.as_slice.result.now)
+    performed-live s c.execve.new.parts c.args.pid (Ok c.in-Ok.told) (execve s c.args.pid mine.0 program_of c.args.path.now) (c.in-Ok.ensures.performed mine.0 mine.1) tt c.requires.live
+    (lives-execve s c.args.pid mine.0 mine.1 c.args.path.now)
 
 pub tell-requires-in-Err-Refused-clause-live : goal.tell-requires-in-Err-Refused-clause-live
 tell-requires-in-Err-Refused-clause-live g c =
@@ -32,7 +31,7 @@ returns-in-Ok-clause-carried g c = λ me at.
     let s = c.args.parts.now in
     let next = with_process s c.args.pid (at_next_line me) in
     c.tell.ensures.told s next (at_next_line me) (execve next c.args.pid (at_next_line me) program_of c.args.path.now)
-    (ap trimmed (execve-next s c.args.pid me c.args.path.now) ∙ ap (λ (p : Bytes). trimmed (execve s c.args.pid me program_of p)) (sym c.as_slice.ensures.value) ∙ c.in-Ok.ensures.performed me at) tt
+    (ap trimmed (execve-next s c.args.pid me c.args.path.now) ∙ c.in-Ok.ensures.performed me at) tt
 
 pub returns-in-Err-Refused-clause-carried : goal.returns-in-Err-Refused-clause-carried
 unfolding effect
@@ -40,11 +39,10 @@ returns-in-Err-Refused-clause-carried g c = λ me at.
     let s = c.args.parts.now in
     let next = with_process s c.args.pid (at_next_line me) in
     c.tell-in-Err-Refused.ensures.told s next (at_next_line me) (execve next c.args.pid (at_next_line me) program_of c.args.path.now)
-    (ap trimmed (execve-next s c.args.pid me c.args.path.now) ∙ ap (λ (p : Bytes). trimmed (execve s c.args.pid me program_of p)) (sym c.as_slice.ensures.value) ∙ subst (λ f. Executes s c.args.pid me c.as_slice.result.now c.execve.new.parts (Err f)) c.in-Err-Refused.field-0-is (c.in-Err-Refused.ensures.performed me at))
+    (ap trimmed (execve-next s c.args.pid me c.args.path.now) ∙ subst (λ f. Executes s c.args.pid me c.args.path.now c.execve.new.parts (Err f)) c.in-Err-Refused.field-0-is (c.in-Err-Refused.ensures.performed me at))
     (c.advance.ensures ∙ ap (λ x. update x c.args.pid at_next_line) c.in-Err-Refused.ensures.unchanged ∙ update-is s c.args.pid at_next_line me at)
 
 pub returns-in-Err-Memory-clause-memory : goal.returns-in-Err-Memory-clause-memory
 returns-in-Err-Memory-clause-memory g c = λ me at.
     let s = c.args.parts.now in
-    subst (λ (p : Bytes). LeadsToProgram s me p) c.as_slice.ensures.value
-    (subst (λ f. Executes s c.args.pid me c.as_slice.result.now c.execve.new.parts (Err f)) c.in-Err-Memory.field-0-is (c.in-Err-Memory.ensures.performed me at))
+    subst (λ f. Executes s c.args.pid me c.args.path.now c.execve.new.parts (Err f)) c.in-Err-Memory.field-0-is (c.in-Err-Memory.ensures.performed me at)

@@ -1,11 +1,7 @@
-use Rattle.std.proofs.Common.{◌≡◌, subst}
 use Rattle.pv_model.specs.CallRef.{call_of}
-use Rattle.pv_model.specs.Answer.{answer_by_attempt, effect}
-use Rattle.pv_model.specs.Bytes.{Bytes}
-use Rattle.pv_model.specs.Calls.Paths.{stat, lstat, readlink}
+use Rattle.pv_model.specs.Answer.{effect}
 use Rattle.pv_model.specs.Grammar.Programs.{program_of}
 use Rattle.pv_model.specs.State.{process_at}
-use Rattle.pv_calls_plain.specs.Rows.{answered}
 use Rattle.pv_calls_state.proofs.Alone.{some-at}
 use Rattle.pv_calls.proofs.Living.{lives-path, path-rest}
 use Rattle.pv_calls.proofs.Performing.{performed-live}
@@ -23,15 +19,12 @@ tell-requires g c =
 
 pub returns-in-Stat-clause-performed : goal.returns-in-Stat-clause-performed
 unfolding effect
-returns-in-Stat-clause-performed g c = λ before me at. rw c.in-Stat.is
-    (subst (λ (p : Bytes). answer_by_attempt before c.args.parts.now c.args.pid me (stat c.args.parts.now c.args.pid me p) ≡ answered c.stat.new.parts c.stat.result) c.as_slice.ensures.value (c.stat.ensures.performed before me at))
+returns-in-Stat-clause-performed g c = λ before me at. rw c.in-Stat.is (c.stat.ensures.performed before me at)
 
 pub returns-in-Lstat-clause-performed : goal.returns-in-Lstat-clause-performed
 unfolding effect
-returns-in-Lstat-clause-performed g c = λ before me at. rw c.in-Lstat.is
-    (subst (λ (p : Bytes). answer_by_attempt before c.args.parts.now c.args.pid me (lstat c.args.parts.now c.args.pid me p) ≡ answered c.lstat.new.parts c.lstat.result) c.as_slice-in-Lstat.ensures.value (c.lstat.ensures.performed before me at))
+returns-in-Lstat-clause-performed g c = λ before me at. rw c.in-Lstat.is (c.lstat.ensures.performed before me at)
 
 pub returns-in-Readlink-clause-performed : goal.returns-in-Readlink-clause-performed
 unfolding effect
-returns-in-Readlink-clause-performed g c = λ before me at. rw c.in-Readlink.is
-    (subst (λ (p : Bytes). answer_by_attempt before c.args.parts.now c.args.pid me (readlink c.args.parts.now c.args.pid me p) ≡ answered c.readlink.new.parts c.readlink.result) c.as_slice-in-Readlink.ensures.value (c.readlink.ensures.performed before me at))
+returns-in-Readlink-clause-performed g c = λ before me at. rw c.in-Readlink.is (c.readlink.ensures.performed before me at)

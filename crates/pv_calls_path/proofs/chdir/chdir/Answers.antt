@@ -8,20 +8,21 @@ use Rattle.pv_model.specs.State.{with_process}
 use Rattle.pv_model.specs.Tree.{find_entry, is_directory_at}
 use Rattle.pv_calls_path.proofs.Naming.{alike_update}
 use Rattle.pv_calls_path.proofs.NodeCalls.{chdir_refused, chdir_goes}
+use Rattle.pv_calls_path.proofs.Reaching.{found-as, missed-as}
 use Rattle.pv_calls_path.proofs.UnveilCalls.{leaves}
 use Rattle.pv_calls_path.proofs.chdir.chdir.Goals as goal
 
 pub returns-in_err-node-clause-performed : goal.returns-in_err-node-clause-performed
 returns-in_err-node-clause-performed g c =
     let p = err_from_is_err_and c.from_residual.result c.from_residual.ensures.1 in
-    λ me at. rw (p.1, p.2) (ap trimmed (c.in_err-node.ensures.missed me at _))
+    λ me at. rw (p.1, p.2) (ap trimmed (missed-as c.args.parts.now me me.directory c.chdir-walk.ensures _ (c.in_err-node.ensures.missed me at) _))
 
 pub returns-then-not-is_directory-clause-performed : goal.returns-then-not-is_directory-clause-performed
 returns-then-not-is_directory-clause-performed g c =
     let s = c.args.parts.now in
     let n = c.in_ok-node.node in
     let other : is_directory_at s.tree n ≡ false = ap (λ t. is_directory_at t n) (sym c.tree.ensures) ∙ sym c.is_directory.ensures ∙ c.if-not-is_directory.true in
-    λ me at. rw c.refusal.ensures (ap trimmed (chdir_refused s c.args.pid me c.args.path.now n (c.in_ok-node.ensures.found me at) other))
+    λ me at. rw c.refusal.ensures (ap trimmed (chdir_refused s c.args.pid me c.args.path.now n (found-as s me me.directory c.chdir-walk.ensures n (c.in_ok-node.ensures.found me at)) other))
 
 pub returns-clause-performed : goal.returns-clause-performed
 returns-clause-performed g c =
@@ -30,7 +31,7 @@ returns-clause-performed g c =
     let directory : is_directory_at s.tree n ≡ true = ap (λ t. is_directory_at t n) (sym c.tree.ensures) ∙ sym c.is_directory.ensures ∙ c.if-not-is_directory.false in
     λ me at. rw c.answer_of.ensures
     (leaves _ (trim (with_process s c.args.pid (with_directory n me))) c.set_directory.new.self
-    (ap trimmed (chdir_goes s c.args.pid me c.args.path.now n (c.in_ok-node.ensures.found me at) directory))
+    (ap trimmed (chdir_goes s c.args.pid me c.args.path.now n (found-as s me me.directory c.chdir-walk.ensures n (c.in_ok-node.ensures.found me at)) directory))
     (ap (λ o. trim (update_live s c.args.pid (with_directory n) o)) (sym at) ∙ sym c.set_directory.ensures))
 
 pub returns-clause-agrees : goal.returns-clause-agrees

@@ -10,13 +10,14 @@ use Rattle.pv_model.specs.State.{process_at}
 use Rattle.pv_model.specs.Tree.{find_entry, node_at}
 use Rattle.pv_calls_state.proofs.Alone.{some-at}
 use Rattle.pv_calls_path.proofs.LookCalls.{link_rest, names-refused, names-told, readlink-is, readlink-not, text-short, whole-text}
+use Rattle.pv_calls_path.proofs.Reaching.{found-as, missed-as}
 use Rattle.pv_calls_path.proofs.looking.readlink.Goals as goal
 
 pub returns-in-Err-clause-performed : goal.returns-in-Err-clause-performed
 returns-in-Err-clause-performed g c = λ before me at.
     let s = c.args.parts.now in
     let r = c.in-Err.refused in
-    ap (answer_by_attempt before s c.args.pid me) (c.in-Err.ensures.missed me at (λ _. link_rest s))
+    ap (answer_by_attempt before s c.args.pid me) (missed-as s me me.directory c.readlink-walk.ensures r (c.in-Err.ensures.missed me at) (λ _. link_rest s))
     ∙ c.tell.ensures.told before s me (refused r.walks r.errno r.cause) refl refl
 
 pub returns-in-Err-clause-agrees : goal.returns-in-Err-clause-agrees
@@ -33,7 +34,7 @@ returns-then-not-is_link-clause-performed g c = λ before me at.
     let s = c.args.parts.now in
     let n = c.in-Ok.node in
     let other : is_link (node_at s.tree n) ≡ false = ap (λ t. is_link (node_at t n)) (sym c.tree.ensures) ∙ sym c.is_link.ensures ∙ c.if-not-is_link.true in
-    ap (answer_by_attempt before s c.args.pid me) (readlink-not s c.args.pid me c.args.path.now n (c.in-Ok.ensures.found me at) other)
+    ap (answer_by_attempt before s c.args.pid me) (readlink-not s c.args.pid me c.args.path.now n (found-as s me me.directory c.readlink-walk.ensures n (c.in-Ok.ensures.found me at)) other)
     ∙ c.tell-then-not-is_link.ensures.told before s me (refused 1 EINVAL Plain) (rw c.refusal.ensures refl) refl
 
 pub returns-then-not-is_link-clause-agrees : goal.returns-then-not-is_link-clause-agrees
@@ -55,7 +56,7 @@ returns-clause-performed g c = λ before me at.
     let read = whole-text c.read_at-length.result (bytes_at c.tree-2.result.now.tree n) _ c.read_at-length.new.buffer short refl c.read_at-length.ensures.count c.read_at-length.ensures.bytes in
     let same = ap (λ t. bytes_at t n) c.tree-2.ensures in
     ap (answer_by_attempt before s c.args.pid me)
-    (readlink-is s c.args.pid me c.args.path.now n (c.in-Ok.ensures.found me at) link
+    (readlink-is s c.args.pid me c.args.path.now n (found-as s me me.directory c.readlink-walk.ensures n (c.in-Ok.ensures.found me at)) link
     ∙ ap₂ (λ k bs. done 1 (s, returns_bytes k bs)) (ap length (sym same) ∙ sym read.0) (sym same ∙ sym read.1))
     ∙ c.tell_bytes.ensures before s s me c.facts.ensures.trimmed
 

@@ -5,7 +5,8 @@ use Rattle.pv_model.specs.Effect.{answers_bytes, returns_bytes, status}
 use Rattle.pv_model.specs.State.{process_at}
 use Rattle.pv_model.specs.Tree.{find_entry}
 use Rattle.pv_calls_state.proofs.Alone.{some-at}
-use Rattle.pv_calls_path.proofs.LookCalls.{names-refused, names-told}
+use Rattle.pv_model.specs.CallRef.{walk_of}
+use Rattle.pv_calls_path.proofs.LookCalls.{names-refused, names-told, stat-walks}
 use Rattle.pv_calls_path.proofs.looking.stat_at.Goals as goal
 
 pub returns-in-Ok-clause-performed : goal.returns-in-Ok-clause-performed
@@ -13,7 +14,7 @@ returns-in-Ok-clause-performed g c = λ before me at.
     let s = c.args.parts.now in
     let bytes = c.status-bytes.ensures ∙ ap (λ t. status t c.in-Ok.node) c.tree.ensures in
     ap (answer_by_attempt before s c.args.pid me)
-    (c.in-Ok.ensures.found me at (λ n. answers_bytes s 0 (status s.tree n)) ∙ ap (λ bs. done 1 (s, returns_bytes 0 bs)) (sym bytes))
+    (stat-walks s c.args.pid me (walk_of c.args.walk) c.requires.here ∙ c.in-Ok.ensures.found me at (λ n. answers_bytes s 0 (status s.tree n)) ∙ ap (λ bs. done 1 (s, returns_bytes 0 bs)) (sym bytes))
     ∙ c.tell_bytes.ensures before s s me c.facts.ensures.trimmed
 
 pub returns-in-Ok-clause-agrees : goal.returns-in-Ok-clause-agrees
@@ -28,7 +29,7 @@ pub returns-in-Err-clause-performed : goal.returns-in-Err-clause-performed
 returns-in-Err-clause-performed g c = λ before me at.
     let s = c.args.parts.now in
     let r = c.in-Err.refused in
-    ap (answer_by_attempt before s c.args.pid me) (c.in-Err.ensures.missed me at (λ _ n. answers_bytes s 0 (status s.tree n)))
+    ap (answer_by_attempt before s c.args.pid me) (stat-walks s c.args.pid me (walk_of c.args.walk) c.requires.here ∙ c.in-Err.ensures.missed me at (λ _ n. answers_bytes s 0 (status s.tree n)))
     ∙ c.tell.ensures.told before s me (refused r.walks r.errno r.cause) refl refl
 
 pub returns-in-Err-clause-agrees : goal.returns-in-Err-clause-agrees

@@ -5,12 +5,13 @@ use Rattle.pv_model.specs.Effect.{node_of}
 use Rattle.pv_model.specs.Tree.{find_entry, is_directory_at}
 use Rattle.pv_calls_path.proofs.NameCalls.{link_crowded, names_linked}
 use Rattle.pv_laws_states.proofs.ByTree.{place-there}
+use Rattle.pv_calls_path.proofs.Reaching.{both-missed-as, reached-as}
 use Rattle.pv_calls_path.proofs.names.link.Goals as goal
 
 pub returns-in_err-both-clause-performed : goal.returns-in_err-both-clause-performed
 returns-in_err-both-clause-performed g c =
     let p = err_from_is_err_and c.from_residual.result c.from_residual.ensures.1 in
-    λ me at. rw (p.1, p.2) (ap trimmed (c.in_err-both.ensures.missed me at _))
+    λ me at. rw (p.1, p.2) (ap trimmed (both-missed-as c.args.parts.now me c.linked-first.ensures c.new_link-second.ensures _ (c.in_err-both.ensures.missed me at) _))
 
 pub link-requires-clause-node : goal.link-requires-clause-node
 link-requires-clause-node g c =
@@ -24,7 +25,7 @@ returns-in-Err-clause-performed g c =
     let plain : is_directory_at s.tree c.in_ok-both.both.node ≡ false = ap (λ t. is_directory_at t c.in_ok-both.both.node) (sym c.tree.ensures) ∙ sym c.is_directory.ensures ∙ c.if-is_directory.false in
     λ me at. rw (c.refusal-in-Err.ensures, c.space_errno.ensures)
     (ap trimmed (link_crowded s c.args.pid me c.args.path.now c.args.new.now c.in_ok-both.both.first c.in_ok-both.both.second
-    (c.in_ok-both.ensures.first me at) (c.in_ok-both.ensures.second me at) c.in_ok-both.both.node c.in_ok-both.ensures.there plain free
+    (reached-as s me me.directory c.linked-first.ensures c.in_ok-both.both.first (c.in_ok-both.ensures.first me at)) (reached-as s me me.directory c.new_link-second.ensures c.in_ok-both.both.second (c.in_ok-both.ensures.second me at)) c.in_ok-both.both.node c.in_ok-both.ensures.there plain free
     c.in_ok-directory.directory c.in_ok-directory.name.now c.in_ok-directory.ensures.name c.in-Err.space c.in-Err.ensures.refused))
 
 pub returns-clause-agrees : goal.returns-clause-agrees

@@ -5,13 +5,14 @@ use Rattle.pv_model.specs.Bytes.{is_empty}
 use Rattle.pv_model.specs.Calls.Paths.{ends_in_dot}
 use Rattle.pv_model.specs.Tree.{find_entry, is_directory_at, entries_at}
 use Rattle.pv_calls_path.proofs.NameCalls.{names_left, some_left, rmdir_missed, rmdir_full}
+use Rattle.pv_calls_path.proofs.Reaching.{missed-as, reached-as}
 use Rattle.pv_calls_path.proofs.names.rmdir.Goals as goal
 
 pub returns-in_err-found-clause-performed : goal.returns-in_err-found-clause-performed
 returns-in_err-found-clause-performed g c =
     let p = err_from_is_err_and c.from_residual.result c.from_residual.ensures.1 in
     let fine : ends_in_dot c.args.path.now ≡ false = sym c.ends_in_dot.ensures ∙ c.if-ends_in_dot.false in
-    λ me at. rw (p.1, p.2) (ap trimmed (rmdir_missed c.args.parts.now c.args.pid me c.args.path.now fine _ (c.in_err-found.ensures.missed me at)))
+    λ me at. rw (p.1, p.2) (ap trimmed (rmdir_missed c.args.parts.now c.args.pid me c.args.path.now fine _ (missed-as c.args.parts.now me me.directory c.rmdir-walk.ensures _ (c.in_err-found.ensures.missed me at))))
 
 pub returns-then-not-is_empty-clause-performed : goal.returns-then-not-is_empty-clause-performed
 returns-then-not-is_empty-clause-performed g c =
@@ -22,7 +23,7 @@ returns-then-not-is_empty-clause-performed g c =
     let full : is_empty (entries_at s.tree n) ≡ false =
     ap (λ t. is_empty (entries_at t n)) (sym c.tree-2.ensures) ∙ some_left (entries_at c.tree-2.result.now.tree n) c.is_empty.result c.is_empty.ensures.1 c.if-not-is_empty.true in
     λ me at. rw c.refusal-then-not-is_empty.ensures
-    (ap trimmed (rmdir_full s c.args.pid me c.args.path.now fine c.in_ok-found.found.place (c.in_ok-found.ensures.reached me at) n c.in_ok-found.ensures.there directory
+    (ap trimmed (rmdir_full s c.args.pid me c.args.path.now fine c.in_ok-found.found.place (reached-as s me me.directory c.rmdir-walk.ensures c.in_ok-found.found.place (c.in_ok-found.ensures.reached me at)) n c.in_ok-found.ensures.there directory
     c.in-Some.directory c.in-Some.name.now c.in-Some.ensures full))
 
 pub returns-clause-agrees : goal.returns-clause-agrees

@@ -1,6 +1,10 @@
-use Rattle.std.proofs.Common.{◌≡◌, ◌∙◌, ap, sym, false, length, nat_lt}
+use Rattle.std.proofs.Common.{◌≡◌, ◌∙◌, ap, sym, subst, false, length, nat_lt}
 use Rattle.std.proofs.lemmas.Bool.{le-ltb}
+use Rattle.pv_model.specs.Calls.Paths.{make}
+use Rattle.pv_model.specs.Tree.{link_node}
+use Rattle.pv_model.specs.Walks.{Walk}
 use Rattle.pv_calls_state.specs.Attempts.{trimmed}
+use Rattle.pv_calls_plain.specs.Rows.{attempt_of}
 use Rattle.pv_calls_path.proofs.NameCalls.{empty_by_length, link_text_good, symlink_makes}
 use Rattle.pv_calls_path.proofs.names.symlink.Goals as goal
 
@@ -12,4 +16,4 @@ pub returns-clause-performed : goal.returns-clause-performed
 returns-clause-performed g c =
     let s = c.args.parts.now in
     let short : nat_lt 1023 (length c.args.text.now) ≡ false = le-ltb 1023 (length c.args.text.now) c.if-text-gt-LINK_TEXT.false in
-    λ me at. ap trimmed (symlink_makes s c.args.pid me c.args.text.now c.args.path.now (empty_by_length c.args.text.now (sym c.is_empty.ensures ∙ c.if-is_empty.false)) short) ∙ c.make.ensures.performed me at
+    λ me at. ap trimmed (symlink_makes s c.args.pid me c.args.text.now c.args.path.now (empty_by_length c.args.text.now (sym c.is_empty.ensures ∙ c.if-is_empty.false)) short) ∙ subst (λ (w : Walk). trimmed (make s c.args.pid me w (link_node c.args.text.now)) ≡ attempt_of c.make.new.parts c.make.result) c.symlink-walk.ensures (c.make.ensures.performed me at)

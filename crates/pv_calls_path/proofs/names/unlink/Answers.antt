@@ -3,12 +3,13 @@ use Rattle.std.proofs.lemmas.Result.{err_from_is_err_and}
 use Rattle.pv_calls_state.specs.Attempts.{trimmed}
 use Rattle.pv_model.specs.Tree.{find_entry, is_directory_at, node_at}
 use Rattle.pv_calls_path.proofs.NameCalls.{no_entries, names_left}
+use Rattle.pv_calls_path.proofs.Reaching.{missed-as}
 use Rattle.pv_calls_path.proofs.names.unlink.Goals as goal
 
 pub returns-in_err-found-clause-performed : goal.returns-in_err-found-clause-performed
 returns-in_err-found-clause-performed g c =
     let p = err_from_is_err_and c.from_residual.result c.from_residual.ensures.1 in
-    λ me at. rw (p.1, p.2) (ap trimmed (c.in_err-found.ensures.missed me at _))
+    λ me at. rw (p.1, p.2) (ap trimmed (missed-as c.args.parts.now me me.directory c.unlink-walk.ensures _ (c.in_err-found.ensures.missed me at) _))
 
 pub returns-clause-agrees : goal.returns-clause-agrees
 returns-clause-agrees g c =

@@ -3,7 +3,7 @@ use Rattle.std.proofs.lemmas.Result.{err_from_is_err_and}
 use Rattle.pv_calls_state.specs.Attempts.{trimmed}
 use Rattle.pv_model.specs.Numbered.{least_free}
 use Rattle.pv_model.specs.State.{process_at}
-use Rattle.pv_calls_path.proofs.Reaching.{recorded}
+use Rattle.pv_calls_path.proofs.Reaching.{reached-as, recorded, stopped-as}
 use Rattle.pv_laws_states.proofs.ByTree.{place-there}
 use Rattle.pv_calls_path.proofs.OpenCalls.{few_descriptors, few_files, low_files, open_stopped, open_reached}
 use Rattle.pv_calls_path.proofs.opening.open_at.Goals as goal
@@ -15,8 +15,8 @@ returns-in_err-place-clause-performed g c =
     λ me at. rw (p.1, p.2) (ap trimmed (open_stopped s c.args.pid me c.args.start c.args.path.now c.args.flags (sym c.contradicts.ensures ∙ c.if-contradicts.false) (c.in-Ok.ensures.checked me at)
     (few_descriptors me c.record.result.now (recorded (process_at s c.args.pid) me c.record.result.now at c.record.ensures) c.has_room.result c.has_room.ensures.0 c.if-not-has_room.false)
     (few_files (least_free s.files) c.has_room-2.result (λ has. low_files s.files c.files.result.now.files c.files.ensures (c.has_room-2.ensures.0 has)) c.if-not-has_room-2.false)
-    c.in-Ok.directory (c.in-Ok.ensures.start me at) c.follow_of.result c.follow_of.ensures c.permissions.result c.permissions.ensures
-    _ (c.in_err-place.ensures.stopped me at)))
+    c.in-Ok.directory (c.in-Ok.ensures.start me at)
+    _ (stopped-as s me c.in-Ok.directory c.open-walk.ensures _ (c.in_err-place.ensures.stopped me at))))
 
 pub open_there-requires-clause-there : goal.open_there-requires-clause-there
 open_there-requires-clause-there g c =
@@ -28,8 +28,8 @@ returns-in-Some-clause-performed g c =
     λ me at. ap trimmed (open_reached s c.args.pid me c.args.start c.args.path.now c.args.flags (sym c.contradicts.ensures ∙ c.if-contradicts.false) (c.in-Ok.ensures.checked me at)
     (few_descriptors me c.record.result.now (recorded (process_at s c.args.pid) me c.record.result.now at c.record.ensures) c.has_room.result c.has_room.ensures.0 c.if-not-has_room.false)
     (few_files (least_free s.files) c.has_room-2.result (λ has. low_files s.files c.files.result.now.files c.files.ensures (c.has_room-2.ensures.0 has)) c.if-not-has_room-2.false)
-    c.in-Ok.directory (c.in-Ok.ensures.start me at) c.follow_of.result c.follow_of.ensures c.permissions.result c.permissions.ensures
-    c.in_ok-place.place (c.in_ok-place.ensures.reached me at))
+    c.in-Ok.directory (c.in-Ok.ensures.start me at)
+    c.in_ok-place.place (reached-as s me c.in-Ok.directory c.open-walk.ensures c.in_ok-place.place (c.in_ok-place.ensures.reached me at)))
     ∙ c.open_there.ensures.performed me c.in_ok-place.place at (sym c.in-Some.ensures)
 
 pub returns-in-None-clause-performed : goal.returns-in-None-clause-performed
@@ -38,6 +38,6 @@ returns-in-None-clause-performed g c =
     λ me at. ap trimmed (open_reached s c.args.pid me c.args.start c.args.path.now c.args.flags (sym c.contradicts.ensures ∙ c.if-contradicts.false) (c.in-Ok.ensures.checked me at)
     (few_descriptors me c.record.result.now (recorded (process_at s c.args.pid) me c.record.result.now at c.record.ensures) c.has_room.result c.has_room.ensures.0 c.if-not-has_room.false)
     (few_files (least_free s.files) c.has_room-2.result (λ has. low_files s.files c.files.result.now.files c.files.ensures (c.has_room-2.ensures.0 has)) c.if-not-has_room-2.false)
-    c.in-Ok.directory (c.in-Ok.ensures.start me at) c.follow_of.result c.follow_of.ensures c.permissions.result c.permissions.ensures
-    c.in_ok-place.place (c.in_ok-place.ensures.reached me at))
+    c.in-Ok.directory (c.in-Ok.ensures.start me at)
+    c.in_ok-place.place (reached-as s me c.in-Ok.directory c.open-walk.ensures c.in_ok-place.place (c.in_ok-place.ensures.reached me at)))
     ∙ c.create_there.ensures.performed me at

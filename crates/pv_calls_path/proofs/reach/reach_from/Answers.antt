@@ -1,6 +1,7 @@
 use Rattle.std.proofs.Common.{ap, refl}
 use Rattle.std.proofs.lemmas.Result.{err_from_is_err_and}
 use Rattle.pv_model.specs.Attempt.{◌>>◌}
+use Rattle.pv_model.specs.CallRef.{walk_of}
 use Rattle.pv_model.specs.Effect.{judge_for, judgement_or_refusal}
 use Rattle.pv_model.specs.declared.errno.Errno.TheVariants.{ENOENT, EACCES}
 use Rattle.pv_model.specs.declared.judgement.Judgement.TheVariants.{Allowed, Hidden, Denied}
@@ -12,14 +13,15 @@ use Rattle.pv_calls_path.proofs.reach.reach_from.Goals as goal
 pub returns-in_err-place-clause-stopped : goal.returns-in_err-place-clause-stopped
 returns-in_err-place-clause-stopped g c =
     let p = err_from_is_err_and c.from_residual.result c.from_residual.ensures.1 in
-    rw (p.1, p.2) (λ me at rest. c.in_err-place.ensures.lost (λ place. judge_for c.args.parts.now me place c.args.walk.needed >> rest place))
+    let lost = rw c.as_slice.ensures.value at c.in_err-place.ensures.lost in
+    rw (p.1, p.2) (λ me at rest. lost (λ place. judge_for c.args.parts.now me place c.args.walk.needed >> rest place))
 
 pub judge-requires : goal.judge-requires
 judge-requires g c = rw c.tree.ensures (fine_directory c.args.parts.now.tree c.in_ok-place.place c.in_ok-place.ensures.fine)
 
 pub returns-in-Allowed-clause-reached : goal.returns-in-Allowed-clause-reached
 returns-in-Allowed-clause-reached g c = λ me at. record {
-  walked = c.in_ok-place.ensures.walked;
+  walked = rw c.as_slice.ensures.value at c.in_ok-place.ensures.walked;
   judged = ap judgement_or_refusal
       (judged_as c.args.parts.now c.args.pid me at c.record.result.now c.record.ensures c.tree.result.now.tree c.tree.ensures c.in_ok-place.place c.args.walk.needed Allowed c.in-Allowed.ensures.value);
   fine = c.in_ok-place.ensures.fine;
@@ -28,11 +30,11 @@ returns-in-Allowed-clause-reached g c = λ me at. record {
 pub returns-in-Hidden-clause-stopped : goal.returns-in-Hidden-clause-stopped
 returns-in-Hidden-clause-stopped g c = λ me at.
     let s = c.args.parts.now in
-    judged_stop s c.args.start c.args.walk.follow c.args.walk.path.now me c.args.walk.needed c.in_ok-place.place Hidden ENOENT (ByUnveil None) c.in_ok-place.ensures.walked
+    judged_stop s me c.args.start (walk_of c.args.walk) c.in_ok-place.place Hidden ENOENT (ByUnveil None) (rw c.as_slice.ensures.value at c.in_ok-place.ensures.walked)
     (judged_as s c.args.pid me at c.record.result.now c.record.ensures c.tree.result.now.tree c.tree.ensures c.in_ok-place.place c.args.walk.needed Hidden c.in-Hidden.ensures.value) refl
 
 pub returns-in-Denied-clause-stopped : goal.returns-in-Denied-clause-stopped
 returns-in-Denied-clause-stopped g c = λ me at.
     let s = c.args.parts.now in
-    judged_stop s c.args.start c.args.walk.follow c.args.walk.path.now me c.args.walk.needed c.in_ok-place.place (Denied c.in-Denied.entry) EACCES (ByUnveil (Some c.in-Denied.entry)) c.in_ok-place.ensures.walked
+    judged_stop s me c.args.start (walk_of c.args.walk) c.in_ok-place.place (Denied c.in-Denied.entry) EACCES (ByUnveil (Some c.in-Denied.entry)) (rw c.as_slice.ensures.value at c.in_ok-place.ensures.walked)
     (judged_as s c.args.pid me at c.record.result.now c.record.ensures c.tree.result.now.tree c.tree.ensures c.in_ok-place.place c.args.walk.needed (Denied c.in-Denied.entry) c.in-Denied.ensures.value) refl

@@ -9,6 +9,7 @@ use Rattle.pv_model.specs.Calls.Paths.{ends_in_dot, same_node, entries_there}
 use Rattle.pv_model.specs.Effect.{node_of}
 use Rattle.pv_model.specs.Room.{fits, is_too_long}
 use Rattle.pv_model.specs.Tree.{find_entry}
+use Rattle.pv_calls_path.proofs.Reaching.{both-missed-as, reached-as}
 use Rattle.pv_calls_path.proofs.rename.rename.Goals as goal
 
 pub returns-in_err-both-clause-performed : goal.returns-in_err-both-clause-performed
@@ -16,7 +17,7 @@ returns-in_err-both-clause-performed g c =
     let p = err_from_is_err_and c.from_residual.result c.from_residual.ensures.1 in
     let fine : ends_in_dot c.args.path.now ≡ false = sym c.ends_in_dot.ensures ∙ c.if-ends_in_dot.false in
     let other : ends_in_dot c.args.new.now ≡ false = sym c.ends_in_dot-else-ends_in_dot.ensures ∙ c.if-ends_in_dot-2.false in
-    λ me at. rw (p.1, p.2) (ap trimmed (rename_missed c.args.parts.now c.args.pid me c.args.path.now c.args.new.now fine other _ (c.in_err-both.ensures.missed me at)))
+    λ me at. rw (p.1, p.2) (ap trimmed (rename_missed c.args.parts.now c.args.pid me c.args.path.now c.args.new.now fine other _ (both-missed-as c.args.parts.now me c.rename-first.ensures c.rename-second.ensures _ (c.in_err-both.ensures.missed me at))))
 
 pub returns-in-Err-clause-performed : goal.returns-in-Err-clause-performed
 returns-in-Err-clause-performed g c =
@@ -27,7 +28,7 @@ returns-in-Err-clause-performed g c =
     let differs : same_node o c.in_ok-both.both.node ≡ false = ap (λ x. same_node x c.in_ok-both.both.node) (sym c.node-there.ensures) ∙ sym c.is_same_node.ensures ∙ c.if-is_same_node.false in
     λ me at. rw c.refusal-in-Err.ensures
     (ap trimmed (rename_refused s c.args.pid me c.args.path.now c.args.new.now fine other c.in_ok-both.both.first c.in_ok-both.both.second
-    (c.in_ok-both.ensures.first me at) (c.in_ok-both.ensures.second me at) c.in_ok-both.both.node c.in_ok-both.ensures.there
+    (reached-as s me me.directory c.rename-first.ensures c.in_ok-both.both.first (c.in_ok-both.ensures.first me at)) (reached-as s me me.directory c.rename-second.ensures c.in_ok-both.both.second (c.in_ok-both.ensures.second me at)) c.in_ok-both.both.node c.in_ok-both.ensures.there
     c.in-Some-Some.from c.in-Some-Some.name.now c.in-Some-Some.ensures c.in-Some-Some.to c.in-Some-Some.other.now c.in-Some-Some.ensures' differs c.in-Err.errno
     (move_refused s c.args.pid me c.in_ok-both.both.node c.in-Some-Some.from c.in-Some-Some.name.now c.in-Some-Some.to c.in-Some-Some.other.now o c.in-Err.errno
     (ap (λ t. check_move t c.in_ok-both.both.node c.in-Some-Some.to o) (sym c.tree.ensures) ∙ ap (check_move c.tree.result.now.tree c.in_ok-both.both.node c.in-Some-Some.to) (sym c.node-there.ensures) ∙ c.in-Err.ensures))))
@@ -54,7 +55,7 @@ returns-in-Err-rename-clause-performed g c =
     named-place s.tree c.in_ok-both.both.first (c.in-Some-Some.from, c.in-Some-Some.name.now) c.in_ok-both.ensures.fine c.in-Some-Some.ensures in
     λ me at. rw (c.refusal-in-Err-rename.ensures, c.space_errno.ensures)
     (ap trimmed (rename_refused s c.args.pid me c.args.path.now c.args.new.now fine other c.in_ok-both.both.first c.in_ok-both.both.second
-    (c.in_ok-both.ensures.first me at) (c.in_ok-both.ensures.second me at) c.in_ok-both.both.node c.in_ok-both.ensures.there
+    (reached-as s me me.directory c.rename-first.ensures c.in_ok-both.both.first (c.in_ok-both.ensures.first me at)) (reached-as s me me.directory c.rename-second.ensures c.in_ok-both.both.second (c.in_ok-both.ensures.second me at)) c.in_ok-both.both.node c.in_ok-both.ensures.there
     c.in-Some-Some.from c.in-Some-Some.name.now c.in-Some-Some.ensures c.in-Some-Some.to c.in-Some-Some.other.now c.in-Some-Some.ensures' differs _
     (move_crowded s c.args.pid me c.in_ok-both.both.node c.in-Some-Some.from c.in-Some-Some.name.now c.in-Some-Some.to c.in-Some-Some.other.now o c.in-Err-rename.space passes
     (named.found ∙ c.in_ok-both.ensures.there) c.in-Err-rename.ensures.refused)))
@@ -74,7 +75,7 @@ returns-clause-performed g c =
     let roomy : fits c.rename.new.self.tree ≡ true = ap fits (sym c.tree-2.ensures) ∙ c.sizes.ensures.standing.fits in
     λ me at. rw c.answer_of-2.ensures
     (rename_goes s c.args.pid me c.args.path.now c.args.new.now fine other c.in_ok-both.both.first c.in_ok-both.both.second
-    (c.in_ok-both.ensures.first me at) (c.in_ok-both.ensures.second me at) c.in_ok-both.both.node c.in_ok-both.ensures.there
+    (reached-as s me me.directory c.rename-first.ensures c.in_ok-both.both.first (c.in_ok-both.ensures.first me at)) (reached-as s me me.directory c.rename-second.ensures c.in_ok-both.both.second (c.in_ok-both.ensures.second me at)) c.in_ok-both.both.node c.in_ok-both.ensures.there
     c.in-Some-Some.from c.in-Some-Some.name.now c.in-Some-Some.ensures c.in-Some-Some.to c.in-Some-Some.other.now c.in-Some-Some.ensures' differs
     c.rename.new.self passes (named.found ∙ c.in_ok-both.ensures.there) c.in_default-rename.ensures.moved short roomy)
 
