@@ -1,6 +1,6 @@
 -- An inode that is in use stays so.
 use Rattle.std.proofs.Common.{◌≡◌, ℕ, zero, suc, [], ◌∷◌, ◌<◌, length, Option, Some, IsSome, IfSome, Result, Ok, Err, OnOk, OnErr, refl, sym, subst, arith}
-use Rattle.pv_model.specs.declared.sort.Kind.{Kind}
+use Rattle.pv_model.specs.declared.kind.Kind.{Kind}
 use Rattle.pv_model.specs.Numbered.{Numbered, at_number, with_number}
 use Rattle.pv_model.specs.Bytes.{Bytes}
 use Rattle.pv_model.specs.Effect.{overwrite, resize}

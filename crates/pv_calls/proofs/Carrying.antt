@@ -25,7 +25,7 @@ use Rattle.pv_calls_plain.specs.declared.answer.Answer.{Answer}
 use Rattle.pv_calls.specs.Calls.{IsCarriedOut, IsBlocked, goes_on}
 use Rattle.pv_calls.specs.Loading.{Loads, LoadsProgram}
 use Rattle.pv_calls_plain.specs.declared.answer.Refused.{Refused}
-use Rattle.pv_calls_plain.specs.Rows.{answered, IsAnswered}
+use Rattle.pv_calls_plain.specs.Performed.{answered, IsAnswered}
 use Rattle.pv_laws_states.specs.States.{IsWhole}
 use Rattle.pv_laws_states.proofs.Processes.{process_at-same, update-is, tree-update}
 use Rattle.pv_laws_states.proofs.Replies.{whole-at_call}

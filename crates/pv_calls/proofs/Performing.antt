@@ -8,7 +8,7 @@ use Rattle.pv_calls_plain.specs.declared.answer.Done.{Done}
 use Rattle.pv_calls_plain.specs.declared.answer.Refused.{Refused}
 use Rattle.pv_calls_state.specs.Attempts.{trimmed}
 use Rattle.pv_calls.specs.Calls.{is_process_row, is_on_processes, is_descriptor_row, is_on_descriptors}
-use Rattle.pv_calls_plain.specs.Rows.{attempt_of, answered}
+use Rattle.pv_calls_plain.specs.Performed.{attempt_of, answered}
 use Rattle.pv_calls.proofs.Carrying.{find-trim}
 use Rattle.pv_calls_plain.proofs.Telling.{process_at-trim}
 use Rattle.pv_laws_states.specs.States.{IsWhole, is_word}

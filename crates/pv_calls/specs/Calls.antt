@@ -1,7 +1,7 @@
 -- What a call of a live process that no promise forbids comes to.
 use Rattle.std.specs.Prelude.{◌≡◌, ◌≢◌, ⊤, ℕ, Bool, true, false, Some}
 use Rattle.pv_calls_plain.specs.declared.answer.Answer.{Answer}
-use Rattle.pv_calls_plain.specs.Rows.{answered}
+use Rattle.pv_calls_plain.specs.Performed.{answered}
 use Rattle.pv_model.specs.declared.call.Call.{Call}
 use Rattle.pv_model.specs.declared.call.Call.TheVariants.{Exit, GetPid, GetPpid, Fork, Wait, Pledge, Unveil, Execve, Open, OpenAt, Close, Dup, Dup2, Read, Write, Lseek, Fstat, Ftruncate, Getdents, Fchdir, Chdir, Stat, Lstat, Readlink, Mkdir, Symlink, Link, Unlink, Rmdir, Rename}
 use Rattle.pv_model.specs.Answer.{answer_by_attempt, at_next_line, effect}

@@ -11,7 +11,7 @@ ghost use Rattle.pv_model.specs.Grammar.Programs.{program_of};
 ghost use Rattle.pv_model.specs.State.{Process, process_at};
 ghost use Rattle.pv_model.specs.Tree.{find_entry};
 ghost use Rattle.pv_calls_state.specs.Attempts.{trimmed};
-ghost use Rattle.pv_calls_plain.specs.Rows.{answered, attempt_of, IsAnswered};
+ghost use Rattle.pv_calls_plain.specs.Performed.{answered, attempt_of, IsAnswered};
 
 use pv_calls_path::chdir::chdir;
 use pv_calls_path::execve::{ExecveFault, execve};
@@ -24,8 +24,8 @@ use pv_calls_path::unveil::unveil;
 use pv_calls_plain::answer::{Answer, Done, Refused, tell};
 use pv_calls_plain::descriptors::{close, dup, dup2, fchdir};
 use pv_calls_plain::files::{fstat, ftruncate, getdents, lseek, read, write};
+use pv_calls_plain::pledge::pledge;
 use pv_calls_plain::processes::{exit_status, fork, getpid, getppid, wait, would_wait};
-use pv_calls_plain::restraints::pledge;
 use pv_calls_state::Parts;
 use pv_model::{CallRef, Cause, Errno, Outcome, Start, StepFault, Text};
 use pv_namei::Lookup;

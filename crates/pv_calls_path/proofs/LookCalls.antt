@@ -3,7 +3,7 @@ use Rattle.std.proofs.Common.{◌≡◌, ◌∙◌, ℕ, ◌≤◌, ◌-◌, min
 use Rattle.std.proofs.lemmas.Bool.{and_parts, leb-true}
 use Rattle.pv_calls_plain.specs.declared.answer.Answer.{Answer}
 use Rattle.pv_calls_plain.specs.declared.answer.Refused.{Refused}
-use Rattle.pv_calls_plain.specs.Rows.{answered}
+use Rattle.pv_calls_plain.specs.Performed.{answered}
 use Rattle.pv_calls_path.specs.Reached.{IsFound}
 use Rattle.pv_dirs.specs.Trees.{bytes_at, bytes_of}
 use Rattle.pv_laws_states.specs.States.{IsWhole}

@@ -6,7 +6,7 @@ ghost use Rattle.pv_model.specs.Calls.Paths.{chdir};
 ghost use Rattle.pv_model.specs.State.{Process, process_at};
 ghost use Rattle.pv_model.specs.Tree.{find_entry};
 ghost use Rattle.pv_calls_state.specs.Attempts.{trimmed};
-ghost use Rattle.pv_calls_plain.specs.Rows.{attempt_of};
+ghost use Rattle.pv_calls_plain.specs.Performed.{attempt_of};
 
 use crate::links::LinkRoom;
 use crate::reach::reach_node;

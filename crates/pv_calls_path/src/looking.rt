@@ -6,7 +6,7 @@ ghost use Rattle.pv_model.specs.CallRef.{walk_of};
 ghost use Rattle.pv_model.specs.Calls.Paths.{lstat, readlink, stat, stat_at};
 ghost use Rattle.pv_model.specs.State.{process_at};
 ghost use Rattle.pv_model.specs.Tree.{find_entry};
-ghost use Rattle.pv_calls_plain.specs.Rows.{IsAnswered};
+ghost use Rattle.pv_calls_plain.specs.Performed.{IsAnswered};
 
 use crate::links::LinkRoom;
 use crate::opening::is_link;

@@ -11,7 +11,7 @@ ghost use Rattle.pv_model.specs.State.{Process, process_at};
 ghost use Rattle.pv_model.specs.Tree.{find_entry, is_node};
 ghost use Rattle.pv_calls_state.specs.Attempts.{trimmed};
 ghost use Rattle.pv_calls_path.specs.Reached.{IsTaken};
-ghost use Rattle.pv_calls_plain.specs.Rows.{attempt_of};
+ghost use Rattle.pv_calls_plain.specs.Performed.{attempt_of};
 ghost use Rattle.pv_tree.specs.Changes.{new_node};
 
 use crate::links::LinkRoom;

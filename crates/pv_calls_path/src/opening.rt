@@ -12,7 +12,7 @@ ghost use Rattle.pv_model.specs.State.{Process, process_at, writes};
 ghost use Rattle.pv_model.specs.Tree.{find_entry, is_directory_at, node_at};
 ghost use Rattle.pv_calls_state.specs.Attempts.{trimmed};
 ghost use Rattle.pv_calls_path.specs.Opening.{open_place};
-ghost use Rattle.pv_calls_plain.specs.Rows.{attempt_of};
+ghost use Rattle.pv_calls_plain.specs.Performed.{attempt_of};
 ghost use Rattle.pv_laws_trees.specs.Found.{Alike};
 
 use crate::links::LinkRoom;

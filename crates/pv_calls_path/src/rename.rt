@@ -10,7 +10,7 @@ ghost use Rattle.pv_model.specs.Tree.{find_entry, is_directory_at};
 ghost use Rattle.pv_model.specs.Bytes.{is_empty};
 ghost use Rattle.pv_calls_state.specs.Attempts.{trimmed};
 ghost use Rattle.pv_calls_path.specs.Moving.{check_move};
-ghost use Rattle.pv_calls_plain.specs.Rows.{attempt_of};
+ghost use Rattle.pv_calls_plain.specs.Performed.{attempt_of};
 
 use crate::links::LinkRoom;
 use crate::reach::{ends_in_dot, reach_both};

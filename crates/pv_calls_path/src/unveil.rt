@@ -8,7 +8,7 @@ ghost use Rattle.pv_model.specs.State.{Process, process_at};
 ghost use Rattle.pv_model.specs.Tree.{find_entry};
 ghost use Rattle.pv_model.specs.Unveil.{target_of};
 ghost use Rattle.pv_calls_state.specs.Attempts.{trimmed};
-ghost use Rattle.pv_calls_plain.specs.Rows.{attempt_of};
+ghost use Rattle.pv_calls_plain.specs.Performed.{attempt_of};
 ghost use Rattle.pv_unveil.specs.Added.{refusal as refusal_of};
 
 use crate::links::LinkRoom;

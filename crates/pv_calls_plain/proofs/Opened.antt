@@ -3,7 +3,7 @@ use Rattle.std.proofs.Common.{◌≡◌, ℕ, ℤ, pos, negsuc, Option, Some, No
 use Rattle.std.specs.Option.{ok_or}
 use Rattle.std.specs.Prelude.{IfSome, IsSome, MatchOption, option_map, is_some}
 use Rattle.std.specs.Result.{result_ok}
-use Rattle.pv_calls_plain.specs.Rows.{IsOn}
+use Rattle.pv_calls_plain.specs.Performed.{IsOn}
 use Rattle.pv_files.specs.Descriptors.{descriptor_under}
 use Rattle.pv_model.specs.declared.errno.Errno.TheVariants.{EBADF}
 use Rattle.pv_model.specs.Effect.{descriptor_at, open_file, open_file_of}

@@ -9,7 +9,7 @@ ghost use Rattle.pv_model.specs.Effect.{Effect, returns_bytes};
 ghost use Rattle.pv_model.specs.Held.{trim};
 ghost use Rattle.pv_model.specs.State.{Process, State, process_at};
 ghost use Rattle.pv_calls_state.specs.Attempts.{trimmed};
-ghost use Rattle.pv_calls_plain.specs.Rows.{attempt_of, answered};
+ghost use Rattle.pv_calls_plain.specs.Performed.{attempt_of, answered};
 ghost use Rattle.pv_calls_plain.specs.Space.{space_errno};
 
 use pv_calls_state::Parts;

@@ -7,7 +7,7 @@ ghost use Rattle.pv_model.specs.Effect.{open_file};
 ghost use Rattle.pv_model.specs.Numbered.{at_number};
 ghost use Rattle.pv_model.specs.State.{Process, process_at};
 ghost use Rattle.pv_calls_state.specs.Attempts.{trimmed};
-ghost use Rattle.pv_calls_plain.specs.Rows.{IsOn, attempt_of};
+ghost use Rattle.pv_calls_plain.specs.Performed.{IsOn, attempt_of};
 
 use crate::answer::{Done, Refused, answer_of, refusal};
 use crate::processes::plain;

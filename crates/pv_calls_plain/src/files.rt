@@ -11,7 +11,7 @@ ghost use Rattle.pv_model.specs.State.{OpenFile, Process, process_at, reads, wri
 ghost use Rattle.pv_model.specs.Tree.{entries_at, is_directory_at, node_at};
 ghost use Rattle.pv_calls_state.specs.Attempts.{trimmed};
 ghost use Rattle.pv_calls_plain.specs.Space.{write_some};
-ghost use Rattle.pv_calls_plain.specs.Rows.{GivesFront, IsAnswered, attempt_of};
+ghost use Rattle.pv_calls_plain.specs.Performed.{GivesFront, IsAnswered, attempt_of};
 
 use crate::answer::{
     Answer, Done, Refused, answer_of, refusal, space_errno, tell, tell_bytes, tell_front,

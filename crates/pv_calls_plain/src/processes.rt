@@ -8,7 +8,7 @@ ghost use Rattle.pv_model.specs.Calls.Processes.{exit_status, getpid, getppid, f
 ghost use Rattle.pv_model.specs.Effect.{waits};
 ghost use Rattle.pv_model.specs.State.{Process, process_at};
 ghost use Rattle.pv_calls_state.specs.Attempts.{trimmed};
-ghost use Rattle.pv_calls_plain.specs.Rows.{IsAnswered, attempt_of};
+ghost use Rattle.pv_calls_plain.specs.Performed.{IsAnswered, attempt_of};
 
 use crate::answer::{Answer, Done, Refused, answer_of, refusal, tell, tell_bytes};
 use crate::status::four_bytes;

@@ -5,8 +5,8 @@ use Rattle.std.proofs.lemmas.Bool.{cases_eq, or_cases, or_left}
 use Rattle.pv_calls_state.specs.Counts.{state_of, IsCountedUp}
 use Rattle.pv_files.specs.Counted.{Counted, IsCounted}
 use Rattle.pv_inodes.specs.declared.space.Space.{Space}
-use Rattle.pv_model.specs.declared.sort.NewNode.{NewNode}
-use Rattle.pv_model.specs.declared.sort.NewNode.TheVariants.{Directory, File, Executable, Symlink}
+use Rattle.pv_model.specs.declared.kind.NewNode.{NewNode}
+use Rattle.pv_model.specs.declared.kind.NewNode.TheVariants.{Directory, File, Executable, Symlink}
 use Rattle.pv_model.specs.Bytes.{Bytes}
 use Rattle.pv_model.specs.Calls.Descriptors.{with_content, with_content_of}
 use Rattle.pv_model.specs.Held.{among, trim}

@@ -97,7 +97,9 @@ fn migrate_parser<'a>(alloc: Global) -> Result<Parser<'a>, AllocError>
     ensures { IfOk result (IsParserOf migrate_app) }
 {
     Parser::new(alloc, "migrate")
-        .about("Make an image of version 2 of one of version 1: each node keeps its number; with five times the data blocks, each run that meets no limit keeps its trace")
+        .about(
+            "Make an image of version 2 of one of version 1: each node keeps its number; with five times the data blocks, each run that meets no limit keeps its trace",
+        )
         .arg(text(alloc, "IMAGE", "an image of version 1"))?
         .arg(text(alloc, "OUT", "the file that gets the new image"))?
         .arg(text(alloc, "BLOCKS", "the new image's blocks, at most 65535"))?

@@ -1,7 +1,7 @@
 -- An entry added to a directory.
 use Rattle.std.proofs.Common.{◌≡◌, ℕ, suc, ◌*◌, ◌+◌, IsTrue, true, [], ◌∷◌, ◌++◌, length, get_or, None, refl, sym, ap, ◌∙◌, arith}
 use Rattle.std.specs.FinMap.Entries.{find, put}
-use Rattle.pv_model.specs.declared.sort.Kind.TheVariants.{Directory}
+use Rattle.pv_model.specs.declared.kind.Kind.TheVariants.{Directory}
 use Rattle.pv_model.specs.declared.version.Version.{Version}
 use Rattle.pv_model.specs.Bytes.{Bytes}
 use Rattle.pv_model.specs.Room.{entry_length}

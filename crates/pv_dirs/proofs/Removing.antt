@@ -1,7 +1,7 @@
 -- An entry taken away from a directory.
 use Rattle.std.proofs.Common.{◌≡◌, ℕ, suc, ◌+◌, ◌*◌, ◌≤◌, true, not, bytes_eq, length, sym, ap, ◌∙◌}
 use Rattle.std.specs.FinMap.Entries.{where_key}
-use Rattle.pv_model.specs.declared.sort.Kind.TheVariants.{Directory}
+use Rattle.pv_model.specs.declared.kind.Kind.TheVariants.{Directory}
 use Rattle.pv_model.specs.Bytes.{Bytes}
 use Rattle.pv_model.specs.Effect.{overwrite, resize}
 use Rattle.pv_model.specs.Room.{entry_length}

@@ -3,8 +3,8 @@ use Rattle.std.proofs.Common.{◌≡◌, ℕ, suc, ◌+◌, ◌-◌, ◌*◌, �
 use Rattle.std.specs.Prelude.{option_map, IsSome}
 use Rattle.std.specs.FinMap.Entries.{find}
 use Rattle.std.proofs.lemmas.List.{length-map, drop-map}
-use Rattle.pv_model.specs.declared.sort.Kind.{Kind}
-use Rattle.pv_model.specs.declared.sort.Kind.TheVariants.{Directory, File, Executable, Symlink}
+use Rattle.pv_model.specs.declared.kind.Kind.{Kind}
+use Rattle.pv_model.specs.declared.kind.Kind.TheVariants.{Directory, File, Executable, Symlink}
 use Rattle.pv_model.specs.declared.version.Version.{Version}
 use Rattle.pv_model.specs.Bytes.{Bytes}
 use Rattle.pv_model.specs.Image.{inode_blocks, greatest_blocks}

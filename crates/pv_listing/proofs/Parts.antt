@@ -2,7 +2,7 @@
 use Rattle.std.proofs.Common.{◌≡◌, ℕ, true, false, [], ◌∷◌, ◌++◌, ◌∙◌, ap, ap₂, append_assoc, sym, Option, None, Some, option_map, codes, flat_map, refl}
 use Rattle.std.specs.Fmt.{decimal}
 use Rattle.std.specs.Prelude.{IsSome}
-use Rattle.pv_model.specs.declared.sort.Kind.{Kind}
+use Rattle.pv_model.specs.declared.kind.Kind.{Kind}
 use Rattle.pv_model.specs.Bytes.{Bytes}
 use Rattle.pv_model.specs.Effect.{size_of}
 use Rattle.pv_model.specs.Listing.{kind_letter, listed_path, node_line}

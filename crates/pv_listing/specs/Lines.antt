@@ -1,8 +1,8 @@
 -- Parts of a line, and the names of a directory one after the other.
 use Rattle.std.specs.Prelude.{◌≡◌, ℕ, [], ◌∷◌, ◌++◌, codes, filter, Option, None, Some}
 use Rattle.std.specs.Fmt.{decimal}
-use Rattle.pv_model.specs.declared.sort.Kind.{Kind}
-use Rattle.pv_model.specs.declared.sort.Kind.TheVariants.{Directory, File, Executable, Symlink}
+use Rattle.pv_model.specs.declared.kind.Kind.{Kind}
+use Rattle.pv_model.specs.declared.kind.Kind.TheVariants.{Directory, File, Executable, Symlink}
 use Rattle.pv_model.specs.Bytes.{Bytes}
 use Rattle.pv_model.specs.Calls.Descriptors.{is_past}
 use Rattle.pv_model.specs.Effect.{size_of}

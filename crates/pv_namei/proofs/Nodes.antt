@@ -5,7 +5,7 @@ use Rattle.std.specs.List.{list_all}
 use Rattle.std.proofs.Math.Seq.{take-append_seam, take-length}
 use Rattle.std.proofs.lemmas.Bool.{and_parts, leb-true}
 use Rattle.pv_model.specs.declared.place.Place.TheVariants.{At}
-use Rattle.pv_model.specs.declared.sort.Kind.TheVariants.{Directory}
+use Rattle.pv_model.specs.declared.kind.Kind.TheVariants.{Directory}
 use Rattle.pv_model.specs.Bytes.{Bytes, is_empty}
 use Rattle.pv_model.specs.Calls.Paths.{link_text}
 use Rattle.pv_model.specs.Tree.{Node, directory_node, file_node, link_node, Tree, root, node_at, find_entry, is_directory, is_directory_at, is_link_text, IsWellFormed}

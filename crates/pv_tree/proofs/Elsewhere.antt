@@ -2,7 +2,7 @@
 use Rattle.std.proofs.Common.{◌≡◌, ℕ, ◌<◌, true, [], ◌∷◌, List, length, None, Result, Ok, Err, refl, ap, ◌∙◌, arith}
 use Rattle.std.specs.Prelude.{OnOk, OnErr}
 use Rattle.pv_inodes.specs.declared.space.Space.{Space}
-use Rattle.pv_model.specs.declared.sort.NewNode.{NewNode}
+use Rattle.pv_model.specs.declared.kind.NewNode.{NewNode}
 use Rattle.pv_model.specs.Bytes.{Bytes}
 use Rattle.pv_model.specs.Effect.{bytes_of, overwrite, resize}
 use Rattle.pv_model.specs.Tree.{Tree, node_at, is_directory_at, find_entry, with_entry, without_entry, new_number, with_new_node, IsWellFormed}

@@ -4,7 +4,7 @@ use Rattle.std.specs.Prelude.{slice_index, slice_set}
 use Rattle.std.specs.FinMap.Entries.{find, put}
 use Rattle.std.proofs.lemmas.Bool.{cases_eq}
 use Rattle.std.proofs.lemmas.List.{length-set}
-use Rattle.pv_model.specs.declared.sort.NewNode.{NewNode}
+use Rattle.pv_model.specs.declared.kind.NewNode.{NewNode}
 use Rattle.pv_model.specs.Bytes.{Bytes}
 use Rattle.pv_model.specs.Tree.{Node, directory_node, Tree, node_at, entries_at, is_directory, is_directory_at, find_entry, parent, with_node, with_entry, new_number, is_name, is_node}
 use Rattle.pv_laws_trees.specs.Spelled.{are_bytes, has_bytes}

@@ -7,8 +7,8 @@ use Rattle.std.proofs.lemmas.Bool.{and_parts, leb-true, cases_eq, cases_lt, case
 use Rattle.pv_inodes.specs.declared.space.Space.{Space}
 use Rattle.pv_inodes.specs.declared.space.Space.TheVariants.{Full, TooBig}
 use Rattle.pv_inodes.proofs.Numbers.{with_number-itself, without_number-with_number}
-use Rattle.pv_model.specs.declared.sort.NewNode.{NewNode}
-use Rattle.pv_model.specs.declared.sort.NewNode.TheVariants.{Directory, File, Executable, Symlink}
+use Rattle.pv_model.specs.declared.kind.NewNode.{NewNode}
+use Rattle.pv_model.specs.declared.kind.NewNode.TheVariants.{Directory, File, Executable, Symlink}
 use Rattle.pv_model.specs.declared.version.Version.{Version}
 use Rattle.pv_model.specs.Bytes.{Bytes, is_empty}
 use Rattle.pv_model.specs.Effect.{overwrite, size_of}
@@ -217,7 +217,7 @@ module _ (t : Tree) (w : IsWellFormed t) (short : is_too_long t ≡ false) (d : 
 
 -- ---- the steps of a making
 
-module _ (t v : Tree) (n : ℕ) (k : NewNode) (sort : Rattle.pv_model.specs.declared.sort.Kind.Kind) (taken : v ≡ with_node t n (empty_node sort)) (kind : sort ≡ sort_of k)
+module _ (t v : Tree) (n : ℕ) (k : NewNode) (sort : Rattle.pv_model.specs.declared.kind.Kind.Kind) (taken : v ≡ with_node t n (empty_node sort)) (kind : sort ≡ sort_of k)
     (below : n < length t.nodes) (least : n ≡ new_number t) where
   pub fresh-is : v ≡ with_node t n (empty_node (sort_of k))
   fresh-is = taken ∙ ap (λ s. with_node t n (empty_node s)) kind

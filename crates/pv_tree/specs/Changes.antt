@@ -1,9 +1,9 @@
 -- How calls change a tree.
 use Rattle.std.specs.Prelude.{ℕ, false, true, [], ◌∷◌, ◌||◌, ◌==◌, if◌then◌else◌, nat_lt, Option, None, Some}
-use Rattle.pv_model.specs.declared.sort.NewNode.{NewNode}
-use Rattle.pv_model.specs.declared.sort.NewNode.TheVariants.{Directory, File, Executable, Symlink}
-use Rattle.pv_model.specs.declared.sort.Kind.{Kind}
-use Rattle.pv_model.specs.declared.sort.Kind.TheVariants.{Directory as KindDirectory, File as KindFile, Executable as KindExecutable, Symlink as KindSymlink}
+use Rattle.pv_model.specs.declared.kind.NewNode.{NewNode}
+use Rattle.pv_model.specs.declared.kind.NewNode.TheVariants.{Directory, File, Executable, Symlink}
+use Rattle.pv_model.specs.declared.kind.Kind.{Kind}
+use Rattle.pv_model.specs.declared.kind.Kind.TheVariants.{Directory as KindDirectory, File as KindFile, Executable as KindExecutable, Symlink as KindSymlink}
 use Rattle.pv_model.specs.declared.version.Version.{Version}
 use Rattle.pv_model.specs.Bytes.{Bytes}
 use Rattle.pv_model.specs.Calls.Descriptors.{with_content}

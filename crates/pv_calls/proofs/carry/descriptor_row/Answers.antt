@@ -5,7 +5,7 @@ use Rattle.pv_model.specs.CallRef.{call_of}
 use Rattle.pv_model.specs.Answer.{effect}
 use Rattle.pv_model.specs.Calls.Descriptors.{close, dup, dup2, write, lseek, ftruncate, fchdir}
 use Rattle.pv_calls_state.specs.Attempts.{trimmed}
-use Rattle.pv_calls_plain.specs.Rows.{attempt_of}
+use Rattle.pv_calls_plain.specs.Performed.{attempt_of}
 use Rattle.pv_calls.proofs.Performing.{word-back}
 use Rattle.pv_calls.proofs.carry.descriptor_row.Goals as goal
 

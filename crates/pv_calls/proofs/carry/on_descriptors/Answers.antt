@@ -4,7 +4,7 @@ use Rattle.pv_laws_states.specs.States.{is_call, is_word}
 use Rattle.pv_model.specs.CallRef.{call_of}
 use Rattle.pv_model.specs.Answer.{answer_by_attempt, effect}
 use Rattle.pv_model.specs.Calls.Descriptors.{fstat, getdents, read}
-use Rattle.pv_calls_plain.specs.Rows.{answered}
+use Rattle.pv_calls_plain.specs.Performed.{answered}
 use Rattle.pv_model.specs.Grammar.Programs.{program_of}
 use Rattle.pv_model.specs.State.{process_at}
 use Rattle.pv_calls_state.proofs.Alone.{some-at}

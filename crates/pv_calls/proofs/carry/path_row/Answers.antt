@@ -3,7 +3,7 @@ use Rattle.pv_model.specs.Answer.{effect}
 use Rattle.pv_model.specs.Bytes.{Bytes}
 use Rattle.pv_model.specs.Calls.Paths.{symlink}
 use Rattle.pv_calls_state.specs.Attempts.{trimmed}
-use Rattle.pv_calls_plain.specs.Rows.{attempt_of}
+use Rattle.pv_calls_plain.specs.Performed.{attempt_of}
 use Rattle.pv_calls.proofs.carry.path_row.Goals as goal
 
 pub returns-in-Unveil-clause-performed : goal.returns-in-Unveil-clause-performed

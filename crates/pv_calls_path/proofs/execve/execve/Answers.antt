@@ -2,7 +2,7 @@ use Rattle.std.specs.Result.{result_ok}
 use Rattle.std.proofs.Common.{◌≡◌, ◌∙◌, rules, None, Some, option_map, refl, ap, sym}
 use Rattle.pv_dirs.specs.Trees.{sort_of}
 use Rattle.pv_calls_state.specs.Attempts.{trimmed}
-use Rattle.pv_model.specs.declared.sort.Kind.TheVariants.{Executable}
+use Rattle.pv_model.specs.declared.kind.Kind.TheVariants.{Executable}
 use Rattle.pv_model.specs.Answer.{update_live}
 use Rattle.pv_model.specs.Calls.Processes.{executable_bytes, with_program}
 use Rattle.pv_model.specs.Effect.{bytes_of}

@@ -3,7 +3,7 @@ use Rattle.pv_model.specs.Calls.Paths.{make}
 use Rattle.pv_model.specs.Tree.{directory_node}
 use Rattle.pv_model.specs.Walks.{Walk}
 use Rattle.pv_calls_state.specs.Attempts.{trimmed}
-use Rattle.pv_calls_plain.specs.Rows.{attempt_of}
+use Rattle.pv_calls_plain.specs.Performed.{attempt_of}
 use Rattle.pv_calls_path.proofs.names.mkdir.Goals as goal
 
 pub returns-clause-performed : goal.returns-clause-performed

@@ -4,7 +4,7 @@ use Rattle.pv_model.specs.Calls.Paths.{make}
 use Rattle.pv_model.specs.Tree.{link_node}
 use Rattle.pv_model.specs.Walks.{Walk}
 use Rattle.pv_calls_state.specs.Attempts.{trimmed}
-use Rattle.pv_calls_plain.specs.Rows.{attempt_of}
+use Rattle.pv_calls_plain.specs.Performed.{attempt_of}
 use Rattle.pv_calls_path.proofs.NameCalls.{empty_by_length, link_text_good, symlink_makes}
 use Rattle.pv_calls_path.proofs.names.symlink.Goals as goal
 

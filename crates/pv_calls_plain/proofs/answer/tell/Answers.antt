@@ -1,7 +1,7 @@
 use Rattle.std.proofs.Common.{◌∙◌, ◌≤◌, w32, ap, subst, arith}
 use Rattle.std.proofs.lemmas.Int.{to_z_pos}
 use Rattle.std.specs.Prelude.{IfOk}
-use Rattle.pv_calls_plain.specs.Rows.{attempt_of}
+use Rattle.pv_calls_plain.specs.Performed.{attempt_of}
 use Rattle.pv_calls_plain.proofs.Telling.{told_value}
 use Rattle.pv_calls_plain.proofs.answer.tell.Goals as goal
 

@@ -1,7 +1,7 @@
 use Rattle.std.proofs.Common.{◌≡◌, ◌∙◌, Some, ap, sym, w32}
 use Rattle.std.proofs.lemmas.Int.{to_z-of_z}
 use Rattle.pv_calls_state.specs.Attempts.{trimmed}
-use Rattle.pv_calls_plain.specs.Rows.{attempt_of}
+use Rattle.pv_calls_plain.specs.Performed.{attempt_of}
 use Rattle.pv_model.specs.Calls.Descriptors.{dup}
 use Rattle.pv_model.specs.State.{Process, process_at}
 use Rattle.pv_laws_states.proofs.ByProcess.{good-dup}

@@ -3,7 +3,7 @@ use Rattle.std.specs.Option.{ok_or}
 use Rattle.std.specs.Prelude.{MatchOption, None, option_map}
 use Rattle.std.specs.Result.{result_ok}
 use Rattle.std.proofs.lemmas.Int.{to_z-of_z}
-use Rattle.pv_calls_plain.specs.Rows.{IsOn}
+use Rattle.pv_calls_plain.specs.Performed.{IsOn}
 use Rattle.pv_files.specs.Descriptors.{descriptor_under}
 use Rattle.pv_model.specs.declared.errno.Errno.TheVariants.{EBADF}
 use Rattle.pv_model.specs.Effect.{open_file}

@@ -1,6 +1,6 @@
 use Rattle.std.proofs.Common.{◌∙◌, ap, ap₂, sym, subst, w32}
 use Rattle.std.proofs.lemmas.Int.{to_z-of_z}
-use Rattle.pv_calls_plain.specs.Rows.{IsOn}
+use Rattle.pv_calls_plain.specs.Performed.{IsOn}
 use Rattle.pv_model.specs.Answer.{answer_by_attempt}
 use Rattle.pv_model.specs.Attempt.{done}
 use Rattle.pv_model.specs.Effect.{returns_bytes, status}

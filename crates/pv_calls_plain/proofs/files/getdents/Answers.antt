@@ -1,6 +1,6 @@
 use Rattle.std.proofs.Common.{◌∙◌, Some, ap, ap₂, sym, subst, w32, length}
 use Rattle.std.proofs.lemmas.Int.{to_z-of_z}
-use Rattle.pv_calls_plain.specs.Rows.{IsOn}
+use Rattle.pv_calls_plain.specs.Performed.{IsOn}
 use Rattle.pv_model.specs.Answer.{answer_by_attempt}
 use Rattle.pv_model.specs.Attempt.{done}
 use Rattle.pv_model.specs.Calls.Descriptors.{next_name}

@@ -1,7 +1,7 @@
 use Rattle.std.proofs.Common.{◌≡◌, ◌∙◌, ℕ, pos, ◌+ℤ◌, Some, None, false, Option, ap, ap₂, sym, subst, w32}
 use Rattle.std.proofs.lemmas.Int.{to_z-of_z}
 use Rattle.pv_calls_state.specs.Attempts.{trimmed}
-use Rattle.pv_calls_plain.specs.Rows.{IsOn, attempt_of}
+use Rattle.pv_calls_plain.specs.Performed.{IsOn, attempt_of}
 use Rattle.pv_model.specs.declared.limits.TheConstants.{OFFSET}
 use Rattle.pv_model.specs.Attempt.{done}
 use Rattle.pv_model.specs.Calls.Descriptors.{within}

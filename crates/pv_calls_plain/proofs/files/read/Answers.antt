@@ -5,7 +5,7 @@ use Rattle.pv_model.specs.Answer.{answer_by_attempt}
 use Rattle.pv_model.specs.Attempt.{refused}
 use Rattle.pv_model.specs.Calls.Descriptors.{read}
 use Rattle.pv_model.specs.Held.{trim}
-use Rattle.pv_calls_plain.specs.Rows.{attempt_of}
+use Rattle.pv_calls_plain.specs.Performed.{attempt_of}
 use Rattle.pv_calls_plain.proofs.files.read.Goals as goal
 
 pub tell_front-requires-clause-live : goal.tell_front-requires-clause-live

@@ -1,7 +1,7 @@
 use Rattle.std.proofs.Common.{◌≡◌, ◌∙◌, ◌+◌, ap, ap₂, sym, subst, w32, length, drop, IsSome, arith}
 use Rattle.std.proofs.lemmas.Int.{to_z-of_z}
 use Rattle.std.proofs.lemmas.List.{length-take}
-use Rattle.pv_calls_plain.specs.Rows.{IsOn}
+use Rattle.pv_calls_plain.specs.Performed.{IsOn}
 use Rattle.pv_model.specs.declared.limits.TheConstants.{BUFFER}
 use Rattle.pv_model.specs.Answer.{update, with_front}
 use Rattle.pv_model.specs.Attempt.{done}

@@ -1,6 +1,6 @@
 use Rattle.std.proofs.Common.{◌≡◌, ◌∙◌, ◌+◌, ap, sym}
 use Rattle.pv_calls_state.specs.Attempts.{trimmed}
-use Rattle.pv_calls_plain.specs.Rows.{attempt_of}
+use Rattle.pv_calls_plain.specs.Performed.{attempt_of}
 use Rattle.pv_model.specs.Calls.Descriptors.{is_past_greatest}
 use Rattle.pv_tree.specs.Rooms.{refusal}
 use Rattle.pv_tree.proofs.Rooms.{refusal-fits}

@@ -9,7 +9,7 @@ use Rattle.pv_model.specs.State.{Process, process_at}
 use Rattle.pv_procs.specs.ProcessTable.{ProcessTable}
 use Rattle.pv_laws_states.proofs.ByProcess.{good-getppid}
 use Rattle.pv_laws_states.proofs.Members.{live-found}
-use Rattle.pv_calls_plain.specs.Rows.{attempt_of}
+use Rattle.pv_calls_plain.specs.Performed.{attempt_of}
 use Rattle.pv_calls_state.proofs.Alone.{some-at}
 use Rattle.pv_calls_plain.proofs.processes.getppid.Goals as goal
 

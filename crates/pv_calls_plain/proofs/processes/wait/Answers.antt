@@ -1,5 +1,5 @@
 use Rattle.std.proofs.Common.{◌∙◌, ap, sym}
-use Rattle.pv_calls_plain.specs.Rows.{answered}
+use Rattle.pv_calls_plain.specs.Performed.{answered}
 use Rattle.pv_model.specs.Attempt.{done}
 use Rattle.pv_model.specs.Calls.Processes.{wait}
 use Rattle.pv_model.specs.Effect.{returns_bytes}

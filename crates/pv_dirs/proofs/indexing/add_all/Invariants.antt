@@ -1,5 +1,5 @@
 use Rattle.std.proofs.Common.{◌≡◌, ℕ, ◌<◌, Some}
-use Rattle.pv_model.specs.declared.sort.Kind.TheVariants.{Directory}
+use Rattle.pv_model.specs.declared.kind.Kind.TheVariants.{Directory}
 use Rattle.pv_inodes.specs.Files.{Contained, held}
 use Rattle.pv_dirs.specs.Index.{AreLed}
 use Rattle.pv_dirs.proofs.indexing.add_all.Given as goal

@@ -1,4 +1,4 @@
-use Rattle.pv_model.specs.declared.sort.Kind.TheVariants.{File}
+use Rattle.pv_model.specs.declared.kind.Kind.TheVariants.{File}
 use Rattle.pv_inodes.specs.Files.{cut}
 use Rattle.pv_bench.proofs.Used.{used-after, used-cut, used-fresh}
 use Rattle.pv_bench.proofs.long_file.LongFile.new.Goals as goal

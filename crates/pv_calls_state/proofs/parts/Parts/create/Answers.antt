@@ -6,7 +6,7 @@ use Rattle.pv_model.specs.Numbered.{least_free}
 use Rattle.pv_model.specs.State.{State}
 use Rattle.pv_model.specs.Tree.{Tree, node_at, new_number, with_new_node}
 use Rattle.pv_calls_state.proofs.Changing.{before, started}
-use Rattle.pv_model.specs.declared.sort.NewNode.TheVariants.{File}
+use Rattle.pv_model.specs.declared.kind.NewNode.TheVariants.{File}
 use Rattle.pv_model.specs.Calls.Descriptors.{with_open_file}
 use Rattle.pv_model.specs.Held.{trim}
 use Rattle.pv_tree.specs.Changes.{new_node}

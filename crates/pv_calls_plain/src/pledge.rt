@@ -8,7 +8,7 @@ ghost use Rattle.pv_model.specs.Calls.Restraints.{asked_promises, pledge};
 ghost use Rattle.pv_model.specs.State.{Process, process_at};
 ghost use Rattle.pv_calls_state.specs.Attempts.{trimmed};
 ghost use Rattle.pv_promises.specs.Pledge.{bits_of};
-ghost use Rattle.pv_calls_plain.specs.Rows.{attempt_of};
+ghost use Rattle.pv_calls_plain.specs.Performed.{attempt_of};
 
 use crate::answer::{Done, Refused, answer_of, refusal};
 use pv_calls_state::Parts;

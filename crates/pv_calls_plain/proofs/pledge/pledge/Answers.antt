@@ -1,7 +1,7 @@
 use Rattle.std.proofs.Common.{◌∙◌, ap, sym}
 use Rattle.std.specs.Prelude.{option_copied}
 use Rattle.pv_calls_state.specs.Attempts.{trimmed}
-use Rattle.pv_calls_plain.specs.Rows.{attempt_of}
+use Rattle.pv_calls_plain.specs.Performed.{attempt_of}
 use Rattle.pv_model.specs.Attempt.{done}
 use Rattle.pv_model.specs.Effect.{returns}
 use Rattle.pv_model.specs.Held.{trim}
@@ -11,7 +11,7 @@ use Rattle.pv_promises.specs.Pledge.{bits_of, narrow_both}
 use Rattle.pv_laws_states.proofs.Processes.{update-is}
 use Rattle.pv_calls_state.proofs.Alone.{lent-is}
 use Rattle.pv_calls_plain.proofs.Pledging.{pledge-kept, pledge-refused, with_pledged}
-use Rattle.pv_calls_plain.proofs.restraints.pledge.Goals as goal
+use Rattle.pv_calls_plain.proofs.pledge.pledge.Goals as goal
 
 pub returns-in-Err-narrow-clause-performed : goal.returns-in-Err-narrow-clause-performed
 returns-in-Err-narrow-clause-performed c = λ me at.
