@@ -104,7 +104,7 @@ next-whole s s1 pid is live whole =
     let me = some-at (process_at s pid) live in
     subst IsWhole (sym (is ∙ update-is s pid at_next_line me.0 me.1)) (whole-at_call s pid me.0 whole me.1)
 
--- the system call of a process that went on is what the call comes to
+-- the effect for a process that went on is what the call comes to
 pub carried-on : (s s1 : State) (pid : ℕ) (call : Call) (new : State) (a : Answer) → s1 ≡ update s pid at_next_line
     → IsAnswered (λ x m. effect program_of x pid m call) s1 pid new a → IsCarriedOut s pid call new a
 carried-on s s1 pid call new a is performed = λ me at.

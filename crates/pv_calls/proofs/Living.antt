@@ -166,7 +166,7 @@ module _ (s : State) (pid : ℕ) (me : Process) (at : process_at s pid ≡ Some 
   lives-path (Rename path new) is = lives-rename path new
   lives-path call is = cc is
 
--- a call on paths that tells of no node has a system call
+-- a call on paths that tells of no node answers a number
 pub path-rest : (call : CallRef) → is_on_paths (call_of call) ≡ true → ((path : Bor Text) → call ≡ StatRef path → ⊥) → ((path : Bor Text) → call ≡ LstatRef path → ⊥) → ((path : Bor Text) → call ≡ ReadlinkRef path → ⊥)
     → is_path_row (call_of call) ≡ true
 path-rest (StatRef path) is no-stat no-lstat no-readlink = absurd (no-stat path refl)

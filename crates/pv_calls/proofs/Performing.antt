@@ -63,7 +63,7 @@ exited s new pid code n is left before me at =
     ap (λ x. let a : Answered = record { after = trim (end_process s pid me x); outcome = Exited; walks = 0 } in a) (sym is)
     ∙ ap (λ x. let a : Answered = record { after = x; outcome = Exited; walks = 0 } in a) (sym (left me at))
 
--- a call on processes that is neither an end nor a wait has a system call
+-- a call on processes that is neither an end nor a wait answers a number
 pub process-rest : (call : CallRef) → is_on_processes (call_of call) ≡ true → ((code : ℤ) → call ≡ ExitRef code → ⊥) → (call ≡ WaitRef → ⊥) → is_process_row (call_of call) ≡ true
 process-rest (ExitRef code) is no_exit no_wait = absurd (no_exit code refl)
 process-rest WaitRef is no_exit no_wait = absurd (no_wait refl)

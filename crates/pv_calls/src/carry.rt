@@ -32,7 +32,7 @@ use pv_namei::Lookup;
 use pv_promises::Decision;
 use std::alloc::Global;
 
-// What a call on processes and restraints comes to, where its system call answers a number.
+// What a call on processes and restraints comes to, where it answers a number.
 fn process_row(parts: &mut Parts, pid: u32, call: CallRef<'_>) -> Result<Done, Refused>
     requires whole { IsWhole parts.old }
     requires live { IsSome (process_at parts.old pid) }
@@ -75,7 +75,7 @@ fn on_processes(parts: &mut Parts, pid: u32, call: CallRef<'_>) -> Answer
     }
 }
 
-// What a call on descriptors comes to, where its system call answers a number.
+// What a call on descriptors comes to, where it answers a number.
 fn descriptor_row(parts: &mut Parts, pid: u32, call: CallRef<'_>) -> Result<Done, Refused>
     requires whole { IsWhole parts.old }
     requires live { IsSome (process_at parts.old pid) }
@@ -116,7 +116,7 @@ fn on_descriptors(parts: &mut Parts, pid: u32, call: CallRef<'_>) -> Answer
     }
 }
 
-// What a call on paths comes to, where its system call answers a number.
+// What a call on paths comes to, where it answers a number.
 fn path_row<L: Lookup>(
     parts: &mut Parts,
     lookup: &mut L,

@@ -1,4 +1,4 @@
-//! The system calls of the calls that walk a path: the walk, the judgement at its end, and what the call does there.
+//! The system calls that walk a path: the walk, the judgement at its end, and what the call does there.
 //!
 //! `reach` walks and judges, and `programs` says which program a file spells. `opening` has open(2) and openat(2),
 //! `looking` the calls that tell what is there, `names` and `rename` those that change names, `chdir` chdir(2), `unveil`

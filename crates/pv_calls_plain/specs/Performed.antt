@@ -1,4 +1,4 @@
--- What a system call comes to in code, and how its process is told.
+-- What a system call comes to in code, and how its process is answered.
 use Rattle.std.specs.Prelude.{◌≡◌, ℕ, ℤ, length, Some, Result, Ok, Err}
 use Rattle.pv_model.specs.Answer.{Answered, answer_by_attempt, update, with_front}
 use Rattle.pv_model.specs.Attempt.{Attempt, done, refused}
@@ -19,7 +19,7 @@ attempt_of s (Err r) = refused r.walks r.errno r.cause
 abbrev pub answered : State → Answer → Answered
 answered s a = record { after = s; outcome = a.outcome; walks = a.walks }
 
--- a system call of a live process answered so, and left that state
+-- a live process's system call answered so, and left that state
 abbrev pub IsAnswered : (State → Process → Attempt Effect) → State → ℕ → State → Answer → Type 0
 IsAnswered performed old pid new answer =
     (before : State) (me : Process) → process_at old pid ≡ Some me → answer_by_attempt before old pid me (performed old me) ≡ answered new answer

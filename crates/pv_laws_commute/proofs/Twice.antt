@@ -81,7 +81,7 @@ module _ (A : Type 0) (act : A → State → State) (s t : State) (j n : ℕ) (n
 
 -- ---- before a step of process k, and after it
 
--- a call whose promises are held has its system call's effect
+-- a call whose promises are held has its effect
 pub answer-held : (program_of : Bytes → Option Program) (s : State) (pid : ℕ) (p : Process) (call : Call) → process_at s pid ≡ Some p → missing_promise p.promises (needs call) ≡ None
     → answer program_of s pid call ≡ answer_by_attempt s (at_call s pid p) pid (at_next_line p) (effect program_of (at_call s pid p) pid (at_next_line p) call)
 unfolding answer
