@@ -1,15 +1,15 @@
 -- The tree in its new image.
-use Rattle.std.proofs.Common.{◌≡◌, ℕ, zero, suc, ◌+◌, ◌-◌, ◌≤◌, true, ◌&&◌, [], ◌∷◌, ◌++◌, length, replicate, Option, None, nat_le, refl, ap, sym, ◌∙◌, arith}
+use Rattle.std.proofs.Common.{◌≡◌, ℕ, suc, ◌+◌, ◌-◌, ◌≤◌, true, ◌&&◌, length, replicate, Option, None, nat_le, refl, ap, sym, ◌∙◌, arith}
 use Rattle.std.proofs.lemmas.Bool.{and_parts, leb-true}
 use Rattle.std.proofs.lemmas.List.{length-append, length-replicate}
 use Rattle.pv_model.specs.declared.limits.TheConstants.{INODES, BLOCKS_V2}
 use Rattle.pv_model.specs.declared.version.Version.TheVariants.{V2}
 use Rattle.pv_model.specs.Image.{inode_blocks}
 use Rattle.pv_model.specs.Mount.{are_image_sizes}
-use Rattle.pv_model.specs.Numbered.{Numbered, at_number}
 use Rattle.pv_model.specs.Tree.{Node, Tree, node_at}
 use Rattle.pv_laws_trees.proofs.Numbered.{same_numbered}
 use Rattle.pv_laws_trees.specs.Kept.{EachIsNamed}
+use Rattle.pv_laws_larger.proofs.Padded.{at-padded}
 use Rattle.pv_image_write.specs.Placed.{placed, named_need}
 use Rattle.pv_image.specs.Migrated.{data_blocks, needed, has_room, enlarged, KeepsNodes}
 use Rattle.pv_image.proofs.Named.{named_tree-all}
@@ -43,20 +43,10 @@ roomy t blocks inodes is =
 
 -- ---- the same nodes
 
-nothing-at : (m n : ℕ) → at_number {X = Node} (replicate m None) n ≡ None
-nothing-at zero n = refl
-nothing-at (suc m) zero = refl
-nothing-at (suc m) (suc n) = nothing-at m n
-
-at_number-more : (m : ℕ) (xs : Numbered Node) (n : ℕ) → at_number (xs ++ replicate m None) n ≡ at_number xs n
-at_number-more m [] n = nothing-at m n
-at_number-more m (x ∷ xs) zero = refl
-at_number-more m (x ∷ xs) (suc n) = at_number-more m xs n
-
 module _ (t : Tree) (blocks inodes : ℕ) where
   node-enlarged : (n : ℕ) → node_at (enlarged t blocks inodes) n ≡ node_at t n
   unfolding enlarged
-  node-enlarged n = at_number-more (suc inodes - length t.nodes) t.nodes n
+  node-enlarged n = at-padded (suc inodes - length t.nodes) t.nodes n
 
   module _ (numbers : length t.nodes ≡ suc t.inodes) (more : t.inodes ≤ inodes) where
     length-enlarged : length (enlarged t blocks inodes).nodes ≡ suc inodes

@@ -1,5 +1,5 @@
 -- Runs on an image, and on the one of version 2 that it becomes.
-use Rattle.std.proofs.Common.{◌≡◌, ℕ, suc, ◌*◌, ◌≤◌, true, length, Ok, ap, sym, subst, ◌∙◌}
+use Rattle.std.proofs.Common.{◌≡◌, ℕ, suc, ◌*◌, ◌≤◌, true, Ok, ap, sym, subst, ◌∙◌}
 use Rattle.pv_model.specs.Bytes.{Bytes}
 use Rattle.pv_model.specs.Start.{Started, image_started}
 use Rattle.pv_laws_states.specs.States.{are_bytes}

@@ -54,6 +54,9 @@ fn mount_roomy(
 /// many inodes. Each node keeps its number, its bytes and its names; what no node uses is zero. What was written is handed
 /// on.
 ///
+/// With at least five times the data blocks, and at least the inodes, each run that answers no ENAMETOOLONG, EFBIG or ENOSPC on
+/// the old image has the same trace on the new one, and leaves a tree with equal nodes: `migrated_keep_traces`.
+///
 /// # Errors
 ///
 /// - `Refused(Image)`: the bytes are no image of version 1: their first fault, in the order of `ImageFault`'s variants, with

@@ -1,5 +1,5 @@
 -- What calls do in a larger image.
-use Rattle.std.proofs.Common.{◌≡◌, ℕ, zero, suc, ◌+◌, ◌*◌, ℤ, pos, ◌+ℤ◌, ◌≤◌, Bool, true, false, not, ◌&&◌, ◌||◌, if◌then◌else◌, nat_le, nat_lt, List, [], ◌∷◌, length, take, drop, Option, None, Some, is_some, is_none, option_and_then, refl, ap, ap₂, sym, subst, ◌∙◌, inl, inr, arith}
+use Rattle.std.proofs.Common.{◌≡◌, ℕ, zero, suc, ◌+◌, ℤ, pos, ◌+ℤ◌, true, false, not, ◌&&◌, ◌||◌, if◌then◌else◌, nat_le, nat_lt, List, [], ◌∷◌, length, take, drop, Option, None, Some, is_some, is_none, option_and_then, refl, ap, ap₂, sym, subst, ◌∙◌, inr, arith}
 use Rattle.pv_model.specs.declared.call.Call.{Call}
 use Rattle.pv_model.specs.declared.call.Call.TheVariants as TheCall
 use Rattle.pv_model.specs.declared.call.Start.{Start}
@@ -15,7 +15,7 @@ use Rattle.pv_model.specs.declared.place.Place.{Place}
 use Rattle.pv_model.specs.Answer.{effect}
 use Rattle.pv_model.specs.Attempt.{Attempt, done, ◌>>=◌, ◌>>◌, give, refuse_if, demand}
 use Rattle.pv_model.specs.Bytes.{Bytes, is_empty}
-use Rattle.pv_model.specs.Calls.Descriptors.{with_descriptor, without_descriptor, is_number, within, close, dup, dup2, fstat, fchdir, directory_of, next_name, open_file_for, read, seek_base, lseek, list_name, getdents, natural, is_past_greatest, with_content_of, with_content, write_place, write_end, after_write, write, ftruncate, is_link, contradicts, with_open_file, open_node, open_at, check_start}
+use Rattle.pv_model.specs.Calls.Descriptors.{with_descriptor, without_descriptor, is_number, within, close, dup, dup2, fstat, fchdir, directory_of, next_name, open_file_for, read, seek_base, lseek, list_name, getdents, natural, is_past_greatest, with_content_of, with_content, write_end, after_write, write, ftruncate, is_link, contradicts, with_open_file, open_node, open_at, check_start}
 use Rattle.pv_model.specs.Calls.Paths.{link_text, chdir, stat_at, readlink, same_node, contains_directory, is_directory_there, entries_there, ends_in_dot, make, symlink, link, unlink, rmdir, move_entry, rename}
 use Rattle.pv_model.specs.Calls.Processes.{statuses, child, children, reap, execve, with_program, executable_bytes}
 use Rattle.pv_model.specs.Calls.Restraints.{asked_promises, unless_refused, add_target, refuse_if_locked, pledge, unveil}
@@ -26,7 +26,7 @@ use Rattle.pv_model.specs.Perms.{permission_r, permission_x, permission_c, read_
 use Rattle.pv_model.specs.Promises.{narrow_promises, is_lenient}
 use Rattle.pv_model.specs.State.{OpenFile, Program, Process, State, reads, writes, with_process, with_tree}
 use Rattle.pv_model.specs.Tree.{Entries, Node, directory_node, file_node, link_node, Tree, node_at, entries_at, is_directory, is_directory_at, with_entry, without_entry, new_number, with_new_node, IsWellFormed}
-use Rattle.pv_model.specs.Unveil.{judgement, target_of}
+use Rattle.pv_model.specs.Unveil.{target_of}
 use Rattle.pv_model.specs.Walk.{begins_walk, resolve, is_absolute}
 use Rattle.pv_model.specs.Walks.{follow_of, from_here}
 use Rattle.pv_laws_states.proofs.Rests

@@ -4,10 +4,10 @@ use Rattle.std.specs.FinMap.Entries.{put, where_key}
 use Rattle.pv_model.specs.declared.version.Version.TheVariants.{V2}
 use Rattle.pv_model.specs.Bytes.{Bytes}
 use Rattle.pv_model.specs.Calls.Descriptors.{with_content_of}
-use Rattle.pv_model.specs.Numbered.{Numbered, with_number}
+use Rattle.pv_model.specs.Numbered.{Numbered}
 use Rattle.pv_model.specs.Tree.{Entries, Node, directory_node, file_node, link_node, Tree, entries_at, new_number, with_node, with_entry, without_entry, with_new_node}
 use Rattle.pv_laws_trees.proofs.Entries.{by_name, is_other}
-use Rattle.pv_laws_larger.proofs.Padded.{padded, with-padded, length-with_number_le}
+use Rattle.pv_laws_larger.proofs.Padded.{with-padded, length-with_number_le}
 use Rattle.pv_laws_larger.proofs.Enlarged.{enlarged, entries-enlarged, new-enlarged}
 
 -- a tree has just the numbers of its image

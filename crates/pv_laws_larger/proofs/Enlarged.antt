@@ -1,9 +1,7 @@
 -- The tree in a larger image, and what is asked of it.
-use Rattle.std.proofs.Common.{◌≡◌, ◌↔◌, ℕ, zero, suc, ◌+◌, ◌-◌, ◌<◌, ◌≤◌, Bool, true, false, cond, not, ◌&&◌, ◌||◌, if◌then◌else◌, ◌==◌, nat_le, nat_lt, List, [], ◌∷◌, ◌++◌, map, flat_map, length, drop, replicate, sum_by, Option, None, Some, is_some, is_none, Result, Ok, Err, refl, ap, ap₂, sym, subst, ◌∙◌, ◌⊎◌, inl, inr, ⊎_elim, arith}
+use Rattle.std.proofs.Common.{◌≡◌, ℕ, suc, ◌-◌, Bool, true, false, if◌then◌else◌, List, map, flat_map, Option, None, Some, refl, ap, sym, ◌∙◌}
 use Rattle.std.specs.FinMap.Entries.{find}
-use Rattle.std.specs.List.{list_any}
 use Rattle.std.specs.Option.{option_or}
-use Rattle.std.proofs.lemmas.Bool.{and_parts, and_from, leb-true, le-leb, ltb-false, lt-ltb, cases_Bool}
 use Rattle.pv_model.specs.declared.perms.Perms.{Perms}
 use Rattle.pv_model.specs.declared.place.Place.{Place}
 use Rattle.pv_model.specs.declared.place.Place.TheVariants.{At, Node as Unnamed}
@@ -12,8 +10,8 @@ use Rattle.pv_model.specs.declared.version.Version.TheVariants.{V2}
 use Rattle.pv_model.specs.Bytes.{Bytes}
 use Rattle.pv_model.specs.Calls.Paths.{contains_directory}
 use Rattle.pv_model.specs.Effect.{status_of, status}
-use Rattle.pv_model.specs.Numbered.{Numbered, at_number, least_free, present, numbered}
-use Rattle.pv_model.specs.Tree.{Entries, Node, Tree, root, node_at, entries_of, entries_at, is_directory, is_directory_at, find_entry, parent, named_numbers, new_number, IsWellFormed, IsAtOrAbove, itself, above as is_above}
+use Rattle.pv_model.specs.Numbered.{numbered}
+use Rattle.pv_model.specs.Tree.{Node, Tree, node_at, entries_of, entries_at, is_directory, is_directory_at, find_entry, parent, named_numbers, new_number, IsWellFormed, IsAtOrAbove, itself, above as is_above}
 use Rattle.pv_model.specs.Unveil.{Table, entry_for, target_of, Governs, own, from_above, directory_rights, governing_entry, judge_entry, judgement}
 use Rattle.pv_model.proofs.Rights.{rights_agree}
 use Rattle.pv_laws_trees.proofs.Above.{ancestors-above}

@@ -10,11 +10,11 @@ use Rattle.std.proofs.lemmas.List.Sums.{sum_by-cons}
 use Rattle.pv_model.specs.declared.version.Version.{Version}
 use Rattle.pv_model.specs.declared.version.Version.TheVariants.{V1, V2}
 use Rattle.pv_model.specs.Bytes.{Bytes, is_empty}
-use Rattle.pv_model.specs.Numbered.{present, numbered}
+use Rattle.pv_model.specs.Numbered.{present}
 use Rattle.pv_model.specs.Room.{node_length, need, greatest_length, is_too_long, fits}
-use Rattle.pv_model.specs.Tree.{Entries, Node, directory_node, file_node, link_node, Tree, root, greatest_name, node_at, entries_of, is_directory_at, find_entry, parent, names_in, names_of, is_name_byte, is_name, is_node, IsReached, from_root, by_entry, IsWellFormed}
+use Rattle.pv_model.specs.Tree.{Node, directory_node, file_node, link_node, Tree, root, greatest_name, entries_of, names_in, names_of, is_name_byte, is_name, is_node, IsReached, from_root, by_entry, IsWellFormed}
 use Rattle.pv_laws_trees.proofs.Places.{list_all-weaker}
-use Rattle.pv_laws_larger.proofs.Padded.{padded, present-padded}
+use Rattle.pv_laws_larger.proofs.Padded.{present-padded}
 use Rattle.pv_laws_larger.proofs.Needs.{needs-five_times}
 use Rattle.pv_laws_larger.proofs.Enlarged.{enlarged, node-enlarged, entries-enlarged, directory-enlarged, found-enlarged, parent-enlarged, numbered-enlarged}
 

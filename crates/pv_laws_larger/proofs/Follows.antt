@@ -1,13 +1,12 @@
 -- Attempts in a larger image, which go as those in the smaller one where these are refused for no limit.
-use Rattle.std.proofs.Common.{◌≡◌, ℕ, suc, ◌*◌, ◌-◌, ◌≤◌, Bool, true, false, cond, not, List, ◌∷◌, ◌++◌, length, Option, None, Some, Result, Ok, Err, refl, ap, sym, subst, ◌∙◌, ◌⊎◌, inl, inr, ⊎_elim, arith}
+use Rattle.std.proofs.Common.{◌≡◌, ℕ, suc, ◌*◌, ◌-◌, ◌≤◌, Bool, true, false, cond, not, List, ◌∷◌, ◌++◌, length, refl, ap, sym, subst, ◌∙◌, ◌⊎◌, inl, inr, ⊎_elim}
 use Rattle.pv_model.specs.declared.errno.Errno.{Errno}
-use Rattle.pv_model.specs.declared.errno.Errno.TheVariants.{EFBIG, ENOSPC, ENAMETOOLONG}
+use Rattle.pv_model.specs.declared.errno.Errno.TheVariants.{EFBIG, ENOSPC}
 use Rattle.pv_model.specs.declared.outcome.Cause.{Cause}
-use Rattle.pv_model.specs.declared.outcome.Cause.TheVariants.{Plain}
 use Rattle.pv_model.specs.declared.place.Place.{Place}
 use Rattle.pv_model.specs.declared.version.Version.TheVariants.{V2}
 use Rattle.pv_model.specs.Attempt.{Attempt, done, refused, after_walks, ◌>>=◌, ◌>>◌, give, refuse_if}
-use Rattle.pv_model.specs.Effect.{Effect, Reply, returns, returns_bytes, ends, waits, answers, place_or_refusal, with_room}
+use Rattle.pv_model.specs.Effect.{Effect, returns, returns_bytes, ends, waits, answers, place_or_refusal, with_room}
 use Rattle.pv_model.specs.Held.{among, held_nodes, trim_files, trim}
 use Rattle.pv_model.specs.Numbered.{Numbered, keep}
 use Rattle.pv_model.specs.Room.{is_too_long, fits}

@@ -1,5 +1,5 @@
 -- Runs on an image, and on a larger one with the same nodes.
-use Rattle.std.proofs.Common.{◌≡◌, true, Option, Result, Ok, Err, refl, ap, sym, subst, ◌∙◌}
+use Rattle.std.proofs.Common.{◌≡◌, true, Result, Ok, Err, refl, ap, sym, subst, ◌∙◌}
 use Rattle.pv_model.specs.declared.kernel_fault.BootFault.{BootFault}
 use Rattle.pv_model.specs.declared.fault.ScheduleFault.{ScheduleFault}
 use Rattle.pv_model.specs.declared.run_fault.RunFault.{RunFault}

@@ -1,5 +1,5 @@
 -- Runs in a larger image.
-use Rattle.std.proofs.Common.{◌≡◌, ℕ, suc, ◌*◌, ◌-◌, ◌≤◌, true, false, Bool, List, [], ◌∷◌, ◌++◌, length, Option, None, Some, refl, ap, ap₂, sym, subst, ◌∙◌, option_map, option_and_then, arith}
+use Rattle.std.proofs.Common.{◌≡◌, ℕ, suc, true, false, Bool, List, [], ◌∷◌, ◌++◌, length, Option, None, Some, refl, ap, ap₂, sym, subst, ◌∙◌, option_map, option_and_then}
 use Rattle.std.specs.List.{list_all}
 use Rattle.std.specs.Prelude.{codes, IsTrue, IsFalse}
 use Rattle.std.specs.FinMap.Entries.{find}
@@ -7,11 +7,11 @@ use Rattle.std.proofs.lemmas.Bool.{and_parts}
 use Rattle.std.proofs.lemmas.List.Folds.{list_all-append}
 use Rattle.pv_model.specs.Bytes.{Bytes}
 use Rattle.pv_model.specs.Held.{among, named_tree}
-use Rattle.pv_model.specs.Numbered.{at_number, keep, keep_if}
+use Rattle.pv_model.specs.Numbered.{keep_if}
 use Rattle.pv_model.specs.Room.{is_too_long, fits}
 use Rattle.pv_model.specs.Start.{init_of}
 use Rattle.pv_model.specs.State.{Program, State, with_tree, first_state}
-use Rattle.pv_model.specs.Step.{Stepped, Run, step, run, init_program, boot, run_text, final_tree}
+use Rattle.pv_model.specs.Step.{Stepped, step, run, init_program, boot}
 use Rattle.pv_model.specs.Trace.{Line, trace_bytes}
 use Rattle.pv_model.specs.Tree.{Node, directory_node, file_node, link_node, Tree, root, node_at, entries_of, find_entry, named_numbers}
 use Rattle.pv_laws_states.specs.States.{SpellsPrograms, IsWhole}

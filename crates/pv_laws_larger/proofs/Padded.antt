@@ -1,6 +1,6 @@
 -- Maps from numbers with nothing under further numbers.
-use Rattle.std.proofs.Common.{◌≡◌, ℕ, zero, suc, ◌+◌, ◌≤◌, Bool, true, false, List, [], ◌∷◌, ◌++◌, length, drop, replicate, Option, None, Some, refl, ap, ap₂, arith}
-use Rattle.pv_model.specs.Numbered.{Numbered, at_number, with_number, least_free, keep_if, keep_from, keep, present, numbered_from}
+use Rattle.std.proofs.Common.{◌≡◌, ℕ, zero, suc, ◌≤◌, Bool, true, false, List, [], ◌∷◌, ◌++◌, length, drop, replicate, Option, None, Some, refl, ap, ap₂, arith}
+use Rattle.pv_model.specs.Numbered.{Numbered, at_number, with_number, least_free, keep_if, keep_from, present, numbered_from}
 
 free-nothing : (X : Type 0) (k : ℕ) → least_free (replicate {A = Option X} k None) ≡ 0
 free-nothing X zero = refl

@@ -1,5 +1,5 @@
 -- Steps and runs in a larger image.
-use Rattle.std.proofs.Common.{◌≡◌, ℕ, suc, pos, negsuc, ◌*◌, ◌≤◌, Bool, true, false, cond, not, ◌&&◌, List, [], ◌∷◌, ◌++◌, map, take, length, Option, None, Some, refl, ap, sym, subst, ◌∙◌, ◌⊎◌, inl, inr, ⊎_elim, arith}
+use Rattle.std.proofs.Common.{◌≡◌, ℕ, pos, negsuc, Bool, true, false, not, List, ◌∷◌, ◌++◌, map, take, Option, None, Some, refl, ap, sym, subst, ◌∙◌, inr, ⊎_elim}
 use Rattle.std.specs.List.{list_all}
 use Rattle.std.proofs.lemmas.Bool.{and_parts, not-true}
 use Rattle.std.proofs.lemmas.List.Folds.{list_all-append}
@@ -8,9 +8,7 @@ use Rattle.pv_model.specs.declared.errno.Errno.{Errno}
 use Rattle.pv_model.specs.declared.errno.Errno.TheVariants.{ENOSYS}
 use Rattle.pv_model.specs.declared.outcome.Cause.{Cause}
 use Rattle.pv_model.specs.declared.outcome.Cause.TheVariants.{Promise as ByPromise}
-use Rattle.pv_model.specs.declared.outcome.Outcome.{Outcome}
 use Rattle.pv_model.specs.declared.outcome.Outcome.TheVariants.{Failed}
-use Rattle.pv_model.specs.declared.promise.Promise.{Promise}
 use Rattle.pv_model.specs.Answer.{Answered, answer, answer_of, answer_where, answer_by_attempt, at_next_line, with_front, update, effect}
 use Rattle.pv_model.specs.Attempt.{Attempt, done, refused}
 use Rattle.pv_model.specs.Bytes.{Bytes}
@@ -21,10 +19,10 @@ use Rattle.pv_model.specs.Held.{trim}
 use Rattle.pv_model.specs.Needs.{needs}
 use Rattle.pv_model.specs.Program.{Next, inside, calls_for, next}
 use Rattle.pv_model.specs.Promises.{missing_promise}
-use Rattle.pv_model.specs.State.{Program, Process, State, process_at, with_process}
-use Rattle.pv_model.specs.Step.{Stepped, step, step_of, step_by}
+use Rattle.pv_model.specs.State.{Program, Process, State, process_at}
+use Rattle.pv_model.specs.Step.{step, step_of, step_by}
 use Rattle.pv_model.specs.Trace.{Line, Word, line, call_word, nami_word, walked_paths, promise_words, unveil_words, moved_words, end_words, call_lines}
-use Rattle.pv_laws_states.specs.States.{SpellsPrograms, IsWhole, is_call}
+use Rattle.pv_laws_states.specs.States.{SpellsPrograms, IsWhole}
 use Rattle.pv_laws_states.proofs.Attempts.{Leads}
 use Rattle.pv_laws_states.proofs.BySteps.{good-effect, IsGoodNext, good-next}
 use Rattle.pv_laws_states.proofs.Ending.{tree-end}

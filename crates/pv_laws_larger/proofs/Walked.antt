@@ -1,14 +1,12 @@
 -- Walks in a larger image: the same, but where a name or a path is too long.
-use Rattle.std.proofs.Common.{◌≡◌, ℕ, zero, suc, ◌<◌, ◌≤◌, Bool, true, false, cond, not, ◌&&◌, ◌||◌, if◌then◌else◌, nat_lt, List, [], ◌∷◌, ◌++◌, Option, None, Some, is_none, length, Result, Ok, Err, refl, ap, sym, subst, ◌∙◌, ◌⊎◌, inl, inr, ⊎_elim, arith}
-use Rattle.std.proofs.lemmas.Bool.{ltb-true, ltb-false, lt-ltb}
-use Rattle.pv_model.specs.declared.errno.Errno.{Errno}
-use Rattle.pv_model.specs.declared.errno.Errno.TheVariants.{ENOENT, ENOTDIR, ELOOP, ENAMETOOLONG}
+use Rattle.std.proofs.Common.{◌≡◌, ℕ, zero, suc, Bool, true, false, cond, not, ◌&&◌, ◌||◌, if◌then◌else◌, nat_lt, List, [], ◌∷◌, ◌++◌, Option, None, Some, is_none, length, Err, refl, sym, subst, ◌⊎◌, inl, inr, arith}
+use Rattle.std.proofs.lemmas.Bool.{ltb-true, ltb-false}
+use Rattle.pv_model.specs.declared.errno.Errno.TheVariants.{ENOENT, ENAMETOOLONG}
 use Rattle.pv_model.specs.declared.follow.Follow.{Follow}
-use Rattle.pv_model.specs.declared.place.Place.TheVariants.{At, Node as Unnamed}
 use Rattle.pv_model.specs.declared.version.Version.{Version}
 use Rattle.pv_model.specs.declared.version.Version.TheVariants.{V1, V2}
 use Rattle.pv_model.specs.Bytes.{Bytes, is_empty}
-use Rattle.pv_model.specs.Tree.{Node, directory_node, file_node, link_node, Tree, root, greatest_name, node_at, find_entry, parent, is_removed}
+use Rattle.pv_model.specs.Tree.{Node, directory_node, file_node, link_node, Tree, root, greatest_name, node_at, find_entry, parent}
 use Rattle.pv_model.specs.Walk.{Walked, Onward, PastLink, enter, enter_parent, components, weight, is_absolute, ends_in_slash, is_dot, is_dot_dot, follows_last, end_mark, at_node, at_entry, along, no_link_left, through_link, walk, resolve}
 use Rattle.pv_laws_larger.proofs.Enlarged.{enlarged, node-enlarged, found-enlarged, parent-enlarged}
 

@@ -1,5 +1,5 @@
 -- A run that fills every data block with directories of eight entries: five times the blocks are enough, and one less is not.
-use Rattle.std.specs.Prelude.{◌≡◌, ◌≢◌, ℕ, List, [], ◌∷◌, replicate, codes, Option, None}
+use Rattle.std.specs.Prelude.{◌≡◌, ℕ, [], ◌∷◌, replicate, codes, Option, None}
 use Rattle.pv_model.specs.declared.errno.Errno.TheVariants.{ENOSPC}
 use Rattle.pv_model.specs.declared.instruction.Instruction.TheVariants.{Mkdir}
 use Rattle.pv_model.specs.declared.outcome.Cause.TheVariants.{Plain}
