@@ -1,4 +1,4 @@
--- Lemmas of the calls that walk: Reaching and Naming serve all; LookRows, NameRows, NodeRows, OpenRows, Renaming and UnveilRows the
+-- Lemmas of the calls that walk: Reaching and Naming serve all; LookCalls, NameCalls, NodeCalls, OpenCalls, Renaming and UnveilCalls the
 -- calls of one subject.
 pub mod LookCalls
 pub mod NameCalls

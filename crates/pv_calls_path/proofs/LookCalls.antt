@@ -1,4 +1,4 @@
--- Rows that tell what is at a path.
+-- Calls that tell what is at a path.
 use Rattle.std.proofs.Common.{◌≡◌, ◌∙◌, ℕ, ◌≤◌, ◌-◌, min, pos, negsuc, true, false, [], ◌∷◌, ◌++◌, length, take, drop, Option, None, Some, refl, ap, sym, arith}
 use Rattle.std.proofs.lemmas.Bool.{and_parts, leb-true}
 use Rattle.pv_calls_plain.specs.declared.answer.Answer.{Answer}

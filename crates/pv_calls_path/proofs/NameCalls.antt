@@ -1,4 +1,4 @@
--- Rows of calls that change names, where the tree has no room, and what directories have after them.
+-- Calls that change names, where the tree has no room, and what directories have after them.
 use Rattle.std.proofs.lemmas.Bool.{and_from, and_parts, le-leb}
 use Rattle.std.proofs.Common.{◌≤◌, List, ◌==◌, ◌≡◌, ◌∙◌, ℕ, Bool, true, false, not, nat_lt, [], ◌∷◌, length, Option, None, Some, is_some, refl, sym, ap, arith}
 use Rattle.pv_calls_plain.specs.Space.{space_errno}

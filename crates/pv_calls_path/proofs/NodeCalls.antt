@@ -1,4 +1,4 @@
--- Rows that go on with the node at the end of a walk: chdir(2) and execve(2).
+-- Calls that go on with the node at the end of a walk: chdir(2) and execve(2).
 use Rattle.std.proofs.Common.{◌≡◌, ◌∙◌, ℕ, Bool, true, false, not, Option, None, Some, Result, Err, option_map, refl, ap, subst}
 use Rattle.pv_calls_path.specs.Execve.{bytes_to_load}
 use Rattle.pv_calls_path.specs.Reached.{IsFound, IsReached}

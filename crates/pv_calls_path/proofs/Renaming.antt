@@ -1,4 +1,4 @@
--- Rows of rename(2): what its tests say, and what directories have under names after it.
+-- rename(2): what its tests say, and what directories have under names after it.
 use Rattle.std.proofs.Common.{◌≡◌, ◌≢◌, ◌∙◌, ℕ, Bool, true, false, not, ◌||◌, ◌==◌, [], ◌∷◌, List, Option, None, Some, refl, sym, ap, arith}
 use Rattle.pv_calls_plain.specs.Space.{space_errno}
 use Rattle.pv_calls_path.specs.Moving.{check_move}

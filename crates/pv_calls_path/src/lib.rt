@@ -2,7 +2,7 @@
 //!
 //! `reach` walks and judges, and `programs` says which program a file spells. `opening` has open(2) and openat(2),
 //! `looking` the calls that tell what is there, `names` and `rename` those that change names, `chdir` chdir(2), `unveil`
-//! unveil(2) and `execve` execve(2). The places after links stand in a `LinkRoom`, which the caller lends.
+//! unveil(2) and `execve` execve(2). The places after links stand in a `LinkRoom` (`links`), which the caller lends.
 #![tactic(auto)]
 
 pub mod chdir;

@@ -96,8 +96,9 @@ fn unveil_path<L: Lookup>(
 ///
 /// # Errors
 ///
-/// `EINVAL` for one null beside a text, and for another permission; `EPERM` under the lock; an error of the walk; `EPERM`
-/// where the entry that is there lacks a permission; `E2BIG` where there are 64 entries, and it would be another.
+/// `EINVAL` for one null beside a text, and for another byte in the permissions; `EPERM` under the lock; an error of the
+/// walk; `EPERM` where the entry that is there lacks a permission; `E2BIG` where there are 64 entries, and it would be
+/// another.
 pub fn unveil<L: Lookup>(
     parts: &mut Parts,
     lookup: &mut L,

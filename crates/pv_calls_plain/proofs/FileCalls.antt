@@ -1,4 +1,4 @@
--- Rows on open files and their bytes.
+-- Calls on open files and their bytes.
 use Rattle.std.proofs.Common.{◌≡◌, ℕ, zero, suc, ◌<◌, ◌+◌, ℤ, pos, ◌+ℤ◌, Bool, true, false, ◌||◌, [], length, take, drop, Option, None, Some, is_some, refl, ap, ap₂, sym, ◌∙◌, arith}
 use Rattle.std.specs.Prelude.{IsSome, option_map}
 use Rattle.pv_calls_plain.specs.Space.{space_errno, write_some}

@@ -1,5 +1,5 @@
 -- Lemmas of the calls that walk no path: Telling (from a call's effect through telling its process to the trim), Plain and Room
--- (calls that want no space, and those that may), FileRows, Opened, Pledging and Waits (single calls).
+-- (calls that want no space, and those that may), FileCalls, Opened, Pledging and Waits (single calls).
 pub mod FileCalls
 pub mod Opened
 pub mod Plain

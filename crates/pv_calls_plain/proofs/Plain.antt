@@ -1,4 +1,4 @@
--- Rows that answer a number, and how great it is.
+-- Calls that answer a number, and how great it is.
 use Rattle.std.proofs.Common.{◌≡◌, ℕ, ◌≤◌, Result, Ok, Err, ap, sym, subst, ◌∙◌}
 use Rattle.std.specs.Prelude.{IfOk, MatchResult}
 use Rattle.pv_calls_plain.specs.declared.answer.Done.{Done}

@@ -1,1 +1,2 @@
+-- Outcomes: a command that ends early has another status than one that is done.
 pub mod Outcomes

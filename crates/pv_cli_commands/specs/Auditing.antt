@@ -11,7 +11,7 @@ use Rattle.pv_cli_commands.specs.Faults.{Answer, IsOfAuditing}
 use Rattle.pv_cli_commands.specs.Status.{Flushes}
 use Rattle.pv_cli_commands.specs.Streams.{Disk, FailsToTake, Inputs, IsOpened, IsUnknown, OneFailsToGive, inputs_of}
 
--- what is found of the file of a path, or with no path of all files, was told of what a schedule leaves on an image
+-- what is found of the file of a path, or with no path of all files, was written, of what a schedule leaves on an image
 pub record AuditsImage {S W : Type 0} (reading : Reading S) (writing : Writing W) (first last : Inputs S) (path : Option Bytes) (before after : W) (answer : Answer)
     : Type 0 where
   -- done: the sink was given just that

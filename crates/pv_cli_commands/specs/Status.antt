@@ -59,6 +59,6 @@ abbrev pub status_of_answer : Answer → ℕ
 status_of_answer (Ok done) = 0
 status_of_answer (Err fault) = status_of fault
 
--- where nothing waited in a sink and no read or write failed, nothing waits in it afterwards
+-- where nothing was buffered in a sink and no read or write failed, nothing is afterwards
 abbrev pub Flushes : {W : Type 0} → Writing W → W → W → Answer → Type 0
 Flushes writing before after answer = writing.buffered before ≡ 0 → status_of_answer answer ≢ 4 → writing.buffered after ≡ 0

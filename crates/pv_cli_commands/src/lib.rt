@@ -1,6 +1,10 @@
 //! The commands of `pvsim` over any files and streams: what each reads and writes, what a fault is called, and its exit
 //! status. How a line of words asks for a command stands above.
 //!
+//! `command` has what may be asked for, and `performing` does it: `running` runs bundles, `making` makes images of manifests,
+//! `listing` lists images, `images` runs them, `auditing` audits them, and `migrating` makes those of version 2. `system` has the
+//! files and streams of a command, and `fault` what a person is told, and the exit status.
+//!
 //! A clause sees of a source what it will give, of a sink what it was given and what is buffered in it, of both how often they
 //! failed, and of files the bytes that a name has.
 #![tactic(auto)]

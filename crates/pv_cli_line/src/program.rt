@@ -26,7 +26,7 @@ impl<W: Sink> Write for Text<'_, W> {
     }
 }
 
-// Writes the text of a fault, and hands it on.
+// Writes the text of a fault, and flushes it.
 fn show<W: Sink>(fault: &Fault, sink: &mut W) -> fmt::Result
     ensures { OnOk result (W.buffered sink.new ≡ 0) }
 {
@@ -65,7 +65,7 @@ pub fn tell<F: Drop, I: Drop, O: Sink + Drop, E: Sink + Drop>(
 ///
 /// The status is 0 where it is done, also where help or the version was asked for; 1 where the input is
 /// refused, 2 where the words are no command line, 3 where memory was refused, and 4 where a read or a
-/// write failed. With any status but 4, nothing waits in the standard output that did not wait there before.
+/// write failed. With any status but 4, nothing is buffered in the standard output that was not before.
 pub fn run<S: AsStr, F: Files + Drop, I: Source + Drop, O: Sink + Drop, E: Sink + Drop>(
     alloc: Global,
     words: &[S],

@@ -130,7 +130,7 @@ module _ (v : Version) (bytes : Bytes) (up : Ascend v bytes (slot_count v bytes)
           | inr past ↦ name_past v bytes k (omega arith) ∙ next_once last (in_order (slot_entries v bytes)) None _ (none_there (omega arith)) next
         ]
 
--- ---- a search by binary search
+-- ---- binary search
 
 module _ (v : Version) (bytes : Bytes) (up : Ascend v bytes (slot_count v bytes)) (name : Bytes) where
   -- a name after that in a slot comes after those before it

@@ -94,7 +94,7 @@ ImagesAreJudgedFirst =
 
 -- ---- what is answered
 
--- want of memory is told as such
+-- want of memory is answered as such
 abbrev pub IsMigrateFault : MigrateFault → Type 0
 IsMigrateFault (Image ImageMemory) = ⊥
 IsMigrateFault fault = ⊤

@@ -18,7 +18,7 @@ pub record TellsMigrated (old_bytes : Bytes) (blocks inodes : ℕ) (before after
   pub kept : IsMigrated old_bytes blocks inodes image
   pub written : after ≡ and_all before image
 
--- such bytes were told up to somewhere
+-- such bytes were written up to somewhere
 pub record BeginsMigrated (old_bytes : Bytes) (blocks inodes : ℕ) (before after : Option Bytes) : Type 0 where
   pub tree : Tree
   pub is_new : migrated old_bytes blocks inodes ≡ Ok tree
@@ -27,13 +27,13 @@ pub record BeginsMigrated (old_bytes : Bytes) (blocks inodes : ℕ) (before afte
   pub kept : IsMigrated old_bytes blocks inodes image
   pub written : TellsBeginning image before after
 
--- a refusal stands in the old bytes and the sizes, and then nothing was told; where a write failed, a beginning of the new image was
+-- a refusal stands in the old bytes and the sizes, and then nothing was written; where a write failed, a beginning of the new image was
 abbrev pub StandsInOldBytes : Bytes → ℕ → ℕ → Option Bytes → Option Bytes → MigratingStop → Type 0
 StandsInOldBytes old_bytes blocks inodes before after (Refused Memory) = after ≡ before
 StandsInOldBytes old_bytes blocks inodes before after (Refused fault) = (migrated old_bytes blocks inodes ≡ Err fault) × (after ≡ before)
 StandsInOldBytes old_bytes blocks inodes before after Write = BeginsMigrated old_bytes blocks inodes before after
 
--- want of memory is told as such
+-- want of memory is answered as such
 abbrev pub IsMigratingStop : MigratingStop → Type 0
 IsMigratingStop (Refused fault) = IsMigrateFault fault
 IsMigratingStop Write = ⊤

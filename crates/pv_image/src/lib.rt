@@ -1,7 +1,7 @@
 //! Images as a whole: mounted, built of manifests, written as bytes, and those of version 1 made into images of version 2.
 //!
-//! `mount`, `build`, `Manifest` and `Bundle` are those of the crates below, and `to_bytes` gives what `pv_image_write` writes
-//! as bytes in memory. `migrated` in `specs/Migrated` computes the new tree from the old bytes, or the fault; the laws below
+//! `mount`, `build`, `Manifest` and `Bundle` are those of the crates below, and `to_bytes`, in `bytes`, gives what
+//! `pv_image_write` writes as bytes in memory. `migrated` in `specs/Migrated` computes the new tree from the old bytes, or the fault; the laws below
 //! say in other words when it is which. The new tree has the same nodes under the same numbers, in an image of just the
 //! sizes that were asked for. `first` mounts bytes as an image of version 1 alone, `room` tells whether the tree has room,
 //! and `migrating` has the whole: it writes the new image to a sink.

@@ -51,8 +51,8 @@ fn mount_roomy(
 }
 
 /// Writes the image of version 2 of the tree that the bytes hold as an image of version 1, of so many blocks in all, and so
-/// many inodes. Each node keeps its number, its bytes and its names; what no node uses is zero. What was written is handed
-/// on.
+/// many inodes. Each node keeps its number, its bytes and its names; what no node uses is zero. What was written is
+/// flushed.
 ///
 /// With at least five times the data blocks, and at least the inodes, each run that answers no ENAMETOOLONG, EFBIG or ENOSPC on
 /// the old image has the same trace on the new one, and leaves a tree with equal nodes: `migrated_keep_traces`.
@@ -66,7 +66,7 @@ fn mount_roomy(
 ///   hold at least the first one and the inodes), or there are fewer inodes than before, or fewer data blocks than the tree
 ///   needs.
 /// - `Refused(Memory)`: memory was refused.
-/// - `Write`: a write or the handing on failed; the sink was given a beginning of the new image.
+/// - `Write`: a write or a flush failed; the sink was given a beginning of the new image.
 ///
 /// After each refusal nothing was written.
 pub fn migrate<W: Sink>(

@@ -1,10 +1,10 @@
 //! Manifests and bundles as their texts spell them.
 //!
-//! A manifest tells the sizes of an image and the entries of its tree; a bundle is a manifest, the line `schedule`,
-//! and a schedule. `entry` and `manifest` say what these are, and `reading` and `bundle` read whole texts; below them
+//! A manifest tells the sizes of an image and the entries of its tree; a bundle is a manifest, the line `schedule`, and
+//! a schedule. `entry` and `manifest` say what these are, and `reading` and `bundle` read whole texts; below them
 //! `taking` reads one line with the lines that belong to it (`read_entry`), `lines` the first line and lines that are
-//! passed over, and `paths` the paths of entries. Each reader answers exactly what `pv_model`'s grammar of manifests
-//! gives, and a fault names the least line that has no form.
+//! passed over, and `paths` the paths of entries. `building` makes the tree of a manifest, entry by entry. Each reader
+//! answers exactly what `pv_model`'s grammar of manifests gives, and a fault names the least line that has no form.
 #![tactic(auto)]
 
 mod building;

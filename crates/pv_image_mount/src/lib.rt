@@ -1,4 +1,5 @@
-//! The check of an image: what is at fault in bytes, if anything is; and `mount`, the store of the tree that they hold.
+//! The check of an image: what is at fault in bytes, if anything is; and `mount`, in `mounting`, the store of the tree that
+//! they hold.
 //!
 //! `check` answers the definitions' first fault of the bytes, or the version of the tree that they hold. It goes over
 //! the inodes four times, as the format orders its faults: `inodes` tests sorts and sizes, `used_blocks` the blocks

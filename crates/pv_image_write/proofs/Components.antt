@@ -1,4 +1,4 @@
--- Bytes that are joined of components.
+-- Bytes that are joined of parts.
 use Rattle.std.proofs.Common.{◌≡◌, ℕ, zero, suc, ◌+◌, ◌-◌, ◌*◌, ◌<◌, ◌≤◌, [], ◌++◌, length, take, drop, replicate, ap, sym, ◌∙◌, arith}
 use Rattle.std.proofs.lemmas.List.{append_assoc, append-nil, length-append, length-replicate}
 use Rattle.std.proofs.Math.Seq.{take-append_seam, drop-append_seam}
@@ -16,7 +16,7 @@ pub length-padded : (n : ℕ) (xs : Bytes) → length xs ≤ n → length (padde
 unfolding padded
 length-padded n xs fits = length-append xs (replicate (n - length xs) 0) ∙ ap (λ k. length xs + k) (length-replicate {A = ℕ} (n - length xs) 0) ∙ omega arith
 
--- ---- components for the numbers from 1 on
+-- ---- parts for the numbers from 1 on
 
 pub joined-more : (part : ℕ → Bytes) (n k : ℕ) → (more : Bytes) × (joined part (n + k) ≡ joined part n ++ more)
 joined-more part n zero = let none : n + 0 ≡ n = omega arith in ([], ap (joined part) none ∙ sym (append-nil (joined part n)))
@@ -25,7 +25,7 @@ joined-more part n (suc k) =
     let next : n + suc k ≡ suc (n + k) = omega arith in
     (before.0 ++ part (suc (n + k)), ap (joined part) next ∙ ap (λ (xs : Bytes). xs ++ part (suc (n + k))) before.1 ∙ append_assoc (joined part n) before.0 (part (suc (n + k))))
 
--- the component of a number stands after those of the lesser ones
+-- the part of a number stands after those of the lesser ones
 pub joined-at : (part : ℕ → Bytes) (n m : ℕ) → n < m → (more : Bytes) × (joined part m ≡ joined part n ++ (part (suc n) ++ more))
 joined-at part n m less =
     let found = joined-more part (suc n) (m - suc n) in

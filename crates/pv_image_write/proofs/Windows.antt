@@ -1,4 +1,4 @@
--- Bytes that are put into a window, and told in parts.
+-- Bytes that are put into a window, and written in parts.
 use Rattle.std.proofs.Common.{◌≡◌, ◌≤◌, [], ◌++◌, length, Option, refl, ap, sym, subst, ◌∙◌, arith}
 use Rattle.std.proofs.lemmas.List.{append_assoc, append-nil, length-append}
 use Rattle.pv_model.specs.Bytes.{Bytes}

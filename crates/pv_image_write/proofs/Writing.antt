@@ -179,7 +179,7 @@ module _ (u : Tree) (w : IsWritable u) where
     as_written = contents-step n before p.all (p.all ++ blocks_of u.version k o) k (k + taken) o p.as_written is refl (ap (λ j. k + j) many);
   }
 
-  -- some of the window was told
+  -- some of the window was written
   pub written-node : (n : ℕ) (before : Bytes) (entry mid after : Option Bytes) (window new : Bytes) (k : ℕ) → ArePut u n before entry mid window k → IsPut mid after new window
       → ArePut u n before entry after new k
   written-node n before entry mid after window new k p q = record { all = p.all; put = put-on entry mid after window p.all new p.put q; as_written = p.as_written }

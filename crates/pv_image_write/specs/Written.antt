@@ -11,7 +11,7 @@ pub record TellsImage (t : Tree) (before after : Option Bytes) : Type 0 where
   pub holds : IsWrittenImageOf image t
   pub written : after ≡ and_all before image
 
--- bytes that hold a tree, just as it is, were told up to somewhere
+-- bytes that hold a tree, just as it is, were written up to somewhere
 pub record BeginsImage (t : Tree) (before after : Option Bytes) : Type 0 where
   pub image : Bytes
   pub holds : IsWrittenImageOf image t

@@ -166,7 +166,7 @@ fn write_contents<O: Sink>(
     write_through(image, window.as_slice())
 }
 
-// Writes an image, each byte of which is told.
+// Writes an image, byte for byte.
 fn write_bytes<O: Sink>(
     alloc: Global,
     tree: &Tree,
@@ -209,8 +209,8 @@ pub fn needed_blocks(tree: &Tree, version: Version) -> u32
 ///
 /// # Errors
 ///
-/// `Memory` where memory was refused: then nothing was written. `Write` where a write or the handing on failed: the sink
-/// was told a beginning of the image.
+/// `Memory` where memory was refused: then nothing was written. `Write` where a write or a flush failed: the sink
+/// was given a beginning of the image.
 pub fn write_as<O: Sink>(
     alloc: Global,
     tree: &Tree,
@@ -238,8 +238,8 @@ pub fn write_as<O: Sink>(
 ///
 /// # Errors
 ///
-/// `Memory` where memory was refused: then nothing was written. `Write` where a write or the handing on failed: the sink
-/// was told a beginning of the image.
+/// `Memory` where memory was refused: then nothing was written. `Write` where a write or a flush failed: the sink
+/// was given a beginning of the image.
 pub fn write_tree<O: Sink>(alloc: Global, tree: &Tree, image: &mut O) -> Result<(), WriteFault>
     ensures whole { OnOk result (TellsImage (named_tree tree.now.tree) (O.written image.old) (O.written image.new)) }
     ensures cut { result ≡ Err WriteFault.Write → BeginsImage (named_tree tree.now.tree) (O.written image.old) (O.written image.new) }

@@ -97,7 +97,7 @@ pub(crate) fn put_inode(
     put_after_pointers(bytes, version, names);
 }
 
-/// Appends what stands after a content of so many bytes in its blocks, of which the first is told: zeros up to the end
+/// Appends what stands after a content of so many bytes in its blocks, of which the first is given: zeros up to the end
 /// of those that it fills, and then the numbers of those past the tenth.
 #[tactic(auto, unfolding(crate::specs::Spelling::after_content))]
 pub(crate) fn put_after_content(bytes: &mut Vec<u8>, size: usize, first: u16)

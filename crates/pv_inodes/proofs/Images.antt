@@ -60,10 +60,10 @@ get_or-pointers (suc n) bytes (suc j) within =
     let place : 2 + 2 * j ≡ 2 * suc j = omega arith in
     get_or-pointers n (drop 2 bytes) j (omega arith) ∙ field-following bytes 2 (2 * j) 2 ∙ ap (λ at. field bytes at 2) place
 
--- ---- components of one length
+-- ---- parts of one length
 
 module _ {X A : Type 0} (f : X → List A) (w : ℕ) (e : X) where
-  -- each component has this length
+  -- each part has this length
   abbrev pub AreLong : List X → Type 0
   AreLong xs = (i : ℕ) → i < length xs → length (f (get_or xs i e)) ≡ w
 

@@ -118,7 +118,7 @@ module _ (version : Version) (bs : List Bytes) (inodes first : ℕ) (free : List
     one_index : (t i : ℕ) → t < inodes → i < count t → pointer_at version bs t (pointer_of i) ≡ pointer_at version bs s (pointer_of (count s)) → (t ≡ s) × (index_of i ≡ index_of (count s))
     one_index t i below_t in_range same = owning.apart t (index_of i) s (index_of (count s)) below_t (omega arith) below before (sym (index-is version bs t i) ∙ same ∙ index-is version bs s (count s))
 
-    -- so are the blocks after another index block
+    -- so are the blocks of another index block
     owned_apart : (t i : ℕ) → t < inodes → i < count t → pointer_at version bs t (pointer_of i) ≢ pointer_at version bs s (pointer_of (count s)) → owned_at version (with_owned version bs s (count s) k) t i ≡ owned_at version bs t i
     owned_apart t i below_t in_range apart = owned_at-same version bs (with_owned version bs s (count s) k) t i (pointer_entry t i below_t in_range) (λ past. block_entry (pointer_at version bs t (pointer_of i)) apart)
 

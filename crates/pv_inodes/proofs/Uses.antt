@@ -41,7 +41,7 @@ one_place xs i j once within_i within_j same =
       | inr (inr more) ↦ absurd (pairs j i 0 more within_i (sym same))
     ]
 
--- the places of the components of a range
+-- the places of the parts of a range
 module _ (f : ℕ → List ℕ) (a n : ℕ) where
   abbrev ns : List ℕ
   ns = range_with_len a n
@@ -52,7 +52,7 @@ module _ (f : ℕ → List ℕ) (a n : ℕ) where
   number_is : (s : ℕ) → s < n → get_or ns s 0 ≡ a + s
   number_is s below = get_or-range_with_len a n s 0 below
 
-  -- a number of a component is one of the whole
+  -- a number of a part is one of the whole
   pub place_in : (s i : ℕ) → s < n → i < length (f (a + s)) → get_or (flat_map f ns) (start_of s + i) 0 ≡ get_or (f (a + s)) i 0
   place_in s i below within =
       let long = length-range_with_len a n in
@@ -65,7 +65,7 @@ module _ (f : ℕ → List ℕ) (a n : ℕ) where
       let component = ap (λ k. length (f k)) (number_is s below) in
       omega (arith, length-flat_map-take f ns s 0 (omega arith))
 
-  -- a component ends before the next
+  -- a part ends before the next
   ends_before : (s t : ℕ) → s < t → t < n → start_of s + length (f (a + s)) ≤ start_of t
   ends_before s t less below =
       let long = length-range_with_len a n in

@@ -349,7 +349,7 @@ impl Inodes {
         set_size(&mut self.blocks, self.version, slot, size);
     }
 
-    // Lengthens a content that fills its blocks by zeros in the first block after an index block. The first
+    // Lengthens a content that fills its blocks by zeros in the first block of an index block. The first
     // block that is taken is the index block.
     fn grow_by_index(&mut self, inode: u16, size: u32)
         requires used { IsUsed self.old inode }

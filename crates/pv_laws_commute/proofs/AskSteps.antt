@@ -46,7 +46,7 @@ module _ (program_of : Bytes → Option Program) (spells : SpellsPrograms progra
   told-both : (m : ℕ) (bytes : Bytes) → Alike (done 0 (here, returns_bytes m bytes)) (done 0 (there, returns_bytes m bytes))
   told-both m bytes = record { both = (refl, refl, tt, (None, me, record { directory = refl; table = refl; descriptors = refl; parent = refl }, refl, refl)) }
 
-  -- what is told of the node after a descriptor
+  -- what is told of the node of a descriptor
   abbrev tells : State → Option (ℕ × OpenFile) → Attempt Effect
   tells z o = demand EBADF o >>= (λ v. answers_bytes z 0 (status z.tree v.1.node))
 

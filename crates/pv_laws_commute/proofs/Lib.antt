@@ -1,6 +1,6 @@
 -- Lemmas of noninterference and of the order of steps.
 -- - one step in two states: Alongside (attempts, answers and steps, whatever relates the states), Told (what a call's lines rest on)
--- - a process that differs: Exchange (lists of processes), BesideCalls (calls that ask for no room), RoomRows (those that do),
+-- - a process that differs: Exchange (lists of processes), BesideCalls (calls that ask for no room), RoomCalls (those that do),
 --   BesideSteps, Relabelled (it is the caller)
 -- - an open file that differs: Shifts (lists of open files), ShiftCalls (calls and steps)
 -- - a file's bytes that differ: OtherBytes (for lengths of one size), ContentSteps (a write or a cut, before and after a step)
@@ -9,7 +9,7 @@
 -- - two steps: Commuted, Inward (steps that stay inside), Reordered, Twice (a step that does the same before and after another),
 --   Orphans; read off these Lone, AskSteps, OffsetSteps, WriteSteps, CutSteps, EntrySteps; Given and OwnSteps (a step that gives its
 --   process other things to hold), and off these DescriptorSteps, DirectorySteps, UnveilSteps, ExecveSteps
--- - examples, by computing: Happen, HoldingHappen, GrowingHappen, EntriesHappen
+-- - examples, by computing: ExampleRuns, HoldingExamples, GrowingExamples, EntryExamples
 pub mod Alongside
 pub mod Exchange
 pub mod BesideCalls

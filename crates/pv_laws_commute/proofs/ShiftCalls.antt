@@ -192,7 +192,7 @@ module _ (m : ℕ) (g : OpenFile → OpenFile) (same : (f : OpenFile) → IsSame
   fchdir-beside d =
       subst (λ a. B (fchdir s pid me d) (a >>= entered u)) (sym (directory-same d)) (bind-beside (shifts m g) (HasFile m) (directory_of s pid me d) (entered s) (entered u) (λ n. search parts depth 20))
 
-  -- ---- system calls of opens
+  -- ---- opens
 
   check-same : (start : Start) (path : Bytes) → check_start u pid me start path ≡ check_start s pid me start path
   check-same WorkingDirectory path = refl

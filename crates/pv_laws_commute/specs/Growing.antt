@@ -41,7 +41,7 @@ ContentsAlterNothing =
     → IsTrue (are_bytes bytes) → rounded_up (length bytes) BLOCK ≡ file_blocks s f → LeavesContent s pid f
     → StepsBesideBytes f bytes (step program_of s pid) (step program_of (with_bytes s f bytes) pid)
 
--- the next step of process k goes by no open file of descriptor d of p, and leaves what the file after it holds
+-- the next step of process k goes by no open file of descriptor d of p, and leaves what its file holds
 abbrev pub LeavesGrowing : State → Process → ℤ → ℕ → Type 0
 LeavesGrowing s p d k = (m : ℕ) (file : OpenFile) → open_file s p d ≡ Some (m, file) → (¬ GoesBy s k m) × LeavesContent s k file.node
 

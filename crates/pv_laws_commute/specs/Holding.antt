@@ -68,7 +68,7 @@ changes_directory call = false
 abbrev pub LeavesTree : (Bytes → Option Program) → State → ℕ → Type 0
 LeavesTree program_of s pid = (step program_of s pid).after.tree ≡ s.tree
 
--- the step of process k leaves where such a call of p leads: whether the node after its descriptor is a directory, or the tree in which it walks
+-- the step of process k leaves where such a call of p leads: whether the node of its descriptor is a directory, or the tree in which it walks
 abbrev pub LeavesWay : (Bytes → Option Program) → State → Process → Call → ℕ → Type 0
 LeavesWay program_of s p (Fchdir d) k = (m : ℕ) (file : OpenFile) → open_file s p d ≡ Some (m, file) → is_directory_at (step program_of s k).after.tree file.node ≡ is_directory_at s.tree file.node
 LeavesWay program_of s p call k = LeavesTree program_of s k

@@ -57,7 +57,7 @@ moves_offset (Lseek d by whence) = true
 moves_offset (Getdents d) = true
 moves_offset call = false
 
--- the step of process k leaves what a call of p goes by: it does not go by the open file of the call's descriptor, if there is one, and leaves the node after that as it is
+-- the step of process k leaves what a call of p goes by: it does not go by the open file of the call's descriptor, if there is one, and leaves its node as it is
 abbrev pub LeavesOpenFile : (Bytes → Option Program) → State → Process → Call → ℕ → Type 0
 LeavesOpenFile program_of s p call k =
     (d : ℤ) (m : ℕ) (file : OpenFile) → descriptor_of call ≡ Some d → open_file s p d ≡ Some (m, file)

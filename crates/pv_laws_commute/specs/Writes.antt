@@ -20,7 +20,7 @@ use Rattle.pv_laws_commute.specs.Offsets.{GoesBy}
 abbrev pub LeavesBytes : State → ℕ → ℕ → Type 0
 LeavesBytes s pid f = (¬ HasEffectNext ReadsBytes s pid f) × (¬ HasEffectNext ChangesBytes s pid f)
 
--- the next step of process k goes by no open file of descriptor d of p, and leaves the bytes after it
+-- the next step of process k goes by no open file of descriptor d of p, and leaves the bytes of its file
 abbrev pub LeavesWrite : State → Process → ℤ → ℕ → Type 0
 LeavesWrite s p d k = (m : ℕ) (file : OpenFile) → open_file s p d ≡ Some (m, file) → (¬ GoesBy s k m) × LeavesBytes s k file.node
 

@@ -9,7 +9,7 @@ pub fn asking_steps_commute()
     ensures { AskingStepsCommute }
 {}
 
-/// An fstat of one process, where it does not kill, and any step of another that leaves the node after its descriptor as it is,
+/// An fstat of one process, where it does not kill, and any step of another that leaves the node of its descriptor as it is,
 /// whatever else that changes, makes or ends, may be made in either order: each answers the same and tells the same lines as it
 /// would first, and the state in the end is the same.
 pub fn fstats_commute()

@@ -10,7 +10,7 @@ pub fn offsets_alter_nothing()
 {}
 
 /// A read, an lseek or a getdents of one process, where it does not kill, and any step of another that does not go by the open file
-/// of that descriptor and leaves the node after it as it is, may be made in either order, whatever else the other makes, frees or
+/// of that descriptor and leaves its node as it is, may be made in either order, whatever else the other makes, frees or
 /// ends: each answers the same and tells the same lines as it would first, and the state in the end is the same.
 pub fn offset_steps_commute()
     ensures { OffsetStepsCommute }

@@ -3,7 +3,7 @@
 -- - Moved: climbing from a name, the first directory with a new parent was moved, and what governed it flowed down to the name
 -- - Next: the first entry after the last name is the least. Ascending: no call sets the last name of an open file back
 -- - Listed: the places below a node, by the names that lead there; no way from the root passes a node twice
--- - Happen, Told: the examples, by computing
+-- - ExampleRuns, Told: the examples, by computing
 pub mod Named
 pub mod Moved
 pub mod Next

@@ -88,7 +88,7 @@ module _ (program_of : Bytes → Option Program) (s : State) (pid n d : ℕ) (na
       allowed-place : (m : IsMovedBy s pid n) → Contains (places s m.me m.call) m.moved.place
       allowed-place m = ⊎_elim (λ linked. linked.0) (λ renamed. renamed.0) m.moved.allowed
 
--- ---- the rows of rename and link
+-- ---- rename and link
 
 module _ (x : State) (me : Process) (n d : ℕ) (name : Bytes) where
   record Given (first second : Walk) : Type 0 where

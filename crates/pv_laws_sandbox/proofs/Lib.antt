@@ -9,7 +9,7 @@ pub mod Held
 -- - Decided: the last walk that a call begins decides, both ways, walk by walk and call by call
 -- - TableSays: what lines say of a table. Firsts: the order of promises and of needs
 -- - Spared: no call but a pledge is refused by a promise that it asks for, by search over the parts of calls. Pledged: a pledge
--- - Happen: the examples, by computing
+-- - RefusalExampleRuns: the examples, by computing
 pub mod Decided
 pub mod TableSays
 pub mod Firsts

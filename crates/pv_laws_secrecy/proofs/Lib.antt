@@ -1,9 +1,9 @@
 -- Lemmas of secrets along runs.
 -- - Brought: names that nodes get, read off what calls leave
--- - Heirs: where processes after a step come from
--- - Guards: what a process that is closed to a file can't edit, open, link or move
+-- - Provenance: where processes after a step come from
+-- - Confinement: what a process that is closed to a file can't edit, open, link or move
 -- - Kept: where the names of a file stay, and the entries above them, what governs them does
--- - Stays: one step. ForEver: runs
+-- - Invariant: one step. ForEver: runs
 pub mod Brought
 pub mod Provenance
 pub mod Confinement

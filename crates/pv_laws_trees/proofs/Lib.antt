@@ -1,6 +1,6 @@
 -- Lemmas of trees and walks. Public, since trees and walks in code are proved with them.
 -- - lists under numbers: Numbered (with a number, without one, kept by a test, the least free one)
--- - entries: Entries (lists in the order of names), Trees (a well-formed tree by its entries; parents), Spelled (bytes of names)
+-- - entries: Entries (lists in the order of names), NameOrder (past the last name), Members (what is in lists), Trees (a well-formed tree by its entries; parents), Spelled (bytes of names)
 -- - what stays: Keeping (letting go one by one is letting go at once), Rooms (what nodes need), Empty (the root alone)
 -- - changes: Changes (one node in another's place), NewNodes (a new node under a new name), Edits (each change keeps a tree
 --   well-formed), Above (parents lead to the root; climbing meets just what is above), Found (names before and after a change)

@@ -2,7 +2,7 @@
 use Rattle.std.specs.Prelude.{◌≡◌, [], ◌∷◌, codes, Some, refl}
 use Rattle.pv_laws_worked.specs.Bundles.{bundles_on_literals, shown_of}
 
--- a process ends: its children have another parent, what is buffered is told, and process 1 leaves parent 0
+-- a process ends: its children have another parent, a wait blocks, and process 1 leaves parent 0
 pub ends : shown_of (
     codes "image 64 64" ∷
     codes "exec \"/init\" 15" ∷

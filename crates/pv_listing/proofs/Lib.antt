@@ -1,4 +1,4 @@
--- Lemmas of listings: Rests (texts told part by part), Children (the next name is the first of the entries after the last one),
+-- Lemmas of listings: Rests (texts written part by part), Children (the next name is the first of the entries after the last one),
 -- Entries (a node's lines, entry by entry), Parts (of a line).
 pub mod Children
 pub mod Entries

@@ -34,7 +34,7 @@ marked front text =
     ∙ ap (λ (bs : Bytes). front ++ 34 ∷ bs) (sym (append_assoc text (34 ∷ []) (10 ∷ [])))
     ∙ sym (append_assoc front (34 ∷ (text ++ 34 ∷ [])) (10 ∷ []))
 
--- a line in three components: what stands before the path, the path between its marks, and the end
+-- a line in three parts: what stands before the path, the path between its marks, and the end
 pub line-is : (front path : Bytes) (n : ℕ) (node : Option Node) → IsSome node → front ≡ node_front n node ++ codes "\""
     → (front ++ flat_map quote_byte (listed_path path)) ++ codes "\"\n" ≡ node_line path n node
 line-is front path n None some is = cc some

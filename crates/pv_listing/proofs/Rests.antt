@@ -13,7 +13,7 @@ pub record LeavesRest (rest text : Bytes) (before after : Option Bytes) : Type 0
   pub written : after ≡ and_all before done
   pub whole : done ++ rest ≡ text
 
--- before the first component all is left
+-- before the first part all is left
 pub rest_all : (text : Bytes) (before : Option Bytes) → LeavesRest text text before before
 rest_all text before = record { done = []; written = written_none before; whole = refl }
 
@@ -21,7 +21,7 @@ module _ (left component rest text : Bytes) (before mid after : Option Bytes) (s
   split : so_far.done ++ (component ++ rest) ≡ text
   split = ap (λ bs. so_far.done ++ bs) (sym is) ∙ so_far.whole
 
-  -- after one component more the rest of it is left
+  -- after one part more the rest of it is left
   pub rest_after : after ≡ and_all mid component → LeavesRest rest text before after
   rest_after more = record {
     done = so_far.done ++ component;
@@ -29,13 +29,13 @@ module _ (left component rest text : Bytes) (before mid after : Option Bytes) (s
     whole = append_assoc so_far.done component rest ∙ split;
   }
 
-  -- what was written before a component failed is a beginning
+  -- what was written before a part failed is a beginning
   pub rest_begins : TellsBeginning component mid after → TellsBeginning text before after
   rest_begins begun =
       subst (λ (bs : Bytes). TellsBeginning bs before after) split
       (begins_then so_far.done (component ++ rest) before mid after so_far.written (begins_first component rest mid after begun))
 
--- where nothing is left all was told
+-- where nothing is left all was written
 pub written_text : (text : Bytes) (before after : Option Bytes) → LeavesRest [] text before after → after ≡ and_all before text
 written_text text before after left = left.written ∙ ap (and_all before) (sym (append-nil left.done) ∙ left.whole)
 
@@ -45,7 +45,7 @@ written_begins rest text before after left =
     subst (λ (bs : Bytes). TellsBeginning bs before after) left.whole
     (begins_first left.done rest before after (begins_whole left.done before after left.written))
 
--- a text is the components of its front, and those after
+-- a text is the parts of its front, and those after
 pub components-split : (component : ℕ → Bytes) (text front following as_written : Bytes) (n : ℕ) → front ≡ take n text → following ≡ drop n text → as_written ≡ flat_map component front
     → flat_map component text ≡ as_written ++ flat_map component following
 components-split component text front following as_written n first then is =

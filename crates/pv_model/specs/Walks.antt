@@ -1,4 +1,4 @@
--- What each call walks to, and what it asks there: said once. The rows of the calls, the lines of a trace and the touches are read from it.
+-- What each call walks to, and what it asks there: said once. The calls, the lines of a trace and the touches are read from it.
 use Rattle.std.specs.Prelude.{ℕ, zero, suc, ◌&&◌, ◌||◌, if◌then◌else◌, List, [], ◌∷◌, slice_get, Option, None, Some}
 use Rattle.pv_model.specs.declared.call.Call.{Call}
 use Rattle.pv_model.specs.declared.call.Call.TheVariants.{Unveil, Execve, Open, OpenAt, Chdir, Stat, Lstat, Readlink, Mkdir, Symlink, Link, Unlink, Rmdir, Rename}

@@ -53,7 +53,7 @@ pub trait Sink {
         ensures kept { OnErr result (written self.new ≡ written self.old) }
         ensures failed { CountsNothingTaken (failures self.old) (failures self.new) result buffer.now };
 
-    /// Flushes all that is buffered. On `Err` the failure has been counted, and some may still wait.
+    /// Flushes all that is buffered. On `Err` the failure has been counted, and some may still be buffered.
     fn flush(&mut self) -> Result<(), Failed>
         ensures kept { written self.new ≡ written self.old }
         ensures empty { OnOk result (buffered self.new ≡ 0) }

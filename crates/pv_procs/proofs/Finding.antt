@@ -107,7 +107,7 @@ found-at slots pid k slot found is =
     let at = position-Some (λ (p : ProcessSlot). p.number == pid) slots k slot found in
     record { within = at.0; is = is; number = eqb-true slot.number pid (ap (λ (q : ProcessSlot). q.number == pid) is ∙ at.1) }
 
--- ---- where a search by binary search stops
+-- ---- where a binary search stops
 
 onward : (n k : ℕ) → n ≡ k → 1 + n ≡ suc k
 onward n k is = omega (arith, is)
@@ -151,7 +151,7 @@ stood-found slots pid k slot asc at =
     sym (ap (λ n. cond (nat_lt n (length slots)) (Some n) None) (first-at slots pid k slot asc at) ∙ ap (λ b. cond b (Some k) None) (lt-ltb k (length slots) at.within))
 
 module _ (slots : List ProcessSlot) (pid : ℕ) (asc : ascends slots ≡ true) where
-  -- an index at which a search by binary search stops is the first with the number
+  -- an index at which a binary search stops is the first with the number
   pub half-found : (k : ℕ) → k < length slots → HoldsAt (λ (p : ProcessSlot). nat_cmp p.number pid ≡ Equal) slots k → Some k ≡ position (λ (p : ProcessSlot). p.number == pid) slots
   half-found k within tied = by slots refl within
     where

@@ -1,4 +1,4 @@
--- The machine of a live process turns, on the places.
+-- The context of a live process goes on, on the places.
 use Rattle.std.proofs.Common.{◌≡◌, ℕ, zero, suc, ◌<◌, ◌==◌, cond, position, true, false, List, [], ◌∷◌, length, Option, None, Some, IsSome, is_some, option_map, refl, sym, subst, ap, ◌∙◌, arith}
 use Rattle.std.proofs.Math.ListN.{get_or, set}
 use Rattle.std.proofs.lemmas.Cmp.{nat_cmp_total}
@@ -73,7 +73,7 @@ module _ (slots : List ProcessSlot) (programs : List Shared) (last : ℕ) (ps : 
   lives : process_in ps pid ≡ Some me
   lives = living slots programs last ps seen pid asc k slot at none
 
-  -- the machine changed as its process does
+  -- the context changed as its process does
   pub moved : (by : Process → Process → Type 0) → by me (in_context me me.program m) → Moves by pid ps (table_of (set slots k (record slot { «record» = record slot.record { context = m } })) programs last)
   moved by step = record {
     me = me;

@@ -4,7 +4,8 @@
 //! programs, which live processes share, each with the count of its users. Memory is asked for once, by
 //! `Processes::new`. Clauses see the processes as the definitions' list of records by number, beside the last
 //! number given (`ProcessTable`), and what a live process owns as a `ProcessRecord`. `processes` has what callers use,
-//! `slot` a place for a process and `shared` one for a program.
+//! `record` what a live process owns, `slot` a place for a process, `shared` one for a program, and `ending` what becomes of
+//! the places when a process ends.
 #![tactic(auto)]
 
 mod ending;

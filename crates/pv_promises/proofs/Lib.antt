@@ -1,2 +1,3 @@
+-- Lemmas of promises: Keywords (the keywords of a text, and their set), LackedLemmas (the promise that two lists of needs lack).
 pub mod Keywords
 pub mod LackedLemmas

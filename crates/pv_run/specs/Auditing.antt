@@ -31,7 +31,7 @@ TellsAudit s path before after = (text : Bytes) × (audit_text s path ≡ Ok tex
 abbrev pub BeginsAudit : State → Option Bytes → Option Bytes → Option Bytes → Type 0
 BeginsAudit s path before after = (text : Bytes) × (audit_text s path ≡ Ok text) × TellsBeginning text before after
 
--- why the audit of a state was not told whole: memory or a write failed, or the path names no file, and then nothing was told
+-- why the audit of a state was not written whole: memory or a write failed, or the path names no file, and then nothing was written
 abbrev pub StandsInState : State → Option Bytes → Option Bytes → Option Bytes → AuditStop → Type 0
 StandsInState s path before after (Machine Memory) = BeginsAudit s path before after
 StandsInState s path before after (Machine fault) = ⊥
@@ -49,12 +49,12 @@ StandsInAudit image turns path before after (Machine fault) = RefusesMachine fau
 StandsInAudit image turns path before after (Path fault) = OnLeft image turns (λ s. audit_text s path ≡ Err fault) × (after ≡ before)
 StandsInAudit image turns path before after Write = OnLeft image turns (λ s. BeginsAudit s path before after)
 
--- why an audit may stop: want of memory is told as such
+-- why an audit may stop: want of memory is answered as such
 abbrev pub IsAuditStop : AuditStop → Type 0
 IsAuditStop (Machine fault) = IsMachineFault fault
 IsAuditStop stop = ⊤
 
--- nothing was told, but where memory or a write failed
+-- nothing was written, but where memory or a write failed
 abbrev pub TellsNothingUnlessStopped : Option Bytes → Option Bytes → AuditStop → Type 0
 TellsNothingUnlessStopped before after (Machine Memory) = ⊤
 TellsNothingUnlessStopped before after Write = ⊤

@@ -18,7 +18,7 @@ use Rattle.pv_image_write.specs.Written.{TellsImage, BeginsImage as BeginsWritte
 abbrev pub WrittenImage : Tree → Option Bytes → Option Bytes → Type 0
 WrittenImage t before after = TellsImage (named_tree t) before after
 
--- bytes that hold a tree were told up to somewhere
+-- bytes that hold a tree were written up to somewhere
 abbrev pub BeginsImage : Tree → Option Bytes → Option Bytes → Type 0
 BeginsImage t before after = BeginsWrittenImage (named_tree t) before after
 
@@ -37,7 +37,7 @@ pub record HasRunOn (image turns : Bytes) (trace_before trace_after image_before
   -- it is what the checks find
   pub is_asked : image_started image turns ≡ Ok it
 
--- a run was made, and the tree that it leaves was told up to somewhere
+-- a run was made, and the tree that it leaves was written up to somewhere
 pub record HasRunUncut (asked : Result Started RunFault) (trace_before trace_after image_before image_after : Option Bytes) : Type 0 where
   pub text : Bytes
   pub summary : Summary
@@ -53,7 +53,7 @@ StandsOn asked tb ta ib ia Memory = ((ta ≡ tb) ⊎ HasBegun asked tb ta) × (i
 StandsOn asked tb ta ib ia Read = (ta ≡ tb) × (ia ≡ ib)
 StandsOn asked tb ta ib ia fault = (asked ≡ Err fault) × (ta ≡ tb) × (ia ≡ ib)
 
--- what the start of a run on an image may answer: want of memory is told as such
+-- what the start of a run on an image may answer: want of memory is answered as such
 abbrev pub IsImageFault : RunFault → Type 0
 IsImageFault (Image ImageMemory) = ⊥
 IsImageFault (Image fault) = ⊤
@@ -79,7 +79,7 @@ abbrev pub IsRunFault : RunFault → Type 0
 IsRunFault Read = ⊤
 IsRunFault fault = IsImageRunFault fault
 
--- nothing was told, but of a run that stopped; and no image, but where its writing failed
+-- nothing was written, but of a run that stopped; and no image, but where its writing failed
 abbrev pub TellsNeitherUnlessCut : Option Bytes → Option Bytes → Option Bytes → Option Bytes → RunFault → Type 0
 TellsNeitherUnlessCut tb ta ib ia WriteImage = ⊤
 TellsNeitherUnlessCut tb ta ib ia WriteTrace = ia ≡ ib

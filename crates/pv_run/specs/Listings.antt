@@ -15,7 +15,7 @@ pub record HasListed (held : Result Tree ImageFault) (before after : Option Byte
   pub is_held : held ≡ Ok tree
   pub written : after ≡ and_all before (listing tree)
 
--- the listing of the tree that is held was told up to somewhere
+-- the listing of the tree that is held was written up to somewhere
 pub record HasBegunListing (held : Result Tree ImageFault) (before after : Option Bytes) : Type 0 where
   pub tree : Tree
   pub is_held : held ≡ Ok tree
@@ -28,7 +28,7 @@ StandsInImage held before after (Image fault) = (held ≡ Err fault) × (after �
 StandsInImage held before after Memory = (after ≡ before) ⊎ HasBegunListing held before after
 StandsInImage held before after Write = HasBegunListing held before after
 
--- what the listing of bytes may answer: want of memory is told as such
+-- what the listing of bytes may answer: want of memory is answered as such
 abbrev pub IsListingFault : ListFault → Type 0
 IsListingFault (Image ImageMemory) = ⊥
 IsListingFault (Image fault) = ⊤
@@ -47,7 +47,7 @@ IsReadOrWant Read = ⊤
 IsReadOrWant Memory = ⊤
 IsReadOrWant fault = ⊥
 
--- nothing was told, but where memory or a write failed
+-- nothing was written, but where memory or a write failed
 abbrev pub TellsNothingUnlessBegun : Option Bytes → Option Bytes → ListFault → Type 0
 TellsNothingUnlessBegun before after Memory = ⊤
 TellsNothingUnlessBegun before after Write = ⊤

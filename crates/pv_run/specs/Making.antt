@@ -23,7 +23,7 @@ pub record HasMade (made : Result Tree ManifestFault) (before after : Option Byt
   pub holds : IsWrittenImageOf image tree
   pub written : after ≡ and_all before image
 
--- bytes that hold the tree that is made were told up to somewhere
+-- bytes that hold the tree that is made were written up to somewhere
 pub record HasBegunMaking (made : Result Tree ManifestFault) (before after : Option Bytes) : Type 0 where
   pub tree : Tree
   pub is_made : made ≡ Ok tree
@@ -37,7 +37,7 @@ StandsInManifest made before after WriteImage = HasBegunMaking made before after
 StandsInManifest made before after (Manifest fault) = (made ≡ Err fault) × (after ≡ before)
 StandsInManifest made before after fault = after ≡ before
 
--- what the making of an image from bytes may answer: want of memory is told as such
+-- what the making of an image from bytes may answer: want of memory is answered as such
 abbrev pub IsMakingFault : RunFault → Type 0
 IsMakingFault (Manifest ManifestMemory) = ⊥
 IsMakingFault (Manifest fault) = ⊤
@@ -50,7 +50,7 @@ abbrev pub IsMakeFault : RunFault → Type 0
 IsMakeFault Read = ⊤
 IsMakeFault fault = IsMakingFault fault
 
--- nothing was told, but where a write failed
+-- nothing was written, but where a write failed
 abbrev pub TellsNothingUnlessWritten : Option Bytes → Option Bytes → RunFault → Type 0
 TellsNothingUnlessWritten before after WriteImage = ⊤
 TellsNothingUnlessWritten before after fault = after ≡ before

@@ -18,7 +18,7 @@ pub record HasMigrated (new : Result Tree MigrateFault) (before after : Option B
   pub holds : IsWrittenImageOf image tree
   pub written : after ≡ and_all before image
 
--- bytes that hold that tree were told up to somewhere
+-- bytes that hold that tree were written up to somewhere
 pub record HasBegunMigrating (new : Result Tree MigrateFault) (before after : Option Bytes) : Type 0 where
   pub tree : Tree
   pub is_new : new ≡ Ok tree
@@ -33,7 +33,7 @@ StandsInOldImage new before after (Refused Memory) = after ≡ before
 StandsInOldImage new before after (Refused fault) = (new ≡ Err fault) × (after ≡ before)
 StandsInOldImage new before after Write = HasBegunMigrating new before after
 
--- why bytes are not migrated: want of memory is told as such
+-- why bytes are not migrated: want of memory is answered as such
 abbrev pub IsMigratingStop : MigrateStop → Type 0
 IsMigratingStop Read = ⊥
 IsMigratingStop (Refused (Image ImageMemory)) = ⊥
@@ -51,7 +51,7 @@ IsReadOrNoMemory Read = ⊤
 IsReadOrNoMemory (Refused Memory) = ⊤
 IsReadOrNoMemory stop = ⊥
 
--- nothing was told, but where a write failed
+-- nothing was written, but where a write failed
 abbrev pub TellsNothingUnlessBroken : Option Bytes → Option Bytes → MigrateStop → Type 0
 TellsNothingUnlessBroken before after Write = ⊤
 TellsNothingUnlessBroken before after stop = after ≡ before

@@ -53,7 +53,7 @@ StopsBy Memory before after = after ≡ before
 StopsBy WriteTrace before after = Rose before after
 StopsBy fault before after = ⊥
 
--- the text of a run was told up to somewhere
+-- the text of a run was written up to somewhere
 pub record HasBegun (asked : Result Started RunFault) (before after : Option Bytes) : Type 0 where
   pub text : Bytes
   pub summary : Summary
@@ -74,7 +74,7 @@ IsFaultOnTree (Init n) = ⊤
 IsFaultOnTree Memory = ⊤
 IsFaultOnTree fault = ⊥
 
--- what the start of a bundle's run may answer: want of memory is told as such
+-- what the start of a bundle's run may answer: want of memory is answered as such
 abbrev pub IsStartFault : RunFault → Type 0
 IsStartFault (Manifest ManifestMemory) = ⊥
 IsStartFault (Manifest fault) = ⊤
@@ -93,7 +93,7 @@ abbrev pub IsBundleFault : RunFault → Type 0
 IsBundleFault Read = ⊤
 IsBundleFault fault = IsBytesFault fault
 
--- nothing was told, but where the trace could not be written whole, or a step wanted memory
+-- nothing was written, but where the trace could not be written whole, or a step wanted memory
 abbrev pub TellsNothingUnlessCut : Option Bytes → Option Bytes → RunFault → Type 0
 TellsNothingUnlessCut before after WriteTrace = ⊤
 TellsNothingUnlessCut before after Memory = ⊤

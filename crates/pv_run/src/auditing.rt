@@ -18,7 +18,7 @@ use pv_streams::{Failed, Sink, Source};
 use std::alloc::Global;
 use std::fmt;
 
-/// Why an audit is not told, or not whole.
+/// Why an audit is not written, or not whole.
 #[derive(Clone, Copy, Debug, PartialEq, Eq)]
 pub enum AuditStop {
     /// There is no machine to audit, or memory was refused.
@@ -64,7 +64,7 @@ impl fmt::Display for AuditStop {
     }
 }
 
-// Writes the line of a verdict, and hands it on.
+// Writes the line of a verdict, and flushes it.
 #[tactic(auto, using(pv_streams::proofs::Sinks::begins_whole))]
 fn tell<W: Sink>(verdict: &Verdict, out: &mut W) -> Result<(), Failed>
     ensures whole { OnOk result (W.written out.new ≡ and_all (W.written out.old) (verdict_line verdict.now)) }
@@ -76,7 +76,7 @@ fn tell<W: Sink>(verdict: &Verdict, out: &mut W) -> Result<(), Failed>
     out.flush()
 }
 
-// Writes the report of a machine, and hands it on.
+// Writes the report of a machine, and flushes it.
 #[tactic(auto, using(pv_streams::proofs::Sinks::begins_whole))]
 fn tell_all<W: Sink>(alloc: Global, session: &Session, out: &mut W) -> Result<(), ListStop>
     ensures whole { OnOk result (W.written out.new ≡ and_all (W.written out.old) (report session.now)) }
@@ -134,7 +134,7 @@ fn audit_machine<W: Sink>(
 /// # Errors
 ///
 /// - `Machine`: what `machine_after` answers, for the first fault of the image, the schedule, or the program of `init`;
-///   nothing was written. Want of memory may also come while all files are told; then a beginning of the text was written.
+///   nothing was written. Want of memory may also come while all files are gone through; then a beginning of the text was written.
 /// - `Path`: the walk along the path failed, or it names no file; nothing was written.
 /// - `Write`: a write failed; `out` has grown by a beginning of the text.
 pub fn audit_image<I: Source, S: Source, W: Sink>(

@@ -27,7 +27,7 @@ fn read_image<S: Source>(alloc: Global, image: &mut S) -> Result<Vec<u8>, ListFa
     }
 }
 
-// Writes the listing of a tree, and hands it on.
+// Writes the listing of a tree, and flushes it.
 #[tactic(auto, using(pv_streams::proofs::Sinks::begins_whole))]
 fn write_all<W: Sink>(alloc: Global, tree: &Tree, out: &mut W) -> Result<(), ListStop>
     ensures whole { OnOk result (W.written out.new ≡ and_all (W.written out.old) (listing tree.now.tree)) }

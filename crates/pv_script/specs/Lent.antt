@@ -1,4 +1,4 @@
--- What becomes of a machine, and of its buffer, when the buffer was lent.
+-- What becomes of a context, and of its buffer, when the buffer was lent.
 use Rattle.std.specs.Prelude.{◌++◌, length, take, drop}
 use Rattle.std.specs.Borrow.{Array, Lends, MutBor, Fml, u8}
 use Rattle.pv_model.specs.Bytes.{Bytes}
@@ -10,14 +10,14 @@ use Rattle.pv_script.specs.Context.{Context}
 abbrev pub with_bytes : Bytes → Bytes → Bytes
 with_bytes buffer bytes = take (length buffer) (bytes ++ drop (length bytes) buffer)
 
--- a machine with these bytes at the front of its buffer, which stays as long
+-- a context with these bytes at the front of its buffer, which stays as long
 abbrev pub with_buffer : Context → Bytes → Context
 with_buffer m bytes = record m { buffer = with_bytes m.buffer bytes }
 
--- the buffer ends with the last bytes after the result
+-- the buffer ends with the last bytes of what was lent
 abbrev pub LendsBytes : MutBor Bytes → MutBor Bytes → Fml
 LendsBytes b r = Lends buffer_row (Array u8 0) b r (with_bytes b.now)
 
--- the machine ends with the last bytes after the result in its buffer
+-- the context ends with the last bytes of what was lent in its buffer
 abbrev pub LendsBuffer : MutBor Context → MutBor Bytes → Fml
 LendsBuffer m r = Lends the_row (Array u8 0) m r (with_buffer m.now)

@@ -117,7 +117,7 @@ ghost use Rattle.pv_script.specs.Passing.{Passes};
 impl Context {
     ghost use Rattle.pv_script.specs.Lent.{LendsBuffer};
 
-    /// A machine at line 1, its registers and its buffer zero. Nothing else of it allocates.
+    /// A context at line 1, its registers and its buffer zero. Nothing else of it allocates.
     ///
     /// `Err` says that memory was refused for the buffer.
     pub fn new(alloc: Global) -> Result<Context, AllocError>

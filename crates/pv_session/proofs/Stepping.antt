@@ -110,12 +110,12 @@ module _ (s : State) (pid : ℕ) (call : Call) (new : Running) where
 pub gone-lines : (s t : State) (pid : ℕ) → s ≡ t → process_at s pid ≡ None → (stepped t pid).lines ≡ gone_lines pid
 gone-lines s t pid same none = ap (λ x. (stepped x pid).lines) (sym same) ∙ ap (λ (x : Stepped). x.lines) (step-gone s pid none)
 
--- nothing is told of no lines
+-- nothing is written of no lines
 pub written-none : (written : Option Bytes) → WrittenLines [] written written
 written-none None = refl
 written-none (Some had) = ap (λ (bs : Bytes). Some bs) (sym (append-nil had))
 
--- a sink that was written nothing more was told a beginning of any lines
+-- a sink to which nothing more was written has a beginning of any lines
 pub begins-none : (lines : List Line) (written : Option Bytes) → BeginsLines lines written written
 begins-none lines None = (0, refl)
 begins-none lines (Some had) = (0, ap (λ (bs : Bytes). Some bs) (sym (append-nil had)))

@@ -55,12 +55,12 @@ module _ (first next : Run) where
   text_of_both : trace_bytes (following first next).lines ≡ trace_bytes first.lines ++ trace_bytes next.lines
   text_of_both = flat_map-append line_bytes first.lines next.lines
 
-  -- what is told of a run is told of it and another after it
+  -- what is written of a run is written of it and another after it
   pub written_after : (before mid after : Option Bytes) → WrittenLines first.lines before mid → WrittenLines next.lines mid after → WrittenLines (following first next).lines before after
   written_after before mid after written more =
       written_both (trace_bytes first.lines) (trace_bytes next.lines) before mid after written more ∙ ap (and_all before) (sym text_of_both)
 
-  -- a run that is told whole and a beginning of another are a beginning of both
+  -- a run that is written whole and a beginning of another are a beginning of both
   pub begun_after : (before mid after : Option Bytes) → WrittenLines first.lines before mid → BeginsLines next.lines mid after → BeginsLines (following first next).lines before after
   begun_after before mid after written begun =
       subst (λ (bs : Bytes). TellsBeginning bs before after) (sym text_of_both) (begins_then (trace_bytes first.lines) (trace_bytes next.lines) before mid after written begun)

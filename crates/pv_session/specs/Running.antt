@@ -26,11 +26,11 @@ run_of_first s count schedule = run program_of (steps_of (take count schedule)) 
 abbrev pub run_of : State → Schedule → Run
 run_of s schedule = run program_of (steps_of schedule) s
 
--- the text of lines is told after what was written before
+-- the text of lines is written after what was there
 abbrev pub WrittenLines : List Line → Option Bytes → Option Bytes → Type 0
 WrittenLines lines before after = after ≡ and_all before (trace_bytes lines)
 
--- a beginning of the text of lines is told
+-- a beginning of the text of lines is written
 abbrev pub BeginsLines : List Line → Option Bytes → Option Bytes → Type 0
 BeginsLines lines before after = TellsBeginning (trace_bytes lines) before after
 

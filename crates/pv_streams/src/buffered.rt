@@ -1,4 +1,4 @@
-//! Bytes that are gathered, and flushed in large components.
+//! Bytes that are buffered, and written in large parts.
 ghost use Rattle.std.specs.Prelude.{◌≡◌, ◌+◌, ◌++◌, ◌≤◌, [], drop, length, vec_len, OnOk, OnErr};
 ghost use Rattle.pv_model.specs.Stream.{Rose};
 ghost use Rattle.pv_streams.specs.Sinks.{and_all};
@@ -8,10 +8,10 @@ use crate::writing::write_some;
 use pv_model::{Failed, Sink};
 use std::alloc::Global;
 
-/// How many bytes may wait.
+/// How many bytes may be buffered.
 pub const CHUNK: usize = 65_536;
 
-/// A sink that gathers what it is given, and hands it on to another when it is full, or by `flush`. Where it has no
+/// A sink that buffers what it is given, and writes it to another when it is full, or by `flush`. Where it has no
 /// memory for more, it flushes at once.
 ///
 /// Nothing is flushed when it is dropped: its owner calls `flush` at the end.
@@ -54,7 +54,7 @@ impl<W: Sink + Drop> Buffered<W> {
         self.waiting.truncate(left);
     }
 
-    // Flushes all that is buffered here: where that fails, what was not taken still waits.
+    // Flushes all that is buffered here: where that fails, what was not taken is still buffered.
     #[tactic(auto, using(crate::proofs::Sinks::flushed_part, crate::proofs::Sinks::flushed_all, crate::proofs::Sinks::written_more))]
     fn hand_on(&mut self) -> Result<(), Failed>
         ensures written { and_all (W.written self.new.sink) self.new.waiting.items ≡ and_all (W.written self.old.sink) self.old.waiting.items }

@@ -41,11 +41,11 @@ pub fn write_whole<W: Sink>(sink: &mut W, bytes: &[u8]) -> Result<(), Failed>
     Ok(())
 }
 
-/// Writes all the bytes and has the sink hand them on.
+/// Writes all the bytes and flushes the sink.
 ///
 /// # Errors
 ///
-/// `Failed` where a write or the handing on failed: the sink was given a beginning of the bytes.
+/// `Failed` where a write or the flush failed: the sink was given a beginning of the bytes.
 #[tactic(auto, using(crate::proofs::Sinks::begins_whole))]
 pub fn write_through<W: Sink>(sink: &mut W, bytes: &[u8]) -> Result<(), Failed>
     ensures whole { OnOk result (W.written sink.new ≡ and_all (W.written sink.old) bytes.now) }

@@ -57,7 +57,7 @@ fn system_with<O: Sink + Drop>(
     }
 }
 
-// Runs the words over an output that gathers: nothing waits in it afterwards.
+// Runs the words over an output that buffers: nothing is buffered in it afterwards.
 fn expect_run(
     rt: &(impl Abort + AllocGlobal),
     words: &[&str],

@@ -123,7 +123,7 @@ impl Remarks for Dots {
     }
 }
 
-// A sink of so much room is told this of the names, with this answer.
+// A sink of so much room is given this of the names, with this answer.
 fn expect_dots<R: Abort + AllocGlobal>(
     rt: &R,
     tree: &Tree,

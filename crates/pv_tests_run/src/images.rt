@@ -66,8 +66,8 @@ fn expect_end(rt: &(impl Abort + AllocGlobal), image: &Gathered, schedule: &[u8]
     assert!(rt; trace_of(rt, image, schedule).bytes.ends_with(end));
 }
 
-// The manifest of an image of 32 blocks and 16 inodes, whose program makes a directory of so many permissions for each
-// byte.
+// The manifest of an image of 32 blocks and 16 inodes, whose program makes a directory for each of these bytes, its name so
+// many of that byte.
 fn name_maker(
     rt: &impl AllocGlobal,
     directory: &[u8],

@@ -1,4 +1,4 @@
-//! Programs and schedules from their texts, and what a machine does with the lines of a program.
+//! Programs and schedules from their texts, and what a context does with the lines of a program.
 use crate::answers::{expect, expect_equal, expect_same};
 use pv_model::{
     CallRef, Instruction, Mode, OpenFlags, Operand, Origin, ParseFault, ScheduleFault, Start, What,
@@ -456,7 +456,7 @@ fn starts_of_an_openat(rt: HostRuntime) {
     expect_same(&rt, program.into_lines().len(), 4);
 }
 
-// A machine opens from the working directory next.
+// A context opens from the working directory next.
 fn expect_open_from_working<R: Abort>(rt: &R, context: &mut Context, program: &Program) {
     let mut texts = CallTexts::new();
     assert!(rt;
@@ -622,7 +622,7 @@ fn jumps_of_a_machine(rt: HostRuntime) {
 
 const ANSWERED: &[u8] = b"getpid\nread r0 r1\nexit 0";
 
-// A machine at the second line of the program, told -1 with error 9 and given some bytes.
+// A context at the second line of the program, answered -1 with error 9 and given some bytes.
 fn written<R: Abort + AllocGlobal>(rt: &R, program: &Program) -> Context {
     let mut context = fresh(rt);
     context.advance(program);
@@ -631,12 +631,12 @@ fn written<R: Abort + AllocGlobal>(rt: &R, program: &Program) -> Context {
     context
 }
 
-// The machine's buffer begins with these bytes.
+// The context's buffer begins with these bytes.
 fn expect_buffer<R: Abort>(rt: &R, context: &Context, bytes: &[u8]) {
     assert!(rt; context.buffer().starts_with(bytes));
 }
 
-// The machine asks for its number next.
+// The context asks for its number next.
 fn expect_getpid<R: Abort>(rt: &R, context: &mut Context, program: &Program) {
     let mut texts = CallTexts::new();
     assert!(rt;
@@ -651,7 +651,7 @@ fn fresh<R: Abort + AllocGlobal>(rt: &R) -> Context {
     Context::new(rt.alloc()).expect(rt, "memory")
 }
 
-// The machine makes this read next, and its buffer begins with these bytes.
+// The context makes this read next, and its buffer begins with these bytes.
 fn expect_read<R: Abort>(
     rt: &R,
     context: &mut Context,
@@ -675,7 +675,7 @@ fn answers_that_a_machine_is_written(rt: HostRuntime) {
     expect_read(&rt, &mut context, &program, (-1, 9), b"hello\0");
 }
 
-// A copy of a machine, told 0 without an error.
+// A copy of a context, answered 0 without an error.
 fn child_of<R: Abort + AllocGlobal>(rt: &R, context: &Context) -> Context {
     let mut child = fresh(rt);
     child.copy_from(context);
@@ -692,7 +692,7 @@ fn a_copy_of_a_machine(rt: HostRuntime) {
     expect_read(&rt, &mut context, &program, (-1, 9), b"hello\0");
 }
 
-// A machine that was written something, and begins again.
+// A context that was answered something, and begins again.
 fn begun_again<R: Abort + AllocGlobal>(rt: &R, program: &Program) -> Context {
     let mut context = written(rt, program);
     context.reset();
@@ -719,7 +719,7 @@ fn advance_twice(context: &mut Context, program: &Program) {
     context.advance(program);
 }
 
-// The machine exits next, with 0.
+// The context exits next, with 0.
 fn expect_end<R: Abort>(rt: &R, context: &mut Context, program: &Program) {
     let mut texts = CallTexts::new();
     assert!(rt;

@@ -213,7 +213,7 @@ fn components_after_a_link_weigh_at_most_1024(rt: HostRuntime) -> Result<(), All
     expect_long_links(&rt, DOTTED_LINKS, WEIGHED)
 }
 
-// Links to directories whose names have one permission and two.
+// Links to directories whose names have one byte and two.
 const SHORT_LINKS: &[(u16, &[u8], NewNode, u16)] = &[
     (1, b"b", NewNode::Directory, 2),
     (1, b"bc", NewNode::Directory, 3),

@@ -71,7 +71,7 @@ module _ (bs rest : Bytes) (split : drop (length bs - length rest) bs ≡ rest) 
         let parts : take (n + m) bs ≡ take n bs ++ take m rest = take-add n m bs ∙ ap (λ r. take n bs ++ take m r) split in
         ap (flat_map quote_byte) parts ∙ flat_map-append quote_byte (take n bs) (take m rest) ∙ ap₂ (λ (a b : Bytes). a ++ b) same front ∙ sym parts
 
-  -- what stands after a component at its front
+  -- what stands after a part at its front
   module _ (m : ℕ) (following : Bytes) (inside : length rest ≤ length bs) (lengths : length following + m ≡ length rest) where
     count : length bs - length following ≡ length bs - length rest + m
     count = omega (arith, inside, lengths)

@@ -179,7 +179,7 @@ pub(crate) fn put_front(out: &mut LineBuffer, pid: u32, word: &[u8; 7])
 }
 
 // The digits of a few bytes, two for each, at once. It becomes a part of its caller, which knows the length of all
-// components but the last.
+// parts but the last.
 #[inline(always)]
 fn put_hex_part(out: &mut LineBuffer, bytes: &[u8])
     requires few { length bytes.now ≤ PART }

@@ -25,7 +25,7 @@ abbrev pub IsNextNameOfNode : Tree → ℕ → Option (ℕ × Bytes) → Option 
 IsNextNameOfNode t n last next =
     MatchOption next ((other : ℕ × Bytes) → find_entry t other.0 other.1 ≡ Some n → IsFalse (is_after last other)) (IsLeastAfter t n last)
 
--- the last name, as it stands after a reference
+-- the last name, that a reference leads to
 abbrev pub last_of : Option (ℕ × Bor Bytes) → Option (ℕ × Bytes)
 last_of None = None
 last_of (Some (directory, name)) = Some (directory, name.now)

@@ -1,4 +1,4 @@
-//! Descriptors, and the open files after them.
+//! Descriptors, and their open files.
 ghost use Rattle.std.specs.Prelude.{◌≡◌, ◌≢◌, ℕ, ◌+◌, ◌<◌, [], ◌∷◌, if◌then◌else◌, IsSome, IsTrue, IfOk, IfErr, OnOk, OnErr, Some, None, IfSome, MatchOption, option_map, ok_or};
 ghost use Rattle.pv_files.specs.Counted.{with_opened};
 ghost use Rattle.pv_files.specs.Descriptors.{descriptor_under};

@@ -4,7 +4,7 @@ use Rattle.pv_model.specs.Trace.{is_plain}
 use Rattle.pv_trace.proofs.Fronts.{component_same, after_component}
 use Rattle.pv_trace.proofs.plain.plain_count.Goals as goal
 
--- a component is taken off the rest
+-- a part is taken off the rest
 pub loop-component-preserved : goal.loop-component-preserved
 loop-component-preserved c =
     let kept = c.loop-component.invariant in
