@@ -121,7 +121,7 @@ module _ (t : HeldTree) (c : Counted) (ps : ProcessTable) (pid : ℕ) (me : Proc
   few-holds n =
       let few : length (held_in ps.processes) ≤ length ps.processes * 65 = length-all_of held_by_process 65 ps.processes ordered few-held in
       let opened : length (open_nodes c.files) ≤ length c.files = length-listed of_node c.files in
-      omega (arith, is.up.holds n, times-within n (held_in ps.processes), times-within n (open_nodes c.files), is.whole.processes.count, is.counted.places)
+      omega (arith, is.up.holds n, times-within n (held_in ps.processes), times-within n (open_nodes c.files), is.whole.processes.count, is.counted.slots)
 
   -- ---- a process that changes
 

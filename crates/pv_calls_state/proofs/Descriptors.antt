@@ -86,7 +86,7 @@ module _ (t : HeldTree) (c : Counted) (ps : ProcessTable) (pid : ℕ) (me : Proc
     pub exchanged-state : (s : State) → state_of t c ps ≡ s → IsCounted d → u.tree ≡ trimmed t.tree u.holds
         → ((k : ℕ) → 0 < slice_index d.users k → at_number d.files k ≡ at_number c.files k) → state_of u d qs ≡ trim (state_with_process s pid (with_descriptors ds me))
     exchanged-state s view counted nodes files =
-        trimmed-changed t c ps pid me is u d qs (with_descriptors ds me) put users both t.tree c.files counted is.counted.places nodes files
+        trimmed-changed t c ps pid me is u d qs (with_descriptors ds me) put users both t.tree c.files counted is.counted.slots nodes files
         ∙ ap trim (state-put t c ps pid me is s (with_descriptors ds me) view)
 
 -- ---- system calls

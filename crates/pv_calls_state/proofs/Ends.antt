@@ -154,7 +154,7 @@ module _ (t : HeldTree) (c : Counted) (ps : ProcessTable) (pid : ℕ) (me : Proc
     pub ended-state : (s : State) → state_of t c ps ≡ s → IsCounted d → u.tree ≡ trimmed t.tree u.holds → ((k : ℕ) → 0 < slice_index d.users k → at_number d.files k ≡ at_number c.files k)
         → state_of u d qs ≡ trim (end_process s pid me status)
     ended-state s view counted nodes files =
-        sym (trim-parts (state_with t.tree c.files qs) u d qs ended-up counted is.counted.places refl refl (sym nodes) files)
+        sym (trim-parts (state_with t.tree c.files qs) u d qs ended-up counted is.counted.slots refl refl (sym nodes) files)
         ∙ ap trim (end ∙ ap (λ x. end_process x pid me status) view)
 
   -- ---- another program
@@ -187,7 +187,7 @@ module _ (t : HeldTree) (c : Counted) (ps : ProcessTable) (pid : ℕ) (me : Proc
     pub load-state : (qs : ProcessTable) → qs ≡ with_process ps pid (with_program s pid me program) → IsCounted e
         → state_of u e qs ≡ trim (state_with t.tree c.files (with_process ps pid (with_program s pid me program)))
     load-state qs put counted =
-        trimmed-changed t c ps pid me is u e qs (with_program s pid me program) put load-users load-holds t.tree c.files counted is.counted.places
+        trimmed-changed t c ps pid me is u e qs (with_program s pid me program) put load-users load-holds t.tree c.files counted is.counted.slots
         (then-nodes t v u is.standing gone.nodes went.nodes (λ n. omega (arith, went.holds n))) gone.files
 
   -- ---- a child
@@ -278,5 +278,5 @@ module _ (t : HeldTree) (c : Counted) (ps : ProcessTable) (pid : ℕ) (me : Proc
         fork-performed s view counted standing tree =
             ap (λ x. trimmed_attempt (fork x pid me)) (sym view) ∙ ap trimmed_attempt answer
             ∙ ap (λ x. done 0 (x, returns n))
-            (trim-parts (state_with t.tree c.files qs) u d qs forked-up counted is.counted.places refl refl (ap (λ x. trimmed x u.holds) (sym tree) ∙ standing.is_trimmed)
+            (trim-parts (state_with t.tree c.files qs) u d qs forked-up counted is.counted.slots refl refl (ap (λ x. trimmed x u.holds) (sym tree) ∙ standing.is_trimmed)
             (λ k used. ap (λ fs. at_number fs k) shared.files))

@@ -139,7 +139,7 @@ module _ (h : HeldTree) (c : Counted) (ps : ProcessTable) (s : State) (view : st
   pub trim-after : (u : Tree) → trim (with_tree s u) ≡ state_of (after h u) c ps
   trim-after u =
       ap (λ x. trim (with_tree x u)) (sym view)
-      ∙ trim-parts (with_tree (state_of h c ps) u) (after h u) c ps (record { users = up.users; holds = up.holds }) is is.places refl refl refl (λ k more. refl)
+      ∙ trim-parts (with_tree (state_of h c ps) u) (after h u) c ps (record { users = up.users; holds = up.holds }) is is.slots refl refl refl (λ k more. refl)
 
   module _ (change : Tree → Tree) where
     pub after-changed : (new : HeldTree) → new ≡ after h (change h.tree) → state_of new c ps ≡ trim (with_tree s (change s.tree))

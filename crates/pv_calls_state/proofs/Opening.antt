@@ -168,7 +168,7 @@ module _ (t : HeldTree) (c : Counted) (ps : ProcessTable) (pid : ℕ) (me : Proc
     pub opened-state : (s : State) → state_of t c ps ≡ s → (tree : Tree) → u.tree ≡ tree → IsStanding u → IsCounted d
         → state_of u d qs ≡ trim (with_open_file s pid me flags node tree)
     opened-state s view tree nodes standing counted =
-        trimmed-changed t c ps pid me is u d qs (with_opened_descriptor (least_free c.files) flags.close_on_exec me) put' users holds tree d.files counted counted.places
+        trimmed-changed t c ps pid me is u d qs (with_opened_descriptor (least_free c.files) flags.close_on_exec me) put' users holds tree d.files counted counted.slots
         (sym standing.is_trimmed ∙ ap (λ x. trimmed x u.holds) nodes) (λ k used. refl)
         ∙ ap (λ fs. trim (state_with tree fs (with_process ps pid (with_opened_descriptor (least_free c.files) flags.close_on_exec me)))) (ap (λ (x : Counted). x.files) files)
         ∙ ap (λ x. trim (with_open_file x pid me flags node tree)) view

@@ -72,7 +72,7 @@ kept-file o p (suc n) used same = sym (same (omega arith))
 pub files-counted : (c : Counted) (files : Numbered OpenFile) (ks : List ℕ) → IsCounted c → length files ≡ 128 → ((k : ℕ) → slice_index c.users k ≡ times k ks)
     → ((k : ℕ) → 0 < slice_index c.users k → at_number c.files k ≡ at_number files k) → keep (among ks) files ≡ c.files
 files-counted c files ks is long counts same =
-    same_numbered (keep (among ks) files) c.files (length-keep (among ks) files ∙ long ∙ sym is.places)
+    same_numbered (keep (among ks) files) c.files (length-keep (among ks) files ∙ long ∙ sym is.slots)
     (λ k.
     at_number-keep (among ks) files k ∙ ap (λ b. keep_if b (at_number files k)) (among-times k ks ∙ ap is_positive (sym (counts k)))
     ∙ kept-file (at_number files k) (at_number c.files k) (slice_index c.users k) (is.used k) (same k))
@@ -103,4 +103,4 @@ trim-parts s tree c processes up is long same last nodes files =
 pub trim-none : (tree : HeldTree) (c : Counted) (processes : ProcessTable) → IsCountedUp tree c processes → IsCounted c → IsStanding tree
     → trim (state_of tree c processes) ≡ state_of tree c processes
 trim-none tree c processes up is standing =
-    trim-parts (state_of tree c processes) tree c processes up is is.places refl refl standing.is_trimmed (λ k more. refl)
+    trim-parts (state_of tree c processes) tree c processes up is is.slots refl refl standing.is_trimmed (λ k more. refl)

@@ -60,11 +60,11 @@ own-buffer h c ps s view pid me r buffer lives owned is =
 
 -- ---- open files
 
-pub counted-places : (c : Counted) (k : ℕ) (f g : OpenFile) → IsCounted c → at_number c.files k ≡ Some f → IsCounted (with_counted c k g)
-counted-places c k f g is at =
+pub counted-slots : (c : Counted) (k : ℕ) (f g : OpenFile) → IsCounted c → at_number c.files k ≡ Some f → IsCounted (with_counted c k g)
+counted-slots c k f g is at =
     let below = at_number-below c.files k f at in
     record {
-      places = length-with_number c.files k g below ∙ is.places;
+      slots = length-with_number c.files k g below ∙ is.slots;
       counts = is.counts;
       used = λ j.
           subst (λ b. (b ≡ true) ↔ (0 < slice_index c.users j))
@@ -89,7 +89,7 @@ module _ (h : HeldTree) (c : Counted) (ps : ProcessTable) (s : State) (view : st
       ap (λ x. trim (with_file (with_tree x (change x.tree)) k g)) (sym view)
       ∙ trim-parts (with_file (with_tree (state_of h c ps) (change h.tree)) k g) (with_held h (change h.tree)) (with_counted c k g) ps
       (counted-file (with_held h (change h.tree)) c ps (record { users = up.users; holds = up.holds }) k f g at same)
-      (counted-places c k f g is at) (counted-places c k f g is at).places refl refl kept-before (λ j more. refl)
+      (counted-slots c k f g is at) (counted-slots c k f g is at).slots refl refl kept-before (λ j more. refl)
 
   pub written-changed : (new : HeldTree) (files : Counted) → new ≡ with_held h (change h.tree) → files ≡ with_counted c k g
       → state_of new files ps ≡ trim (with_file (with_tree s (change s.tree)) k g)

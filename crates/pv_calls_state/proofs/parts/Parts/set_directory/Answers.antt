@@ -38,7 +38,7 @@ returns c =
     (one-apart (holds_at c.let_go.new.self) (holds_at c.hold.new.self) c.record.result.now.directory c.let_go.ensures.less c.let_go.ensures.others) in
     trimmed-changed c.self.inside.tree c.self.inside.files c.self.inside.processes c.args.pid p.0 p.1 c.let_go.new.self c.self.inside.files c.put_directory.new.processes (with_directory c.args.directory p.0)
     (c.put_directory.ensures ∙ updated c.self.inside.tree c.self.inside.files c.self.inside.processes c.args.pid p.0 p.1 (with_directory c.args.directory)) (λ k. refl) holds
-    c.self.inside.tree.tree c.self.inside.files.files c.facts.ensures c.facts.ensures.places
+    c.self.inside.tree.tree c.self.inside.files.files c.facts.ensures c.facts.ensures.slots
     (c.let_go.ensures.tree ∙ ap (λ hs. trimmed c.hold.new.self.tree hs) (sym c.let_go.ensures.holds) ∙ ap (λ x. trimmed x c.let_go.new.self.holds) c.hold.ensures.tree)
     (λ k used. refl)
     ∙ ap trim (state-updated c.self.inside.tree c.self.inside.files c.self.inside.processes c.args.pid p.0 p.1 c.args.self.now (with_directory c.args.directory) c.self.view_is)
