@@ -1,25 +1,19 @@
--- A process lives on after a call on paths.
-use Rattle.std.proofs.Common.{◌≡◌, ℕ, ℤ, Bool, true, false, cond, Option, None, Some, refl, subst, sym}
+-- A process lives on after a call that answers a number.
+use Rattle.std.proofs.Common.{◌≡◌, ℕ, ℤ, List, ◌∷◌, Bool, true, false, cond, Option, None, Some, refl, subst, sym}
 use Rattle.std.specs.Prelude.{IsSome, if◌then◌else◌, []}
-use Rattle.pv_model.specs.declared.call_ref.CallRef.{CallRef}
-use Rattle.pv_model.specs.declared.call_ref.CallRef.TheVariants.{Exit as ExitRef, GetPid as GetPidRef, GetPpid as GetPpidRef, Fork as ForkRef, Wait as WaitRef, Pledge as PledgeRef, Close as CloseRef, Dup as DupRef, Dup2 as Dup2Ref, Read as ReadRef, Write as WriteRef, Lseek as LseekRef, Fstat as FstatRef, Ftruncate as FtruncateRef, Getdents as GetdentsRef, Fchdir as FchdirRef, Execve as ExecveRef, Unveil as UnveilRef, Open as OpenRef, OpenAt as OpenAtRef, Chdir as ChdirRef, Stat as StatRef, Lstat as LstatRef, Readlink as ReadlinkRef, Mkdir as MkdirRef, Symlink as SymlinkRef, Link as LinkRef, Unlink as UnlinkRef, Rmdir as RmdirRef, Rename as RenameRef}
-use Rattle.pv_model.specs.declared.text.Text.{Text}
-use Rattle.pv_model.specs.CallRef.{call_of}
-use Rattle.std.specs.Borrow.{Bor}
 use Rattle.pv_model.specs.declared.call.Call.{Call}
-use Rattle.pv_model.specs.declared.call.Call.TheVariants.{Unveil, Open, OpenAt, Chdir, Mkdir, Symlink, Link, Unlink, Rmdir, Rename}
+use Rattle.pv_model.specs.declared.call.Call.TheVariants.{Exit, GetPid, GetPpid, Fork, Wait, Pledge, Unveil, Execve, Open, OpenAt, Close, Dup, Dup2, Read, Write, Lseek, Fstat, Ftruncate, Getdents, Fchdir, Chdir, Stat, Lstat, Readlink, Mkdir, Symlink, Link, Unlink, Rmdir, Rename}
 use Rattle.pv_model.specs.declared.call.Start.{Start}
-use Rattle.pv_model.specs.declared.call.Whence.{Whence}
 use Rattle.pv_model.specs.declared.call.Start.TheVariants.{WorkingDirectory}
-use Rattle.pv_model.specs.declared.errno.Errno.TheVariants.{EPERM, ENOENT, EBUSY, EEXIST, ENOTDIR, EISDIR, EINVAL, ENAMETOOLONG, ENOTEMPTY, EMFILE, ENFILE, ELOOP, EACCES, ENOEXEC}
+use Rattle.pv_model.specs.declared.errno.Errno.TheVariants.{ECHILD, EPERM, ENOENT, EBUSY, EEXIST, ENOTDIR, EISDIR, EINVAL, ENAMETOOLONG, ENOTEMPTY, EMFILE, ENFILE, ELOOP, EACCES, ENOEXEC}
 use Rattle.pv_model.specs.declared.open_flags.OpenFlags.{OpenFlags}
 use Rattle.pv_model.specs.Answer.{effect}
-use Rattle.pv_model.specs.Attempt.{Attempt, ◌>>=◌}
-use Rattle.pv_model.specs.Bytes.{Bytes}
-use Rattle.pv_model.specs.Calls.Descriptors.{open_at, open_node, with_open_file, with_content, new_open_file, check_start}
-use Rattle.pv_model.specs.Calls.Paths.{chdir, symlink, link, unlink, rmdir, rename, make, move_entry, same_node}
-use Rattle.pv_model.specs.Calls.Processes.{execve, executable_bytes, with_program}
-use Rattle.pv_model.specs.Calls.Restraints.{unveil, add_target, refuse_if_locked}
+use Rattle.pv_model.specs.Attempt.{Attempt, refuse_if, ◌>>=◌}
+use Rattle.pv_model.specs.Bytes.{Bytes, is_empty}
+use Rattle.pv_model.specs.Calls.Descriptors.{close, dup, dup2, fchdir, fstat, ftruncate, getdents, lseek, read, write, open_at, open_node, with_open_file, with_content, new_open_file, check_start}
+use Rattle.pv_model.specs.Calls.Paths.{chdir, link_text, mkdir, readlink, stat_at, symlink, link, unlink, rmdir, rename, make, move_entry, same_node}
+use Rattle.pv_model.specs.Calls.Processes.{children, execve, executable_bytes, fork, reap, statuses, with_program}
+use Rattle.pv_model.specs.Calls.Restraints.{pledge, unveil, add_target, refuse_if_locked}
 use Rattle.pv_model.specs.Effect.{Effect, answers, node_of, name_of, start_directory, with_file, with_room}
 use Rattle.pv_model.specs.Grammar.Programs.{program_of}
 use Rattle.pv_model.specs.Perms.{read_permissions}
@@ -27,10 +21,11 @@ use Rattle.pv_model.specs.State.{Process, State, process_at, with_process, with_
 use Rattle.pv_model.specs.Numbered.{least_free, with_number}
 use Rattle.pv_model.specs.Tree.{Node, file_node, Tree, new_number, node_at, with_new_node}
 use Rattle.pv_model.specs.Unveil.{target_of}
-use Rattle.pv_model.specs.Walks.{Walk, execve_walk, open_walk, chdir_walk, mkdir_walk, symlink_walk, linked_walk, new_link_walk, unlink_walk, rmdir_walk, rename_walk, unveil_walk}
+use Rattle.pv_model.specs.Walks.{Walk, execve_walk, open_walk, chdir_walk, stat_walk, lstat_walk, readlink_walk, mkdir_walk, symlink_walk, linked_walk, new_link_walk, unlink_walk, rmdir_walk, rename_walk, unveil_walk}
 use Rattle.pv_laws_states.proofs.Attempts.{Leads, leads-bind, leads-then, leads-refuse_if, leads-demand, leads-walk, leads-place, leads-room, leads-any}
 use Rattle.pv_laws_states.proofs.Processes.{process_at-same}
-use Rattle.pv_calls.specs.Calls.{is_execve, is_path_row, is_on_paths}
+use Rattle.pv_laws_states.specs.States.{IsWhole}
+use Rattle.pv_calls.proofs.Performing.{LivesOn, Stays, lives-on, leads-weaker, stays-fork, stays-pledge, stays-close, stays-dup, stays-dup2, stays-read, stays-write, stays-lseek, stays-fstat, stays-ftruncate, stays-getdents, stays-fchdir}
 
 abbrev Lives : ℕ → Effect → Type 0
 Lives pid e = IsSome (process_at e.0 pid)
@@ -144,82 +139,65 @@ module _ (s : State) (pid : ℕ) (me : Process) (at : process_at s pid ≡ Some 
   lives-unveil None (Some text) = tt
   lives-unveil (Some path) None = tt
 
-  pub lives-execve : (path : Bytes) → Leads (Lives pid) (execve s pid me program_of path)
+  lives-execve : (path : Bytes) → Leads (Lives pid) (execve s pid me program_of path)
   lives-execve path =
       leads-place (Lives pid) s me me.directory (execve_walk path).follow path (execve_walk path).needed _ (λ place found.
       leads-demand (Lives pid) ENOENT (node_of place) _ (λ n is.
       leads-demand (Lives pid) EACCES (executable_bytes (node_at s.tree n)) _ (λ bytes has.
       leads-demand (Lives pid) ENOEXEC (program_of bytes) _ (λ program spelled. with-it s (with_program s pid me program)))))
 
-  -- the process of a call on paths lives on
-  pub lives-path : (call : Call) → is_path_row call ≡ true → Leads (Lives pid) (effect program_of s pid me call)
-  unfolding effect
-  lives-path (Unveil path permissions) is = lives-unveil path permissions
-  lives-path (Open path flags) is = lives-open WorkingDirectory path flags
-  lives-path (OpenAt start path flags) is = lives-open start path flags
-  lives-path (Chdir path) is = lives-chdir path
-  lives-path (Mkdir path) is = lives-make (mkdir_walk path) _
-  lives-path (Symlink text path) is = lives-symlink text path
-  lives-path (Link path new) is = lives-link path new
-  lives-path (Unlink path) is = lives-unlink path
-  lives-path (Rmdir path) is = lives-rmdir path
-  lives-path (Rename path new) is = lives-rename path new
-  lives-path call is = cc is
+  tells-stat : (w : Walk) → Leads (LivesOn pid) (stat_at s pid me w)
+  tells-stat w =
+      leads-place (LivesOn pid) s me (start_directory s me w.start w.path) w.follow w.path w.needed _ (λ place found.
+      leads-demand (LivesOn pid) ENOENT (node_of place) _ (λ n is. tt))
 
--- a call on paths that tells of no node answers a number
-pub path-rest : (call : CallRef) → is_on_paths (call_of call) ≡ true → ((path : Bor Text) → call ≡ StatRef path → ⊥) → ((path : Bor Text) → call ≡ LstatRef path → ⊥) → ((path : Bor Text) → call ≡ ReadlinkRef path → ⊥)
-    → is_path_row (call_of call) ≡ true
-path-rest (StatRef path) is no-stat no-lstat no-readlink = absurd (no-stat path refl)
-path-rest (LstatRef path) is no-stat no-lstat no-readlink = absurd (no-lstat path refl)
-path-rest (ReadlinkRef path) is no-stat no-lstat no-readlink = absurd (no-readlink path refl)
-path-rest call is no-stat no-lstat no-readlink = is
+  tells-readlink : (path : Bytes) → Leads (LivesOn pid) (readlink s pid me path)
+  tells-readlink path =
+      leads-place (LivesOn pid) s me me.directory (readlink_walk path).follow path (readlink_walk path).needed _ (λ place found.
+      leads-demand (LivesOn pid) ENOENT (node_of place) _ (λ n is.
+      leads-demand (LivesOn pid) EINVAL (link_text (node_at s.tree n)) _ (λ text has. tt)))
 
--- a call that is no execve, and on no process and no descriptor, is on paths
-pub only-paths : (call : CallRef) → is_execve (call_of call) ≡ false
-    → ((x : ℤ) → call ≡ ExitRef x → ⊥)
-    → (call ≡ GetPidRef → ⊥)
-    → (call ≡ GetPpidRef → ⊥)
-    → (call ≡ ForkRef → ⊥)
-    → (call ≡ WaitRef → ⊥)
-    → ((x : Option (Bor Text)) (y : Option (Bor Text)) → call ≡ PledgeRef x y → ⊥)
-    → ((x : ℤ) → call ≡ CloseRef x → ⊥)
-    → ((x : ℤ) → call ≡ DupRef x → ⊥)
-    → ((x : ℤ) (y : ℤ) → call ≡ Dup2Ref x y → ⊥)
-    → ((x : ℤ) (y : ℤ) → call ≡ ReadRef x y → ⊥)
-    → ((x : ℤ) (y : ℤ) → call ≡ WriteRef x y → ⊥)
-    → ((x : ℤ) (y : ℤ) (z : Whence) → call ≡ LseekRef x y z → ⊥)
-    → ((x : ℤ) → call ≡ FstatRef x → ⊥)
-    → ((x : ℤ) (y : ℤ) → call ≡ FtruncateRef x y → ⊥)
-    → ((x : ℤ) → call ≡ GetdentsRef x → ⊥)
-    → ((x : ℤ) → call ≡ FchdirRef x → ⊥)
-    → is_on_paths (call_of call) ≡ true
-only-paths (ExitRef x) is n0 n1 n2 n3 n4 n5 n6 n7 n8 n9 n10 n11 n12 n13 n14 n15 = absurd (n0 x refl)
-only-paths GetPidRef is n0 n1 n2 n3 n4 n5 n6 n7 n8 n9 n10 n11 n12 n13 n14 n15 = absurd (n1 refl)
-only-paths GetPpidRef is n0 n1 n2 n3 n4 n5 n6 n7 n8 n9 n10 n11 n12 n13 n14 n15 = absurd (n2 refl)
-only-paths ForkRef is n0 n1 n2 n3 n4 n5 n6 n7 n8 n9 n10 n11 n12 n13 n14 n15 = absurd (n3 refl)
-only-paths WaitRef is n0 n1 n2 n3 n4 n5 n6 n7 n8 n9 n10 n11 n12 n13 n14 n15 = absurd (n4 refl)
-only-paths (PledgeRef x y) is n0 n1 n2 n3 n4 n5 n6 n7 n8 n9 n10 n11 n12 n13 n14 n15 = absurd (n5 x y refl)
-only-paths (CloseRef x) is n0 n1 n2 n3 n4 n5 n6 n7 n8 n9 n10 n11 n12 n13 n14 n15 = absurd (n6 x refl)
-only-paths (DupRef x) is n0 n1 n2 n3 n4 n5 n6 n7 n8 n9 n10 n11 n12 n13 n14 n15 = absurd (n7 x refl)
-only-paths (Dup2Ref x y) is n0 n1 n2 n3 n4 n5 n6 n7 n8 n9 n10 n11 n12 n13 n14 n15 = absurd (n8 x y refl)
-only-paths (ReadRef x y) is n0 n1 n2 n3 n4 n5 n6 n7 n8 n9 n10 n11 n12 n13 n14 n15 = absurd (n9 x y refl)
-only-paths (WriteRef x y) is n0 n1 n2 n3 n4 n5 n6 n7 n8 n9 n10 n11 n12 n13 n14 n15 = absurd (n10 x y refl)
-only-paths (LseekRef x y z) is n0 n1 n2 n3 n4 n5 n6 n7 n8 n9 n10 n11 n12 n13 n14 n15 = absurd (n11 x y z refl)
-only-paths (FstatRef x) is n0 n1 n2 n3 n4 n5 n6 n7 n8 n9 n10 n11 n12 n13 n14 n15 = absurd (n12 x refl)
-only-paths (FtruncateRef x y) is n0 n1 n2 n3 n4 n5 n6 n7 n8 n9 n10 n11 n12 n13 n14 n15 = absurd (n13 x y refl)
-only-paths (GetdentsRef x) is n0 n1 n2 n3 n4 n5 n6 n7 n8 n9 n10 n11 n12 n13 n14 n15 = absurd (n14 x refl)
-only-paths (FchdirRef x) is n0 n1 n2 n3 n4 n5 n6 n7 n8 n9 n10 n11 n12 n13 n14 n15 = absurd (n15 x refl)
-only-paths (ExecveRef path) is n0 n1 n2 n3 n4 n5 n6 n7 n8 n9 n10 n11 n12 n13 n14 n15 = cc is
-only-paths (UnveilRef p q) is n0 n1 n2 n3 n4 n5 n6 n7 n8 n9 n10 n11 n12 n13 n14 n15 = refl
-only-paths (OpenRef p f) is n0 n1 n2 n3 n4 n5 n6 n7 n8 n9 n10 n11 n12 n13 n14 n15 = refl
-only-paths (OpenAtRef s p f) is n0 n1 n2 n3 n4 n5 n6 n7 n8 n9 n10 n11 n12 n13 n14 n15 = refl
-only-paths (ChdirRef p) is n0 n1 n2 n3 n4 n5 n6 n7 n8 n9 n10 n11 n12 n13 n14 n15 = refl
-only-paths (StatRef p) is n0 n1 n2 n3 n4 n5 n6 n7 n8 n9 n10 n11 n12 n13 n14 n15 = refl
-only-paths (LstatRef p) is n0 n1 n2 n3 n4 n5 n6 n7 n8 n9 n10 n11 n12 n13 n14 n15 = refl
-only-paths (ReadlinkRef p) is n0 n1 n2 n3 n4 n5 n6 n7 n8 n9 n10 n11 n12 n13 n14 n15 = refl
-only-paths (MkdirRef p) is n0 n1 n2 n3 n4 n5 n6 n7 n8 n9 n10 n11 n12 n13 n14 n15 = refl
-only-paths (SymlinkRef p q) is n0 n1 n2 n3 n4 n5 n6 n7 n8 n9 n10 n11 n12 n13 n14 n15 = refl
-only-paths (LinkRef p q) is n0 n1 n2 n3 n4 n5 n6 n7 n8 n9 n10 n11 n12 n13 n14 n15 = refl
-only-paths (UnlinkRef p) is n0 n1 n2 n3 n4 n5 n6 n7 n8 n9 n10 n11 n12 n13 n14 n15 = refl
-only-paths (RmdirRef p) is n0 n1 n2 n3 n4 n5 n6 n7 n8 n9 n10 n11 n12 n13 n14 n15 = refl
-only-paths (RenameRef p q) is n0 n1 n2 n3 n4 n5 n6 n7 n8 n9 n10 n11 n12 n13 n14 n15 = refl
+  tells-reap : (ss : List (ℕ × ℕ)) → Leads (LivesOn pid) (reap s pid me ss)
+  tells-reap [] = tt
+  tells-reap ((number, status) ∷ ss) = tt
+
+  on : (a : Attempt Effect) → Leads (Lives pid) a → Leads (LivesOn pid) a
+  on a = leads-weaker (Lives pid) (LivesOn pid) a (lives-on pid)
+
+  module _ (whole : IsWhole s) where
+    stays : (a : Attempt Effect) → Leads (Stays s pid) a → Leads (LivesOn pid) a
+    stays a = leads-weaker (Stays s pid) (LivesOn pid) a (λ e both. lives-on pid e both.1)
+
+    -- the process of a call that answers a number lives on
+    pub lives : (call : Call) → Leads (LivesOn pid) (effect program_of s pid me call)
+    unfolding effect
+    lives (Exit code) = tt
+    lives GetPid = live
+    lives GetPpid = live
+    lives Fork = stays (fork s pid me) (stays-fork s pid me whole at)
+    lives Wait = leads-then (LivesOn pid) (refuse_if ECHILD (is_empty (children s pid me))) (reap s pid me (statuses (children s pid me))) (tells-reap (statuses (children s pid me)))
+    lives (Pledge promises execpromises) = stays (pledge s pid me promises execpromises) (stays-pledge s pid me whole at promises execpromises)
+    lives (Unveil path permissions) = on (unveil s pid me path permissions) (lives-unveil path permissions)
+    lives (Execve path) = on (execve s pid me program_of path) (lives-execve path)
+    lives (Open path flags) = on (open_at s pid me WorkingDirectory path flags) (lives-open WorkingDirectory path flags)
+    lives (OpenAt start path flags) = on (open_at s pid me start path flags) (lives-open start path flags)
+    lives (Close d) = stays (close s pid me d) (stays-close s pid me whole at d)
+    lives (Dup d) = stays (dup s pid me d) (stays-dup s pid me whole at d)
+    lives (Dup2 d e) = stays (dup2 s pid me d e) (stays-dup2 s pid me whole at d e)
+    lives (Read d n) = stays (read s pid me d n) (stays-read s pid me whole at d n)
+    lives (Write d n) = stays (write s pid me d n) (stays-write s pid me whole at d n)
+    lives (Lseek d by whence) = stays (lseek s pid me d by whence) (stays-lseek s pid me whole at d by whence)
+    lives (Fstat d) = stays (fstat s pid me d) (stays-fstat s pid me whole at d)
+    lives (Ftruncate d n) = stays (ftruncate s pid me d n) (stays-ftruncate s pid me whole at d n)
+    lives (Getdents d) = stays (getdents s pid me d) (stays-getdents s pid me whole at d)
+    lives (Fchdir d) = stays (fchdir s pid me d) (stays-fchdir s pid me whole at d)
+    lives (Chdir path) = on (chdir s pid me path) (lives-chdir path)
+    lives (Stat path) = tells-stat (stat_walk path)
+    lives (Lstat path) = tells-stat (lstat_walk path)
+    lives (Readlink path) = tells-readlink path
+    lives (Mkdir path) = on (mkdir s pid me path) (lives-make (mkdir_walk path) _)
+    lives (Symlink text path) = on (symlink s pid me text path) (lives-symlink text path)
+    lives (Link path new) = on (link s pid me path new) (lives-link path new)
+    lives (Unlink path) = on (unlink s pid me path) (lives-unlink path)
+    lives (Rmdir path) = on (rmdir s pid me path) (lives-rmdir path)
+    lives (Rename path new) = on (rename s pid me path new) (lives-rename path new)

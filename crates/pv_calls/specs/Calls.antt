@@ -1,13 +1,15 @@
 -- What a call of a live process that no promise forbids comes to.
 use Rattle.std.specs.Prelude.{◌≡◌, ◌≢◌, ⊤, ℕ, Bool, true, false, Some}
 use Rattle.pv_calls_plain.specs.declared.answer.Answer.{Answer}
-use Rattle.pv_calls_plain.specs.Performed.{answered}
+use Rattle.pv_calls_plain.specs.Performed.{IsAnswered, IsPerformed, answered}
+use Rattle.pv_calls.specs.declared.carry.Reply.{Reply}
+use Rattle.pv_calls.specs.declared.carry.Reply.TheVariants.{Performed, Told}
 use Rattle.pv_model.specs.declared.call.Call.{Call}
-use Rattle.pv_model.specs.declared.call.Call.TheVariants.{Exit, GetPid, GetPpid, Fork, Wait, Pledge, Unveil, Execve, Open, OpenAt, Close, Dup, Dup2, Read, Write, Lseek, Fstat, Ftruncate, Getdents, Fchdir, Chdir, Stat, Lstat, Readlink, Mkdir, Symlink, Link, Unlink, Rmdir, Rename}
+use Rattle.pv_model.specs.declared.call.Call.TheVariants.{Wait, Execve}
 use Rattle.pv_model.specs.Answer.{answer_by_attempt, at_next_line, effect}
-use Rattle.pv_model.specs.Attempt.{give}
+use Rattle.pv_model.specs.Attempt.{Attempt, give}
 use Rattle.pv_model.specs.Calls.Processes.{wait}
-use Rattle.pv_model.specs.Effect.{waits}
+use Rattle.pv_model.specs.Effect.{Effect, waits}
 use Rattle.pv_model.specs.Grammar.Programs.{program_of}
 use Rattle.pv_model.specs.State.{Process, State, process_at, with_process}
 
@@ -15,57 +17,12 @@ abbrev pub is_execve : Call → Bool
 is_execve (Execve path) = true
 is_execve call = false
 
--- ---- calls by their subject
+-- ---- replies
 
--- a call on processes or restraints whose effect answers a number
-abbrev pub is_process_row : Call → Bool
-is_process_row GetPid = true
-is_process_row GetPpid = true
-is_process_row Fork = true
-is_process_row (Pledge promises execpromises) = true
-is_process_row call = false
-
-abbrev pub is_on_processes : Call → Bool
-is_on_processes (Exit code) = true
-is_on_processes Wait = true
-is_on_processes call = is_process_row call
-
--- a call on descriptors whose effect answers a number
-abbrev pub is_descriptor_row : Call → Bool
-is_descriptor_row (Close d) = true
-is_descriptor_row (Dup d) = true
-is_descriptor_row (Dup2 d e) = true
-is_descriptor_row (Write d n) = true
-is_descriptor_row (Lseek d by whence) = true
-is_descriptor_row (Ftruncate d n) = true
-is_descriptor_row (Fchdir d) = true
-is_descriptor_row call = false
-
-abbrev pub is_on_descriptors : Call → Bool
-is_on_descriptors (Read d n) = true
-is_on_descriptors (Fstat d) = true
-is_on_descriptors (Getdents d) = true
-is_on_descriptors call = is_descriptor_row call
-
--- a call on paths whose effect answers a number
-abbrev pub is_path_row : Call → Bool
-is_path_row (Unveil path permissions) = true
-is_path_row (Open path flags) = true
-is_path_row (OpenAt start path flags) = true
-is_path_row (Chdir path) = true
-is_path_row (Mkdir path) = true
-is_path_row (Symlink text path) = true
-is_path_row (Link path new) = true
-is_path_row (Unlink path) = true
-is_path_row (Rmdir path) = true
-is_path_row (Rename path new) = true
-is_path_row call = false
-
-abbrev pub is_on_paths : Call → Bool
-is_on_paths (Stat path) = true
-is_on_paths (Lstat path) = true
-is_on_paths (Readlink path) = true
-is_on_paths call = is_path_row call
+-- a live process's call replied so, and left that state
+abbrev pub IsReply : (State → Process → Attempt Effect) → State → ℕ → State → Reply → Type 0
+IsReply performed old pid new (Performed result) = IsPerformed performed old pid new result
+IsReply performed old pid new (Told answer) = IsAnswered performed old pid new answer
 
 -- ---- waits
 

@@ -1,18 +1,17 @@
 //! What a call answers, from its promises on.
-ghost use Rattle.std.specs.Prelude.{◌≡◌, ◌≤◌, IfErr, IfOk, OnErr, IsTrue, IsSome, Some, true, false};
-ghost use Rattle.pv_calls.specs.Calls.{goes_on, is_process_row, is_on_processes, is_descriptor_row, is_on_descriptors, is_path_row, is_on_paths, IsBlocked, is_execve, IsCarriedOut};
+ghost use Rattle.std.specs.Prelude.{◌≡◌, IfErr, IfOk, OnErr, IsTrue, IsSome, Some, true, false};
+ghost use Rattle.pv_calls.specs.Calls.{IsBlocked, IsCarriedOut, IsReply, goes_on, is_execve};
 ghost use Rattle.pv_calls.specs.Loading.{Loads, LoadsProgram};
 ghost use Rattle.pv_laws_states.specs.States.{IsWhole, is_call};
-ghost use Rattle.pv_model.specs.declared.call.Call.TheVariants.{Execve};
-ghost use Rattle.pv_model.specs.declared.limits.TheConstants.{NUMBER};
+ghost use Rattle.pv_model.specs.declared.call.Call.TheVariants.{Execve, Exit};
 ghost use Rattle.pv_model.specs.Answer.{answer, effect};
 ghost use Rattle.pv_model.specs.CallRef.{call_of};
 ghost use Rattle.pv_model.specs.Grammar.Programs.{program_of};
 ghost use Rattle.pv_model.specs.State.{Process, process_at};
 ghost use Rattle.pv_model.specs.Tree.{find_entry};
-ghost use Rattle.pv_calls_state.specs.Attempts.{trimmed};
-ghost use Rattle.pv_calls_plain.specs.Performed.{answered, attempt_of, IsAnswered};
+ghost use Rattle.pv_calls_plain.specs.Performed.{answered, IsAnswered};
 
+use Reply::{Performed, Told};
 use pv_calls_path::chdir::chdir;
 use pv_calls_path::execve::{ExecveFault, execve};
 use pv_calls_path::links::LinkRoom;
@@ -32,166 +31,98 @@ use pv_namei::Lookup;
 use pv_promises::Decision;
 use std::alloc::Global;
 
-// What a call on processes and restraints comes to, where it answers a number.
-fn process_row(parts: &mut Parts, pid: u32, call: CallRef<'_>) -> Result<Done, Refused>
+/// What a call came to.
+pub(crate) enum Reply {
+    /// It answers a number, or is refused; its process is not told yet.
+    Performed(Result<Done, Refused>),
+    /// Its process is told already, or has ended.
+    Told(Answer),
+}
+
+// The end of a process, exit(3).
+fn exit(parts: &mut Parts, pid: u32, code: i32) -> Answer
     requires whole { IsWhole parts.old }
     requires live { IsSome (process_at parts.old pid) }
-    requires group { is_process_row (call_of call) ≡ true }
-    ensures performed { (me : Process) → process_at parts.old pid ≡ Some me → trimmed (effect program_of parts.old pid me (call_of call.entry)) ≡ attempt_of parts.new result }
-    ensures unchanged { OnErr result (parts.new ≡ parts.old) }
-    ensures small { IfOk result (λ d. d.value ≤ NUMBER) }
+    ensures performed { IsAnswered (λ s me. effect program_of s pid me (Exit code)) parts.old pid parts.new result }
 {
-    match call {
-        CallRef::GetPid => getpid(parts, pid),
-        CallRef::GetPpid => getppid(parts, pid),
-        CallRef::Fork => fork(parts, pid),
-        CallRef::Pledge(promises, execpromises) => pledge(parts, pid, promises, execpromises),
-        _ => unreachable!(),
+    parts.end(pid, exit_status(code));
+    Answer {
+        outcome: Outcome::Exited,
+        walks: 0,
     }
 }
 
-// What a call on processes and restraints answers. A wait(2) that would wait does not come here.
-fn on_processes(parts: &mut Parts, pid: u32, call: CallRef<'_>) -> Answer
+// What a call that no promise forbids comes to, after its process's line. An execve(2) and a wait(2) that would wait do
+// not come here.
+#[inline(always)]
+fn dispatch<L: Lookup>(
+    parts: &mut Parts,
+    lookup: &mut L,
+    links: &mut LinkRoom,
+    pid: u32,
+    call: CallRef<'_>,
+) -> Reply
     requires whole { IsWhole parts.old }
     requires live { IsSome (process_at parts.old pid) }
     requires call { IsTrue (is_call (call_of call)) }
-    requires group { is_on_processes (call_of call) ≡ true }
+    requires no_execve { is_execve (call_of call) ≡ false }
     requires goes_on { goes_on parts.old pid (call_of call) }
-    ensures performed { IsAnswered (λ s me. effect program_of s pid me (call_of call.entry)) parts.old pid parts.new result }
-{
-    match call {
-        CallRef::Exit(code) => {
-            parts.end(pid, exit_status(code));
-            Answer {
-                outcome: Outcome::Exited,
-                walks: 0,
-            }
-        }
-        CallRef::Wait => wait(parts, pid),
-        _ => {
-            let performed = process_row(parts, pid, call);
-            tell(parts, pid, performed)
-        }
-    }
-}
-
-// What a call on descriptors comes to, where it answers a number.
-fn descriptor_row(parts: &mut Parts, pid: u32, call: CallRef<'_>) -> Result<Done, Refused>
-    requires whole { IsWhole parts.old }
-    requires live { IsSome (process_at parts.old pid) }
-    requires call { IsTrue (is_call (call_of call)) }
-    requires group { is_descriptor_row (call_of call) ≡ true }
-    ensures performed { (me : Process) → process_at parts.old pid ≡ Some me → trimmed (effect program_of parts.old pid me (call_of call.entry)) ≡ attempt_of parts.new result }
-    ensures unchanged { OnErr result (parts.new ≡ parts.old) }
-    ensures small { IfOk result (λ d. d.value ≤ NUMBER) }
-{
-    match call {
-        CallRef::Close(d) => close(parts, pid, d),
-        CallRef::Dup(d) => dup(parts, pid, d),
-        CallRef::Dup2(d, e) => dup2(parts, pid, d, e),
-        CallRef::Write(d, n) => write(parts, pid, d, n),
-        CallRef::Lseek(d, by, whence) => lseek(parts, pid, d, by, whence),
-        CallRef::Ftruncate(d, n) => ftruncate(parts, pid, d, n),
-        CallRef::Fchdir(d) => fchdir(parts, pid, d),
-        _ => unreachable!(),
-    }
-}
-
-// What a call on descriptors answers.
-fn on_descriptors(parts: &mut Parts, pid: u32, call: CallRef<'_>) -> Answer
-    requires whole { IsWhole parts.old }
-    requires live { IsSome (process_at parts.old pid) }
-    requires call { IsTrue (is_call (call_of call)) }
-    requires group { is_on_descriptors (call_of call) ≡ true }
-    ensures performed { IsAnswered (λ s me. effect program_of s pid me (call_of call.entry)) parts.old pid parts.new result }
-{
-    match call {
-        CallRef::Read(d, n) => read(parts, pid, d, n),
-        CallRef::Fstat(d) => fstat(parts, pid, d),
-        CallRef::Getdents(d) => getdents(parts, pid, d),
-        _ => {
-            let performed = descriptor_row(parts, pid, call);
-            tell(parts, pid, performed)
-        }
-    }
-}
-
-// What a call on paths comes to, where it answers a number.
-fn path_row<L: Lookup>(
-    parts: &mut Parts,
-    lookup: &mut L,
-    links: &mut LinkRoom,
-    pid: u32,
-    call: CallRef<'_>,
-) -> Result<Done, Refused>
-    requires whole { IsWhole parts.old }
-    requires live { IsSome (process_at parts.old pid) }
-    requires call { IsTrue (is_call (call_of call)) }
-    requires group { is_path_row (call_of call) ≡ true }
     requires agrees { L.agrees lookup.old (find_entry parts.old.tree) }
-    ensures performed { (me : Process) → process_at parts.old pid ≡ Some me → trimmed (effect program_of parts.old pid me (call_of call.entry)) ≡ attempt_of parts.new result }
-    ensures unchanged { OnErr result (parts.new ≡ parts.old) }
-    ensures small { IfOk result (λ d. d.value ≤ NUMBER) }
+    ensures replied { IsReply (λ s me. effect program_of s pid me (call_of call.entry)) parts.old pid parts.new result }
     ensures agrees { L.agrees lookup.new (find_entry parts.new.tree) }
 {
     match call {
-        CallRef::Unveil(path, permissions) => unveil(parts, lookup, links, pid, path, permissions),
-        CallRef::Open(path, flags) => {
-            open_at(
-                parts,
-                lookup,
-                links,
-                pid,
-                Start::WorkingDirectory,
-                path,
-                flags,
-            )
-        }
-        CallRef::OpenAt(start, path, flags) => {
-            open_at(parts, lookup, links, pid, start, path, flags)
-        }
-        CallRef::Chdir(path) => chdir(parts, lookup, links, pid, path),
-        CallRef::Mkdir(path) => mkdir(parts, lookup, links, pid, path),
-        CallRef::Symlink(text, path) => {
-            symlink(parts, lookup, links, pid, text.as_slice(), path)
-        }
-        CallRef::Link(path, new) => link(parts, lookup, links, pid, path, new),
-        CallRef::Unlink(path) => unlink(parts, lookup, links, pid, path),
-        CallRef::Rmdir(path) => rmdir(parts, lookup, links, pid, path),
-        CallRef::Rename(path, new) => rename(parts, lookup, links, pid, path, new),
-        _ => unreachable!(),
+        CallRef::Exit(code) => Told(exit(parts, pid, code)),
+        CallRef::GetPid => Performed(getpid(parts, pid)),
+        CallRef::GetPpid => Performed(getppid(parts, pid)),
+        CallRef::Fork => Performed(fork(parts, pid)),
+        CallRef::Wait => Told(wait(parts, pid)),
+        CallRef::Pledge(now, later) => Performed(pledge(parts, pid, now, later)),
+        CallRef::Unveil(path, perms) => Performed(unveil(parts, lookup, links, pid, path, perms)),
+        CallRef::Execve(_) => unreachable!(),
+        CallRef::Open(path, flags) => Performed(open_at(
+            parts,
+            lookup,
+            links,
+            pid,
+            Start::WorkingDirectory,
+            path,
+            flags,
+        )),
+        CallRef::OpenAt(start, path, flags) => Performed(open_at(
+            parts, lookup, links, pid, start, path, flags,
+        )),
+        CallRef::Close(d) => Performed(close(parts, pid, d)),
+        CallRef::Dup(d) => Performed(dup(parts, pid, d)),
+        CallRef::Dup2(d, e) => Performed(dup2(parts, pid, d, e)),
+        CallRef::Read(d, n) => Told(read(parts, pid, d, n)),
+        CallRef::Write(d, n) => Performed(write(parts, pid, d, n)),
+        CallRef::Lseek(d, by, whence) => Performed(lseek(parts, pid, d, by, whence)),
+        CallRef::Fstat(d) => Told(fstat(parts, pid, d)),
+        CallRef::Ftruncate(d, n) => Performed(ftruncate(parts, pid, d, n)),
+        CallRef::Getdents(d) => Told(getdents(parts, pid, d)),
+        CallRef::Fchdir(d) => Performed(fchdir(parts, pid, d)),
+        CallRef::Chdir(path) => Performed(chdir(parts, lookup, links, pid, path)),
+        CallRef::Stat(path) => Told(stat(parts, lookup, links, pid, path)),
+        CallRef::Lstat(path) => Told(lstat(parts, lookup, links, pid, path)),
+        CallRef::Readlink(path) => Told(readlink(parts, lookup, links, pid, path)),
+        CallRef::Mkdir(path) => Performed(mkdir(parts, lookup, links, pid, path)),
+        CallRef::Symlink(text, path) => Performed(symlink(
+            parts,
+            lookup,
+            links,
+            pid,
+            text.as_slice(),
+            path,
+        )),
+        CallRef::Link(path, new) => Performed(link(parts, lookup, links, pid, path, new)),
+        CallRef::Unlink(path) => Performed(unlink(parts, lookup, links, pid, path)),
+        CallRef::Rmdir(path) => Performed(rmdir(parts, lookup, links, pid, path)),
+        CallRef::Rename(path, new) => Performed(rename(parts, lookup, links, pid, path, new)),
     }
 }
 
-// What a call on paths answers.
-fn on_paths<L: Lookup>(
-    parts: &mut Parts,
-    lookup: &mut L,
-    links: &mut LinkRoom,
-    pid: u32,
-    call: CallRef<'_>,
-) -> Answer
-    requires whole { IsWhole parts.old }
-    requires live { IsSome (process_at parts.old pid) }
-    requires call { IsTrue (is_call (call_of call)) }
-    requires group { is_on_paths (call_of call) ≡ true }
-    requires agrees { L.agrees lookup.old (find_entry parts.old.tree) }
-    ensures performed { IsAnswered (λ s me. effect program_of s pid me (call_of call.entry)) parts.old pid parts.new result }
-    ensures agrees { L.agrees lookup.new (find_entry parts.new.tree) }
-{
-    match call {
-        CallRef::Stat(path) => stat(parts, lookup, links, pid, path),
-        CallRef::Lstat(path) => lstat(parts, lookup, links, pid, path),
-        CallRef::Readlink(path) => readlink(parts, lookup, links, pid, path),
-        _ => {
-            let performed = path_row(parts, lookup, links, pid, call);
-            tell(parts, pid, performed)
-        }
-    }
-}
-
-// What a call that no promise forbids answers, after its process's line. An execve(2) and a wait(2) that would wait
-// do not come here.
+// What such a call answers.
 #[inline(always)]
 fn perform<L: Lookup>(
     parts: &mut Parts,
@@ -209,24 +140,9 @@ fn perform<L: Lookup>(
     ensures performed { IsAnswered (λ s me. effect program_of s pid me (call_of call.entry)) parts.old pid parts.new result }
     ensures agrees { L.agrees lookup.new (find_entry parts.new.tree) }
 {
-    match call {
-        CallRef::Exit(_)
-        | CallRef::GetPid
-        | CallRef::GetPpid
-        | CallRef::Fork
-        | CallRef::Wait
-        | CallRef::Pledge(..) => on_processes(parts, pid, call),
-        CallRef::Close(_)
-        | CallRef::Dup(_)
-        | CallRef::Dup2(..)
-        | CallRef::Read(..)
-        | CallRef::Write(..)
-        | CallRef::Lseek(..)
-        | CallRef::Fstat(_)
-        | CallRef::Ftruncate(..)
-        | CallRef::Getdents(_)
-        | CallRef::Fchdir(_) => on_descriptors(parts, pid, call),
-        _ => on_paths(parts, lookup, links, pid, call),
+    match dispatch(parts, lookup, links, pid, call) {
+        Performed(performed) => tell(parts, pid, performed),
+        Told(answer) => answer,
     }
 }
 

@@ -1,17 +1,15 @@
 //! Calls that make, take away or change names: mkdir(2), symlink(2), link(2), unlink(2), rmdir(2).
-ghost use Rattle.std.specs.Prelude.{◌≡◌, ◌≤◌, IfErr, IfOk, IsSome, IsTrue, OnErr, None, Some};
+ghost use Rattle.std.specs.Prelude.{◌≡◌, IfErr, IfOk, IsSome, IsTrue, None, Some};
 ghost use Rattle.pv_laws_states.specs.States.{IsWhole, is_text};
 ghost use Rattle.pv_model.specs.declared.call.Start.TheVariants.{WorkingDirectory};
-ghost use Rattle.pv_model.specs.declared.limits.TheConstants.{NUMBER};
 ghost use Rattle.pv_model.specs.declared.outcome.Cause.TheVariants.{Plain};
 ghost use Rattle.pv_model.specs.CallRef.{walk_of};
 ghost use Rattle.pv_model.specs.Calls.Paths.{make, mkdir, symlink, link, unlink, rmdir};
 ghost use Rattle.pv_model.specs.Effect.{name_of, node_of};
-ghost use Rattle.pv_model.specs.State.{Process, process_at};
+ghost use Rattle.pv_model.specs.State.{process_at};
 ghost use Rattle.pv_model.specs.Tree.{find_entry, is_node};
-ghost use Rattle.pv_calls_state.specs.Attempts.{trimmed};
 ghost use Rattle.pv_calls_path.specs.Reached.{IsTaken};
-ghost use Rattle.pv_calls_plain.specs.Performed.{attempt_of};
+ghost use Rattle.pv_calls_plain.specs.Performed.{IsPerformed};
 ghost use Rattle.pv_tree.specs.Changes.{new_node};
 
 use crate::links::LinkRoom;
@@ -52,9 +50,7 @@ fn make<L: Lookup>(
     requires text { IsTrue (is_text walk.path.now) }
     requires node { IsTrue (is_node parts.old.tree.version (new_node kind)) }
     requires agrees { L.agrees lookup.old (find_entry parts.old.tree) }
-    ensures performed { (me : Process) → process_at parts.old pid ≡ Some me → trimmed (make parts.old pid me (walk_of walk.entry) (new_node kind.entry)) ≡ attempt_of parts.new result }
-    ensures unchanged { OnErr result (parts.new ≡ parts.old) }
-    ensures small { IfOk result (λ d. d.value ≤ NUMBER) }
+    ensures performed { IsPerformed (λ s me. make s pid me (walk_of walk.entry) (new_node kind.entry)) parts.old pid parts.new result }
     ensures agrees { L.agrees lookup.new (find_entry parts.new.tree) }
 {
     let place = reach(parts, lookup, pid, walk, &mut links.first)?;
@@ -85,9 +81,7 @@ pub fn mkdir<L: Lookup>(
     requires live { IsSome (process_at parts.old pid) }
     requires text { IsTrue (is_text path.now) }
     requires agrees { L.agrees lookup.old (find_entry parts.old.tree) }
-    ensures performed { (me : Process) → process_at parts.old pid ≡ Some me → trimmed (mkdir parts.old pid me path.now) ≡ attempt_of parts.new result }
-    ensures unchanged { OnErr result (parts.new ≡ parts.old) }
-    ensures small { IfOk result (λ d. d.value ≤ NUMBER) }
+    ensures performed { IsPerformed (λ s me. mkdir s pid me path.now) parts.old pid parts.new result }
     ensures agrees { L.agrees lookup.new (find_entry parts.new.tree) }
 {
     let walk = Walk::mkdir(path);
@@ -112,9 +106,7 @@ pub fn symlink<L: Lookup>(
     requires link { IsTrue (is_text text.now) }
     requires text { IsTrue (is_text path.now) }
     requires agrees { L.agrees lookup.old (find_entry parts.old.tree) }
-    ensures performed { (me : Process) → process_at parts.old pid ≡ Some me → trimmed (symlink parts.old pid me text.now path.now) ≡ attempt_of parts.new result }
-    ensures unchanged { OnErr result (parts.new ≡ parts.old) }
-    ensures small { IfOk result (λ d. d.value ≤ NUMBER) }
+    ensures performed { IsPerformed (λ s me. symlink s pid me text.now path.now) parts.old pid parts.new result }
     ensures agrees { L.agrees lookup.new (find_entry parts.new.tree) }
 {
     if text.is_empty() {
@@ -147,9 +139,7 @@ pub fn link<L: Lookup>(
     requires text { IsTrue (is_text path.now) }
     requires other { IsTrue (is_text new.now) }
     requires agrees { L.agrees lookup.old (find_entry parts.old.tree) }
-    ensures performed { (me : Process) → process_at parts.old pid ≡ Some me → trimmed (link parts.old pid me path.now new.now) ≡ attempt_of parts.new result }
-    ensures unchanged { OnErr result (parts.new ≡ parts.old) }
-    ensures small { IfOk result (λ d. d.value ≤ NUMBER) }
+    ensures performed { IsPerformed (λ s me. link s pid me path.now new.now) parts.old pid parts.new result }
     ensures agrees { L.agrees lookup.new (find_entry parts.new.tree) }
 {
     let first = Walk::linked(path);
@@ -185,9 +175,7 @@ pub fn unlink<L: Lookup>(
     requires live { IsSome (process_at parts.old pid) }
     requires text { IsTrue (is_text path.now) }
     requires agrees { L.agrees lookup.old (find_entry parts.old.tree) }
-    ensures performed { (me : Process) → process_at parts.old pid ≡ Some me → trimmed (unlink parts.old pid me path.now) ≡ attempt_of parts.new result }
-    ensures unchanged { OnErr result (parts.new ≡ parts.old) }
-    ensures small { IfOk result (λ d. d.value ≤ NUMBER) }
+    ensures performed { IsPerformed (λ s me. unlink s pid me path.now) parts.old pid parts.new result }
     ensures agrees { L.agrees lookup.new (find_entry parts.new.tree) }
 {
     let walk = Walk::unlink(path);
@@ -223,9 +211,7 @@ pub fn rmdir<L: Lookup>(
     requires live { IsSome (process_at parts.old pid) }
     requires text { IsTrue (is_text path.now) }
     requires agrees { L.agrees lookup.old (find_entry parts.old.tree) }
-    ensures performed { (me : Process) → process_at parts.old pid ≡ Some me → trimmed (rmdir parts.old pid me path.now) ≡ attempt_of parts.new result }
-    ensures unchanged { OnErr result (parts.new ≡ parts.old) }
-    ensures small { IfOk result (λ d. d.value ≤ NUMBER) }
+    ensures performed { IsPerformed (λ s me. rmdir s pid me path.now) parts.old pid parts.new result }
     ensures agrees { L.agrees lookup.new (find_entry parts.new.tree) }
 {
     if ends_in_dot(path) {

@@ -12,7 +12,7 @@ ghost use Rattle.pv_model.specs.State.{Process, process_at, writes};
 ghost use Rattle.pv_model.specs.Tree.{find_entry, is_directory_at, node_at};
 ghost use Rattle.pv_calls_state.specs.Attempts.{trimmed};
 ghost use Rattle.pv_calls_path.specs.Opening.{open_place};
-ghost use Rattle.pv_calls_plain.specs.Performed.{attempt_of};
+ghost use Rattle.pv_calls_plain.specs.Performed.{IsPerformed, attempt_of};
 ghost use Rattle.pv_laws_trees.specs.Found.{Alike};
 
 use crate::links::LinkRoom;
@@ -127,9 +127,7 @@ fn create_there<L: Lookup>(
     requires descriptor { (me : Process) → process_at parts.old pid ≡ Some me → least_free me.descriptors < DESCRIPTORS }
     requires file { least_free parts.old.files < OPEN_FILES }
     requires agrees { L.agrees lookup.old (find_entry parts.old.tree) }
-    ensures performed { (me : Process) → process_at parts.old pid ≡ Some me → trimmed (after_walks 1 (open_place parts.old pid me flags place.now)) ≡ attempt_of parts.new result }
-    ensures unchanged { OnErr result (parts.new ≡ parts.old) }
-    ensures small { IfOk result (λ d. d.value ≤ NUMBER) }
+    ensures performed { IsPerformed (λ s me. after_walks 1 (open_place s pid me flags place.now)) parts.old pid parts.new result }
     ensures agrees { L.agrees lookup.new (find_entry parts.new.tree) }
 {
     if !flags.create {
@@ -171,9 +169,7 @@ pub fn open_at<L: Lookup>(
     requires live { IsSome (process_at parts.old pid) }
     requires text { IsTrue (is_text path.now) }
     requires agrees { L.agrees lookup.old (find_entry parts.old.tree) }
-    ensures performed { (me : Process) → process_at parts.old pid ≡ Some me → trimmed (open_at parts.old pid me start path.now flags) ≡ attempt_of parts.new result }
-    ensures unchanged { OnErr result (parts.new ≡ parts.old) }
-    ensures small { IfOk result (λ d. d.value ≤ NUMBER) }
+    ensures performed { IsPerformed (λ s me. open_at s pid me start path.now flags) parts.old pid parts.new result }
     ensures agrees { L.agrees lookup.new (find_entry parts.new.tree) }
 {
     if contradicts(flags) {

@@ -1,16 +1,14 @@
 //! The call that gives a node another name: rename(2).
-ghost use Rattle.std.specs.Prelude.{◌≡◌, ◌≤◌, IfOk, IsSome, IsTrue, MatchResult, OnErr, Some};
+ghost use Rattle.std.specs.Prelude.{◌≡◌, IsSome, IsTrue, MatchResult, Some};
 ghost use Rattle.pv_laws_states.specs.States.{IsWhole, is_text};
-ghost use Rattle.pv_model.specs.declared.limits.TheConstants.{NUMBER};
 ghost use Rattle.pv_model.specs.declared.outcome.Cause.TheVariants.{Plain};
 ghost use Rattle.pv_model.specs.Attempt.{give, refused};
 ghost use Rattle.pv_model.specs.Calls.Paths.{entries_there, is_directory_there, rename, same_node};
-ghost use Rattle.pv_model.specs.State.{Process, process_at};
+ghost use Rattle.pv_model.specs.State.{process_at};
 ghost use Rattle.pv_model.specs.Tree.{find_entry, is_directory_at};
 ghost use Rattle.pv_model.specs.Bytes.{is_empty};
-ghost use Rattle.pv_calls_state.specs.Attempts.{trimmed};
 ghost use Rattle.pv_calls_path.specs.Moving.{check_move};
-ghost use Rattle.pv_calls_plain.specs.Performed.{attempt_of};
+ghost use Rattle.pv_calls_plain.specs.Performed.{IsPerformed};
 
 use crate::links::LinkRoom;
 use crate::reach::{ends_in_dot, reach_both};
@@ -96,9 +94,7 @@ pub fn rename<L: Lookup>(
     requires text { IsTrue (is_text path.now) }
     requires other { IsTrue (is_text new.now) }
     requires agrees { L.agrees lookup.old (find_entry parts.old.tree) }
-    ensures performed { (me : Process) → process_at parts.old pid ≡ Some me → trimmed (rename parts.old pid me path.now new.now) ≡ attempt_of parts.new result }
-    ensures unchanged { OnErr result (parts.new ≡ parts.old) }
-    ensures small { IfOk result (λ d. d.value ≤ NUMBER) }
+    ensures performed { IsPerformed (λ s me. rename s pid me path.now new.now) parts.old pid parts.new result }
     ensures agrees { L.agrees lookup.new (find_entry parts.new.tree) }
 {
     if ends_in_dot(path) || ends_in_dot(new) {

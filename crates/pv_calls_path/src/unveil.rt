@@ -1,14 +1,12 @@
 //! unveil(2).
-ghost use Rattle.std.specs.Prelude.{◌≡◌, ◌≤◌, IfOk, IsSome, IsTrue, OnErr, Some, option_copied};
+ghost use Rattle.std.specs.Prelude.{◌≡◌, IsSome, IsTrue, Some, option_copied};
 ghost use Rattle.pv_laws_states.specs.States.{IsWhole, is_text, is_text_or_none};
-ghost use Rattle.pv_model.specs.declared.limits.TheConstants.{NUMBER};
 ghost use Rattle.pv_model.specs.Attempt.{refused};
 ghost use Rattle.pv_model.specs.Calls.Restraints.{unveil};
-ghost use Rattle.pv_model.specs.State.{Process, process_at};
+ghost use Rattle.pv_model.specs.State.{process_at};
 ghost use Rattle.pv_model.specs.Tree.{find_entry};
 ghost use Rattle.pv_model.specs.Unveil.{target_of};
-ghost use Rattle.pv_calls_state.specs.Attempts.{trimmed};
-ghost use Rattle.pv_calls_plain.specs.Performed.{attempt_of};
+ghost use Rattle.pv_calls_plain.specs.Performed.{IsPerformed};
 ghost use Rattle.pv_unveil.specs.Added.{refusal as refusal_of};
 
 use crate::links::LinkRoom;
@@ -66,9 +64,7 @@ fn unveil_path<L: Lookup>(
     requires live { IsSome (process_at parts.old pid) }
     requires text { IsTrue (is_text path.now) }
     requires agrees { L.agrees lookup.old (find_entry parts.old.tree) }
-    ensures performed { (me : Process) → process_at parts.old pid ≡ Some me → trimmed (unveil parts.old pid me (Some path.now) (Some permissions.now)) ≡ attempt_of parts.new result }
-    ensures unchanged { OnErr result (parts.new ≡ parts.old) }
-    ensures small { IfOk result (λ d. d.value ≤ NUMBER) }
+    ensures performed { IsPerformed (λ s me. unveil s pid me (Some path.now) (Some permissions.now)) parts.old pid parts.new result }
     ensures agrees { L.agrees lookup.new (find_entry parts.new.tree) }
 {
     let Some(permissions) = Perms::read(permissions) else {
@@ -111,9 +107,7 @@ pub fn unveil<L: Lookup>(
     requires live { IsSome (process_at parts.old pid) }
     requires text { IsTrue (is_text_or_none (option_copied path)) }
     requires agrees { L.agrees lookup.old (find_entry parts.old.tree) }
-    ensures performed { (me : Process) → process_at parts.old pid ≡ Some me → trimmed (unveil parts.old pid me (option_copied path.entry) (option_copied permissions.entry)) ≡ attempt_of parts.new result }
-    ensures unchanged { OnErr result (parts.new ≡ parts.old) }
-    ensures small { IfOk result (λ d. d.value ≤ NUMBER) }
+    ensures performed { IsPerformed (λ s me. unveil s pid me (option_copied path.entry) (option_copied permissions.entry)) parts.old pid parts.new result }
     ensures agrees { L.agrees lookup.new (find_entry parts.new.tree) }
 {
     match (path, permissions) {

@@ -1,18 +1,19 @@
 -- Calls that answer a number, and how great it is.
 use Rattle.std.proofs.Common.{◌≡◌, ℕ, ◌≤◌, Result, Ok, Err, ap, sym, subst, ◌∙◌}
-use Rattle.std.specs.Prelude.{IfOk, MatchResult}
+use Rattle.std.specs.Prelude.{IfOk, IsSome, MatchResult, OnErr, Some}
 use Rattle.pv_calls_plain.specs.declared.answer.Done.{Done}
 use Rattle.pv_calls_plain.specs.declared.answer.Refused.{Refused}
 use Rattle.pv_calls_state.specs.Attempts.{plainly, trimmed}
-use Rattle.pv_calls_plain.specs.Performed.{attempt_of}
+use Rattle.pv_calls_plain.specs.Performed.{IsPerformed, attempt_of}
 use Rattle.pv_model.specs.declared.errno.Errno.{Errno}
 use Rattle.pv_model.specs.declared.outcome.Cause.TheVariants.{Plain}
 use Rattle.pv_model.specs.Attempt.{Attempt, done, refused}
 use Rattle.pv_model.specs.Effect.{Effect, returns, returns_bytes, ends, waits}
 use Rattle.pv_model.specs.Held.{trim}
-use Rattle.pv_model.specs.State.{State}
+use Rattle.pv_model.specs.State.{Process, State, process_at}
 use Rattle.pv_laws_states.proofs.Attempts.{Leads}
 use Rattle.pv_laws_states.proofs.Replies.{IsEffect}
+use Rattle.pv_calls_state.proofs.Alone.{some-at}
 
 -- a value that a call answers fits a register
 pub low-value : (s new : State) (a : Attempt Effect) (n value : ℕ) → Leads (IsEffect s) a → trimmed a ≡ done n (new, returns value) → value ≤ 2147483647
@@ -41,12 +42,12 @@ IsPlain performed result =
     MatchResult performed (λ value. result ≡ Ok (record { walks = 0; value = value })) (λ errno. result ≡ Err (record { walks = 0; errno = errno; cause = Plain }))
 
 -- a system call of the parts
-pub plain-performed : (new : State) (a : Attempt Effect) (performed : Result ℕ Errno) (result : Result Done Refused) → IsPlain performed result → trimmed a ≡ plainly new performed → trimmed a ≡ attempt_of new result
+plain-performed : (new : State) (a : Attempt Effect) (performed : Result ℕ Errno) (result : Result Done Refused) → IsPlain performed result → trimmed a ≡ plainly new performed → trimmed a ≡ attempt_of new result
 plain-performed new a (Ok value) result plain is = is ∙ sym (ap (attempt_of new) plain)
 plain-performed new a (Err errno) result plain is = is ∙ sym (ap (attempt_of new) plain)
 
 -- what a system call that is done answers is small
-pub small-performed : (s new : State) (r : Result ℕ Errno) (a : Attempt Effect) → trimmed a ≡ plainly new r → Leads (IsEffect s) a → IfOk r (λ n. n ≤ 2147483647)
+small-performed : (s new : State) (r : Result ℕ Errno) (a : Attempt Effect) → trimmed a ≡ plainly new r → Leads (IsEffect s) a → IfOk r (λ n. n ≤ 2147483647)
 small-performed s new (Ok value) (done walks (after, returns n)) is good =
     let pair : ◌≡◌ {A = Effect} (trim after, returns n) (new, returns value) = cc in
     let reply : returns n ≡ returns value = ap (λ (x : Effect). x.1) pair in
@@ -64,7 +65,21 @@ small-performed s new (Ok value) (done walks (after, waits)) is good =
 small-performed s new (Ok value) (refused walks errno cause) is good = cc
 small-performed s new (Err errno) a is good = tt
 
-pub plain-small : (r : Result ℕ Errno) (performed : Result Done Refused) → MatchResult r (λ value. performed ≡ Ok (record { walks = 0; value = value }))
+plain-small : (r : Result ℕ Errno) (performed : Result Done Refused) → MatchResult r (λ value. performed ≡ Ok (record { walks = 0; value = value }))
     (λ errno. performed ≡ Err (record { walks = 0; errno = errno; cause = Plain })) → IfOk r (λ n. n ≤ 2147483647) → IfOk performed (λ d. d.value ≤ 2147483647)
 plain-small (Ok value) performed is small = subst (λ x. IfOk x (λ d. d.value ≤ 2147483647)) (sym is) small
 plain-small (Err errno) performed is small = subst (λ x. IfOk x (λ d. d.value ≤ 2147483647)) (sym is) tt
+
+plain-unchanged : (s new : State) (r : Result ℕ Errno) (result : Result Done Refused) → IsPlain r result → OnErr r (new ≡ s) → OnErr result (new ≡ s)
+plain-unchanged s new (Ok value) result plain same = subst (λ x. OnErr x (new ≡ s)) (sym plain) tt
+plain-unchanged s new (Err errno) result plain same = subst (λ x. OnErr x (new ≡ s)) (sym plain) same
+
+-- so a system call of the parts is performed, whose value fits a register in each attempt
+pub plainly-performed : (f : State → Process → Attempt Effect) (s new : State) (pid : ℕ) (r : Result ℕ Errno) (result : Result Done Refused) → IsPlain r result
+    → ((me : Process) → process_at s pid ≡ Some me → trimmed (f s me) ≡ plainly new r) → OnErr r (new ≡ s) → IsSome (process_at s pid)
+    → ((me : Process) → process_at s pid ≡ Some me → Leads (IsEffect s) (f s me)) → IsPerformed f s pid new result
+plainly-performed f s new pid r result plain is same live good = record {
+  as_defined = λ me at. plain-performed new (f s me) r result plain (is me at);
+  unchanged = plain-unchanged s new r result plain same;
+  small = let mine = some-at (process_at s pid) live in plain-small r result plain (small-performed s new r (f s mine.0) (is mine.0 mine.1) (good mine.0 mine.1));
+}

@@ -1,11 +1,13 @@
 -- What a system call comes to in code, and how its process is answered.
-use Rattle.std.specs.Prelude.{◌≡◌, ℕ, ℤ, length, Some, Result, Ok, Err}
+use Rattle.std.specs.Prelude.{◌≡◌, ◌≤◌, ℕ, ℤ, length, IfOk, OnErr, Some, Result, Ok, Err}
+use Rattle.pv_model.specs.declared.limits.TheConstants.{NUMBER}
 use Rattle.pv_model.specs.Answer.{Answered, answer_by_attempt, update, with_front}
 use Rattle.pv_model.specs.Attempt.{Attempt, done, refused}
 use Rattle.pv_model.specs.Bytes.{Bytes}
 use Rattle.pv_model.specs.Effect.{Effect, returns, returns_bytes, open_file}
 use Rattle.pv_model.specs.Numbered.{at_number}
 use Rattle.pv_model.specs.State.{OpenFile, Process, State, process_at}
+use Rattle.pv_calls_state.specs.Attempts.{trimmed}
 use Rattle.pv_calls_plain.specs.declared.answer.Answer.{Answer}
 use Rattle.pv_calls_plain.specs.declared.answer.Done.{Done}
 use Rattle.pv_calls_plain.specs.declared.answer.Refused.{Refused}
@@ -23,6 +25,13 @@ answered s a = record { after = s; outcome = a.outcome; walks = a.walks }
 abbrev pub IsAnswered : (State → Process → Attempt Effect) → State → ℕ → State → Answer → Type 0
 IsAnswered performed old pid new answer =
     (before : State) (me : Process) → process_at old pid ≡ Some me → answer_by_attempt before old pid me (performed old me) ≡ answered new answer
+
+-- a live process's system call came to this, and left that state: it is the definitions' attempt, with what it leaves trimmed; nothing changed where it
+-- is refused, and what it answers fits a register
+pub record IsPerformed (performed : State → Process → Attempt Effect) (old : State) (pid : ℕ) (new : State) (result : Result Done Refused) : Type 0 where
+  pub as_defined : (me : Process) → process_at old pid ≡ Some me → trimmed (performed old me) ≡ attempt_of new result
+  pub unchanged : OnErr result (new ≡ old)
+  pub small : IfOk result (λ d. d.value ≤ NUMBER)
 
 -- a descriptor is on an open file
 pub record IsOn (s : State) (me : Process) (d : ℤ) (k : ℕ) : Type 0 where

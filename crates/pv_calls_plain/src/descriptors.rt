@@ -1,13 +1,11 @@
 //! Descriptors: close(2), dup(2), fchdir(2).
-ghost use Rattle.std.specs.Prelude.{◌≡◌, ◌≤◌, IfOk, IfSome, IsSome, MatchOption, OnErr, None, Some};
+ghost use Rattle.std.specs.Prelude.{◌≡◌, IfSome, IsSome, MatchOption, None, Some};
 ghost use Rattle.pv_laws_states.specs.States.{IsWhole};
-ghost use Rattle.pv_model.specs.declared.limits.TheConstants.{NUMBER};
 ghost use Rattle.pv_model.specs.Calls.Descriptors.{close, dup, dup2, fchdir};
 ghost use Rattle.pv_model.specs.Effect.{open_file};
 ghost use Rattle.pv_model.specs.Numbered.{at_number};
 ghost use Rattle.pv_model.specs.State.{Process, process_at};
-ghost use Rattle.pv_calls_state.specs.Attempts.{trimmed};
-ghost use Rattle.pv_calls_plain.specs.Performed.{IsOn, attempt_of};
+ghost use Rattle.pv_calls_plain.specs.Performed.{IsOn, IsPerformed};
 
 use crate::answer::{Done, Refused, answer_of, refusal};
 use crate::processes::plain;
@@ -32,9 +30,7 @@ pub fn open_file(parts: &Parts, pid: u32, d: i32) -> Option<usize>
 pub fn close(parts: &mut Parts, pid: u32, d: i32) -> Result<Done, Refused>
     requires whole { IsWhole parts.old }
     requires live { IsSome (process_at parts.old pid) }
-    ensures performed { (me : Process) → process_at parts.old pid ≡ Some me → trimmed (close parts.old pid me d) ≡ attempt_of parts.new result }
-    ensures unchanged { OnErr result (parts.new ≡ parts.old) }
-    ensures small { IfOk result (λ d. d.value ≤ NUMBER) }
+    ensures performed { IsPerformed (λ s me. close s pid me d) parts.old pid parts.new result }
 {
     plain(parts.close(pid, d))
 }
@@ -47,9 +43,7 @@ pub fn close(parts: &mut Parts, pid: u32, d: i32) -> Result<Done, Refused>
 pub fn dup(parts: &mut Parts, pid: u32, d: i32) -> Result<Done, Refused>
     requires whole { IsWhole parts.old }
     requires live { IsSome (process_at parts.old pid) }
-    ensures performed { (me : Process) → process_at parts.old pid ≡ Some me → trimmed (dup parts.old pid me d) ≡ attempt_of parts.new result }
-    ensures unchanged { OnErr result (parts.new ≡ parts.old) }
-    ensures small { IfOk result (λ d. d.value ≤ NUMBER) }
+    ensures performed { IsPerformed (λ s me. dup s pid me d) parts.old pid parts.new result }
 {
     plain(parts.dup(pid, d))
 }
@@ -62,9 +56,7 @@ pub fn dup(parts: &mut Parts, pid: u32, d: i32) -> Result<Done, Refused>
 pub fn dup2(parts: &mut Parts, pid: u32, d: i32, e: i32) -> Result<Done, Refused>
     requires whole { IsWhole parts.old }
     requires live { IsSome (process_at parts.old pid) }
-    ensures performed { (me : Process) → process_at parts.old pid ≡ Some me → trimmed (dup2 parts.old pid me d e) ≡ attempt_of parts.new result }
-    ensures unchanged { OnErr result (parts.new ≡ parts.old) }
-    ensures small { IfOk result (λ d. d.value ≤ NUMBER) }
+    ensures performed { IsPerformed (λ s me. dup2 s pid me d e) parts.old pid parts.new result }
 {
     plain(parts.dup2(pid, d, e))
 }
@@ -77,9 +69,7 @@ pub fn dup2(parts: &mut Parts, pid: u32, d: i32, e: i32) -> Result<Done, Refused
 pub fn fchdir(parts: &mut Parts, pid: u32, d: i32) -> Result<Done, Refused>
     requires whole { IsWhole parts.old }
     requires live { IsSome (process_at parts.old pid) }
-    ensures performed { (me : Process) → process_at parts.old pid ≡ Some me → trimmed (fchdir parts.old pid me d) ≡ attempt_of parts.new result }
-    ensures unchanged { OnErr result (parts.new ≡ parts.old) }
-    ensures small { IfOk result (λ d. d.value ≤ NUMBER) }
+    ensures performed { IsPerformed (λ s me. fchdir s pid me d) parts.old pid parts.new result }
 {
     let Some(file) = open_file(parts, pid, d) else {
         return Err(refusal(0, Errno::EBADF));

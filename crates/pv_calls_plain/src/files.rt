@@ -1,7 +1,6 @@
 //! What is done with open files: read(2), write(2), lseek(2), fstat(2), ftruncate(2), getdents(2).
 ghost use Rattle.std.specs.Prelude.{ℕ, pos, ◌≡◌, ◌≤◌, ◌<◌, ◌+ℤ◌, false, length, IfOk, IsSome, IsTrue, MatchResult, OnErr, Some};
 ghost use Rattle.pv_laws_states.specs.States.{IsWhole};
-ghost use Rattle.pv_model.specs.declared.limits.TheConstants.{NUMBER};
 ghost use Rattle.pv_model.specs.declared.outcome.Cause.TheVariants.{Plain};
 ghost use Rattle.pv_model.specs.Attempt.{refused};
 ghost use Rattle.pv_model.specs.Calls.Descriptors.{fstat, ftruncate, getdents, is_past_greatest, lseek, next_name, read, seek_base, within, write, write_place};
@@ -11,7 +10,7 @@ ghost use Rattle.pv_model.specs.State.{OpenFile, Process, process_at, reads, wri
 ghost use Rattle.pv_model.specs.Tree.{entries_at, is_directory_at, node_at};
 ghost use Rattle.pv_calls_state.specs.Attempts.{trimmed};
 ghost use Rattle.pv_calls_plain.specs.Space.{write_some};
-ghost use Rattle.pv_calls_plain.specs.Performed.{GivesFront, IsAnswered, attempt_of};
+ghost use Rattle.pv_calls_plain.specs.Performed.{GivesFront, IsAnswered, IsPerformed, attempt_of};
 
 use crate::answer::{
     Answer, Done, Refused, answer_of, refusal, space_errno, tell, tell_bytes, tell_front,
@@ -142,9 +141,7 @@ fn write_place(parts: &Parts, file: usize) -> u32
 pub fn write(parts: &mut Parts, pid: u32, d: i32, n: i32) -> Result<Done, Refused>
     requires whole { IsWhole parts.old }
     requires live { IsSome (process_at parts.old pid) }
-    ensures performed { (me : Process) → process_at parts.old pid ≡ Some me → trimmed (write parts.old pid me d n) ≡ attempt_of parts.new result }
-    ensures unchanged { OnErr result (parts.new ≡ parts.old) }
-    ensures small { IfOk result (λ d. d.value ≤ NUMBER) }
+    ensures performed { IsPerformed (λ s me. write s pid me d n) parts.old pid parts.new result }
 {
     let Some(file) = open_file(parts, pid, d) else {
         return Err(refusal(0, Errno::EBADF));
@@ -211,9 +208,7 @@ fn seek_base(parts: &Parts, file: usize, whence: Whence) -> u32
 pub fn lseek(parts: &mut Parts, pid: u32, d: i32, by: i32, whence: Whence) -> Result<Done, Refused>
     requires whole { IsWhole parts.old }
     requires live { IsSome (process_at parts.old pid) }
-    ensures performed { (me : Process) → process_at parts.old pid ≡ Some me → trimmed (lseek parts.old pid me d by whence) ≡ attempt_of parts.new result }
-    ensures unchanged { OnErr result (parts.new ≡ parts.old) }
-    ensures small { IfOk result (λ d. d.value ≤ NUMBER) }
+    ensures performed { IsPerformed (λ s me. lseek s pid me d by whence) parts.old pid parts.new result }
 {
     let Some(file) = open_file(parts, pid, d) else {
         return Err(refusal(0, Errno::EBADF));
@@ -259,9 +254,7 @@ pub fn fstat(parts: &mut Parts, pid: u32, d: i32) -> Answer
 pub fn ftruncate(parts: &mut Parts, pid: u32, d: i32, n: i32) -> Result<Done, Refused>
     requires whole { IsWhole parts.old }
     requires live { IsSome (process_at parts.old pid) }
-    ensures performed { (me : Process) → process_at parts.old pid ≡ Some me → trimmed (ftruncate parts.old pid me d n) ≡ attempt_of parts.new result }
-    ensures unchanged { OnErr result (parts.new ≡ parts.old) }
-    ensures small { IfOk result (λ d. d.value ≤ NUMBER) }
+    ensures performed { IsPerformed (λ s me. ftruncate s pid me d n) parts.old pid parts.new result }
 {
     let Some(file) = open_file(parts, pid, d) else {
         return Err(refusal(0, Errno::EBADF));

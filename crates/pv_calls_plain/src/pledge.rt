@@ -1,14 +1,12 @@
 //! What a process gives up: pledge(2).
-ghost use Rattle.std.specs.Prelude.{◌≡◌, ◌≤◌, IfOk, IsSome, MatchResult, OnErr, Some, option_copied};
+ghost use Rattle.std.specs.Prelude.{◌≡◌, IsSome, MatchResult, Some, option_copied};
 ghost use Rattle.pv_laws_states.specs.States.{IsWhole};
-ghost use Rattle.pv_model.specs.declared.limits.TheConstants.{NUMBER};
 ghost use Rattle.pv_model.specs.declared.outcome.Cause.TheVariants.{Plain};
 ghost use Rattle.pv_model.specs.Attempt.{give, refused};
 ghost use Rattle.pv_model.specs.Calls.Restraints.{asked_promises, pledge};
-ghost use Rattle.pv_model.specs.State.{Process, process_at};
-ghost use Rattle.pv_calls_state.specs.Attempts.{trimmed};
+ghost use Rattle.pv_model.specs.State.{process_at};
 ghost use Rattle.pv_promises.specs.Pledge.{bits_of};
-ghost use Rattle.pv_calls_plain.specs.Performed.{attempt_of};
+ghost use Rattle.pv_calls_plain.specs.Performed.{IsPerformed};
 
 use crate::answer::{Done, Refused, answer_of, refusal};
 use pv_calls_state::Parts;
@@ -39,9 +37,7 @@ pub fn pledge(
 ) -> Result<Done, Refused>
     requires whole { IsWhole parts.old }
     requires live { IsSome (process_at parts.old pid) }
-    ensures performed { (me : Process) → process_at parts.old pid ≡ Some me → trimmed (pledge parts.old pid me (option_copied promises.entry) (option_copied execpromises.entry)) ≡ attempt_of parts.new result }
-    ensures unchanged { OnErr result (parts.new ≡ parts.old) }
-    ensures small { IfOk result (λ d. d.value ≤ NUMBER) }
+    ensures performed { IsPerformed (λ s me. pledge s pid me (option_copied promises.entry) (option_copied execpromises.entry)) parts.old pid parts.new result }
 {
     let asked_now = match asked(promises) {
         Ok(set) => set,

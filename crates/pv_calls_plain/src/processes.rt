@@ -1,14 +1,12 @@
 //! Numbers of processes, children, and ends: getpid(2), getppid(2), fork(2), wait(2), exit(3).
-ghost use Rattle.std.specs.Prelude.{◌≡◌, ◌≢◌, ◌≤◌, ◌↔◌, IfOk, IsSome, IsTrue, MatchResult, OnErr, Ok, Err, Some};
+ghost use Rattle.std.specs.Prelude.{◌≡◌, ◌≢◌, ◌↔◌, IsSome, IsTrue, MatchResult, Ok, Err, Some};
 ghost use Rattle.pv_laws_states.specs.States.{IsWhole};
-ghost use Rattle.pv_model.specs.declared.limits.TheConstants.{NUMBER};
 ghost use Rattle.pv_model.specs.declared.outcome.Cause.TheVariants.{Plain};
 ghost use Rattle.pv_model.specs.Attempt.{give};
 ghost use Rattle.pv_model.specs.Calls.Processes.{exit_status, getpid, getppid, fork, wait};
 ghost use Rattle.pv_model.specs.Effect.{waits};
 ghost use Rattle.pv_model.specs.State.{Process, process_at};
-ghost use Rattle.pv_calls_state.specs.Attempts.{trimmed};
-ghost use Rattle.pv_calls_plain.specs.Performed.{IsAnswered, attempt_of};
+ghost use Rattle.pv_calls_plain.specs.Performed.{IsAnswered, IsPerformed};
 
 use crate::answer::{Answer, Done, Refused, answer_of, refusal, tell, tell_bytes};
 use crate::status::four_bytes;
@@ -38,8 +36,7 @@ pub fn exit_status(code: i32) -> u32
 pub fn getpid(parts: &Parts, pid: u32) -> Result<Done, Refused>
     requires whole { IsWhole parts.now }
     requires live { IsSome (process_at parts.now pid) }
-    ensures performed { (me : Process) → process_at parts.now pid ≡ Some me → trimmed (getpid parts.now pid me) ≡ attempt_of parts.now result }
-    ensures small { IfOk result (λ d. d.value ≤ NUMBER) }
+    ensures performed { IsPerformed (λ s me. getpid s pid me) parts.now pid parts.now result }
 {
     parts.facts();
     answer_of(0, pid)
@@ -49,8 +46,7 @@ pub fn getpid(parts: &Parts, pid: u32) -> Result<Done, Refused>
 pub fn getppid(parts: &Parts, pid: u32) -> Result<Done, Refused>
     requires whole { IsWhole parts.now }
     requires live { IsSome (process_at parts.now pid) }
-    ensures performed { (me : Process) → process_at parts.now pid ≡ Some me → trimmed (getppid parts.now pid me) ≡ attempt_of parts.now result }
-    ensures small { IfOk result (λ d. d.value ≤ NUMBER) }
+    ensures performed { IsPerformed (λ s me. getppid s pid me) parts.now pid parts.now result }
 {
     parts.facts();
     answer_of(0, parts.processes().parent_of(pid).unwrap_or(0))
@@ -65,9 +61,7 @@ pub fn getppid(parts: &Parts, pid: u32) -> Result<Done, Refused>
 pub fn fork(parts: &mut Parts, pid: u32) -> Result<Done, Refused>
     requires whole { IsWhole parts.old }
     requires live { IsSome (process_at parts.old pid) }
-    ensures performed { (me : Process) → process_at parts.old pid ≡ Some me → trimmed (fork parts.old pid me) ≡ attempt_of parts.new result }
-    ensures unchanged { OnErr result (parts.new ≡ parts.old) }
-    ensures small { IfOk result (λ d. d.value ≤ NUMBER) }
+    ensures performed { IsPerformed (λ s me. fork s pid me) parts.old pid parts.new result }
 {
     plain(parts.fork(pid))
 }

@@ -1,5 +1,6 @@
 use Rattle.std.proofs.Common.{◌∙◌, ap, sym, subst, Ok, Err}
 use Rattle.std.specs.Prelude.{IsSome}
+use Rattle.pv_model.specs.declared.call.Call.TheVariants.{Execve}
 use Rattle.pv_model.specs.Answer.{at_next_line, effect, update}
 use Rattle.pv_model.specs.Calls.Processes.{execve}
 use Rattle.pv_model.specs.Grammar.Programs.{program_of}
@@ -10,16 +11,17 @@ use Rattle.pv_calls_path.specs.Execve.{Executes}
 use Rattle.pv_calls_state.proofs.Alone.{some-at}
 use Rattle.pv_calls.proofs.Carrying.{next-live}
 use Rattle.pv_calls.proofs.Executing.{execve-next}
-use Rattle.pv_calls.proofs.Living.{lives-execve}
+use Rattle.pv_calls.proofs.Living.{lives}
 use Rattle.pv_calls.proofs.Performing.{performed-live}
 use Rattle.pv_calls.proofs.carry.execute.Goals as goal
 
 pub tell-requires-clause-live : goal.tell-requires-clause-live
+unfolding effect
 tell-requires-clause-live g c =
     let s = c.args.parts.now in
     let mine = some-at (process_at s c.args.pid) c.requires.live in
     performed-live s c.execve.new.parts c.args.pid (Ok c.in-Ok.told) (execve s c.args.pid mine.0 program_of c.args.path.now) (c.in-Ok.ensures.performed mine.0 mine.1) tt c.requires.live
-    (lives-execve s c.args.pid mine.0 mine.1 c.args.path.now)
+    (lives s c.args.pid mine.0 mine.1 c.requires.whole (Execve c.args.path.now))
 
 pub tell-requires-in-Err-Refused-clause-live : goal.tell-requires-in-Err-Refused-clause-live
 tell-requires-in-Err-Refused-clause-live g c =

@@ -1,4 +1,4 @@
-use Rattle.std.proofs.Common.{◌≡◌, ◌∙◌, ap, sym, true, false}
+use Rattle.std.proofs.Common.{◌≡◌, ◌∙◌, ap, sym, true, false, arith, refl}
 use Rattle.std.proofs.lemmas.Result.{err_from_is_err_and}
 use Rattle.pv_calls_state.specs.Attempts.{trimmed}
 use Rattle.pv_calls_state.specs.Changes.{with_directory}
@@ -15,24 +15,36 @@ use Rattle.pv_calls_path.proofs.chdir.chdir.Goals as goal
 pub returns-in_err-node-clause-performed : goal.returns-in_err-node-clause-performed
 returns-in_err-node-clause-performed g c =
     let p = err_from_is_err_and c.from_residual.result c.from_residual.ensures.1 in
-    λ me at. rw (p.1, p.2) (ap trimmed (missed-as c.args.parts.now me me.directory c.chdir-walk.ensures _ (c.in_err-node.ensures.missed me at) _))
+    record {
+      as_defined = λ me at. rw (p.1, p.2) (ap trimmed (missed-as c.args.parts.now me me.directory c.chdir-walk.ensures _ (c.in_err-node.ensures.missed me at) _));
+      unchanged = rw p.1 refl;
+      small = rw p.1 tt;
+    }
 
 pub returns-then-not-is_directory-clause-performed : goal.returns-then-not-is_directory-clause-performed
 returns-then-not-is_directory-clause-performed g c =
     let s = c.args.parts.now in
     let n = c.in_ok-node.node in
     let other : is_directory_at s.tree n ≡ false = ap (λ t. is_directory_at t n) (sym c.tree.ensures) ∙ sym c.is_directory.ensures ∙ c.if-not-is_directory.true in
-    λ me at. rw c.refusal.ensures (ap trimmed (chdir_refused s c.args.pid me c.args.path.now n (found-as s me me.directory c.chdir-walk.ensures n (c.in_ok-node.ensures.found me at)) other))
+    record {
+      as_defined = λ me at. rw c.refusal.ensures (ap trimmed (chdir_refused s c.args.pid me c.args.path.now n (found-as s me me.directory c.chdir-walk.ensures n (c.in_ok-node.ensures.found me at)) other));
+      unchanged = refl;
+      small = tt;
+    }
 
 pub returns-clause-performed : goal.returns-clause-performed
 returns-clause-performed g c =
     let s = c.args.parts.now in
     let n = c.in_ok-node.node in
     let directory : is_directory_at s.tree n ≡ true = ap (λ t. is_directory_at t n) (sym c.tree.ensures) ∙ sym c.is_directory.ensures ∙ c.if-not-is_directory.false in
-    λ me at. rw c.answer_of.ensures
-    (leaves _ (trim (with_process s c.args.pid (with_directory n me))) c.set_directory.new.self
-    (ap trimmed (chdir_goes s c.args.pid me c.args.path.now n (found-as s me me.directory c.chdir-walk.ensures n (c.in_ok-node.ensures.found me at)) directory))
-    (ap (λ o. trim (update_live s c.args.pid (with_directory n) o)) (sym at) ∙ sym c.set_directory.ensures))
+    record {
+      as_defined = λ me at. rw c.answer_of.ensures
+          (leaves _ (trim (with_process s c.args.pid (with_directory n me))) c.set_directory.new.self
+          (ap trimmed (chdir_goes s c.args.pid me c.args.path.now n (found-as s me me.directory c.chdir-walk.ensures n (c.in_ok-node.ensures.found me at)) directory))
+          (ap (λ o. trim (update_live s c.args.pid (with_directory n) o)) (sym at) ∙ sym c.set_directory.ensures));
+      unchanged = rw c.answer_of.ensures tt;
+      small = rw c.answer_of.ensures (omega arith);
+    }
 
 pub returns-clause-agrees : goal.returns-clause-agrees
 returns-clause-agrees g c =

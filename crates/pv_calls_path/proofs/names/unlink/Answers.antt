@@ -1,4 +1,4 @@
-use Rattle.std.proofs.Common.{◌≡◌, ◌∙◌, ap, sym, false}
+use Rattle.std.proofs.Common.{◌≡◌, ◌∙◌, ap, sym, false, refl}
 use Rattle.std.proofs.lemmas.Result.{err_from_is_err_and}
 use Rattle.pv_calls_state.specs.Attempts.{trimmed}
 use Rattle.pv_model.specs.Tree.{find_entry, is_directory_at, node_at}
@@ -9,7 +9,11 @@ use Rattle.pv_calls_path.proofs.names.unlink.Goals as goal
 pub returns-in_err-found-clause-performed : goal.returns-in_err-found-clause-performed
 returns-in_err-found-clause-performed g c =
     let p = err_from_is_err_and c.from_residual.result c.from_residual.ensures.1 in
-    λ me at. rw (p.1, p.2) (ap trimmed (missed-as c.args.parts.now me me.directory c.unlink-walk.ensures _ (c.in_err-found.ensures.missed me at) _))
+    record {
+      as_defined = λ me at. rw (p.1, p.2) (ap trimmed (missed-as c.args.parts.now me me.directory c.unlink-walk.ensures _ (c.in_err-found.ensures.missed me at) _));
+      unchanged = rw p.1 refl;
+      small = rw p.1 tt;
+    }
 
 pub returns-clause-agrees : goal.returns-clause-agrees
 returns-clause-agrees g c =

@@ -19,6 +19,10 @@ returns-in-Ok-clause-agrees g c =
 pub returns-in-Err-clause-performed : goal.returns-in-Err-clause-performed
 returns-in-Err-clause-performed g c =
     let s = c.args.parts.now in
-    λ me at. rw (c.refusal-in-Err.ensures, c.space_errno.ensures)
-    (ap trimmed (create_crowded s c.args.pid me c.args.flags c.requires.flags c.if-not-flags.false c.args.place.now c.requires.absent
-    c.in-Some.directory c.in-Some.name.now c.in-Some.ensures c.in-Err.space (c.in-Err.ensures.refused me at)))
+    record {
+      as_defined = λ me at. rw (c.refusal-in-Err.ensures, c.space_errno.ensures)
+          (ap trimmed (create_crowded s c.args.pid me c.args.flags c.requires.flags c.if-not-flags.false c.args.place.now c.requires.absent
+          c.in-Some.directory c.in-Some.name.now c.in-Some.ensures c.in-Err.space (c.in-Err.ensures.refused me at)));
+      unchanged = c.in-Err.ensures.unchanged;
+      small = tt;
+    }

@@ -1,4 +1,4 @@
-use Rattle.std.proofs.Common.{◌∙◌, ap, sym}
+use Rattle.std.proofs.Common.{◌∙◌, ap, sym, refl}
 use Rattle.std.proofs.lemmas.Result.{err_from_is_err_and}
 use Rattle.pv_calls_state.specs.Attempts.{trimmed}
 use Rattle.pv_model.specs.Numbered.{least_free}
@@ -12,11 +12,15 @@ pub returns-in_err-place-clause-performed : goal.returns-in_err-place-clause-per
 returns-in_err-place-clause-performed g c =
     let s = c.args.parts.now in
     let p = err_from_is_err_and c.from_residual.result c.from_residual.ensures.1 in
-    λ me at. rw (p.1, p.2) (ap trimmed (open_stopped s c.args.pid me c.args.start c.args.path.now c.args.flags (sym c.contradicts.ensures ∙ c.if-contradicts.false) (c.in-Ok.ensures.checked me at)
-    (few_descriptors me c.record.result.now (recorded (process_at s c.args.pid) me c.record.result.now at c.record.ensures) c.has_room.result c.has_room.ensures.0 c.if-not-has_room.false)
-    (few_files (least_free s.files) c.has_room-2.result (λ has. low_files s.files c.files.result.now.files c.files.ensures (c.has_room-2.ensures.0 has)) c.if-not-has_room-2.false)
-    c.in-Ok.directory (c.in-Ok.ensures.start me at)
-    _ (stopped-as s me c.in-Ok.directory c.open-walk.ensures _ (c.in_err-place.ensures.stopped me at))))
+    record {
+      as_defined = λ me at. rw (p.1, p.2) (ap trimmed (open_stopped s c.args.pid me c.args.start c.args.path.now c.args.flags (sym c.contradicts.ensures ∙ c.if-contradicts.false) (c.in-Ok.ensures.checked me at)
+          (few_descriptors me c.record.result.now (recorded (process_at s c.args.pid) me c.record.result.now at c.record.ensures) c.has_room.result c.has_room.ensures.0 c.if-not-has_room.false)
+          (few_files (least_free s.files) c.has_room-2.result (λ has. low_files s.files c.files.result.now.files c.files.ensures (c.has_room-2.ensures.0 has)) c.if-not-has_room-2.false)
+          c.in-Ok.directory (c.in-Ok.ensures.start me at)
+          _ (stopped-as s me c.in-Ok.directory c.open-walk.ensures _ (c.in_err-place.ensures.stopped me at))));
+      unchanged = rw p.1 refl;
+      small = rw p.1 tt;
+    }
 
 pub open_there-requires-clause-there : goal.open_there-requires-clause-there
 open_there-requires-clause-there g c =
@@ -25,19 +29,27 @@ open_there-requires-clause-there g c =
 pub returns-in-Some-clause-performed : goal.returns-in-Some-clause-performed
 returns-in-Some-clause-performed g c =
     let s = c.args.parts.now in
-    λ me at. ap trimmed (open_reached s c.args.pid me c.args.start c.args.path.now c.args.flags (sym c.contradicts.ensures ∙ c.if-contradicts.false) (c.in-Ok.ensures.checked me at)
-    (few_descriptors me c.record.result.now (recorded (process_at s c.args.pid) me c.record.result.now at c.record.ensures) c.has_room.result c.has_room.ensures.0 c.if-not-has_room.false)
-    (few_files (least_free s.files) c.has_room-2.result (λ has. low_files s.files c.files.result.now.files c.files.ensures (c.has_room-2.ensures.0 has)) c.if-not-has_room-2.false)
-    c.in-Ok.directory (c.in-Ok.ensures.start me at)
-    c.in_ok-place.place (reached-as s me c.in-Ok.directory c.open-walk.ensures c.in_ok-place.place (c.in_ok-place.ensures.reached me at)))
-    ∙ c.open_there.ensures.performed me c.in_ok-place.place at (sym c.in-Some.ensures)
+    record {
+      as_defined = λ me at. ap trimmed (open_reached s c.args.pid me c.args.start c.args.path.now c.args.flags (sym c.contradicts.ensures ∙ c.if-contradicts.false) (c.in-Ok.ensures.checked me at)
+          (few_descriptors me c.record.result.now (recorded (process_at s c.args.pid) me c.record.result.now at c.record.ensures) c.has_room.result c.has_room.ensures.0 c.if-not-has_room.false)
+          (few_files (least_free s.files) c.has_room-2.result (λ has. low_files s.files c.files.result.now.files c.files.ensures (c.has_room-2.ensures.0 has)) c.if-not-has_room-2.false)
+          c.in-Ok.directory (c.in-Ok.ensures.start me at)
+          c.in_ok-place.place (reached-as s me c.in-Ok.directory c.open-walk.ensures c.in_ok-place.place (c.in_ok-place.ensures.reached me at)))
+          ∙ c.open_there.ensures.performed me c.in_ok-place.place at (sym c.in-Some.ensures);
+      unchanged = c.open_there.ensures.unchanged;
+      small = c.open_there.ensures.small;
+    }
 
 pub returns-in-None-clause-performed : goal.returns-in-None-clause-performed
 returns-in-None-clause-performed g c =
     let s = c.args.parts.now in
-    λ me at. ap trimmed (open_reached s c.args.pid me c.args.start c.args.path.now c.args.flags (sym c.contradicts.ensures ∙ c.if-contradicts.false) (c.in-Ok.ensures.checked me at)
-    (few_descriptors me c.record.result.now (recorded (process_at s c.args.pid) me c.record.result.now at c.record.ensures) c.has_room.result c.has_room.ensures.0 c.if-not-has_room.false)
-    (few_files (least_free s.files) c.has_room-2.result (λ has. low_files s.files c.files.result.now.files c.files.ensures (c.has_room-2.ensures.0 has)) c.if-not-has_room-2.false)
-    c.in-Ok.directory (c.in-Ok.ensures.start me at)
-    c.in_ok-place.place (reached-as s me c.in-Ok.directory c.open-walk.ensures c.in_ok-place.place (c.in_ok-place.ensures.reached me at)))
-    ∙ c.create_there.ensures.performed me at
+    record {
+      as_defined = λ me at. ap trimmed (open_reached s c.args.pid me c.args.start c.args.path.now c.args.flags (sym c.contradicts.ensures ∙ c.if-contradicts.false) (c.in-Ok.ensures.checked me at)
+          (few_descriptors me c.record.result.now (recorded (process_at s c.args.pid) me c.record.result.now at c.record.ensures) c.has_room.result c.has_room.ensures.0 c.if-not-has_room.false)
+          (few_files (least_free s.files) c.has_room-2.result (λ has. low_files s.files c.files.result.now.files c.files.ensures (c.has_room-2.ensures.0 has)) c.if-not-has_room-2.false)
+          c.in-Ok.directory (c.in-Ok.ensures.start me at)
+          c.in_ok-place.place (reached-as s me c.in-Ok.directory c.open-walk.ensures c.in_ok-place.place (c.in_ok-place.ensures.reached me at)))
+          ∙ c.create_there.ensures.performed.as_defined me at;
+      unchanged = c.create_there.ensures.performed.unchanged;
+      small = c.create_there.ensures.performed.small;
+    }

@@ -1,4 +1,4 @@
-use Rattle.std.proofs.Common.{◌≡◌, ◌∙◌, ap, sym, true, false}
+use Rattle.std.proofs.Common.{◌≡◌, ◌∙◌, ap, sym, true, false, arith, refl}
 use Rattle.std.proofs.lemmas.Result.{err_from_is_err_and}
 use Rattle.pv_calls_state.specs.Attempts.{trimmed}
 use Rattle.pv_calls_path.specs.Moving.{check_move}
@@ -17,7 +17,11 @@ returns-in_err-both-clause-performed g c =
     let p = err_from_is_err_and c.from_residual.result c.from_residual.ensures.1 in
     let fine : ends_in_dot c.args.path.now ≡ false = sym c.ends_in_dot.ensures ∙ c.if-ends_in_dot.false in
     let other : ends_in_dot c.args.new.now ≡ false = sym c.ends_in_dot-else-ends_in_dot.ensures ∙ c.if-ends_in_dot-2.false in
-    λ me at. rw (p.1, p.2) (ap trimmed (rename_missed c.args.parts.now c.args.pid me c.args.path.now c.args.new.now fine other _ (both-missed-as c.args.parts.now me c.rename-first.ensures c.rename-second.ensures _ (c.in_err-both.ensures.missed me at))))
+    record {
+      as_defined = λ me at. rw (p.1, p.2) (ap trimmed (rename_missed c.args.parts.now c.args.pid me c.args.path.now c.args.new.now fine other _ (both-missed-as c.args.parts.now me c.rename-first.ensures c.rename-second.ensures _ (c.in_err-both.ensures.missed me at))));
+      unchanged = rw p.1 refl;
+      small = rw p.1 tt;
+    }
 
 pub returns-in-Err-clause-performed : goal.returns-in-Err-clause-performed
 returns-in-Err-clause-performed g c =
@@ -26,12 +30,16 @@ returns-in-Err-clause-performed g c =
     let fine : ends_in_dot c.args.path.now ≡ false = sym c.ends_in_dot.ensures ∙ c.if-ends_in_dot.false in
     let other : ends_in_dot c.args.new.now ≡ false = sym c.ends_in_dot-else-ends_in_dot.ensures ∙ c.if-ends_in_dot-2.false in
     let differs : same_node o c.in_ok-both.both.node ≡ false = ap (λ x. same_node x c.in_ok-both.both.node) (sym c.node-there.ensures) ∙ sym c.is_same_node.ensures ∙ c.if-is_same_node.false in
-    λ me at. rw c.refusal-in-Err.ensures
-    (ap trimmed (rename_refused s c.args.pid me c.args.path.now c.args.new.now fine other c.in_ok-both.both.first c.in_ok-both.both.second
-    (reached-as s me me.directory c.rename-first.ensures c.in_ok-both.both.first (c.in_ok-both.ensures.first me at)) (reached-as s me me.directory c.rename-second.ensures c.in_ok-both.both.second (c.in_ok-both.ensures.second me at)) c.in_ok-both.both.node c.in_ok-both.ensures.there
-    c.in-Some-Some.from c.in-Some-Some.name.now c.in-Some-Some.ensures c.in-Some-Some.to c.in-Some-Some.other.now c.in-Some-Some.ensures' differs c.in-Err.errno
-    (move_refused s c.args.pid me c.in_ok-both.both.node c.in-Some-Some.from c.in-Some-Some.name.now c.in-Some-Some.to c.in-Some-Some.other.now o c.in-Err.errno
-    (ap (λ t. check_move t c.in_ok-both.both.node c.in-Some-Some.to o) (sym c.tree.ensures) ∙ ap (check_move c.tree.result.now.tree c.in_ok-both.both.node c.in-Some-Some.to) (sym c.node-there.ensures) ∙ c.in-Err.ensures))))
+    record {
+      as_defined = λ me at. rw c.refusal-in-Err.ensures
+          (ap trimmed (rename_refused s c.args.pid me c.args.path.now c.args.new.now fine other c.in_ok-both.both.first c.in_ok-both.both.second
+          (reached-as s me me.directory c.rename-first.ensures c.in_ok-both.both.first (c.in_ok-both.ensures.first me at)) (reached-as s me me.directory c.rename-second.ensures c.in_ok-both.both.second (c.in_ok-both.ensures.second me at)) c.in_ok-both.both.node c.in_ok-both.ensures.there
+          c.in-Some-Some.from c.in-Some-Some.name.now c.in-Some-Some.ensures c.in-Some-Some.to c.in-Some-Some.other.now c.in-Some-Some.ensures' differs c.in-Err.errno
+          (move_refused s c.args.pid me c.in_ok-both.both.node c.in-Some-Some.from c.in-Some-Some.name.now c.in-Some-Some.to c.in-Some-Some.other.now o c.in-Err.errno
+          (ap (λ t. check_move t c.in_ok-both.both.node c.in-Some-Some.to o) (sym c.tree.ensures) ∙ ap (check_move c.tree.result.now.tree c.in_ok-both.both.node c.in-Some-Some.to) (sym c.node-there.ensures) ∙ c.in-Err.ensures))));
+      unchanged = refl;
+      small = tt;
+    }
 
 pub rename-requires-clause-apart : goal.rename-requires-clause-apart
 rename-requires-clause-apart g c =
@@ -53,12 +61,16 @@ returns-in-Err-rename-clause-performed g c =
     ap (λ t. check_move t c.in_ok-both.both.node c.in-Some-Some.to o) (sym c.tree.ensures) ∙ ap (check_move c.tree.result.now.tree c.in_ok-both.both.node c.in-Some-Some.to) (sym c.node-there.ensures) ∙ c.in_default-check_move.ensures in
     let named : FineName s.tree (c.in-Some-Some.from, c.in-Some-Some.name.now) (node_of c.in_ok-both.both.first) =
     named-place s.tree c.in_ok-both.both.first (c.in-Some-Some.from, c.in-Some-Some.name.now) c.in_ok-both.ensures.fine c.in-Some-Some.ensures in
-    λ me at. rw (c.refusal-in-Err-rename.ensures, c.space_errno.ensures)
-    (ap trimmed (rename_refused s c.args.pid me c.args.path.now c.args.new.now fine other c.in_ok-both.both.first c.in_ok-both.both.second
-    (reached-as s me me.directory c.rename-first.ensures c.in_ok-both.both.first (c.in_ok-both.ensures.first me at)) (reached-as s me me.directory c.rename-second.ensures c.in_ok-both.both.second (c.in_ok-both.ensures.second me at)) c.in_ok-both.both.node c.in_ok-both.ensures.there
-    c.in-Some-Some.from c.in-Some-Some.name.now c.in-Some-Some.ensures c.in-Some-Some.to c.in-Some-Some.other.now c.in-Some-Some.ensures' differs _
-    (move_crowded s c.args.pid me c.in_ok-both.both.node c.in-Some-Some.from c.in-Some-Some.name.now c.in-Some-Some.to c.in-Some-Some.other.now o c.in-Err-rename.space passes
-    (named.found ∙ c.in_ok-both.ensures.there) c.in-Err-rename.ensures.refused)))
+    record {
+      as_defined = λ me at. rw (c.refusal-in-Err-rename.ensures, c.space_errno.ensures)
+          (ap trimmed (rename_refused s c.args.pid me c.args.path.now c.args.new.now fine other c.in_ok-both.both.first c.in_ok-both.both.second
+          (reached-as s me me.directory c.rename-first.ensures c.in_ok-both.both.first (c.in_ok-both.ensures.first me at)) (reached-as s me me.directory c.rename-second.ensures c.in_ok-both.both.second (c.in_ok-both.ensures.second me at)) c.in_ok-both.both.node c.in_ok-both.ensures.there
+          c.in-Some-Some.from c.in-Some-Some.name.now c.in-Some-Some.ensures c.in-Some-Some.to c.in-Some-Some.other.now c.in-Some-Some.ensures' differs _
+          (move_crowded s c.args.pid me c.in_ok-both.both.node c.in-Some-Some.from c.in-Some-Some.name.now c.in-Some-Some.to c.in-Some-Some.other.now o c.in-Err-rename.space passes
+          (named.found ∙ c.in_ok-both.ensures.there) c.in-Err-rename.ensures.refused)));
+      unchanged = c.in-Err-rename.ensures.unchanged;
+      small = tt;
+    }
 
 pub returns-clause-performed : goal.returns-clause-performed
 returns-clause-performed g c =
@@ -73,11 +85,15 @@ returns-clause-performed g c =
     named-place s.tree c.in_ok-both.both.first (c.in-Some-Some.from, c.in-Some-Some.name.now) c.in_ok-both.ensures.fine c.in-Some-Some.ensures in
     let short : is_too_long c.rename.new.self.tree ≡ false = ap is_too_long (sym c.tree-2.ensures) ∙ c.sizes.ensures.standing.short in
     let roomy : fits c.rename.new.self.tree ≡ true = ap fits (sym c.tree-2.ensures) ∙ c.sizes.ensures.standing.fits in
-    λ me at. rw c.answer_of-2.ensures
-    (rename_goes s c.args.pid me c.args.path.now c.args.new.now fine other c.in_ok-both.both.first c.in_ok-both.both.second
-    (reached-as s me me.directory c.rename-first.ensures c.in_ok-both.both.first (c.in_ok-both.ensures.first me at)) (reached-as s me me.directory c.rename-second.ensures c.in_ok-both.both.second (c.in_ok-both.ensures.second me at)) c.in_ok-both.both.node c.in_ok-both.ensures.there
-    c.in-Some-Some.from c.in-Some-Some.name.now c.in-Some-Some.ensures c.in-Some-Some.to c.in-Some-Some.other.now c.in-Some-Some.ensures' differs
-    c.rename.new.self passes (named.found ∙ c.in_ok-both.ensures.there) c.in_default-rename.ensures.moved short roomy)
+    record {
+      as_defined = λ me at. rw c.answer_of-2.ensures
+          (rename_goes s c.args.pid me c.args.path.now c.args.new.now fine other c.in_ok-both.both.first c.in_ok-both.both.second
+          (reached-as s me me.directory c.rename-first.ensures c.in_ok-both.both.first (c.in_ok-both.ensures.first me at)) (reached-as s me me.directory c.rename-second.ensures c.in_ok-both.both.second (c.in_ok-both.ensures.second me at)) c.in_ok-both.both.node c.in_ok-both.ensures.there
+          c.in-Some-Some.from c.in-Some-Some.name.now c.in-Some-Some.ensures c.in-Some-Some.to c.in-Some-Some.other.now c.in-Some-Some.ensures' differs
+          c.rename.new.self passes (named.found ∙ c.in_ok-both.ensures.there) c.in_default-rename.ensures.moved short roomy);
+      unchanged = rw c.answer_of-2.ensures tt;
+      small = rw c.answer_of-2.ensures (omega arith);
+    }
 
 pub returns-clause-agrees : goal.returns-clause-agrees
 returns-clause-agrees g c =

@@ -1,4 +1,4 @@
-use Rattle.std.proofs.Common.{◌≡◌, ◌∙◌, ap, sym, subst, true, is_some}
+use Rattle.std.proofs.Common.{◌≡◌, ◌∙◌, ap, sym, subst, true, is_some, arith, refl}
 use Rattle.std.proofs.lemmas.Result.{err_from_is_err_and}
 use Rattle.pv_calls_state.specs.Attempts.{trimmed}
 use Rattle.pv_calls_state.specs.Changes.{unveiled_of, with_table}
@@ -24,14 +24,18 @@ pub returns-in-Ok-clause-performed : goal.returns-in-Ok-clause-performed
 returns-in-Ok-clause-performed g c =
     let s = c.args.parts.now in
     let target = c.target_of-target.ensures ∙ ap (λ (t : Tree). target_of t c.to_place.result) c.tree.ensures ∙ ap (target_of s.tree) c.to_place.ensures in
-    λ me at.
-    let walked = walked_by s c.args.pid me at c.record-record.result.now c.record-record.ensures c.args.path.now c.in_ok-place.place c.in_ok-place.ensures.walked in
-    let unlocked = is_unlocked s c.args.pid me at c.record-record.result.now c.record-record.ensures (sym c.is_locked.ensures ∙ c.if-is_locked.false) in
-    let added = c.in-Ok.ensures.added me at in
-    rw c.answer_of.ensures
-    (leaves _ (trim (with_process s c.args.pid (with_table added.table me))) c.unveil.new.self
-    (ap trimmed (unveil_added s c.args.pid me c.args.path.now c.args.permissions.now c.in-Some.permissions (sym c.in-Some.ensures) unlocked c.in_ok-place.place walked added.table (ap (λ (x : Target). add_to (unveiled_of me) x c.in-Some.permissions) (sym target) ∙ added.added)))
-    (ap trim (sym added.only) ∙ c.facts.ensures.trimmed))
+    record {
+      as_defined = λ me at.
+          let walked = walked_by s c.args.pid me at c.record-record.result.now c.record-record.ensures c.args.path.now c.in_ok-place.place c.in_ok-place.ensures.walked in
+          let unlocked = is_unlocked s c.args.pid me at c.record-record.result.now c.record-record.ensures (sym c.is_locked.ensures ∙ c.if-is_locked.false) in
+          let added = c.in-Ok.ensures.added me at in
+          rw c.answer_of.ensures
+          (leaves _ (trim (with_process s c.args.pid (with_table added.table me))) c.unveil.new.self
+          (ap trimmed (unveil_added s c.args.pid me c.args.path.now c.args.permissions.now c.in-Some.permissions (sym c.in-Some.ensures) unlocked c.in_ok-place.place walked added.table (ap (λ (x : Target). add_to (unveiled_of me) x c.in-Some.permissions) (sym target) ∙ added.added)))
+          (ap trim (sym added.only) ∙ c.facts.ensures.trimmed));
+      unchanged = rw c.answer_of.ensures tt;
+      small = rw c.answer_of.ensures (omega arith);
+    }
 
 pub returns-in-Ok-clause-agrees : goal.returns-in-Ok-clause-agrees
 returns-in-Ok-clause-agrees g c =
@@ -46,18 +50,26 @@ returns-in-Err-clause-performed g c =
     let s = c.args.parts.now in
     let target = c.target_of-target.ensures ∙ ap (λ (t : Tree). target_of t c.to_place.result) c.tree.ensures ∙ ap (target_of s.tree) c.to_place.ensures in
     let told = c.answer_to-in-Err in
-    λ me at.
-    let walked = walked_by s c.args.pid me at c.record-record.result.now c.record-record.ensures c.args.path.now c.in_ok-place.place c.in_ok-place.ensures.walked in
-    let unlocked = is_unlocked s c.args.pid me at c.record-record.result.now c.record-record.ensures (sym c.is_locked.ensures ∙ c.if-is_locked.false) in
-    ap trimmed (unveil_refused s c.args.pid me c.args.path.now c.args.permissions.now c.in-Some.permissions (sym c.in-Some.ensures) unlocked c.in_ok-place.place walked told.result.errno told.result.cause
-    (ap (λ (x : Target). add_to (unveiled_of me) x c.in-Some.permissions) (sym target) ∙ c.in-Err.ensures.refused me at ∙ told.ensures.fault))
-    ∙ ap (λ w. refused w told.result.errno told.result.cause) (sym told.ensures.walks)
+    record {
+      as_defined = λ me at.
+          let walked = walked_by s c.args.pid me at c.record-record.result.now c.record-record.ensures c.args.path.now c.in_ok-place.place c.in_ok-place.ensures.walked in
+          let unlocked = is_unlocked s c.args.pid me at c.record-record.result.now c.record-record.ensures (sym c.is_locked.ensures ∙ c.if-is_locked.false) in
+          ap trimmed (unveil_refused s c.args.pid me c.args.path.now c.args.permissions.now c.in-Some.permissions (sym c.in-Some.ensures) unlocked c.in_ok-place.place walked told.result.errno told.result.cause
+          (ap (λ (x : Target). add_to (unveiled_of me) x c.in-Some.permissions) (sym target) ∙ c.in-Err.ensures.refused me at ∙ told.ensures.fault))
+          ∙ ap (λ w. refused w told.result.errno told.result.cause) (sym told.ensures.walks);
+      unchanged = c.in-Err.ensures.unchanged;
+      small = tt;
+    }
 
 pub returns-in_err-place-clause-performed : goal.returns-in_err-place-clause-performed
 returns-in_err-place-clause-performed g c =
     let s = c.args.parts.now in
     let p = err_from_is_err_and c.from_residual.result c.from_residual.ensures.1 in
-    λ me at.
-    let unlocked = is_unlocked s c.args.pid me at c.record-record.result.now c.record-record.ensures (sym c.is_locked.ensures ∙ c.if-is_locked.false) in
-    let lost = lost_by s c.args.pid me at c.record-record.result.now c.record-record.ensures c.args.path.now _ c.in_err-place.ensures.lost in
-    rw (p.1, p.2) (ap trimmed (unveil_lost s c.args.pid me c.args.path.now c.args.permissions.now c.in-Some.permissions (sym c.in-Some.ensures) unlocked _ lost))
+    record {
+      as_defined = λ me at.
+          let unlocked = is_unlocked s c.args.pid me at c.record-record.result.now c.record-record.ensures (sym c.is_locked.ensures ∙ c.if-is_locked.false) in
+          let lost = lost_by s c.args.pid me at c.record-record.result.now c.record-record.ensures c.args.path.now _ c.in_err-place.ensures.lost in
+          rw (p.1, p.2) (ap trimmed (unveil_lost s c.args.pid me c.args.path.now c.args.permissions.now c.in-Some.permissions (sym c.in-Some.ensures) unlocked _ lost));
+      unchanged = rw p.1 refl;
+      small = rw p.1 tt;
+    }

@@ -1,4 +1,4 @@
-use Rattle.std.proofs.Common.{◌∙◌, ap, sym}
+use Rattle.std.proofs.Common.{◌∙◌, ap, arith, rules, sym}
 use Rattle.pv_model.specs.Numbered.{at_number}
 use Rattle.pv_model.specs.Sealed.{is_file}
 use Rattle.pv_model.specs.State.{OpenFile, writes}
@@ -16,3 +16,12 @@ resize-requires-clause-file c =
     let node = file-part (λ (f : OpenFile). f.node) c.files-2.result.now.files s.files k file.0 c.node.result c.files-2.ensures c.node.ensures file.1 in
     ap (λ n. is_file (node_at s.tree n)) node
     ∙ is-written s c.requires.whole k file.0 file.1 (ap writes (sym mode) ∙ sym c.writes.ensures ∙ c.if-not-writes.false)
+
+pub returns-in-Ok-resize : goal.returns-in-Ok-resize
+returns-in-Ok-resize c = record {
+  performed = record {
+    as_defined = λ me at. search rules;
+    unchanged = rw c.answer_of.ensures tt;
+    small = rw c.answer_of.ensures (omega arith);
+  };
+}

@@ -1,4 +1,4 @@
-use Rattle.std.proofs.Common.{◌∙◌, ap, sym}
+use Rattle.std.proofs.Common.{◌∙◌, ap, arith, refl, sym}
 use Rattle.std.specs.Prelude.{option_copied}
 use Rattle.pv_calls_state.specs.Attempts.{trimmed}
 use Rattle.pv_calls_plain.specs.Performed.{attempt_of}
@@ -13,25 +13,37 @@ use Rattle.pv_calls_state.proofs.Alone.{lent-is}
 use Rattle.pv_calls_plain.proofs.Pledging.{pledge-kept, pledge-refused, with_pledged}
 use Rattle.pv_calls_plain.proofs.pledge.pledge.Goals as goal
 
-pub returns-in-Err-narrow-clause-performed : goal.returns-in-Err-narrow-clause-performed
-returns-in-Err-narrow-clause-performed c = λ me at.
-    let s = c.args.parts.now in
-    let now = bits_of c.in-Ok.set in
-    let later = bits_of c.in-Ok-asked.set in
-    let lent = lent-is (process_at s c.args.pid) me c.record.result.now c.record.ensures at in
-    ap trimmed
-    (pledge-refused s c.args.pid me (option_copied c.args.promises) (option_copied c.args.execpromises) now later c.in-Ok.ensures c.in-Ok-asked.ensures c.in-Err-narrow.promise
-    (ap (λ (r : ProcessRecord). narrow_both r.pledge now later) (sym lent) ∙ c.in-Err-narrow.ensures.refused))
+pub returns-in-Err-narrow : goal.returns-in-Err-narrow
+returns-in-Err-narrow c = record {
+  performed = record {
+    as_defined = λ me at.
+        let s = c.args.parts.now in
+        let now = bits_of c.in-Ok.set in
+        let later = bits_of c.in-Ok-asked.set in
+        let lent = lent-is (process_at s c.args.pid) me c.record.result.now c.record.ensures at in
+        ap trimmed
+        (pledge-refused s c.args.pid me (option_copied c.args.promises) (option_copied c.args.execpromises) now later c.in-Ok.ensures c.in-Ok-asked.ensures c.in-Err-narrow.promise
+        (ap (λ (r : ProcessRecord). narrow_both r.pledge now later) (sym lent) ∙ c.in-Err-narrow.ensures.refused));
+    unchanged = refl;
+    small = tt;
+  };
+}
 
-pub returns-in-Ok-narrow-clause-performed : goal.returns-in-Ok-narrow-clause-performed
-returns-in-Ok-narrow-clause-performed c = λ me at.
-    let s = c.args.parts.now in
-    let now = bits_of c.in-Ok.set in
-    let later = bits_of c.in-Ok-asked.set in
-    let kept = c.narrow.new.self in
-    let lent = lent-is (process_at s c.args.pid) me c.record.result.now c.record.ensures at in
-    ap trimmed
-    (pledge-kept s c.args.pid me (option_copied c.args.promises) (option_copied c.args.execpromises) now later c.in-Ok.ensures c.in-Ok-asked.ensures kept
-    (ap (λ (r : ProcessRecord). narrow_both r.pledge now later) (sym lent) ∙ c.in-Ok-narrow.ensures.narrowed))
-    ∙ ap (λ x. done 0 (x, returns 0)) (ap trim (sym (c.set_pledge.ensures ∙ update-is s c.args.pid (with_pledged kept) me at)) ∙ c.facts.ensures.trimmed)
-    ∙ sym (ap (attempt_of c.set_pledge.new.self) c.answer_of.ensures)
+pub returns-in-Ok-narrow : goal.returns-in-Ok-narrow
+returns-in-Ok-narrow c = record {
+  performed = record {
+    as_defined = λ me at.
+        let s = c.args.parts.now in
+        let now = bits_of c.in-Ok.set in
+        let later = bits_of c.in-Ok-asked.set in
+        let kept = c.narrow.new.self in
+        let lent = lent-is (process_at s c.args.pid) me c.record.result.now c.record.ensures at in
+        ap trimmed
+        (pledge-kept s c.args.pid me (option_copied c.args.promises) (option_copied c.args.execpromises) now later c.in-Ok.ensures c.in-Ok-asked.ensures kept
+        (ap (λ (r : ProcessRecord). narrow_both r.pledge now later) (sym lent) ∙ c.in-Ok-narrow.ensures.narrowed))
+        ∙ ap (λ x. done 0 (x, returns 0)) (ap trim (sym (c.set_pledge.ensures ∙ update-is s c.args.pid (with_pledged kept) me at)) ∙ c.facts.ensures.trimmed)
+        ∙ sym (ap (attempt_of c.set_pledge.new.self) c.answer_of.ensures);
+    unchanged = rw c.answer_of.ensures tt;
+    small = rw c.answer_of.ensures (omega arith);
+  };
+}

@@ -4,7 +4,7 @@ use Rattle.std.specs.Ordering.{nat_cmp}
 use Rattle.std.specs.Prelude.{IfOk, option_map, unwrap_or}
 use Rattle.pv_model.specs.Attempt.{done}
 use Rattle.pv_model.specs.Calls.Processes.{parent_of}
-use Rattle.pv_model.specs.Effect.{returns}
+use Rattle.pv_model.specs.Effect.{returns as returns_number}
 use Rattle.pv_model.specs.State.{Process, process_at}
 use Rattle.pv_procs.specs.ProcessTable.{ProcessTable}
 use Rattle.pv_laws_states.proofs.ByProcess.{good-getppid}
@@ -20,14 +20,15 @@ parent-is c me at =
     (c.parent_of.ensures ∙ ap (λ (ps : ProcessTable). option_map parent_of (find nat_cmp c.args.pid ps.processes)) c.processes.ensures
     ∙ ap (option_map parent_of) (live-found c.args.parts.now c.args.pid me at))
 
-pub returns-clause-small : goal.returns-clause-small
-returns-clause-small c =
+pub returns : goal.returns
+returns c =
     let s = c.args.parts.now in
     let found = some-at (process_at s c.args.pid) c.requires.live in
-    subst (λ r. IfOk r (λ d. d.value ≤ 2147483647)) (sym c.answer_of.ensures)
-    (subst (λ n. n ≤ 2147483647) (sym (parent-is c found.0 found.1)) (good-getppid s c.args.pid found.0 c.requires.whole found.1).1)
-
-pub returns-clause-performed : goal.returns-clause-performed
-returns-clause-performed c = λ me at.
-    ap (λ x. done 0 (x, returns me.parent)) c.facts.ensures.trimmed ∙ ap (λ n. done 0 (c.args.parts.now, returns n)) (sym (parent-is c me at))
-    ∙ ap (attempt_of c.args.parts.now) (sym c.answer_of.ensures)
+    record {
+      performed = record {
+        as_defined = λ me at. ap (λ x. done 0 (x, returns_number me.parent)) c.facts.ensures.trimmed ∙ ap (λ n. done 0 (s, returns_number n)) (sym (parent-is c me at)) ∙ ap (attempt_of s) (sym c.answer_of.ensures);
+        unchanged = rw c.answer_of.ensures tt;
+        small = subst (λ r. IfOk r (λ d. d.value ≤ 2147483647)) (sym c.answer_of.ensures)
+            (subst (λ n. n ≤ 2147483647) (sym (parent-is c found.0 found.1)) (good-getppid s c.args.pid found.0 c.requires.whole found.1).1);
+      };
+    }
