@@ -8,8 +8,9 @@ use Rattle.pv_model.specs.State.{State}
 use Rattle.pv_model.specs.Step.{Schedule, boot, steps_of}
 use Rattle.pv_model.specs.Start.{Started, bundle_started}
 use Rattle.pv_laws_runs.proofs.Asked.{bundle-asks}
-use Rattle.pv_run.specs.Run.{HasBegun, HasRun, IsSummaryOf, StandsIn, StopsBy, started_from, text_of}
+use Rattle.pv_run.specs.Run.{HasBegun, HasRun, HasStopped, IsSummaryOf, StandsIn, StopsBy, WantsAtExecve, started_from, text_of}
 use Rattle.pv_run.specs.declared.turns.Summary.{Summary}
+use Rattle.pv_session.specs.Stopping.{StopsAtExecve}
 use Rattle.pv_session.specs.Running.{BeginsLines, WrittenLines, run_of}
 
 module _ (asked : Result Started RunFault) (s : State) (schedule : Schedule) (is : asked ≡ Ok (started_from s schedule)) (machine : boot program_of s.tree ≡ Some s)
@@ -22,21 +23,26 @@ module _ (asked : Result Started RunFault) (s : State) (schedule : Schedule) (is
     written = begun;
   }
 
-  -- a run that stopped before its end
-  pub stops : (fault : RunFault) (failures now : ℕ) → StopsBy fault failures now → BeginsLines (run_of s schedule).lines before after → StandsIn asked before after fault
-  stops Memory failures now why begun = inr (has_begun begun)
-  stops WriteTrace failures now why begun = has_begun begun
-  stops Read failures now why begun = elim why [ ]
-  stops (Image f) failures now why begun = elim why [ ]
-  stops (Manifest f) failures now why begun = elim why [ ]
-  stops (ScheduleLine n) failures now why begun = elim why [ ]
-  stops (Init n) failures now why begun = elim why [ ]
-  stops WriteImage failures now why begun = elim why [ ]
+  module _ (left : State) where
+    pub has_stopped : StopsAtExecve (steps_of schedule) s left before after → HasStopped asked before after
+    has_stopped stop = record { it = started_from s schedule; now = left; is_asked = is; is_machine = machine; stops = stop }
 
-  pub stands : (result : Result Summary RunFault) (failures now : ℕ) → OnErr result (BeginsLines (run_of s schedule).lines before after) → IfErr result (λ (fault : RunFault). StopsBy fault failures now)
-      → IfErr result (λ (fault : RunFault). StandsIn asked before after fault)
-  stands (Ok summary) failures now begun why = tt
-  stands (Err fault) failures now begun why = stops fault failures now why begun
+    -- a run that stopped before its end
+    stops : (fault : RunFault) (failures now : ℕ) → StopsBy fault failures now → BeginsLines (run_of s schedule).lines before after
+        → WantsAtExecve fault schedule s left before after → StandsIn asked before after fault
+    stops Memory failures now why begun stop = inr (has_stopped stop)
+    stops WriteTrace failures now why begun stop = has_begun begun
+    stops Read failures now why begun stop = elim why [ ]
+    stops (Image f) failures now why begun stop = elim why [ ]
+    stops (Manifest f) failures now why begun stop = elim why [ ]
+    stops (ScheduleLine n) failures now why begun stop = elim why [ ]
+    stops (Init n) failures now why begun stop = elim why [ ]
+    stops WriteImage failures now why begun stop = elim why [ ]
+
+    pub stands : (result : Result Summary RunFault) (failures now : ℕ) → OnErr result (BeginsLines (run_of s schedule).lines before after) → IfErr result (λ (fault : RunFault). StopsBy fault failures now)
+        → IfErr result (λ (fault : RunFault). WantsAtExecve fault schedule s left before after) → IfErr result (λ (fault : RunFault). StandsIn asked before after fault)
+    stands (Ok summary) failures now begun why stop = tt
+    stands (Err fault) failures now begun why stop = stops fault failures now why begun stop
 
 -- ---- a run of a bundle that was made
 

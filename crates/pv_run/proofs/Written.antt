@@ -1,5 +1,5 @@
 -- A run on an image, and the image that it leaves.
-use Rattle.std.proofs.Common.{◌≡◌, ◌∙◌, ap, sym, subst, arith, length, refl, ℕ, Option, Some, Result, Ok, Err, inr}
+use Rattle.std.proofs.Common.{◌≡◌, ◌∙◌, ap, sym, subst, arith, length, refl, ℕ, Option, Some, Result, Ok, Err, inl, inr}
 use Rattle.std.proofs.lemmas.List.{take_all}
 use Rattle.pv_model.specs.declared.run_fault.RunFault.{RunFault}
 use Rattle.pv_model.specs.declared.run_fault.RunFault.TheVariants.{Read, Image, Manifest, Schedule as ScheduleLine, Init, Memory, WriteTrace, WriteImage}
@@ -10,13 +10,12 @@ use Rattle.pv_model.specs.Start.{Started, image_started}
 use Rattle.pv_model.specs.Step.{Schedule, boot}
 use Rattle.pv_model.specs.Tree.{Tree}
 use Rattle.pv_laws_runs.proofs.Asked.{image-asks}
-use Rattle.pv_run.proofs.Begun.{has_begun}
+use Rattle.pv_run.proofs.Begun.{has_begun, has_stopped}
 use Rattle.pv_run.specs.Images.{BeginsImage, HasRunOn, HasRunUncut, IsWriteFault, StandsOn, WrittenImage, last_tree}
-use Rattle.pv_run.specs.Run.{HasBegun, IsSummaryOf, IsTextOf, StopsBy, started_from, text_of}
+use Rattle.pv_run.specs.Run.{HasBegun, IsSummaryOf, IsTextOf, StopsBy, WantsAtExecve, started_from, text_of}
 use Rattle.pv_run.specs.declared.turns.Summary.{Summary}
 use Rattle.pv_session.specs.Running.{BeginsLines, WrittenLines, run_of}
 use Rattle.pv_streams.specs.Sinks.{TellsBeginning, and_all}
-use Rattle.pv_streams.proofs.Sinks.{begins_whole}
 
 -- an answer that is this fault
 abbrev pub answered : RunFault → Result (Unit {0}) RunFault
@@ -44,7 +43,7 @@ module _ (asked : Result Started RunFault) (s : State) (schedule : Schedule) (is
       begun = subst (λ (x : Tree). BeginsImage x ib ia) is_last (cut refl);
     })
     unwritten Memory e same_fault kind cut memory =
-        rw same_fault (inr (has_begun asked s schedule is machine tb ta (begins_whole (text_of (started_from s schedule)) tb ta written)), memory refl)
+        rw same_fault (inr (inr (record { text = text_of (started_from s schedule); summary = summary; is_run = is_text summary counts; written = written })), memory refl)
     unwritten Read e same_fault kind cut memory = elim kind [ ]
     unwritten (Image f) e same_fault kind cut memory = elim kind [ ]
     unwritten (Manifest f) e same_fault kind cut memory = elim kind [ ]
@@ -53,15 +52,16 @@ module _ (asked : Result Started RunFault) (s : State) (schedule : Schedule) (is
     unwritten WriteTrace e same_fault kind cut memory = elim kind [ ]
 
   -- a run that stopped before its end writes no image
-  pub stops_on : (f e : RunFault) → e ≡ f → (failures now : ℕ) → StopsBy f failures now → BeginsLines (run_of s schedule).lines tb ta → StandsOn asked tb ta ib ib e
-  stops_on Memory e same failures now why begun = rw same (inr (has_begun asked s schedule is machine tb ta begun), refl)
-  stops_on WriteTrace e same failures now why begun = rw same (has_begun asked s schedule is machine tb ta begun, refl)
-  stops_on Read e same failures now why begun = elim why [ ]
-  stops_on (Image f) e same failures now why begun = elim why [ ]
-  stops_on (Manifest f) e same failures now why begun = elim why [ ]
-  stops_on (ScheduleLine n) e same failures now why begun = elim why [ ]
-  stops_on (Init n) e same failures now why begun = elim why [ ]
-  stops_on WriteImage e same failures now why begun = elim why [ ]
+  pub stops_on : (left : State) (f e : RunFault) → e ≡ f → (failures now : ℕ) → StopsBy f failures now → BeginsLines (run_of s schedule).lines tb ta
+      → WantsAtExecve f schedule s left tb ta → StandsOn asked tb ta ib ib e
+  stops_on left Memory e same failures now why begun stop = rw same (inr (inl (has_stopped asked s schedule is machine tb ta left stop)), refl)
+  stops_on left WriteTrace e same failures now why begun stop = rw same (has_begun asked s schedule is machine tb ta begun, refl)
+  stops_on left Read e same failures now why begun stop = elim why [ ]
+  stops_on left (Image f) e same failures now why begun stop = elim why [ ]
+  stops_on left (Manifest f) e same failures now why begun stop = elim why [ ]
+  stops_on left (ScheduleLine n) e same failures now why begun stop = elim why [ ]
+  stops_on left (Init n) e same failures now why begun stop = elim why [ ]
+  stops_on left WriteImage e same failures now why begun stop = elim why [ ]
 
 -- ---- a run on an image that was made
 

@@ -7,7 +7,7 @@ use Rattle.pv_model.specs.Bytes.{Bytes}
 use Rattle.pv_model.specs.Held.{named_tree}
 use Rattle.pv_model.specs.Start.{Started, image_started}
 use Rattle.pv_model.specs.Tree.{Tree}
-use Rattle.pv_run.specs.Run.{HasBegun, IsSummaryOf, IsTextOf, text_of}
+use Rattle.pv_run.specs.Run.{HasBegun, HasStopped, IsSummaryOf, IsTextOf, text_of}
 use Rattle.pv_run.specs.declared.turns.Summary.{Summary}
 use Rattle.pv_laws_runs.specs.Asked.{AsksOfImage}
 use Rattle.pv_session.specs.Running.{run_of}
@@ -45,11 +45,19 @@ pub record HasRunUncut (asked : Result Started RunFault) (trace_before trace_aft
   pub written : trace_after ≡ and_all trace_before text
   pub begun : BeginsImage (last_tree is_run.it) image_before image_after
 
--- a refusal stands in what is asked, before any other, and then nothing was written; no image was written of a run that stopped
+-- a run was made, and its text was written
+pub record HasRunWhole (asked : Result Started RunFault) (before after : Option Bytes) : Type 0 where
+  pub text : Bytes
+  pub summary : Summary
+  pub is_run : IsTextOf asked text summary
+  pub written : after ≡ and_all before text
+
+-- a refusal stands in what is asked, before any other, and then nothing was written; no image was written of a run that stopped. Memory is
+-- wanted before the first step, at an execve, or for the image of what is left
 abbrev pub StandsOn : Result Started RunFault → Option Bytes → Option Bytes → Option Bytes → Option Bytes → RunFault → Type 0
 StandsOn asked tb ta ib ia WriteImage = HasRunUncut asked tb ta ib ia
 StandsOn asked tb ta ib ia WriteTrace = HasBegun asked tb ta × (ia ≡ ib)
-StandsOn asked tb ta ib ia Memory = ((ta ≡ tb) ⊎ HasBegun asked tb ta) × (ia ≡ ib)
+StandsOn asked tb ta ib ia Memory = ((ta ≡ tb) ⊎ (HasStopped asked tb ta ⊎ HasRunWhole asked tb ta)) × (ia ≡ ib)
 StandsOn asked tb ta ib ia Read = (ta ≡ tb) × (ia ≡ ib)
 StandsOn asked tb ta ib ia fault = (asked ≡ Err fault) × (ta ≡ tb) × (ia ≡ ib)
 

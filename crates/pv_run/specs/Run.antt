@@ -12,6 +12,7 @@ use Rattle.pv_model.specs.Stream.{Rose}
 use Rattle.pv_model.specs.Trace.{trace_bytes}
 use Rattle.pv_laws_runs.specs.Asked.{AsksOfBundle}
 use Rattle.pv_session.specs.Running.{run_of}
+use Rattle.pv_session.specs.Stopping.{StopsAtExecve}
 use Rattle.pv_streams.specs.Sinks.{and_all, TellsBeginning}
 use Rattle.pv_run.specs.declared.turns.Summary.{Summary}
 
@@ -60,11 +61,25 @@ pub record HasBegun (asked : Result Started RunFault) (before after : Option Byt
   pub is_run : IsTextOf asked text summary
   pub written : TellsBeginning text before after
 
+-- a run stopped before an execve that leads to an executable file, which its process's table allows: the lines of the steps before it were
+-- written, and no more
+pub record HasStopped (asked : Result Started RunFault) (before after : Option Bytes) : Type 0 where
+  pub it : Started
+  pub now : State
+  pub is_asked : asked ≡ Ok it
+  pub is_machine : boot program_of it.state.tree ≡ Some it.state
+  pub stops : StopsAtExecve (steps_of it.schedule) it.state now before after
+
+-- in a run memory is wanted there alone
+abbrev pub WantsAtExecve : RunFault → Schedule → State → State → Option Bytes → Option Bytes → Type 0
+WantsAtExecve Memory schedule s now before after = StopsAtExecve (steps_of schedule) s now before after
+WantsAtExecve fault schedule s now before after = ⊤
+
 -- a refusal stands in what is asked, before any other
 abbrev pub StandsIn : Result Started RunFault → Option Bytes → Option Bytes → RunFault → Type 0
 StandsIn asked before after WriteTrace = HasBegun asked before after
 StandsIn asked before after Read = ⊤
-StandsIn asked before after Memory = (after ≡ before) ⊎ HasBegun asked before after
+StandsIn asked before after Memory = (after ≡ before) ⊎ HasStopped asked before after
 StandsIn asked before after fault = asked ≡ Err fault
 
 -- what the start on a tree may answer

@@ -5,7 +5,7 @@ ghost use Rattle.pv_model.specs.Grammar.Programs.{program_of};
 ghost use Rattle.pv_model.specs.Start.{started_on};
 ghost use Rattle.pv_model.specs.Step.{boot};
 ghost use Rattle.pv_model.specs.Stream.{Rose};
-ghost use Rattle.pv_run.specs.Run.{IsFaultOnTree, IsSummaryOf, RefusesStart, StopsBy, BufferedOnlyIfCut, started_from};
+ghost use Rattle.pv_run.specs.Run.{IsFaultOnTree, IsSummaryOf, RefusesStart, StopsBy, BufferedOnlyIfCut, WantsAtExecve, started_from};
 ghost use Rattle.pv_session.specs.Running.{BeginsLines, WrittenLines, run_of};
 
 use pv_model::RunFault;
@@ -73,6 +73,7 @@ pub(crate) fn make_turns<W: Sink>(
     ensures failed { IfErr result (λ fault. StopsBy fault (W.failures trace.old) (W.failures trace.new)) }
     ensures empty { OnOk result (W.buffered trace.new ≡ 0) }
     ensures stopped { IfErr result (λ fault. BufferedOnlyIfCut fault (W.buffered trace.new)) }
+    ensures memory { IfErr result (λ fault. WantsAtExecve fault ready.old.schedule ready.old.session ready.new.session (W.written trace.old) (W.written trace.new)) }
 {
     let steps = step_count(ready.schedule.turns());
     match run_schedule(alloc, &mut ready.session, ready.schedule.turns(), trace) {

@@ -5,5 +5,6 @@ pub mod Audited
 pub mod Passing
 pub mod Restrained
 pub mod Stepping
+pub mod Stopped
 pub mod Turns
 pub mod Writes

@@ -33,7 +33,7 @@ turn_more s mid pid n at =
     ap (λ k. turn s pid k) (add-one n) ∙ ap (λ pids. run program_of pids s) (replicate_more n pid)
     ∙ run-append program_of (replicate n pid) (pid ∷ []) s ∙ ap (λ r. following (turn s pid n) r) (single (turn s pid n).final pid ∙ ap (λ m. one_step m pid) (sym at))
 
-steps_more : (schedule : Schedule) (i : ℕ) → i < length schedule
+pub steps_more : (schedule : Schedule) (i : ℕ) → i < length schedule
     → steps_of (take (i + 1) schedule) ≡ steps_of (take i schedule) ++ replicate (get_or schedule i (0, 0)).1 (get_or schedule i (0, 0)).0
 steps_more schedule i within =
     let entry = get_or schedule i (0, 0) in

@@ -1,3 +1,4 @@
 pub mod Audits
 pub mod Restraints
 pub mod Running
+pub mod Stopping

@@ -1,7 +1,8 @@
 //! Runs of the machine, whose lines are written step by step.
-ghost use Rattle.std.specs.Prelude.{◌≡◌, ◌*◌, ◌≤◌, length, IfOk, IfErr, OnOk, OnErr};
+ghost use Rattle.std.specs.Prelude.{◌≡◌, ◌*◌, ◌≤◌, length, replicate, IfOk, IfErr, OnOk, OnErr};
 ghost use Rattle.pv_model.specs.declared.limits.TheConstants.{SCHEDULE_LINES};
 ghost use Rattle.pv_model.specs.Step.{steps_of};
+ghost use Rattle.pv_session.specs.Stopping.{StopsOn};
 ghost use Rattle.pv_session.specs.Running.{BeginsLines, FailsBy, WrittenLines, stepped, turn, run_of};
 
 use crate::session::{Session, Stop};
@@ -25,6 +26,7 @@ fn run_turn<W: Sink>(
     ensures beginning { OnErr result (BeginsLines (turn session.old pid count).lines (W.written trace.old) (W.written trace.new)) }
     ensures failed { IfErr result (λ stop. FailsBy stop (W.failures trace.old) (W.failures trace.new)) }
     ensures quiet { OnOk result (W.failures trace.new ≡ W.failures trace.old) }
+    ensures stopped { IfErr result (λ stop. StopsOn stop (replicate count pid) session.old session.new (W.written trace.old) (W.written trace.new)) }
 {
     let mut lines = 0;
     let mut made = 0;
@@ -44,8 +46,9 @@ fn run_turn<W: Sink>(
 ///
 /// # Errors
 ///
-/// `Write` where a write failed, `Memory` where memory was refused for a step: no step was made after it, and the
-/// sink was given a beginning of the lines.
+/// `Write` where a write failed: no step was made after it, and the sink was given a beginning of the lines. `Memory` where
+/// memory was refused for the program of an execve(2), which leads to an executable file that the process's table allows: that
+/// step was not made, and the sink was given just the lines of the steps before.
 pub fn run_schedule<W: Sink>(
     alloc: Global,
     session: &mut Session,
@@ -59,6 +62,7 @@ pub fn run_schedule<W: Sink>(
     ensures beginning { OnErr result (BeginsLines (run_of session.old schedule.now).lines (W.written trace.old) (W.written trace.new)) }
     ensures failed { IfErr result (λ stop. FailsBy stop (W.failures trace.old) (W.failures trace.new)) }
     ensures quiet { OnOk result (W.failures trace.new ≡ W.failures trace.old) }
+    ensures stopped { IfErr result (λ stop. StopsOn stop (steps_of schedule.now) session.old session.new (W.written trace.old) (W.written trace.new)) }
 {
     let mut lines = 0;
     for turn in schedule {

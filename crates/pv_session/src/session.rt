@@ -1,5 +1,5 @@
 //! The machine, step by step.
-ghost use Rattle.std.specs.Prelude.{◌≡◌, ◌⊎◌, ◌<◌, ◌≤◌, IfOk, IfErr, IsTrue, OnOk, OnErr, Ok, Err, Some, [], length};
+ghost use Rattle.std.specs.Prelude.{◌≡◌, ◌⊎◌, ◌<◌, ◌≤◌, ◌∷◌, IfOk, IfErr, IsTrue, OnOk, OnErr, Ok, Err, Some, [], length};
 ghost use Rattle.pv_laws_states.specs.States.{IsFirstTree, IsWhole, is_call};
 ghost use Rattle.pv_model.specs.CallRef.{call_of};
 ghost use Rattle.pv_model.specs.declared.limits.TheConstants.{BUFFER};
@@ -13,6 +13,7 @@ ghost use Rattle.pv_procs.specs.Turns.{AwaitsCall, CallsNext};
 ghost use Rattle.pv_session.specs.Audits.{KeepsSecret, KeepsSecretAt};
 ghost use Rattle.pv_session.specs.Restraints.{ChildBeginsAlike, GainsNothing, LeavesOthers};
 ghost use Rattle.pv_session.specs.declared.session.Stop.TheVariants.{Memory, Write};
+ghost use Rattle.pv_session.specs.Stopping.{NextLoads, StopsOn};
 ghost use Rattle.pv_session.specs.Running.{BeginsLines, FailsBy, WrittenLines, stepped, turn};
 
 use pv_audit::{audit, audit_node};
@@ -89,6 +90,7 @@ fn trace_call<W: Sink>(
     ensures beginning { OnErr result (BeginsLines (stepped kernel.old.state pid).lines (W.written trace.old) (W.written trace.new)) }
     ensures failed { IfErr result (λ stop. FailsBy stop (W.failures trace.old) (W.failures trace.new)) }
     ensures quiet { OnOk result (W.failures trace.new ≡ W.failures trace.old) }
+    ensures stopped { IfErr result (λ stop. StopsOn stop (pid ∷ []) kernel.old.state kernel.new.state (W.written trace.old) (W.written trace.new)) }
 {
     let outcome = kernel.call(alloc, pid, call)?;
     let front = kernel.buffer(pid);
@@ -136,11 +138,13 @@ impl Session {
     ///
     /// # Errors
     ///
-    /// `NoMemory` where memory was refused for the program of an execve(2); nothing has then changed.
+    /// `NoMemory` where memory was refused for the program of an execve(2), which leads to an executable file that the
+    /// process's table allows; nothing has then changed.
     pub fn step(&mut self, alloc: Global, pid: u32) -> Result<Outcome, StepFault>
         ensures after { OnOk result (self.new ≡ (stepped self.old pid).after) }
         ensures outcome { IfOk result (λ outcome. outcome ≡ (stepped self.old pid).outcome) }
         ensures unchanged { OnErr result (self.new ≡ self.old) }
+        ensures memory { OnErr result (NextLoads self.old pid) }
         ensures justified { IsJustified program_of self.old pid }
 
         // In one program image nothing is gained; the others, and what a child begins with.
@@ -218,8 +222,8 @@ impl Session {
     ///
     /// # Errors
     ///
-    /// `Memory` where memory was refused for the step, which was then not made, and nothing was written; `Write`
-    /// where a write failed: the sink was given a beginning of the lines.
+    /// `Memory` where memory was refused for the program of an execve(2), as in `step`: the step was not made, and nothing
+    /// was written. `Write` where a write failed: the sink was given a beginning of the lines.
     pub fn trace_step<W: Sink>(
         &mut self,
         alloc: Global,
@@ -233,6 +237,7 @@ impl Session {
         ensures beginning { OnErr result (BeginsLines (stepped self.old pid).lines (W.written trace.old) (W.written trace.new)) }
         ensures failed { IfErr result (λ stop. FailsBy stop (W.failures trace.old) (W.failures trace.new)) }
         ensures quiet { OnOk result (W.failures trace.new ≡ W.failures trace.old) }
+        ensures stopped { IfErr result (λ stop. StopsOn stop (pid ∷ []) self.old self.new (W.written trace.old) (W.written trace.new)) }
     {
         let kernel = &mut *self.kernel;
         match kernel.step_or_fetch(pid, &mut self.texts) {

@@ -1,8 +1,10 @@
 use Rattle.std.proofs.Common.{◌∙◌, ap, sym, subst, length, get_or, drop, arith, ◌+◌}
+use Rattle.std.proofs.lemmas.Result.{err_from_is_err_and}
 use Rattle.pv_model.specs.Step.{Run}
 use Rattle.pv_streams.proofs.Telling.{on_err}
 use Rattle.pv_session.specs.Running.{BeginsLines, WrittenLines, turn, run_of, run_of_first}
 use Rattle.pv_session.proofs.Turns.{begun_before, begun_after, schedule_more, schedule_rest, written_after, lines_after}
+use Rattle.pv_session.proofs.Stopped.{in-schedule}
 use Rattle.pv_session.proofs.running.run_schedule.Goals as goal
 
 pub loop-turn-preserved : goal.loop-turn-preserved
@@ -33,3 +35,10 @@ returns-in_err-lines-clause-beginning g c =
     (begun_before (run_of_first s (n + 1) schedule) (run_of (run_of_first s (n + 1) schedule).final (drop (n + 1) schedule)) _ _
     (subst (λ (r : Run). BeginsLines r.lines (g.W.Sink.written c.args.trace.now) (g.W.Sink.written c.run_turn.new.trace)) (sym more)
     (begun_after (run_of_first s n schedule) (turn c.loop-turn.session entry.0 entry.1) _ _ _ c.loop-turn.invariant.written c.in_err-lines.ensures.beginning))))
+
+pub returns-in_err-lines-clause-stopped : goal.returns-in_err-lines-clause-stopped
+returns-in_err-lines-clause-stopped g c =
+    let p = err_from_is_err_and c.from_residual.result c.from_residual.ensures.1 in
+    rw p.1 (in-schedule c.args.session.now c.loop-turn.session c.run_turn.new.session c.args.schedule.now c.loop-turn.turn-index
+    (g.W.Sink.written c.args.trace.now) (g.W.Sink.written c.loop-turn.trace) (g.W.Sink.written c.run_turn.new.trace)
+    c.loop-turn-test.true c.loop-turn.invariant.after c.loop-turn.invariant.written c.in_err-lines.field-0.0 p.0 p.2 c.in_err-lines.ensures.stopped)

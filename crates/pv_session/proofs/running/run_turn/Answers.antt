@@ -1,9 +1,11 @@
 use Rattle.std.proofs.Common.{◌≡◌, ◌≤◌, ◌∙◌, ap, sym, subst, length, arith, ◌+◌, ◌-◌, ℕ}
+use Rattle.std.proofs.lemmas.Result.{err_from_is_err_and}
 use Rattle.pv_model.specs.State.{State}
 use Rattle.pv_model.specs.Step.{Run}
 use Rattle.pv_streams.proofs.Telling.{on_err}
 use Rattle.pv_session.specs.Running.{BeginsLines, WrittenLines, turn}
 use Rattle.pv_session.proofs.Turns.{begun_before, begun_after, one_step, turn_more, turn_passed, turn_rest, written_after, lines_after}
+use Rattle.pv_session.proofs.Stopped.{in-turn}
 use Rattle.pv_session.proofs.running.run_turn.Goals as goal
 use Rattle.pv_session.proofs.running.run_turn.Goals.{then-written-eq0, else-written-eq0}
 
@@ -67,3 +69,10 @@ returns-in_err-written-clause-beginning g c =
     (begun_before (turn s pid (n + 1)) (turn (turn s pid (n + 1)).final pid (c.args.count - (n + 1))) _ _
     (subst (λ (r : Run). BeginsLines r.lines (g.W.Sink.written c.args.trace.now) (g.W.Sink.written c.trace_step.new.trace)) (sym more)
     (begun_after (turn s pid n) (one_step c.loop-made.session pid) _ _ _ c.loop-made.invariant.written c.in_err-written.ensures.beginning))))
+
+pub returns-in_err-written-clause-stopped : goal.returns-in_err-written-clause-stopped
+returns-in_err-written-clause-stopped g c =
+    let p = err_from_is_err_and c.from_residual.result c.from_residual.ensures.1 in
+    rw p.1 (in-turn c.args.session.now c.loop-made.session c.trace_step.new.self c.args.pid c.loop-made.made c.args.count
+    (g.W.Sink.written c.args.trace.now) (g.W.Sink.written c.loop-made.trace) (g.W.Sink.written c.trace_step.new.trace)
+    c.loop-made-test.true c.loop-made.invariant.after c.loop-made.invariant.written c.in_err-written.field-0.0 p.0 p.2 c.in_err-written.ensures.stopped)

@@ -1,10 +1,13 @@
 use Rattle.std.proofs.Common.{ap, sym, ◌∙◌, subst, length, List}
+use Rattle.std.proofs.lemmas.Result.{err_from_is_err_and}
+use Rattle.pv_calls.specs.Kernel.{Running}
 use Rattle.pv_model.specs.CallRef.{call_of}
 use Rattle.pv_model.specs.Step.{Stepped}
 use Rattle.pv_model.specs.Trace.{Line}
 use Rattle.pv_streams.proofs.Telling.{on_err}
 use Rattle.pv_session.specs.Running.{BeginsLines, WrittenLines, stepped}
 use Rattle.pv_session.proofs.Stepping.{begins-none, called-is, called-lines}
+use Rattle.pv_session.proofs.Stopped.{stops-called}
 use Rattle.pv_session.proofs.session.trace_call.Goals as goal
 
 pub returns-in_err-outcome-clause-beginning : goal.returns-in_err-outcome-clause-beginning
@@ -36,3 +39,9 @@ returns-clause-lines g c =
     ∙ ap length
     (called-lines c.args.kernel.now.state c.args.pid (call_of c.args.call) c.call.new.self c.in_ok-outcome.outcome c.requires.next c.in_ok-outcome.ensures.answered
     c.buffer-front.result.now c.walks-walks.result c.buffer-front.ensures.value c.walks-walks.ensures)
+
+pub returns-in_err-outcome-clause-stopped : goal.returns-in_err-outcome-clause-stopped
+returns-in_err-outcome-clause-stopped g c =
+    let p = err_from_is_err_and c.from_residual.result c.from_residual.ensures.1 in
+    rw p.1 (stops-called c.args.kernel.now.state c.args.pid (call_of c.args.call) c.call.new.self.state (g.W.Sink.written c.args.trace.now)
+    (ap (λ (k : Running). k.state) c.in_err-outcome.ensures.refused) c.requires.next c.in_err-outcome.ensures.memory p.0 p.2)

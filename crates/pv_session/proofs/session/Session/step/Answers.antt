@@ -7,6 +7,8 @@ use Rattle.pv_model.specs.Step.{Stepped}
 use Rattle.pv_session.specs.Running.{stepped}
 use Rattle.pv_laws_access.proofs.JustReads.{all-justified}
 use Rattle.pv_session.proofs.Restrained.{child, others, own}
+use Rattle.pv_session.specs.Stopping.{NextLoads}
+use Rattle.pv_session.proofs.Stopped.{called-loads}
 use Rattle.pv_session.proofs.Stepping.{Asks, called-after, called-outcome, step-gone, inside-after, inside-outcome}
 use Rattle.pv_calls.specs.Kernel.{Running}
 use Rattle.pv_session.proofs.session.Session.step.Goals as goal
@@ -60,3 +62,16 @@ returns-clause-others c = others c.args.self.now c.args.pid c.invariant.ensures 
 
 pub returns-clause-child : goal.returns-clause-child
 returns-clause-child c = child c.args.self.now c.args.pid c.invariant.ensures _ _ (returns-clause-after c) (returns-clause-outcome c)
+
+pub returns-clause-memory : goal.returns-clause-memory
+returns-clause-memory c =
+    let s = c.step_or_fetch.new.self.state in
+    let seen = ap (λ (k : Running). k.state) c.deref_mut-kernel.ensures.value ∙ c.self.view_is in
+    elim c.match-step_or_fetch.branch [
+      | in-Gone w ↦ rw w.result-is tt
+      | in-Register w ↦ rw w.result-is tt
+      | in-Call w ↦
+          let comes = w.in-Call.ensures.state in
+          let asks = subst (λ (t : State). Asks t c.args.pid (call_of w.in-Call.call)) (sym comes.1) comes.0 in
+          rw w.result-is (called-loads s c.args.self.now c.args.pid (call_of w.in-Call.call) (comes.1 ∙ seen) asks w.call.result w.call.ensures.memory)
+    ]

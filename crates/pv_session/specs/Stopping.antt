@@ -1,0 +1,35 @@
+-- Where a run stops for want of memory: before an execve that leads to a program.
+use Rattle.std.specs.Prelude.{◌≡◌, ⊤, ℕ, List, ◌∷◌, ◌++◌, Option, Some}
+use Rattle.pv_calls.specs.Loading.{LoadsProgram}
+use Rattle.pv_model.specs.declared.call.Call.{Call}
+use Rattle.pv_model.specs.Bytes.{Bytes}
+use Rattle.pv_model.specs.Grammar.Programs.{program_of}
+use Rattle.pv_model.specs.Program.{calls_for, next}
+use Rattle.pv_model.specs.State.{Process, State, process_at}
+use Rattle.pv_model.specs.Step.{run}
+use Rattle.pv_session.specs.declared.session.Stop.{Stop}
+use Rattle.pv_session.specs.declared.session.Stop.TheVariants.{Memory, Write}
+use Rattle.pv_session.specs.Running.{WrittenLines}
+
+-- the next step of a process is an execve that leads to an executable file, which its table allows
+pub record NextLoads (s : State) (pid : ℕ) : Type 0 where
+  pub me : Process
+  pub call : Call
+  pub lives : process_at s pid ≡ Some me
+  pub comes : next me ≡ calls_for call
+  pub loads : LoadsProgram s pid call
+
+-- of the steps of these processes the first were made, and their lines written, and the next is such an execve
+pub record StopsAtExecve (pids : List ℕ) (s now : State) (before after : Option Bytes) : Type 0 where
+  pub made : List ℕ
+  pub pid : ℕ
+  pub rest : List ℕ
+  pub all : pids ≡ made ++ pid ∷ rest
+  pub left : now ≡ (run program_of made s).final
+  pub as_written : WrittenLines (run program_of made s).lines before after
+  pub loads : NextLoads now pid
+
+-- want of memory stops there alone
+abbrev pub StopsOn : Stop → List ℕ → State → State → Option Bytes → Option Bytes → Type 0
+StopsOn Memory pids s now before after = StopsAtExecve pids s now before after
+StopsOn Write pids s now before after = ⊤
