@@ -64,12 +64,12 @@ const TRACES: &[(&str, &[u8], &[u8])] = &[
         b"    1 CALL  unveil(\"/a\", \"r\")\n    1 NAMI  \"/a\"\n    1 RET   unveil 0\n    1 CALL  unveil(\"/a/b\", \"\")\n    1 NAMI  \"/a/b\"\n    1 RET   unveil 0\n    1 CALL  open(\"/a/x\", r)\n    1 NAMI  \"/a/x\"\n    1 RET   open 0\n    1 CALL  open(\"/a/b/x\", r)\n    1 NAMI  \"/a/b/x\"\n    1 UNVL  entry 1, needs r\n    1 RET   open -1 errno 13 EACCES\n",
     ),
     (
-        "letters only go and the lock stays",
+        "permissions only go and the lock stays",
         b"image 64 64\ndir \"/a\"\ndir \"/b\"\nexec \"/init\" 5\nunveil \"/a\" \"r\"\nunveil \"/a\" \"rw\"\nunveil \"/b\" \"rw\"\nunveil null null\nunveil \"/b\" \"r\"\nschedule\n1 5\n",
         b"    1 CALL  unveil(\"/a\", \"r\")\n    1 NAMI  \"/a\"\n    1 RET   unveil 0\n    1 CALL  unveil(\"/a\", \"rw\")\n    1 NAMI  \"/a\"\n    1 UNVL  entry 0, needs rw\n    1 RET   unveil -1 errno 1 EPERM\n    1 CALL  unveil(\"/b\", \"rw\")\n    1 NAMI  \"/b\"\n    1 RET   unveil 0\n    1 CALL  unveil(null, null)\n    1 RET   unveil 0\n    1 CALL  unveil(\"/b\", \"r\")\n    1 UNVL  locked\n    1 RET   unveil -1 errno 1 EPERM\n",
     ),
     (
-        "unveiled file may lose its letters",
+        "unveiled file may lose its permissions",
         b"image 64 64\nbytes \"/f\" \"x\"\nexec \"/init\" 5\nunveil \"/f\" \"r\"\nopen \"/f\" r\nopen \"/g\" r\nunveil \"/f\" \"\"\nopen \"/f\" r\nschedule\n1 5\n",
         b"    1 CALL  unveil(\"/f\", \"r\")\n    1 NAMI  \"/f\"\n    1 RET   unveil 0\n    1 CALL  open(\"/f\", r)\n    1 NAMI  \"/f\"\n    1 RET   open 0\n    1 CALL  open(\"/g\", r)\n    1 NAMI  \"/g\"\n    1 UNVL  none, needs r\n    1 RET   open -1 errno 2 ENOENT\n    1 CALL  unveil(\"/f\", \"\")\n    1 NAMI  \"/f\"\n    1 RET   unveil 0\n    1 CALL  open(\"/f\", r)\n    1 NAMI  \"/f\"\n    1 UNVL  entry 0, needs r\n    1 RET   open -1 errno 13 EACCES\n",
     ),
@@ -126,7 +126,7 @@ const TURNS: &[(&str, &str, Turns, &str)] = &[
         "    1 CALL  fork()\n    1 RET   fork 2\n    1 CALL  getpid()\n    1 RET   getpid 1\n    2 CALL  getpid()\n    2 RET   getpid 2\n    1 CALL  getpid()\n    1 RET   getpid 1\n    2 CALL  getpid()\n    2 RET   getpid 2\n",
     ),
     (
-        "behind the last line, a jump that is not taken, an exit comes",
+        "after the last line, a jump that is not taken, an exit comes",
         "image 16 16\nexec \"/init\" 2\nset r0 1\njz r0 1\n",
         &[(1, 5)],
         "    1 CALL  exit(0)\n    1 GONE  no such process\n    1 GONE  no such process\n",
