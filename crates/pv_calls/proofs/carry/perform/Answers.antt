@@ -1,11 +1,8 @@
-use Rattle.std.proofs.Common.{◌≡◌, sym, subst}
+use Rattle.std.proofs.Common.{sym, subst}
 use Rattle.pv_model.specs.Answer.{effect}
 use Rattle.pv_model.specs.CallRef.{call_of}
 use Rattle.pv_model.specs.Grammar.Programs.{program_of}
-use Rattle.pv_model.specs.State.{Process, State}
 use Rattle.pv_model.specs.Tree.{find_entry}
-use Rattle.pv_calls.specs.Calls.{IsReply}
-use Rattle.pv_calls_plain.specs.Performed.{IsAnswered, IsPerformed}
 use Rattle.pv_calls.proofs.Living.{lives}
 use Rattle.pv_calls.proofs.Performing.{told-live}
 use Rattle.pv_calls.proofs.carry.perform.Goals as goal
