@@ -1,6 +1,5 @@
 -- A run on an image, and the image that it leaves.
-use Rattle.std.proofs.Common.{◌≡◌, ◌∙◌, ap, sym, subst, arith, length, refl, ℕ, Option, Some, Result, Ok, Err, inl, inr}
-use Rattle.std.proofs.lemmas.List.{take_all}
+use Rattle.std.proofs.Common.{◌≡◌, ◌∙◌, ap, subst, refl, ℕ, Option, Some, Result, Ok, Err, inl, inr}
 use Rattle.pv_model.specs.declared.run_fault.RunFault.{RunFault}
 use Rattle.pv_model.specs.declared.run_fault.RunFault.TheVariants.{Read, Image, Manifest, Schedule as ScheduleLine, Init, Memory, WriteTrace, WriteImage}
 use Rattle.pv_model.specs.Bytes.{Bytes}
@@ -11,11 +10,10 @@ use Rattle.pv_model.specs.Step.{Schedule, boot}
 use Rattle.pv_model.specs.Tree.{Tree}
 use Rattle.pv_laws_runs.proofs.Asked.{image-asks}
 use Rattle.pv_run.proofs.Begun.{has_begun, has_stopped}
-use Rattle.pv_run.specs.Images.{BeginsImage, HasRunOn, HasRunUncut, IsWriteFault, StandsOn, WrittenImage, last_tree}
-use Rattle.pv_run.specs.Run.{HasBegun, IsSummaryOf, IsTextOf, StopsBy, WantsAtExecve, started_from, text_of}
+use Rattle.pv_run.specs.Images.{BeginsImage, HasRunOn, IsWriteFault, StandsOn, WrittenImage, last_tree}
+use Rattle.pv_run.specs.Run.{IsSummaryOf, IsTextOf, StopsBy, WantsAtExecve, started_from, text_of}
 use Rattle.pv_run.specs.declared.turns.Summary.{Summary}
 use Rattle.pv_session.specs.Running.{BeginsLines, WrittenLines, run_of}
-use Rattle.pv_streams.specs.Sinks.{TellsBeginning, and_all}
 
 -- an answer that is this fault
 abbrev pub answered : RunFault → Result (Unit {0}) RunFault

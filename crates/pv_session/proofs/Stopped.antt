@@ -1,7 +1,7 @@
 -- Runs that stop for want of memory, step by step.
-use Rattle.std.proofs.Common.{◌≡◌, ◌≤◌, ◌<◌, ◌+◌, ◌-◌, ◌++◌, ◌∙◌, ap, sym, subst, ℕ, suc, List, [], ◌∷◌, length, take, drop, get_or, append_assoc, arith, refl, Option, Some, Result, Ok, Err}
+use Rattle.std.proofs.Common.{◌≡◌, ◌<◌, ◌+◌, ◌-◌, ◌++◌, ◌∙◌, ap, sym, subst, ℕ, suc, List, [], ◌∷◌, length, take, drop, get_or, append_assoc, arith, refl, Option, Result, Ok, Err}
 use Rattle.std.specs.Prelude.{replicate, IfErr, OnErr}
-use Rattle.std.proofs.lemmas.List.{append-nil, replicate-append-replicate, take-append-drop}
+use Rattle.std.proofs.lemmas.List.{replicate-append-replicate, take-append-drop}
 use Rattle.std.proofs.lemmas.Grind.{flat_map-append}
 use Rattle.pv_calls.specs.Loading.{LoadsProgram}
 use Rattle.pv_model.specs.declared.call.Call.{Call}

@@ -7,7 +7,6 @@ use Rattle.pv_model.specs.Step.{Stepped}
 use Rattle.pv_session.specs.Running.{stepped}
 use Rattle.pv_laws_access.proofs.JustReads.{all-justified}
 use Rattle.pv_session.proofs.Restrained.{child, others, own}
-use Rattle.pv_session.specs.Stopping.{NextLoads}
 use Rattle.pv_session.proofs.Stopped.{called-loads}
 use Rattle.pv_session.proofs.Stepping.{Asks, called-after, called-outcome, step-gone, inside-after, inside-outcome}
 use Rattle.pv_calls.specs.Kernel.{Running}
