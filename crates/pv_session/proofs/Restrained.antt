@@ -1,13 +1,11 @@
 -- What a step leaves of restraints, by what it answered.
-use Rattle.std.proofs.Common.{◌≡◌, ◌∙◌, ℕ, ap, sym, subst, Some, Result, Ok, Err}
-use Rattle.std.specs.Prelude.{IfOk, OnOk, IsFalse}
+use Rattle.std.proofs.Common.{◌≡◌, ℕ, Result, Ok, Err}
+use Rattle.std.specs.Prelude.{IfOk, OnOk}
 use Rattle.pv_laws_states.specs.States.{IsWhole}
 use Rattle.pv_model.specs.declared.kernel_fault.StepFault.{StepFault}
 use Rattle.pv_model.specs.declared.outcome.Outcome.{Outcome}
 use Rattle.pv_model.specs.Grammar.Programs.{program_of}
-use Rattle.pv_model.specs.Program.{next}
-use Rattle.pv_model.specs.State.{State, process_at}
-use Rattle.pv_laws_access.specs.Growth.{begins_image}
+use Rattle.pv_model.specs.State.{State}
 use Rattle.pv_laws_access.proofs.Ends.{whole-in_order}
 use Rattle.pv_laws_access.proofs.Images.{child-same, grows-never, others-keep}
 use Rattle.pv_session.specs.Restraints.{ChildBeginsAlike, GainsNothing, LeavesOthers}
