@@ -54,7 +54,7 @@ fn run_bytes<W: Sink>(alloc: Global, bytes: &[u8], trace: &mut W) -> Result<Summ
 /// - `Read`: a read failed, or the source gave more than 67,108,864 bytes.
 /// - `Manifest`, `Schedule`, `Init`: the first fault of the bundle, in the order of the checks; each names
 ///   the least line of its kind.
-/// - `Memory`: memory was refused. Before the first step nothing was written. After it only an execve(2) wants memory,
+/// - `Memory`: memory was refused. Once a line was written only an execve(2) wants memory,
 ///   one that leads to an executable file that its process's table allows: the trace has grown by just the lines of the
 ///   steps before.
 /// - `WriteTrace`: a write failed; the trace has grown by a beginning of the text, and no step was made

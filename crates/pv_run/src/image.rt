@@ -110,7 +110,7 @@ fn run_image<W: Sink, O: Sink>(
 /// - `Read`: a read failed, or a source gave more than 67,108,864 bytes.
 /// - `Image`, `Schedule`, `Init`: the first fault, in the order of the checks; each names the least inode, or
 ///   the least line, of its kind.
-/// - `Memory`: memory was refused. Before the first step nothing was written. In the run only an execve(2) wants memory,
+/// - `Memory`: memory was refused. Once a line was written only an execve(2) wants memory in the run,
 ///   one that leads to an executable file that its process's table allows: the trace has grown by just the lines of the
 ///   steps before. After the run the trace is whole. No image was written.
 /// - `WriteTrace`: a write failed; the trace has grown by a beginning of the text, no step was made after it,
