@@ -72,7 +72,7 @@ fn least_descriptor(
 ) -> Option<u8>
     ensures { result ≡ least (descriptors_for files.now.files descriptors.now node needed) }
 {
-    descriptors.facts();
+    descriptors.invariant();
     for d in 0..DESCRIPTORS as u8 {
         if let Some(file) = file_at(descriptors, d) {
             if is_open_on(files, file, node, needed) {

@@ -65,7 +65,7 @@ pub(crate) fn note_names(parts: &Parts, node: u16, suspects: &mut [Suspect])
 {
     let tree = parts.tree();
     // What its sizes tell with them: every tree is well-formed.
-    let _ = tree.sizes();
+    tree.invariant();
     let mut next = tree.next_name(node, None);
     while let Some((directory, name)) = next {
         note_name(parts, suspects, directory, &name);
@@ -77,7 +77,7 @@ pub(crate) fn note_names(parts: &Parts, node: u16, suspects: &mut [Suspect])
 fn live_suspects(parts: &Parts) -> Suspects
     ensures { result.items ≡ map (λ p. suspect p.0) (live_processes parts.now.processes) }
 {
-    parts.facts();
+    parts.invariant();
     let mut suspects = Suspects::new();
     for pid in 0..LAST_PROCESS + 1 {
         if parts.processes().live(pid) {
@@ -92,7 +92,7 @@ pub(crate) fn found_suspects(parts: &Parts, node: u16) -> Suspects
     ensures items { result.items ≡ map (noted_by parts.now (names_of parts.now.tree node)) (map (λ p. suspect p.0) (live_processes parts.now.processes)) }
     ensures ordered { is_sorted nat_cmp parts.now.processes ≡ true }
 {
-    parts.facts();
+    parts.invariant();
     let mut suspects = live_suspects(parts);
     note_names(parts, node, suspects.as_mut_slice());
     suspects

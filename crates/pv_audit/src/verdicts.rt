@@ -110,7 +110,7 @@ fn audit_place(parts: &Parts, place: &Place) -> Result<Verdict, AuditFault>
 pub fn audit(parts: &Parts, path: &[u8]) -> Result<Verdict, AuditFault>
     ensures { result ≡ audit_by_definition parts.now path.now }
 {
-    let _ = parts.tree().sizes();
+    parts.tree().invariant();
     match resolve(parts.tree(), &mut PlainLookup, ROOT, path, Follow::Last) {
         Ok(place) => audit_place(parts, &place),
         Err(errno) => Err(AuditFault::Walk(errno)),

@@ -14,11 +14,11 @@ ghost use Rattle.pv_calls_plain.specs.Performed.{answered, IsAnswered};
 use Reply::{Performed, Told};
 use pv_calls_path::chdir::chdir;
 use pv_calls_path::execve::{ExecveFault, execve};
-use pv_calls_path::links::LinkRoom;
 use pv_calls_path::looking::{lstat, readlink, stat};
 use pv_calls_path::names::{link, mkdir, rmdir, symlink, unlink};
 use pv_calls_path::opening::open_at;
 use pv_calls_path::rename::rename;
+use pv_calls_path::system::System;
 use pv_calls_path::unveil::unveil;
 use pv_calls_plain::answer::{Answer, Done, Refused, tell};
 use pv_calls_plain::descriptors::{close, dup, dup2, fchdir};
@@ -55,120 +55,95 @@ fn exit(parts: &mut Parts, pid: u32, code: i32) -> Answer
 // What a call that no promise forbids comes to, after its process's line. An execve(2) and a wait(2) that would wait do
 // not come here.
 #[inline(always)]
-fn dispatch<L: Lookup>(
-    parts: &mut Parts,
-    lookup: &mut L,
-    links: &mut LinkRoom,
-    pid: u32,
-    call: CallRef<'_>,
-) -> Reply
-    requires whole { IsWhole parts.old }
-    requires live { IsSome (process_at parts.old pid) }
+fn dispatch<L: Lookup + Drop>(system: &mut System<L>, pid: u32, call: CallRef<'_>) -> Reply
+    requires whole { IsWhole system.old.parts }
+    requires live { IsSome (process_at system.old.parts pid) }
     requires call { IsTrue (is_call (call_of call)) }
     requires no_execve { is_execve (call_of call) ≡ false }
-    requires goes_on { goes_on parts.old pid (call_of call) }
-    requires agrees { L.agrees lookup.old (find_entry parts.old.tree) }
-    ensures replied { IsReply (λ s me. effect program_of s pid me (call_of call.entry)) parts.old pid parts.new result }
-    ensures agrees { L.agrees lookup.new (find_entry parts.new.tree) }
+    requires goes_on { goes_on system.old.parts pid (call_of call) }
+    requires agrees { L.agrees system.old.lookup (find_entry system.old.parts.tree) }
+    ensures replied { IsReply (λ s me. effect program_of s pid me (call_of call.entry)) system.old.parts pid system.new.parts result }
+    ensures agrees { L.agrees system.new.lookup (find_entry system.new.parts.tree) }
 {
     match call {
-        CallRef::Exit(code) => Told(exit(parts, pid, code)),
-        CallRef::GetPid => Performed(getpid(parts, pid)),
-        CallRef::GetPpid => Performed(getppid(parts, pid)),
-        CallRef::Fork => Performed(fork(parts, pid)),
-        CallRef::Wait => Told(wait(parts, pid)),
-        CallRef::Pledge(now, later) => Performed(pledge(parts, pid, now, later)),
-        CallRef::Unveil(path, perms) => Performed(unveil(parts, lookup, links, pid, path, perms)),
+        CallRef::Exit(code) => Told(exit(&mut system.parts, pid, code)),
+        CallRef::GetPid => Performed(getpid(&mut system.parts, pid)),
+        CallRef::GetPpid => Performed(getppid(&mut system.parts, pid)),
+        CallRef::Fork => Performed(fork(&mut system.parts, pid)),
+        CallRef::Wait => Told(wait(&mut system.parts, pid)),
+        CallRef::Pledge(now, later) => Performed(pledge(&mut system.parts, pid, now, later)),
+        CallRef::Unveil(path, perms) => Performed(unveil(system, pid, path, perms)),
         CallRef::Execve(_) => unreachable!(),
         CallRef::Open(path, flags) => Performed(open_at(
-            parts,
-            lookup,
-            links,
+            system,
             pid,
             Start::WorkingDirectory,
             path,
             flags,
         )),
-        CallRef::OpenAt(start, path, flags) => Performed(open_at(
-            parts, lookup, links, pid, start, path, flags,
-        )),
-        CallRef::Close(d) => Performed(close(parts, pid, d)),
-        CallRef::Dup(d) => Performed(dup(parts, pid, d)),
-        CallRef::Dup2(d, e) => Performed(dup2(parts, pid, d, e)),
-        CallRef::Read(d, n) => Told(read(parts, pid, d, n)),
-        CallRef::Write(d, n) => Performed(write(parts, pid, d, n)),
-        CallRef::Lseek(d, by, whence) => Performed(lseek(parts, pid, d, by, whence)),
-        CallRef::Fstat(d) => Told(fstat(parts, pid, d)),
-        CallRef::Ftruncate(d, n) => Performed(ftruncate(parts, pid, d, n)),
-        CallRef::Getdents(d) => Told(getdents(parts, pid, d)),
-        CallRef::Fchdir(d) => Performed(fchdir(parts, pid, d)),
-        CallRef::Chdir(path) => Performed(chdir(parts, lookup, links, pid, path)),
-        CallRef::Stat(path) => Told(stat(parts, lookup, links, pid, path)),
-        CallRef::Lstat(path) => Told(lstat(parts, lookup, links, pid, path)),
-        CallRef::Readlink(path) => Told(readlink(parts, lookup, links, pid, path)),
-        CallRef::Mkdir(path) => Performed(mkdir(parts, lookup, links, pid, path)),
-        CallRef::Symlink(text, path) => Performed(symlink(
-            parts,
-            lookup,
-            links,
-            pid,
-            text.as_slice(),
-            path,
-        )),
-        CallRef::Link(path, new) => Performed(link(parts, lookup, links, pid, path, new)),
-        CallRef::Unlink(path) => Performed(unlink(parts, lookup, links, pid, path)),
-        CallRef::Rmdir(path) => Performed(rmdir(parts, lookup, links, pid, path)),
-        CallRef::Rename(path, new) => Performed(rename(parts, lookup, links, pid, path, new)),
+        CallRef::OpenAt(start, path, flags) => Performed(open_at(system, pid, start, path, flags)),
+        CallRef::Close(d) => Performed(close(&mut system.parts, pid, d)),
+        CallRef::Dup(d) => Performed(dup(&mut system.parts, pid, d)),
+        CallRef::Dup2(d, e) => Performed(dup2(&mut system.parts, pid, d, e)),
+        CallRef::Read(d, n) => Told(read(&mut system.parts, pid, d, n)),
+        CallRef::Write(d, n) => Performed(write(&mut system.parts, pid, d, n)),
+        CallRef::Lseek(d, by, whence) => Performed(lseek(&mut system.parts, pid, d, by, whence)),
+        CallRef::Fstat(d) => Told(fstat(&mut system.parts, pid, d)),
+        CallRef::Ftruncate(d, n) => Performed(ftruncate(&mut system.parts, pid, d, n)),
+        CallRef::Getdents(d) => Told(getdents(&mut system.parts, pid, d)),
+        CallRef::Fchdir(d) => Performed(fchdir(&mut system.parts, pid, d)),
+        CallRef::Chdir(path) => Performed(chdir(system, pid, path)),
+        CallRef::Stat(path) => Told(stat(system, pid, path)),
+        CallRef::Lstat(path) => Told(lstat(system, pid, path)),
+        CallRef::Readlink(path) => Told(readlink(system, pid, path)),
+        CallRef::Mkdir(path) => Performed(mkdir(system, pid, path)),
+        CallRef::Symlink(text, path) => Performed(symlink(system, pid, text.as_slice(), path)),
+        CallRef::Link(path, new) => Performed(link(system, pid, path, new)),
+        CallRef::Unlink(path) => Performed(unlink(system, pid, path)),
+        CallRef::Rmdir(path) => Performed(rmdir(system, pid, path)),
+        CallRef::Rename(path, new) => Performed(rename(system, pid, path, new)),
     }
 }
 
 // What such a call answers.
 #[inline(always)]
-fn perform<L: Lookup>(
-    parts: &mut Parts,
-    lookup: &mut L,
-    links: &mut LinkRoom,
-    pid: u32,
-    call: CallRef<'_>,
-) -> Answer
-    requires whole { IsWhole parts.old }
-    requires live { IsSome (process_at parts.old pid) }
+fn perform<L: Lookup + Drop>(system: &mut System<L>, pid: u32, call: CallRef<'_>) -> Answer
+    requires whole { IsWhole system.old.parts }
+    requires live { IsSome (process_at system.old.parts pid) }
     requires call { IsTrue (is_call (call_of call)) }
     requires no_execve { is_execve (call_of call) ≡ false }
-    requires goes_on { goes_on parts.old pid (call_of call) }
-    requires agrees { L.agrees lookup.old (find_entry parts.old.tree) }
-    ensures performed { IsAnswered (λ s me. effect program_of s pid me (call_of call.entry)) parts.old pid parts.new result }
-    ensures agrees { L.agrees lookup.new (find_entry parts.new.tree) }
+    requires goes_on { goes_on system.old.parts pid (call_of call) }
+    requires agrees { L.agrees system.old.lookup (find_entry system.old.parts.tree) }
+    ensures performed { IsAnswered (λ s me. effect program_of s pid me (call_of call.entry)) system.old.parts pid system.new.parts result }
+    ensures agrees { L.agrees system.new.lookup (find_entry system.new.parts.tree) }
 {
-    match dispatch(parts, lookup, links, pid, call) {
-        Performed(performed) => tell(parts, pid, performed),
+    match dispatch(system, pid, call) {
+        Performed(performed) => tell(&mut system.parts, pid, performed),
         Told(answer) => answer,
     }
 }
 
 // What an execve(2) answers that no promise forbids, before its process goes on.
-fn execute<L: Lookup>(
+fn execute<L: Lookup + Drop>(
     alloc: Global,
-    parts: &mut Parts,
-    lookup: &mut L,
-    links: &mut LinkRoom,
+    system: &mut System<L>,
     pid: u32,
     path: &Text,
 ) -> Result<Answer, StepFault>
-    requires whole { IsWhole parts.old }
-    requires live { IsSome (process_at parts.old pid) }
+    requires whole { IsWhole system.old.parts }
+    requires live { IsSome (process_at system.old.parts pid) }
     requires call { IsTrue (is_call (Execve path.now)) }
-    requires agrees { L.agrees lookup.old (find_entry parts.old.tree) }
-    ensures carried { IfOk result (λ a. IsCarriedOut parts.old pid (Execve path.now) parts.new a) }
-    ensures agrees { L.agrees lookup.new (find_entry parts.new.tree) }
-    ensures unchanged { OnErr result (parts.new ≡ parts.old) }
-    ensures memory { IfErr result (λ _. (me : Process) → process_at parts.old pid ≡ Some me → Loads parts.old me (Execve path.now)) }
+    requires agrees { L.agrees system.old.lookup (find_entry system.old.parts.tree) }
+    ensures carried { IfOk result (λ a. IsCarriedOut system.old.parts pid (Execve path.now) system.new.parts a) }
+    ensures agrees { L.agrees system.new.lookup (find_entry system.new.parts.tree) }
+    ensures unchanged { OnErr result (system.new.parts ≡ system.old.parts) }
+    ensures memory { IfErr result (λ _. (me : Process) → process_at system.old.parts pid ≡ Some me → Loads system.old.parts me (Execve path.now)) }
 {
-    match execve(alloc, parts, lookup, links, pid, path) {
-        Ok(told) => Ok(tell(parts, pid, Ok(told))),
+    match execve(alloc, system, pid, path) {
+        Ok(told) => Ok(tell(&mut system.parts, pid, Ok(told))),
         Err(ExecveFault::Refused(why)) => {
-            parts.advance(pid);
-            Ok(tell(parts, pid, Err(why)))
+            system.parts.advance(pid);
+            Ok(tell(&mut system.parts, pid, Err(why)))
         }
         Err(ExecveFault::Memory) => Err(StepFault::NoMemory),
     }
@@ -188,34 +163,32 @@ fn is_blocked(parts: &Parts, pid: u32, call: CallRef<'_>) -> bool
 
 // What a call answers that no promise forbids.
 #[inline(always)]
-fn carry_on<L: Lookup>(
+fn carry_on<L: Lookup + Drop>(
     alloc: Global,
-    parts: &mut Parts,
-    lookup: &mut L,
-    links: &mut LinkRoom,
+    system: &mut System<L>,
     pid: u32,
     call: CallRef<'_>,
 ) -> Result<Answer, StepFault>
-    requires whole { IsWhole parts.old }
-    requires live { IsSome (process_at parts.old pid) }
+    requires whole { IsWhole system.old.parts }
+    requires live { IsSome (process_at system.old.parts pid) }
     requires call { IsTrue (is_call (call_of call)) }
-    requires agrees { L.agrees lookup.old (find_entry parts.old.tree) }
-    ensures carried { IfOk result (λ a. IsCarriedOut parts.old pid (call_of call.entry) parts.new a) }
-    ensures agrees { L.agrees lookup.new (find_entry parts.new.tree) }
-    ensures unchanged { OnErr result (parts.new ≡ parts.old) }
-    ensures memory { IfErr result (λ _. (me : Process) → process_at parts.old pid ≡ Some me → Loads parts.old me (call_of call.entry)) }
+    requires agrees { L.agrees system.old.lookup (find_entry system.old.parts.tree) }
+    ensures carried { IfOk result (λ a. IsCarriedOut system.old.parts pid (call_of call.entry) system.new.parts a) }
+    ensures agrees { L.agrees system.new.lookup (find_entry system.new.parts.tree) }
+    ensures unchanged { OnErr result (system.new.parts ≡ system.old.parts) }
+    ensures memory { IfErr result (λ _. (me : Process) → process_at system.old.parts pid ≡ Some me → Loads system.old.parts me (call_of call.entry)) }
 {
     if let CallRef::Execve(path) = call {
-        return execute(alloc, parts, lookup, links, pid, path);
+        return execute(alloc, system, pid, path);
     }
-    if is_blocked(parts, pid, call) {
+    if is_blocked(&system.parts, pid, call) {
         return Ok(Answer {
             outcome: Outcome::Blocked,
             walks: 0,
         });
     }
-    parts.advance(pid);
-    Ok(perform(parts, lookup, links, pid, call))
+    system.parts.advance(pid);
+    Ok(perform(system, pid, call))
 }
 
 /// What a call of a process answers, by its promises first: pledge(2). A missing promise kills the process, and is
@@ -226,45 +199,43 @@ fn carry_on<L: Lookup>(
 /// `NoMemory` where memory was refused for the program of an execve(2) that would have loaded one, or have been
 /// `ENOEXEC`; nothing has then changed.
 #[inline(always)]
-pub(crate) fn carry_out<L: Lookup>(
+pub(crate) fn carry_out<L: Lookup + Drop>(
     alloc: Global,
-    parts: &mut Parts,
-    lookup: &mut L,
-    links: &mut LinkRoom,
+    system: &mut System<L>,
     pid: u32,
     call: CallRef<'_>,
 ) -> Result<Answer, StepFault>
-    requires whole { IsWhole parts.old }
+    requires whole { IsWhole system.old.parts }
     requires call { IsTrue (is_call (call_of call)) }
-    requires agrees { L.agrees lookup.old (find_entry parts.old.tree) }
-    ensures answered { IfOk result (λ a. answer program_of parts.old pid (call_of call.entry) ≡ answered parts.new a) }
-    ensures agrees { L.agrees lookup.new (find_entry parts.new.tree) }
-    ensures unchanged { OnErr result (parts.new ≡ parts.old) }
-    ensures memory { IfErr result (λ _. LoadsProgram parts.old pid (call_of call.entry)) }
+    requires agrees { L.agrees system.old.lookup (find_entry system.old.parts.tree) }
+    ensures answered { IfOk result (λ a. answer program_of system.old.parts pid (call_of call.entry) ≡ answered system.new.parts a) }
+    ensures agrees { L.agrees system.new.lookup (find_entry system.new.parts.tree) }
+    ensures unchanged { OnErr result (system.new.parts ≡ system.old.parts) }
+    ensures memory { IfErr result (λ _. LoadsProgram system.old.parts pid (call_of call.entry)) }
 {
-    let Some(record) = parts.live_record(pid) else {
+    let Some(record) = system.parts.live_record(pid) else {
         return Ok(Answer {
             outcome: Outcome::Gone,
             walks: 0,
         });
     };
     match record.pledge.decide(call) {
-        Decision::Allowed => carry_on(alloc, parts, lookup, links, pid, call),
+        Decision::Allowed => carry_on(alloc, system, pid, call),
         Decision::Kill(promise) => {
-            parts.end(pid, 6);
+            system.parts.end(pid, 6);
             Ok(Answer {
                 outcome: Outcome::Killed(promise),
                 walks: 0,
             })
         }
         Decision::Refuse(promise) => {
-            parts.advance(pid);
+            system.parts.advance(pid);
             let refused = Refused {
                 walks: 0,
                 errno: Errno::ENOSYS,
                 cause: Cause::Promise(promise),
             };
-            Ok(tell(parts, pid, Err(refused)))
+            Ok(tell(&mut system.parts, pid, Err(refused)))
         }
     }
 }

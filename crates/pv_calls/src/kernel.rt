@@ -20,6 +20,7 @@ use crate::carry::carry_out;
 use pv_audit::{frozen_to, leak};
 use pv_calls_path::links::LinkRoom;
 use pv_calls_path::programs::init;
+use pv_calls_path::system::System;
 use pv_calls_state::Parts;
 use pv_model::{BootFault, CallRef, Outcome, StepFault, Why};
 use pv_namei::{CachedLookup, Lookup};
@@ -29,14 +30,12 @@ use pv_tree::{Store, Tree};
 use std::alloc::Global;
 use std::marker::Model;
 
-/// The kernel: the tree, the open files and the processes, and a lookup of names, with room for the places after links.
+/// The kernel: the tree, the open files and the processes, and a lookup of names.
 ///
 /// Between any two calls the state is one that a run may reach (`IsWhole`), and the lookup agrees with the tree.
 #[derive(Drop)]
 pub struct Kernel<L: Lookup + Drop> {
-    parts: Parts,
-    lookup: L,
-    links: LinkRoom,
+    system: System<L>,
     walks: u8,
 }
 
@@ -49,9 +48,9 @@ impl<L: Lookup + Drop> Model for Kernel<L> {
     ghost use Rattle.pv_laws_states.specs.States.{IsWhole};
     ghost use Rattle.pv_model.specs.Tree.{find_entry};
 
-    ghost view = { λ k. record { state = k.parts; walks = k.walks } };
+    ghost view = { λ k. record { state = k.system.parts; walks = k.walks } };
 
-    ghost invariant = { λ k. IsWhole k.parts × L.agrees k.lookup (find_entry k.parts.tree) };
+    ghost invariant = { λ k. IsWhole k.system.parts × L.agrees k.system.lookup (find_entry k.system.parts.tree) };
 }
 
 impl Kernel<CachedLookup> {
@@ -89,12 +88,12 @@ impl<L: Lookup + Drop> Kernel<L> {
             Err(fault) => return Err(fault),
         };
         let parts = Parts::new(alloc, store, program)?;
-        Ok(Kernel {
+        let system = System {
             parts,
             lookup,
             links: LinkRoom::new(),
-            walks: 0,
-        })
+        };
+        Ok(Kernel { system, walks: 0 })
     }
 
     /// What comes next in a process: nothing where it is not live, an instruction on registers or a jump, or a call, with its
@@ -103,7 +102,7 @@ impl<L: Lookup + Drop> Kernel<L> {
         ensures next { IsFetched result (process_at self.now.state pid) }
         ensures callable { IsCallable result }
     {
-        self.parts.processes().fetch(pid, texts)
+        self.system.parts.processes().fetch(pid, texts)
     }
 
     /// Makes the instruction on registers or the jump that comes next in a process. Where `fetch` answers `Register`, one does.
@@ -122,7 +121,7 @@ impl<L: Lookup + Drop> Kernel<L> {
         ensures callable { IsCallable result }
         ensures walks { self.new.walks ≡ self.old.walks }
     {
-        self.parts.step_or_fetch(pid, texts)
+        self.system.parts.step_or_fetch(pid, texts)
     }
 
     /// Makes the instructions on registers and the jumps that come next in a process, at most so many, one after
@@ -133,7 +132,7 @@ impl<L: Lookup + Drop> Kernel<L> {
         ensures whole { result < most → AwaitsCall (process_at self.new.state pid) }
         ensures walks { self.new.walks ≡ self.old.walks }
     {
-        self.parts.pass(pid, most)
+        self.system.parts.pass(pid, most)
     }
 
     /// Makes a call of a process: what it answers. `walks` then tells how many walks it began, and the bytes that an
@@ -149,14 +148,7 @@ impl<L: Lookup + Drop> Kernel<L> {
         ensures refused { OnErr result (self.new ≡ self.old) }
         ensures memory { IfErr result (λ _. LoadsProgram self.old.state pid (call_of call.entry)) }
     {
-        let answer = carry_out(
-            alloc,
-            &mut self.parts,
-            &mut self.lookup,
-            &mut self.links,
-            pid,
-            call,
-        )?;
+        let answer = carry_out(alloc, &mut self.system, pid, call)?;
         self.walks = answer.walks;
         Ok(answer.outcome)
     }
@@ -166,7 +158,7 @@ impl<L: Lookup + Drop> Kernel<L> {
         ensures value { result.now ≡ buffer_of (process_at self.now.state pid) }
         ensures size { length result.now ≤ BUFFER }
     {
-        match self.parts.live_record(pid) {
+        match self.system.parts.live_record(pid) {
             Some(record) => record.context.buffer(),
             None => &[],
         }
@@ -183,7 +175,7 @@ impl<L: Lookup + Drop> Kernel<L> {
     pub fn tree(&self) -> &Tree
         ensures { result.now.tree ≡ self.now.state.tree }
     {
-        self.parts.tree()
+        self.system.parts.tree()
     }
 
     /// Why a live process is not closed to the file of a node: the first reason, or None where it is closed to it. It takes no
@@ -192,7 +184,7 @@ impl<L: Lookup + Drop> Kernel<L> {
         requires { IsSome (process_at self.now.state pid) }
         ensures { (p : Process) → process_at self.now.state pid ≡ Some p → result ≡ first_of (leaks self.now.state p node) }
     {
-        leak(&self.parts, pid, node)
+        leak(&self.system.parts, pid, node)
     }
 
     /// Whether a live process writes the file of a node by no descriptor, and never will, if it is closed to it. It takes no
@@ -201,7 +193,7 @@ impl<L: Lookup + Drop> Kernel<L> {
         requires { IsSome (process_at self.now.state pid) }
         ensures { (p : Process) → process_at self.now.state pid ≡ Some p → result ≡ is_frozen_to self.now.state p node }
     {
-        frozen_to(&self.parts, pid, node)
+        frozen_to(&self.system.parts, pid, node)
     }
 
     /// The tree, the open files and the processes: between any two calls their state is one that a run may reach.
@@ -209,6 +201,6 @@ impl<L: Lookup + Drop> Kernel<L> {
         ensures value { result.now ≡ self.now.state }
         ensures whole { IsWhole self.now.state }
     {
-        &self.parts
+        &self.system.parts
     }
 }

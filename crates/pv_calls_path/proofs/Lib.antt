@@ -1,5 +1,6 @@
 -- Lemmas of the calls that walk: Reaching and Naming serve all; LookCalls, NameCalls, NodeCalls, OpenCalls, Renaming and UnveilCalls the
--- calls of one subject.
+-- calls of one subject. Begun has where the walks end that a call began.
+pub mod Begun
 pub mod LookCalls
 pub mod NameCalls
 pub mod Naming

@@ -1,3 +1,4 @@
+pub mod Ends
 pub mod Execve
 pub mod Moving
 pub mod Opening

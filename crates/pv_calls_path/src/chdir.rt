@@ -6,10 +6,9 @@ ghost use Rattle.pv_model.specs.State.{process_at};
 ghost use Rattle.pv_model.specs.Tree.{find_entry};
 ghost use Rattle.pv_calls_plain.specs.Performed.{IsPerformed};
 
-use crate::links::LinkRoom;
 use crate::reach::reach_node;
+use crate::system::System;
 use pv_calls_plain::answer::{Done, Refused, answer_of, refusal};
-use pv_calls_state::Parts;
 use pv_model::{Errno, Text, Walk};
 use pv_namei::Lookup;
 
@@ -18,20 +17,23 @@ use pv_namei::Lookup;
 /// # Errors
 ///
 /// An error of the walk, then of its judgement; `ENOENT` where nothing is there, and `ENOTDIR` where no directory is.
-pub fn chdir<L: Lookup>(
-    parts: &mut Parts,
-    lookup: &mut L,
-    links: &mut LinkRoom,
+pub fn chdir<L: Lookup + Drop>(
+    system: &mut System<L>,
     pid: u32,
     path: &Text,
 ) -> Result<Done, Refused>
-    requires whole { IsWhole parts.old }
-    requires live { IsSome (process_at parts.old pid) }
+    requires whole { IsWhole system.old.parts }
+    requires live { IsSome (process_at system.old.parts pid) }
     requires text { IsTrue (is_text path.now) }
-    requires agrees { L.agrees lookup.old (find_entry parts.old.tree) }
-    ensures performed { IsPerformed (λ s me. chdir s pid me path.now) parts.old pid parts.new result }
-    ensures agrees { L.agrees lookup.new (find_entry parts.new.tree) }
+    requires agrees { L.agrees system.old.lookup (find_entry system.old.parts.tree) }
+    ensures performed { IsPerformed (λ s me. chdir s pid me path.now) system.old.parts pid system.new.parts result }
+    ensures agrees { L.agrees system.new.lookup (find_entry system.new.parts.tree) }
 {
+    let System {
+        parts,
+        lookup,
+        links,
+    } = system;
     let walk = Walk::chdir(path);
     let node = reach_node(parts, lookup, pid, walk, &mut links.first)?;
     if !parts.tree().is_directory(node) {

@@ -6,11 +6,10 @@ ghost use Rattle.pv_model.specs.State.{Process, process_at};
 ghost use Rattle.pv_model.specs.Tree.{find_entry};
 ghost use Rattle.pv_calls_path.specs.Execve.{Executes};
 
-use crate::links::LinkRoom;
 use crate::programs::read_program;
 use crate::reach::reach_found;
+use crate::system::System;
 use pv_calls_plain::answer::{Done, Refused, refusal};
-use pv_calls_state::Parts;
 use pv_model::{Errno, Kind, ParseFault, Text, Walk};
 use pv_namei::Lookup;
 use std::alloc::Global;
@@ -38,22 +37,25 @@ fn refused(errno: Errno) -> ExecveFault
 /// An error of the walk, then of its judgement; `ENOENT` where nothing is there, `EACCES` where no executable file is,
 /// and `ENOEXEC` where its bytes are no program. `Memory`, in place of an answer or of `ENOEXEC`, where memory was refused
 /// for the program; nothing has then changed.
-pub fn execve<L: Lookup>(
+pub fn execve<L: Lookup + Drop>(
     alloc: Global,
-    parts: &mut Parts,
-    lookup: &mut L,
-    links: &mut LinkRoom,
+    system: &mut System<L>,
     pid: u32,
     path: &Text,
 ) -> Result<Done, ExecveFault>
-    requires whole { IsWhole parts.old }
-    requires live { IsSome (process_at parts.old pid) }
+    requires whole { IsWhole system.old.parts }
+    requires live { IsSome (process_at system.old.parts pid) }
     requires text { IsTrue (is_text path.now) }
-    requires agrees { L.agrees lookup.old (find_entry parts.old.tree) }
-    ensures performed { (me : Process) → process_at parts.old pid ≡ Some me → Executes parts.old pid me path.now parts.new result }
-    ensures unchanged { OnErr result (parts.new ≡ parts.old) }
-    ensures agrees { L.agrees lookup.new (find_entry parts.new.tree) }
+    requires agrees { L.agrees system.old.lookup (find_entry system.old.parts.tree) }
+    ensures performed { (me : Process) → process_at system.old.parts pid ≡ Some me → Executes system.old.parts pid me path.now system.new.parts result }
+    ensures unchanged { OnErr result (system.new.parts ≡ system.old.parts) }
+    ensures agrees { L.agrees system.new.lookup (find_entry system.new.parts.tree) }
 {
+    let System {
+        parts,
+        lookup,
+        links,
+    } = system;
     let walk = Walk::execve(path);
     let node = match reach_found(parts, lookup, pid, walk, &mut links.first) {
         Ok(found) => found.node,

@@ -2,10 +2,12 @@
 //!
 //! `reach` walks and judges, and `programs` says which program a file spells. `opening` has open(2) and openat(2),
 //! `looking` the calls that tell what is there, `names` and `rename` those that change names, `chdir` chdir(2), `unveil`
-//! unveil(2) and `execve` execve(2). The places after links stand in a `LinkRoom` (`links`), which the caller lends.
+//! unveil(2) and `execve` execve(2). They go by a `System`: the parts with a lookup of names, and room (`links`) for the places after
+//! links. `ends` tells where the walks of a call end, and makes no call.
 #![tactic(auto)]
 
 pub mod chdir;
+pub mod ends;
 pub mod execve;
 pub mod links;
 pub mod looking;
@@ -14,4 +16,5 @@ pub mod opening;
 pub mod programs;
 mod reach;
 pub mod rename;
+pub mod system;
 pub mod unveil;

@@ -8,35 +8,33 @@ ghost use Rattle.pv_model.specs.State.{process_at};
 ghost use Rattle.pv_model.specs.Tree.{find_entry};
 ghost use Rattle.pv_calls_plain.specs.Performed.{IsAnswered};
 
-use crate::links::LinkRoom;
 use crate::opening::is_link;
 use crate::reach::reach_node;
+use crate::system::System;
 use pv_calls_plain::answer::{Answer, Done, refusal, tell, tell_bytes};
 use pv_calls_plain::status::status;
-use pv_calls_state::Parts;
 use pv_model::limits::LINK_TEXT;
 use pv_model::{Errno, Text, Walk};
 use pv_namei::Lookup;
 
 // Tells what is at the end of a walk from the working directory.
-fn stat_at<L: Lookup>(
-    parts: &mut Parts,
-    lookup: &mut L,
-    links: &mut LinkRoom,
-    pid: u32,
-    walk: Walk<'_>,
-) -> Answer
-    requires whole { IsWhole parts.old }
-    requires live { IsSome (process_at parts.old pid) }
+fn stat_at<L: Lookup + Drop>(system: &mut System<L>, pid: u32, walk: Walk<'_>) -> Answer
+    requires whole { IsWhole system.old.parts }
+    requires live { IsSome (process_at system.old.parts pid) }
     requires here { walk.start ≡ WorkingDirectory }
     requires text { IsTrue (is_text walk.path.now) }
-    requires agrees { L.agrees lookup.old (find_entry parts.old.tree) }
-    ensures performed { IsAnswered (λ s me. stat_at s pid me (walk_of walk.entry)) parts.old pid parts.new result }
-    ensures agrees { L.agrees lookup.new (find_entry parts.new.tree) }
+    requires agrees { L.agrees system.old.lookup (find_entry system.old.parts.tree) }
+    ensures performed { IsAnswered (λ s me. stat_at s pid me (walk_of walk.entry)) system.old.parts pid system.new.parts result }
+    ensures agrees { L.agrees system.new.lookup (find_entry system.new.parts.tree) }
 {
+    let System {
+        parts,
+        lookup,
+        links,
+    } = system;
     match reach_node(parts, lookup, pid, walk, &mut links.first) {
         Ok(node) => {
-            parts.facts();
+            parts.invariant();
             let bytes = status(parts.tree(), node);
             tell_bytes(parts, pid, Done { walks: 1, value: 0 }, &bytes)
         }
@@ -48,41 +46,29 @@ fn stat_at<L: Lookup>(
 /// answer is 0.
 ///
 /// An error of the walk refuses it, then one of its judgement, and `ENOENT` where nothing is there.
-pub fn stat<L: Lookup>(
-    parts: &mut Parts,
-    lookup: &mut L,
-    links: &mut LinkRoom,
-    pid: u32,
-    path: &Text,
-) -> Answer
-    requires whole { IsWhole parts.old }
-    requires live { IsSome (process_at parts.old pid) }
+pub fn stat<L: Lookup + Drop>(system: &mut System<L>, pid: u32, path: &Text) -> Answer
+    requires whole { IsWhole system.old.parts }
+    requires live { IsSome (process_at system.old.parts pid) }
     requires text { IsTrue (is_text path.now) }
-    requires agrees { L.agrees lookup.old (find_entry parts.old.tree) }
-    ensures performed { IsAnswered (λ s me. stat s pid me path.now) parts.old pid parts.new result }
-    ensures agrees { L.agrees lookup.new (find_entry parts.new.tree) }
+    requires agrees { L.agrees system.old.lookup (find_entry system.old.parts.tree) }
+    ensures performed { IsAnswered (λ s me. stat s pid me path.now) system.old.parts pid system.new.parts result }
+    ensures agrees { L.agrees system.new.lookup (find_entry system.new.parts.tree) }
 {
-    stat_at(parts, lookup, links, pid, Walk::stat(path))
+    stat_at(system, pid, Walk::stat(path))
 }
 
 /// The same of a final link itself, lstat(2).
 ///
 /// It is refused as `stat` is.
-pub fn lstat<L: Lookup>(
-    parts: &mut Parts,
-    lookup: &mut L,
-    links: &mut LinkRoom,
-    pid: u32,
-    path: &Text,
-) -> Answer
-    requires whole { IsWhole parts.old }
-    requires live { IsSome (process_at parts.old pid) }
+pub fn lstat<L: Lookup + Drop>(system: &mut System<L>, pid: u32, path: &Text) -> Answer
+    requires whole { IsWhole system.old.parts }
+    requires live { IsSome (process_at system.old.parts pid) }
     requires text { IsTrue (is_text path.now) }
-    requires agrees { L.agrees lookup.old (find_entry parts.old.tree) }
-    ensures performed { IsAnswered (λ s me. lstat s pid me path.now) parts.old pid parts.new result }
-    ensures agrees { L.agrees lookup.new (find_entry parts.new.tree) }
+    requires agrees { L.agrees system.old.lookup (find_entry system.old.parts.tree) }
+    ensures performed { IsAnswered (λ s me. lstat s pid me path.now) system.old.parts pid system.new.parts result }
+    ensures agrees { L.agrees system.new.lookup (find_entry system.new.parts.tree) }
 {
-    stat_at(parts, lookup, links, pid, Walk::lstat(path))
+    stat_at(system, pid, Walk::lstat(path))
 }
 
 /// Reads the text of a link, readlink(2): it comes to the front of the buffer, and the answer is its length.
@@ -90,20 +76,19 @@ pub fn lstat<L: Lookup>(
 /// An error of the walk refuses it, then one of its judgement, `ENOENT` where nothing is there, and `EINVAL` where no
 /// link is.
 #[inline(never)]
-pub fn readlink<L: Lookup>(
-    parts: &mut Parts,
-    lookup: &mut L,
-    links: &mut LinkRoom,
-    pid: u32,
-    path: &Text,
-) -> Answer
-    requires whole { IsWhole parts.old }
-    requires live { IsSome (process_at parts.old pid) }
+pub fn readlink<L: Lookup + Drop>(system: &mut System<L>, pid: u32, path: &Text) -> Answer
+    requires whole { IsWhole system.old.parts }
+    requires live { IsSome (process_at system.old.parts pid) }
     requires text { IsTrue (is_text path.now) }
-    requires agrees { L.agrees lookup.old (find_entry parts.old.tree) }
-    ensures performed { IsAnswered (λ s me. readlink s pid me path.now) parts.old pid parts.new result }
-    ensures agrees { L.agrees lookup.new (find_entry parts.new.tree) }
+    requires agrees { L.agrees system.old.lookup (find_entry system.old.parts.tree) }
+    ensures performed { IsAnswered (λ s me. readlink s pid me path.now) system.old.parts pid system.new.parts result }
+    ensures agrees { L.agrees system.new.lookup (find_entry system.new.parts.tree) }
 {
+    let System {
+        parts,
+        lookup,
+        links,
+    } = system;
     let walk = Walk::readlink(path);
     let node = match reach_node(parts, lookup, pid, walk, &mut links.first) {
         Ok(node) => node,
@@ -114,7 +99,7 @@ pub fn readlink<L: Lookup>(
     }
     let mut text = [0; LINK_TEXT];
     let length = parts.tree().read_at(node, 0, &mut text);
-    parts.facts();
+    parts.invariant();
     let told = Done {
         walks: 1,
         value: length as u32,

@@ -12,10 +12,9 @@ ghost use Rattle.pv_calls_path.specs.Reached.{IsTaken};
 ghost use Rattle.pv_calls_plain.specs.Performed.{IsPerformed};
 ghost use Rattle.pv_tree.specs.Changes.{new_node};
 
-use crate::links::LinkRoom;
 use crate::reach::{ends_in_dot, reach, reach_both, reach_found};
+use crate::system::System;
 use pv_calls_plain::answer::{Done, Refused, answer_of, refusal, space_errno};
-use pv_calls_state::Parts;
 use pv_model::limits::LINK_TEXT;
 use pv_model::{Errno, NewNode, Text, Walk};
 use pv_namei::Lookup;
@@ -36,30 +35,32 @@ fn free_name<'a>(place: &PlaceRef<'a>, walks: u8) -> Result<(u16, &'a [u8]), Ref
 }
 
 // A new node at the end of a walk from the working directory, where there is none: the answer is 0.
-fn make<L: Lookup>(
-    parts: &mut Parts,
-    lookup: &mut L,
-    links: &mut LinkRoom,
+fn make<L: Lookup + Drop>(
+    system: &mut System<L>,
     pid: u32,
     walk: Walk<'_>,
     kind: NewNode,
 ) -> Result<Done, Refused>
-    requires whole { IsWhole parts.old }
-    requires live { IsSome (process_at parts.old pid) }
+    requires whole { IsWhole system.old.parts }
+    requires live { IsSome (process_at system.old.parts pid) }
     requires here { walk.start ≡ WorkingDirectory }
     requires text { IsTrue (is_text walk.path.now) }
-    requires node { IsTrue (is_node parts.old.tree.version (new_node kind)) }
-    requires agrees { L.agrees lookup.old (find_entry parts.old.tree) }
-    ensures performed { IsPerformed (λ s me. make s pid me (walk_of walk.entry) (new_node kind.entry)) parts.old pid parts.new result }
-    ensures agrees { L.agrees lookup.new (find_entry parts.new.tree) }
+    requires node { IsTrue (is_node system.old.parts.tree.version (new_node kind)) }
+    requires agrees { L.agrees system.old.lookup (find_entry system.old.parts.tree) }
+    ensures performed { IsPerformed (λ s me. make s pid me (walk_of walk.entry) (new_node kind.entry)) system.old.parts pid system.new.parts result }
+    ensures agrees { L.agrees system.new.lookup (find_entry system.new.parts.tree) }
 {
+    let System {
+        parts,
+        lookup,
+        links,
+    } = system;
     let place = reach(parts, lookup, pid, walk, &mut links.first)?;
     let (directory, name) = free_name(&place, 1)?;
     if let Err(space) = parts.make(directory, name, kind) {
         return Err(refusal(1, space_errno(space)));
     }
-    // Its sizes tell with them that the tree has room.
-    let _ = parts.tree().sizes();
+    parts.tree().invariant();
     lookup.changed(directory, name);
     answer_of(1, 0)
 }
@@ -70,22 +71,20 @@ fn make<L: Lookup>(
 ///
 /// An error of the walk, then of its judgement; `EEXIST` where something is there, or the path leads to no name; then
 /// `EFBIG` and `ENOSPC` for want of room.
-pub fn mkdir<L: Lookup>(
-    parts: &mut Parts,
-    lookup: &mut L,
-    links: &mut LinkRoom,
+pub fn mkdir<L: Lookup + Drop>(
+    system: &mut System<L>,
     pid: u32,
     path: &Text,
 ) -> Result<Done, Refused>
-    requires whole { IsWhole parts.old }
-    requires live { IsSome (process_at parts.old pid) }
+    requires whole { IsWhole system.old.parts }
+    requires live { IsSome (process_at system.old.parts pid) }
     requires text { IsTrue (is_text path.now) }
-    requires agrees { L.agrees lookup.old (find_entry parts.old.tree) }
-    ensures performed { IsPerformed (λ s me. mkdir s pid me path.now) parts.old pid parts.new result }
-    ensures agrees { L.agrees lookup.new (find_entry parts.new.tree) }
+    requires agrees { L.agrees system.old.lookup (find_entry system.old.parts.tree) }
+    ensures performed { IsPerformed (λ s me. mkdir s pid me path.now) system.old.parts pid system.new.parts result }
+    ensures agrees { L.agrees system.new.lookup (find_entry system.new.parts.tree) }
 {
     let walk = Walk::mkdir(path);
-    make(parts, lookup, links, pid, walk, NewNode::Directory)
+    make(system, pid, walk, NewNode::Directory)
 }
 
 /// Makes a symbolic link with a text, symlink(2): the answer is 0.
@@ -93,21 +92,19 @@ pub fn mkdir<L: Lookup>(
 /// # Errors
 ///
 /// `ENOENT` where the text is empty, and `ENAMETOOLONG` where it has more than 1,023 bytes; else as `mkdir`.
-pub fn symlink<L: Lookup>(
-    parts: &mut Parts,
-    lookup: &mut L,
-    links: &mut LinkRoom,
+pub fn symlink<L: Lookup + Drop>(
+    system: &mut System<L>,
     pid: u32,
     text: &[u8],
     path: &Text,
 ) -> Result<Done, Refused>
-    requires whole { IsWhole parts.old }
-    requires live { IsSome (process_at parts.old pid) }
+    requires whole { IsWhole system.old.parts }
+    requires live { IsSome (process_at system.old.parts pid) }
     requires link { IsTrue (is_text text.now) }
     requires text { IsTrue (is_text path.now) }
-    requires agrees { L.agrees lookup.old (find_entry parts.old.tree) }
-    ensures performed { IsPerformed (λ s me. symlink s pid me text.now path.now) parts.old pid parts.new result }
-    ensures agrees { L.agrees lookup.new (find_entry parts.new.tree) }
+    requires agrees { L.agrees system.old.lookup (find_entry system.old.parts.tree) }
+    ensures performed { IsPerformed (λ s me. symlink s pid me text.now path.now) system.old.parts pid system.new.parts result }
+    ensures agrees { L.agrees system.new.lookup (find_entry system.new.parts.tree) }
 {
     if text.is_empty() {
         return Err(refusal(0, Errno::ENOENT));
@@ -116,7 +113,7 @@ pub fn symlink<L: Lookup>(
         return Err(refusal(0, Errno::ENAMETOOLONG));
     }
     let walk = Walk::symlink(path);
-    make(parts, lookup, links, pid, walk, NewNode::Symlink(text))
+    make(system, pid, walk, NewNode::Symlink(text))
 }
 
 /// Gives the node at a path, which is no directory, a further name, link(2): the answer is 0.
@@ -126,22 +123,25 @@ pub fn symlink<L: Lookup>(
 /// An error of the first walk, then of its judgement, and the same of the second; `ENOENT` where nothing is at the
 /// first place, and `EPERM` where a directory is; `EEXIST` where something is at the second, or it is no name; then
 /// `EFBIG` and `ENOSPC` for want of room.
-pub fn link<L: Lookup>(
-    parts: &mut Parts,
-    lookup: &mut L,
-    links: &mut LinkRoom,
+pub fn link<L: Lookup + Drop>(
+    system: &mut System<L>,
     pid: u32,
     path: &Text,
     new: &Text,
 ) -> Result<Done, Refused>
-    requires whole { IsWhole parts.old }
-    requires live { IsSome (process_at parts.old pid) }
+    requires whole { IsWhole system.old.parts }
+    requires live { IsSome (process_at system.old.parts pid) }
     requires text { IsTrue (is_text path.now) }
     requires other { IsTrue (is_text new.now) }
-    requires agrees { L.agrees lookup.old (find_entry parts.old.tree) }
-    ensures performed { IsPerformed (λ s me. link s pid me path.now new.now) parts.old pid parts.new result }
-    ensures agrees { L.agrees lookup.new (find_entry parts.new.tree) }
+    requires agrees { L.agrees system.old.lookup (find_entry system.old.parts.tree) }
+    ensures performed { IsPerformed (λ s me. link s pid me path.now new.now) system.old.parts pid system.new.parts result }
+    ensures agrees { L.agrees system.new.lookup (find_entry system.new.parts.tree) }
 {
+    let System {
+        parts,
+        lookup,
+        links,
+    } = system;
     let first = Walk::linked(path);
     let second = Walk::new_link(new);
     let both = reach_both(parts, lookup, pid, first, second, links)?;
@@ -153,8 +153,7 @@ pub fn link<L: Lookup>(
     if let Err(space) = parts.link(directory, name, node) {
         return Err(refusal(2, space_errno(space)));
     }
-    // Its sizes tell with them that the tree has room.
-    let _ = parts.tree().sizes();
+    parts.tree().invariant();
     lookup.changed(directory, name);
     answer_of(2, 0)
 }
@@ -164,20 +163,23 @@ pub fn link<L: Lookup>(
 /// # Errors
 ///
 /// An error of the walk, then of its judgement; `ENOENT` where nothing is there, and `EPERM` where a directory is.
-pub fn unlink<L: Lookup>(
-    parts: &mut Parts,
-    lookup: &mut L,
-    links: &mut LinkRoom,
+pub fn unlink<L: Lookup + Drop>(
+    system: &mut System<L>,
     pid: u32,
     path: &Text,
 ) -> Result<Done, Refused>
-    requires whole { IsWhole parts.old }
-    requires live { IsSome (process_at parts.old pid) }
+    requires whole { IsWhole system.old.parts }
+    requires live { IsSome (process_at system.old.parts pid) }
     requires text { IsTrue (is_text path.now) }
-    requires agrees { L.agrees lookup.old (find_entry parts.old.tree) }
-    ensures performed { IsPerformed (λ s me. unlink s pid me path.now) parts.old pid parts.new result }
-    ensures agrees { L.agrees lookup.new (find_entry parts.new.tree) }
+    requires agrees { L.agrees system.old.lookup (find_entry system.old.parts.tree) }
+    ensures performed { IsPerformed (λ s me. unlink s pid me path.now) system.old.parts pid system.new.parts result }
+    ensures agrees { L.agrees system.new.lookup (find_entry system.new.parts.tree) }
 {
+    let System {
+        parts,
+        lookup,
+        links,
+    } = system;
     let walk = Walk::unlink(path);
     let found = reach_found(parts, lookup, pid, walk, &mut links.first)?;
     let node = found.node;
@@ -200,20 +202,23 @@ pub fn unlink<L: Lookup>(
 /// `EINVAL` where the path ends in `.` or `..`; an error of the walk, then of its judgement; `ENOENT` where nothing is
 /// there, `ENOTDIR` where no directory is, `EBUSY` where the path leads to no name, and `ENOTEMPTY` where the directory
 /// has an entry.
-pub fn rmdir<L: Lookup>(
-    parts: &mut Parts,
-    lookup: &mut L,
-    links: &mut LinkRoom,
+pub fn rmdir<L: Lookup + Drop>(
+    system: &mut System<L>,
     pid: u32,
     path: &Text,
 ) -> Result<Done, Refused>
-    requires whole { IsWhole parts.old }
-    requires live { IsSome (process_at parts.old pid) }
+    requires whole { IsWhole system.old.parts }
+    requires live { IsSome (process_at system.old.parts pid) }
     requires text { IsTrue (is_text path.now) }
-    requires agrees { L.agrees lookup.old (find_entry parts.old.tree) }
-    ensures performed { IsPerformed (λ s me. rmdir s pid me path.now) parts.old pid parts.new result }
-    ensures agrees { L.agrees lookup.new (find_entry parts.new.tree) }
+    requires agrees { L.agrees system.old.lookup (find_entry system.old.parts.tree) }
+    ensures performed { IsPerformed (λ s me. rmdir s pid me path.now) system.old.parts pid system.new.parts result }
+    ensures agrees { L.agrees system.new.lookup (find_entry system.new.parts.tree) }
 {
+    let System {
+        parts,
+        lookup,
+        links,
+    } = system;
     if ends_in_dot(path) {
         return Err(refusal(0, Errno::EINVAL));
     }

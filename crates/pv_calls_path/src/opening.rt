@@ -15,8 +15,8 @@ ghost use Rattle.pv_calls_path.specs.Opening.{open_place};
 ghost use Rattle.pv_calls_plain.specs.Performed.{IsPerformed, attempt_of};
 ghost use Rattle.pv_laws_trees.specs.Found.{Alike};
 
-use crate::links::LinkRoom;
 use crate::reach::reach_from;
+use crate::system::System;
 use pv_calls_plain::answer::{Done, Refused, answer_of, refusal, space_errno};
 use pv_calls_plain::descriptors::open_file;
 use pv_calls_plain::files::writes;
@@ -61,8 +61,12 @@ fn directory_of(parts: &Parts, pid: u32, d: i32) -> Result<u16, Errno>
     Ok(node)
 }
 
-// The directory from which a walk starts: a relative path asks its descriptor for one.
-fn start_of(parts: &Parts, pid: u32, start: Start, path: &Text) -> Result<u16, Errno>
+/// The directory from which a walk starts: a relative path asks its descriptor for one.
+///
+/// # Errors
+///
+/// `EBADF` where the descriptor is not open, `ENOTDIR` where it is on no directory.
+pub(crate) fn start_of(parts: &Parts, pid: u32, start: Start, path: &Text) -> Result<u16, Errno>
     requires whole { IsWhole parts.now }
     requires live { IsSome (process_at parts.now pid) }
     ensures directory { IfOk result (λ n. IsTrue (is_directory_at parts.now.tree n)) }
@@ -105,8 +109,7 @@ fn open_there(parts: &mut Parts, pid: u32, node: u16, flags: OpenFlags) -> Resul
         return Err(refusal(1, Errno::EISDIR));
     }
     let d = parts.open(pid, node, flags);
-    // Its sizes tell with them that the tree has room.
-    let _ = parts.tree().sizes();
+    parts.tree().invariant();
     answer_of(1, u32::from(d))
 }
 
@@ -138,8 +141,7 @@ fn create_there<L: Lookup>(
     };
     match parts.create(pid, directory, name, flags) {
         Ok(d) => {
-            // Its sizes tell with them that the tree has room.
-            let _ = parts.tree().sizes();
+            parts.tree().invariant();
             lookup.changed(directory, name);
             answer_of(1, u32::from(d))
         }
@@ -156,22 +158,25 @@ fn create_there<L: Lookup>(
 /// that is not open, or on no directory; `EMFILE` where no descriptor is free, and `ENFILE` where no open file is; an
 /// error of the walk, then of its judgement; `EEXIST`, `ENOENT`, `ELOOP`, `ENOTDIR` and `EISDIR` by what is there; then
 /// `EFBIG` and `ENOSPC` for want of room.
-pub fn open_at<L: Lookup>(
-    parts: &mut Parts,
-    lookup: &mut L,
-    links: &mut LinkRoom,
+pub fn open_at<L: Lookup + Drop>(
+    system: &mut System<L>,
     pid: u32,
     start: Start,
     path: &Text,
     flags: OpenFlags,
 ) -> Result<Done, Refused>
-    requires whole { IsWhole parts.old }
-    requires live { IsSome (process_at parts.old pid) }
+    requires whole { IsWhole system.old.parts }
+    requires live { IsSome (process_at system.old.parts pid) }
     requires text { IsTrue (is_text path.now) }
-    requires agrees { L.agrees lookup.old (find_entry parts.old.tree) }
-    ensures performed { IsPerformed (λ s me. open_at s pid me start path.now flags) parts.old pid parts.new result }
-    ensures agrees { L.agrees lookup.new (find_entry parts.new.tree) }
+    requires agrees { L.agrees system.old.lookup (find_entry system.old.parts.tree) }
+    ensures performed { IsPerformed (λ s me. open_at s pid me start path.now flags) system.old.parts pid system.new.parts result }
+    ensures agrees { L.agrees system.new.lookup (find_entry system.new.parts.tree) }
 {
+    let System {
+        parts,
+        lookup,
+        links,
+    } = system;
     if contradicts(flags) {
         return Err(refusal(0, Errno::EINVAL));
     }

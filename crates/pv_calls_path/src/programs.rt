@@ -45,7 +45,7 @@ pub fn init(alloc: Global, tree: &Tree) -> Result<Program, BootFault>
     ensures program { IfOk result (λ program. program_in (init_of tree.now.tree) ≡ Ok program) }
     ensures refused { IfErr result (λ fault. (fault ≡ BootFault.Memory) ⊎ (program_in (init_of tree.now.tree) ≡ Err fault)) }
 {
-    let _ = tree.sizes();
+    tree.invariant();
     let Some(node) = tree.find(ROOT, b"init") else {
         return Ok(Program::empty(alloc));
     };

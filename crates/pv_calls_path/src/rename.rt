@@ -10,10 +10,9 @@ ghost use Rattle.pv_model.specs.Bytes.{is_empty};
 ghost use Rattle.pv_calls_path.specs.Moving.{check_move};
 ghost use Rattle.pv_calls_plain.specs.Performed.{IsPerformed};
 
-use crate::links::LinkRoom;
 use crate::reach::{ends_in_dot, reach_both};
+use crate::system::System;
 use pv_calls_plain::answer::{Done, Refused, answer_of, refusal, space_errno};
-use pv_calls_state::Parts;
 use pv_model::{Errno, Text, Walk};
 use pv_namei::Lookup;
 use pv_tree::Tree;
@@ -81,22 +80,25 @@ fn check_move(tree: &Tree, node: u16, directory: u16, there: Option<u16>) -> Res
 /// second; `ENOENT` where nothing is at the first place, and `EBUSY` where a path leads to no name; `EINVAL` where a
 /// directory would come into itself; `EISDIR` and `ENOTDIR` where one is a directory and the other is not; `ENOTEMPTY`
 /// where what has the name has entries; then `EFBIG` and `ENOSPC` for want of room.
-pub fn rename<L: Lookup>(
-    parts: &mut Parts,
-    lookup: &mut L,
-    links: &mut LinkRoom,
+pub fn rename<L: Lookup + Drop>(
+    system: &mut System<L>,
     pid: u32,
     path: &Text,
     new: &Text,
 ) -> Result<Done, Refused>
-    requires whole { IsWhole parts.old }
-    requires live { IsSome (process_at parts.old pid) }
+    requires whole { IsWhole system.old.parts }
+    requires live { IsSome (process_at system.old.parts pid) }
     requires text { IsTrue (is_text path.now) }
     requires other { IsTrue (is_text new.now) }
-    requires agrees { L.agrees lookup.old (find_entry parts.old.tree) }
-    ensures performed { IsPerformed (λ s me. rename s pid me path.now new.now) parts.old pid parts.new result }
-    ensures agrees { L.agrees lookup.new (find_entry parts.new.tree) }
+    requires agrees { L.agrees system.old.lookup (find_entry system.old.parts.tree) }
+    ensures performed { IsPerformed (λ s me. rename s pid me path.now new.now) system.old.parts pid system.new.parts result }
+    ensures agrees { L.agrees system.new.lookup (find_entry system.new.parts.tree) }
 {
+    let System {
+        parts,
+        lookup,
+        links,
+    } = system;
     if ends_in_dot(path) || ends_in_dot(new) {
         return Err(refusal(0, Errno::EINVAL));
     }
@@ -117,8 +119,7 @@ pub fn rename<L: Lookup>(
     if let Err(space) = parts.rename(from, name, to, other) {
         return Err(refusal(2, space_errno(space)));
     }
-    // Its sizes tell with them that the tree has room.
-    let _ = parts.tree().sizes();
+    parts.tree().invariant();
     lookup.changed(from, name);
     lookup.changed(to, other);
     answer_of(2, 0)

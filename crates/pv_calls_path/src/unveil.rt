@@ -9,17 +9,16 @@ ghost use Rattle.pv_model.specs.Unveil.{target_of};
 ghost use Rattle.pv_calls_plain.specs.Performed.{IsPerformed};
 ghost use Rattle.pv_unveil.specs.Added.{refusal as refusal_of};
 
-use crate::links::LinkRoom;
 use crate::reach::walk_to;
+use crate::system::System;
 use pv_calls_plain::answer::{Done, Refused, answer_of, refusal};
-use pv_calls_state::Parts;
 use pv_model::{Cause, Errno, Follow, Perms, Place, Target, Text};
 use pv_namei::Lookup;
 use pv_tree::Tree;
 use pv_unveil::AddFault;
 
-// What an unveiled place is for: the directory that is there, or the name.
-fn target_of(tree: &Tree, place: Place) -> Target
+/// What an unveil of a place is for: the directory that is there, or the name in its directory.
+pub fn target_of(tree: &Tree, place: Place) -> Target
     ensures { result ≡ target_of tree.now.tree place }
 {
     match place {
@@ -52,21 +51,24 @@ fn answer_to(walks: u8, fault: AddFault) -> Refused
 }
 
 // An entry for what a path leads to, with the permissions of a text: no table judges the place.
-fn unveil_path<L: Lookup>(
-    parts: &mut Parts,
-    lookup: &mut L,
-    links: &mut LinkRoom,
+fn unveil_path<L: Lookup + Drop>(
+    system: &mut System<L>,
     pid: u32,
     path: &[u8],
     permissions: &[u8],
 ) -> Result<Done, Refused>
-    requires whole { IsWhole parts.old }
-    requires live { IsSome (process_at parts.old pid) }
+    requires whole { IsWhole system.old.parts }
+    requires live { IsSome (process_at system.old.parts pid) }
     requires text { IsTrue (is_text path.now) }
-    requires agrees { L.agrees lookup.old (find_entry parts.old.tree) }
-    ensures performed { IsPerformed (λ s me. unveil s pid me (Some path.now) (Some permissions.now)) parts.old pid parts.new result }
-    ensures agrees { L.agrees lookup.new (find_entry parts.new.tree) }
+    requires agrees { L.agrees system.old.lookup (find_entry system.old.parts.tree) }
+    ensures performed { IsPerformed (λ s me. unveil s pid me (Some path.now) (Some permissions.now)) system.old.parts pid system.new.parts result }
+    ensures agrees { L.agrees system.new.lookup (find_entry system.new.parts.tree) }
 {
+    let System {
+        parts,
+        lookup,
+        links,
+    } = system;
     let Some(permissions) = Perms::read(permissions) else {
         return Err(refusal(0, Errno::EINVAL));
     };
@@ -79,8 +81,8 @@ fn unveil_path<L: Lookup>(
     let target = target_of(parts.tree(), place.to_place());
     match parts.unveil(pid, target, permissions) {
         Ok(()) => {
-            // Its facts tell with them that nothing is left to trim.
-            parts.facts();
+            // Nothing is left to trim.
+            parts.invariant();
             answer_of(1, 0)
         }
         Err(fault) => Err(answer_to(1, fault)),
@@ -95,36 +97,27 @@ fn unveil_path<L: Lookup>(
 /// `EINVAL` for one null beside a text, and for another byte in the permissions; `EPERM` under the lock; an error of the
 /// walk; `EPERM` where the entry that is there lacks a permission; `E2BIG` where there are 64 entries, and it would be
 /// another.
-pub fn unveil<L: Lookup>(
-    parts: &mut Parts,
-    lookup: &mut L,
-    links: &mut LinkRoom,
+pub fn unveil<L: Lookup + Drop>(
+    system: &mut System<L>,
     pid: u32,
     path: Option<&Text>,
     permissions: Option<&Text>,
 ) -> Result<Done, Refused>
-    requires whole { IsWhole parts.old }
-    requires live { IsSome (process_at parts.old pid) }
+    requires whole { IsWhole system.old.parts }
+    requires live { IsSome (process_at system.old.parts pid) }
     requires text { IsTrue (is_text_or_none (option_copied path)) }
-    requires agrees { L.agrees lookup.old (find_entry parts.old.tree) }
-    ensures performed { IsPerformed (λ s me. unveil s pid me (option_copied path.entry) (option_copied permissions.entry)) parts.old pid parts.new result }
-    ensures agrees { L.agrees lookup.new (find_entry parts.new.tree) }
+    requires agrees { L.agrees system.old.lookup (find_entry system.old.parts.tree) }
+    ensures performed { IsPerformed (λ s me. unveil s pid me (option_copied path.entry) (option_copied permissions.entry)) system.old.parts pid system.new.parts result }
+    ensures agrees { L.agrees system.new.lookup (find_entry system.new.parts.tree) }
 {
     match (path, permissions) {
         (None, None) => {
-            parts.lock(pid);
-            parts.facts();
+            system.parts.lock(pid);
+            system.parts.invariant();
             answer_of(0, 0)
         }
         (Some(path), Some(permissions)) => {
-            unveil_path(
-                parts,
-                lookup,
-                links,
-                pid,
-                path.as_slice(),
-                permissions.as_slice(),
-            )
+            unveil_path(system, pid, path.as_slice(), permissions.as_slice())
         }
         _ => Err(refusal(0, Errno::EINVAL)),
     }

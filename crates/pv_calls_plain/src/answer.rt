@@ -83,7 +83,7 @@ pub fn tell(parts: &mut Parts, pid: u32, performed: Result<Done, Refused>) -> An
         → answer_by_attempt before s pid me a ≡ answered parts.new result }
     ensures tree { parts.new.tree ≡ parts.old.tree }
 {
-    parts.facts();
+    parts.invariant();
     match performed {
         Ok(Done { walks, value }) => {
             parts.tell(pid, value as i32, 0);
@@ -116,7 +116,7 @@ pub fn tell_bytes(parts: &mut Parts, pid: u32, told: Done, bytes: &[u8]) -> Answ
     ensures { (before s after : State) (me : Process) → trim after ≡ parts.old
         → answer_by_attempt before s pid me (done_attempt told.walks (after, returns_bytes told.value bytes.now)) ≡ answered parts.new result }
 {
-    parts.facts();
+    parts.invariant();
     parts.put_front(pid, bytes);
     tell_front(parts, pid, told, bytes.len())
 }
@@ -129,7 +129,7 @@ pub fn tell_front(parts: &mut Parts, pid: u32, told: Done, len: usize) -> Answer
     ensures { (before s after : State) (me : Process) (bytes : Bytes) → len ≡ length bytes → trim (update after pid (with_front bytes)) ≡ parts.old
         → answer_by_attempt before s pid me (done_attempt told.walks (after, returns_bytes told.value bytes)) ≡ answered parts.new result }
 {
-    parts.facts();
+    parts.invariant();
     parts.tell(pid, told.value as i32, 0);
     Answer {
         outcome: Outcome::Text(Taken {

@@ -105,7 +105,7 @@ pub fn read(parts: &mut Parts, pid: u32, d: i32, n: i32) -> Answer
 {
     match read_front(parts, pid, d, n) {
         Ok(count) => {
-            parts.facts();
+            parts.invariant();
             let told = Done {
                 walks: 0,
                 value: count as u32,
@@ -177,7 +177,7 @@ fn write_bytes(parts: &mut Parts, pid: u32, file: usize, count: usize) -> Result
     }
     match parts.write_front(pid, file, at, count) {
         Ok(()) => {
-            let _ = parts.tree().sizes();
+            parts.tree().invariant();
             answer_of(0, count as u32)
         }
         Err(why) => Err(refusal(0, space_errno(why))),
@@ -222,7 +222,7 @@ pub fn lseek(parts: &mut Parts, pid: u32, d: i32, by: i32, whence: Whence) -> Re
         return Err(refusal(0, Errno::EINVAL));
     };
     parts.set_offset(file, offset);
-    parts.facts();
+    parts.invariant();
     answer_of(0, offset)
 }
 
@@ -238,7 +238,7 @@ pub fn fstat(parts: &mut Parts, pid: u32, d: i32) -> Answer
     let Some(file) = open_file(parts, pid, d) else {
         return tell(parts, pid, Err(refusal(0, Errno::EBADF)));
     };
-    parts.facts();
+    parts.invariant();
     let bytes = status(parts.tree(), parts.files().node(file));
     let told = Done { walks: 0, value: 0 };
     tell_bytes(parts, pid, told, &bytes)
@@ -270,7 +270,7 @@ pub fn ftruncate(parts: &mut Parts, pid: u32, d: i32, n: i32) -> Result<Done, Re
     }
     match parts.resize(parts.files().node(file), size) {
         Ok(()) => {
-            let _ = parts.tree().sizes();
+            parts.tree().invariant();
             answer_of(0, 0)
         }
         Err(why) => Err(refusal(0, space_errno(why))),
@@ -295,12 +295,12 @@ pub fn getdents(parts: &mut Parts, pid: u32, d: i32) -> Answer
     }
     match next_name(parts, file, node) {
         None => {
-            parts.facts();
+            parts.invariant();
             tell_bytes(parts, pid, Done { walks: 0, value: 0 }, &[])
         }
         Some(name) => {
             parts.set_last_name(file, name.copy());
-            parts.facts();
+            parts.invariant();
             let told = Done {
                 walks: 0,
                 value: name.len() as u32,

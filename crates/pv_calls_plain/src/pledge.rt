@@ -51,7 +51,7 @@ pub fn pledge(
     match pledge.narrow(asked_now, asked_later) {
         Ok(()) => {
             parts.set_pledge(pid, pledge);
-            parts.facts();
+            parts.invariant();
             answer_of(0, 0)
         }
         Err(promise) => Err(Refused {

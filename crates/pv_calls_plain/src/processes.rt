@@ -38,7 +38,7 @@ pub fn getpid(parts: &Parts, pid: u32) -> Result<Done, Refused>
     requires live { IsSome (process_at parts.now pid) }
     ensures performed { IsPerformed (λ s me. getpid s pid me) parts.now pid parts.now result }
 {
-    parts.facts();
+    parts.invariant();
     answer_of(0, pid)
 }
 
@@ -48,7 +48,7 @@ pub fn getppid(parts: &Parts, pid: u32) -> Result<Done, Refused>
     requires live { IsSome (process_at parts.now pid) }
     ensures performed { IsPerformed (λ s me. getppid s pid me) parts.now pid parts.now result }
 {
-    parts.facts();
+    parts.invariant();
     answer_of(0, parts.processes().parent_of(pid).unwrap_or(0))
 }
 

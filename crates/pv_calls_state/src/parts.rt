@@ -58,7 +58,7 @@ impl Parts {
         let files = OpenFiles::new(alloc)?;
         let processes = Processes::new(alloc, program)?;
         let mut tree = Box::into_inner(store.into_tree());
-        let _ = tree.sizes();
+        tree.invariant();
         tree.hold(ROOT);
         Ok(Parts {
             tree,
@@ -67,14 +67,14 @@ impl Parts {
         })
     }
 
-    /// Does nothing: its contract tells that what is not used and not held is gone.
-    pub fn facts(&self)
+    /// Does nothing: its contract says that what is not used and not held is gone.
+    pub fn invariant(&self)
         ensures trimmed { trim self.now ≡ self.now }
         ensures processes { IsProcessTable (processes_of self.now) }
     {
-        let _ = self.tree.sizes();
-        self.files.facts();
-        self.processes.facts();
+        self.tree.invariant();
+        self.files.invariant();
+        self.processes.invariant();
     }
 
     /// The tree.

@@ -108,8 +108,8 @@ impl Descriptors {
         }
     }
 
-    /// Does nothing: its contract tells what holds of the descriptors at any time.
-    pub fn facts(&self)
+    /// Does nothing: its contract says what holds of the descriptors at any time.
+    pub fn invariant(&self)
         ensures { length self.now ≡ DESCRIPTORS }
     {
         let _ = &self.slots;

@@ -94,8 +94,8 @@ impl OpenFiles {
         })
     }
 
-    /// Does nothing: its contract tells what holds of the open files at any time.
-    pub fn facts(&self)
+    /// Does nothing: its contract says what holds of the open files at any time.
+    pub fn invariant(&self)
         ensures { IsCounted self.now }
     {
         let _ = &self.records;

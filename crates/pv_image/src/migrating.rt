@@ -43,7 +43,7 @@ fn mount_roomy(
     ensures refused { IfErr result (λ fault. (fault ≡ MigrateFault.Memory) ⊎ (migrated bytes.items blocks inodes ≡ Err fault)) }
 {
     let store = mount_first(alloc, bytes)?;
-    store.facts();
+    store.invariant();
     if !has_room(store.tree(), blocks, inodes) {
         return Err(MigrateFault::Small);
     }
@@ -83,7 +83,7 @@ pub fn migrate<W: Sink>(
     ensures flushed { OnOk result (W.buffered out.new ≡ 0) }
 {
     let store = mount_roomy(alloc, bytes, blocks, inodes)?;
-    store.facts();
+    store.invariant();
     match write_as(
         alloc,
         store.tree(),

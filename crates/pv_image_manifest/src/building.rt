@@ -26,7 +26,7 @@ fn enter(tree: &Tree, directory: u16, name: &[u8]) -> Option<u16>
     ensures entered { (onward : ℕ → Option (ℕ × Bytes)) → enter_directory tree.now.tree onward (find_entry tree.now.tree directory name.now) ≡ option_and_then onward result }
     ensures stands { IfSome result (λ n. Stands tree.now.tree n) }
 {
-    let _ = tree.sizes();
+    tree.invariant();
     let number = tree.find(directory, name)?;
     if tree.is_directory(number) {
         Some(number)
@@ -42,7 +42,7 @@ fn container<'a>(tree: &Tree, path: &'a [u8]) -> Option<(u16, &'a [u8])>
     ensures stands { IfSome result (λ p. Stands tree.now.tree p.0) }
     ensures name { IfSome result (λ p. IsTrue (is_name V1 p.1.now)) }
 {
-    let _ = tree.sizes();
+    tree.invariant();
     let mut directory = ROOT;
     let (mut name, mut rest) = split_component(&path[1..]);
     while let Some(following) = rest {
@@ -59,7 +59,7 @@ fn source_of(tree: &Tree, path: &[u8]) -> Option<u16>
     ensures used { IfSome result (λ n. IsSome (node_at tree.now.tree n)) }
     ensures other { IfSome result (λ n. is_directory_at tree.now.tree n ≡ false) }
 {
-    let _ = tree.sizes();
+    tree.invariant();
     let (directory, name) = container(tree, path)?;
     let node = tree.find(directory, name)?;
     if tree.is_directory(node) {
@@ -114,7 +114,7 @@ fn make_file(
     requires absent { find_entry tree.old.tree directory name.now ≡ None }
     ensures { Makes result (if_room line (with_new_node tree.old.tree directory name.now (file_node executable bytes.now))) tree.old tree.new }
 {
-    let _ = tree.sizes();
+    tree.invariant();
     let Ok(node) = tree.make(directory, name, file_kind(executable)) else {
         return Err(ManifestFault::Room(line));
     };

@@ -47,7 +47,7 @@ fn put_slots(bytes: &mut Vec<u8>, tree: &Tree, version: Version, directory: u16)
     ensures len { vec_len bytes.new ≡ vec_len bytes.old + entry_length version * length (entries_at tree.now.tree directory) }
     ensures capacity { vec_capacity bytes.old ≤ vec_capacity bytes.new }
 {
-    let _ = tree.sizes();
+    tree.invariant();
     let mut last: Option<Name> = None;
     for entry in 0..tree.size(directory) {
         let Some((name, node)) = next(tree, directory, &last, entry) else {
@@ -86,7 +86,7 @@ pub(crate) fn put_content(bytes: &mut Vec<u8>, tree: &Tree, version: Version, no
     ensures len { vec_len bytes.new ≡ vec_len bytes.old + length (content_of version (node_at tree.now.tree node)) }
     ensures capacity { vec_capacity bytes.old ≤ vec_capacity bytes.new }
 {
-    let _ = tree.sizes();
+    tree.invariant();
     if tree.is_directory(node) {
         put_slots(bytes, tree, version, node);
     } else {
@@ -101,7 +101,7 @@ pub(crate) fn content_length(tree: &Tree, version: Version, node: u16) -> usize
     ensures value { result ≡ length (content_of version (node_at tree.now.tree node)) }
     ensures allowed { result ≤ greatest_length version }
 {
-    let _ = tree.sizes();
+    tree.invariant();
     let size = tree.size(node) as usize;
     if tree.is_directory(node) {
         version.layout().slot_length * size

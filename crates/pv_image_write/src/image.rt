@@ -123,7 +123,7 @@ fn with_table(
     ensures items { IfOk result (λ bytes. bytes.items ≡ first_block version blocks inodes ++ padded (BLOCK * inode_blocks version inodes) (all_inodes (placed tree.now.tree version blocks inodes) inodes)) }
     ensures room { IfOk result (λ bytes. BLOCK * blocks ≤ vec_capacity bytes) }
 {
-    let _ = tree.sizes();
+    tree.invariant();
     let first_data = table_blocks(version, inodes) + 1;
     let mut bytes = beginning(alloc, version, blocks, inodes)?;
     let mut first = first_data;
@@ -155,7 +155,7 @@ fn write_contents<O: Sink>(
     ensures failed { OnErr result (Rose (O.failures image.old) (O.failures image.new)) }
     ensures flushed { OnOk result (O.buffered image.new ≡ 0) }
 {
-    let _ = tree.sizes();
+    tree.invariant();
     let mut next = table_blocks(version, inodes) + 1;
     for slot in 0..inodes {
         add_blocks(window, tree, version, slot + 1, next);
@@ -229,7 +229,7 @@ pub fn write_as<O: Sink>(
     ensures memory { result ≡ Err WriteFault.Memory → O.written image.new ≡ O.written image.old }
     ensures flushed { OnOk result (O.buffered image.new ≡ 0) }
 {
-    let _ = tree.sizes();
+    tree.invariant();
     write_bytes(alloc, tree, version, blocks, inodes, image)
 }
 

@@ -31,9 +31,14 @@ fn quoted(byte: u8) -> ArrayVec<u8, QUOTED>
     quoted
 }
 
-// A text of any length, as a program writes it between its marks. What stands for itself is written at once.
+/// Writes a text of any length as a program writes it in its shortest form, without the marks around it. What stands for
+/// itself is written at once. It takes no memory.
+///
+/// # Errors
+///
+/// `Failed` where a write failed: the sink was given a beginning of the text.
 #[tactic(auto, using(crate::proofs::Rests::rest_all, crate::proofs::Rests::written_text))]
-fn write_bytes<W: Sink>(out: &mut W, text: &[u8]) -> Result<(), Failed>
+pub fn write_bytes<W: Sink>(out: &mut W, text: &[u8]) -> Result<(), Failed>
     ensures whole { OnOk result (W.written out.new ≡ and_all (W.written out.old) (flat_map quote_byte text.now)) }
     ensures beginning { OnErr result (TellsBeginning (flat_map quote_byte text.now) (W.written out.old) (W.written out.new)) }
     ensures failed { OnErr result (Rose (W.failures out.old) (W.failures out.new)) }

@@ -323,7 +323,7 @@ pub fn resolve_ref<'a, L: Lookup>(
         return Err(Errno::ENAMETOOLONG);
     }
     // What its sizes tell with them: every tree is well-formed.
-    let _ = tree.sizes();
+    tree.invariant();
     let mut walk = WalkState::new(start, path, follow);
     let mut rest = Along::new(path);
     match walk.go(tree, lookup, &mut rest)? {

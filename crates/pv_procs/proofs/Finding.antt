@@ -1,5 +1,6 @@
 -- Places found by their numbers, and what is seen of a change there.
-use Rattle.std.proofs.Common.{◌≡◌, ℕ, zero, suc, ◌+◌, ◌<◌, ◌≤◌, Bool, true, false, cond, not, ◌==◌, nat_lt, List, [], ◌∷◌, length, Option, None, Some, is_some, position, IsSome, refl, sym, ap, ap₂, subst, ◌∙◌, arith}
+use Rattle.std.proofs.Common.{◌≡◌, ℕ, zero, suc, ◌+◌, ◌<◌, ◌≤◌, Bool, true, false, cond, not, ◌==◌, nat_lt, List, [], ◌∷◌, length, Option, None, Some, is_some, position, IsSome, option_map, refl, sym, ap, ap₂, subst, ◌∙◌, arith}
+use Rattle.std.specs.Prelude.{find as first_where}
 use Rattle.std.specs.Cmp.{tied_itself, unsigned_ties}
 use Rattle.std.specs.FinMap.Entries.{by_order, find, put}
 use Rattle.std.specs.List.{list_all, position_or_len, prefix_len, AllWithin, HoldsAt}
@@ -13,12 +14,12 @@ use Rattle.std.proofs.lemmas.Cmp.{nat_cmp_total}
 use Rattle.std.proofs.lemmas.List.{get_or_default}
 use Rattle.std.proofs.lemmas.List.Quantifiers.{position-Some}
 use Rattle.std.proofs.lemmas.List.Sums.{prefix_len-le-length}
-use Rattle.pv_model.specs.State.{Program, Process, live, live_process}
+use Rattle.pv_model.specs.State.{Program, Process, ProcessRecord, live, live_process}
 use Rattle.pv_model.specs.Calls.Processes.{parent_of}
 use Rattle.pv_procs.specs.declared.slot.ProcessSlot.{ProcessSlot}
 use Rattle.pv_procs.specs.declared.shared.Shared.{Shared}
 use Rattle.pv_procs.specs.Slots.{process_of, entry_by, entry_of, entries_of, is_above, ascends, program_at, table_of}
-use Rattle.pv_procs.specs.ProcessTable.{ProcessTable, process_in, update, update_live}
+use Rattle.pv_procs.specs.ProcessTable.{ProcessTable, ended_process, number_after, process_in, update, update_live}
 
 -- a place with a number stands at an index
 pub record IsAt (slots : List ProcessSlot) (pid k : ℕ) (slot : ProcessSlot) : Type 0 where
@@ -197,6 +198,22 @@ live_test slot program (Some n) false is = refl
 pub parent-entry : (slot : ProcessSlot) (program : Program) (status : Option ℕ) → parent_of (entry_by slot program status) ≡ slot.parent
 parent-entry slot program None = refl
 parent-entry slot program (Some n) = refl
+
+-- what is left of a process that has ended
+pub ended-entry : (slot : ProcessSlot) (program : Program) (status : Option ℕ) → ended_process (Some (entry_by slot program status)) ≡ option_map (λ n. (slot.parent, n)) status
+ended-entry slot program None = refl
+ended-entry slot program (Some n) = refl
+
+-- the first number that is greater
+pub number-seen : (programs : List Shared) (last : ℕ) (slots : List ProcessSlot)
+    → option_map (λ (slot : ProcessSlot). slot.number) (first_where (λ (slot : ProcessSlot). nat_lt last slot.number) slots) ≡ number_after last (entries_of programs slots)
+number-seen programs last [] = refl
+number-seen programs last (p ∷ ps) =
+    elim (nat_lt last p.number) as (λ b. option_map (λ (slot : ProcessSlot). slot.number) (cond b (Some p) (first_where (λ (slot : ProcessSlot). nat_lt last slot.number) ps))
+    ≡ option_map (λ (r : ℕ × ProcessRecord). r.0) (cond b (Some (p.number, entry_of programs p)) (first_where (λ (r : ℕ × ProcessRecord). nat_lt last r.0) (entries_of programs ps)))) [
+      | true ↦ refl
+      | false ↦ number-seen programs last ps
+    ]
 
 unless-none : {X : Type 0} (o : Option X) → (o ≡ None → ⊥) → is_some o ≡ true
 unless-none None not = absurd (not refl)

@@ -1,12 +1,12 @@
 -- The processes, as clauses see them.
-use Rattle.std.specs.Prelude.{◌≡◌, ℕ, ◌≤◌, ◌&&◌, true, List, [], ◌∷◌, length, nat_le, Option, None, Some}
+use Rattle.std.specs.Prelude.{◌≡◌, ℕ, ◌≤◌, ◌&&◌, true, List, [], ◌∷◌, length, nat_le, nat_lt, find as first_where, Option, None, Some, option_map}
 use Rattle.std.specs.FinMap.Entries.{find, put, is_sorted}
 use Rattle.std.specs.List.{list_all}
 use Rattle.std.specs.Ordering.{nat_cmp}
 use Rattle.pv_model.specs.declared.limits.TheConstants.{PROCESSES, LAST_PROCESS}
 use Rattle.pv_model.specs.Numbered.{Numbered}
 use Rattle.pv_model.specs.Program.{Next, inside}
-use Rattle.pv_model.specs.State.{OpenFile, Program, Process, ProcessRecord, live, State, live_process, first_process}
+use Rattle.pv_model.specs.State.{OpenFile, Program, Process, ProcessRecord, live, ended_record, State, live_process, first_process}
 use Rattle.pv_model.specs.Tree.{Tree}
 
 -- the processes by their numbers, and the last number given: these parts of the definitions' state
@@ -21,6 +21,15 @@ state_with t files ps = record { tree = t; files = files; processes = ps.process
 -- the process with a number, if it is live
 abbrev pub process_in : ProcessTable → ℕ → Option Process
 process_in ps pid = live_process (find nat_cmp pid ps.processes)
+
+-- the first number that is greater
+abbrev pub number_after : ℕ → List (ℕ × ProcessRecord) → Option ℕ
+number_after k rs = option_map (λ r. r.0) (first_where (λ r. nat_lt k r.0) rs)
+
+-- the parent and the status of a process that has ended
+abbrev pub ended_process : Option ProcessRecord → Option (ℕ × ℕ)
+ended_process (Some (ended_record parent status)) = Some (parent, status)
+ended_process _ = None
 
 -- with another live process under a number
 abbrev pub with_process : ProcessTable → ℕ → Process → ProcessTable

@@ -19,7 +19,7 @@ use crate::ending::settle;
 use crate::shared::{Shared, first_programs, free_program, let_go, take_up};
 use crate::slot::{
     ProcessSlot, adopter, blank, ended_child_of, has_child, has_ended_child, index_of,
-    index_of_live, live_index, make_child, spare_slots,
+    index_of_live, left_of, live_index, make_child, number_after, spare_slots,
 };
 use pv_model::limits::{LAST_PROCESS, PROCESSES};
 use pv_model::{CallRef, Errno};
@@ -76,7 +76,7 @@ impl Model for Processes {
 impl Processes {
     ghost use Rattle.pv_procs.specs.Lent.{LendsRecord};
     ghost use Rattle.pv_procs.specs.Parts.{record_of};
-    ghost use Rattle.pv_procs.specs.ProcessTable.{IsProcessTable, state_with, process_in, with_process, update, first_processes, after_inside};
+    ghost use Rattle.pv_procs.specs.ProcessTable.{ended_process, number_after, IsProcessTable, state_with, process_in, with_process, update, first_processes, after_inside};
     ghost use Rattle.pv_procs.specs.Reaping.{waited};
     ghost use Rattle.pv_procs.specs.Turns.{AwaitsCall, IsFetched, PassesIn, Registered};
 
@@ -100,8 +100,8 @@ impl Processes {
         })
     }
 
-    /// Does nothing: its contract tells what holds of the processes at any time.
-    pub fn facts(&self)
+    /// Does nothing: its contract says what holds of the processes at any time.
+    pub fn invariant(&self)
         ensures { IsProcessTable self.now }
     {
         let _ = &self.slots;
@@ -123,6 +123,25 @@ impl Processes {
     {
         match index_of(&self.slots, pid) {
             Some(k) => Some(self.slots[k].parent),
+            None => None,
+        }
+    }
+
+    /// The least number greater than this one of a process that is live, or has ended and is not waited for. None where
+    /// there is none.
+    pub fn next_number(&self, last: u32) -> Option<u32>
+        ensures { result ≡ number_after last self.now.processes }
+    {
+        number_after(&self.slots, last)
+    }
+
+    /// What is left of a process that has ended and is not waited for: its parent, which is 0 where it has none, and the
+    /// status that it ended with.
+    pub fn ended(&self, pid: u32) -> Option<(u32, u32)>
+        ensures { result ≡ ended_process (find nat_cmp pid self.now.processes) }
+    {
+        match index_of(&self.slots, pid) {
+            Some(k) => left_of(&self.slots[k]),
             None => None,
         }
     }

@@ -1,5 +1,5 @@
 //! A place for a process.
-ghost use Rattle.std.specs.Prelude.{◌≡◌, ◌-◌, ◌==◌, true, List, position, is_some, IsSome, IfSome, Some, None, IfOk, vec_len, vec_capacity, if◌then◌else◌};
+ghost use Rattle.std.specs.Prelude.{◌≡◌, ◌-◌, ◌==◌, nat_lt, true, find as first_where, List, option_map, position, is_some, IsSome, IfSome, Some, None, IfOk, vec_len, vec_capacity, if◌then◌else◌};
 ghost use Rattle.std.specs.FinMap.Entries.{find};
 ghost use Rattle.std.specs.Ordering.{nat_cmp};
 ghost use Rattle.pv_model.specs.State.{live_process};
@@ -105,6 +105,24 @@ pub(crate) fn index_of(slots: &[ProcessSlot], pid: u32) -> Option<usize>
     match slots.binary_search_by_key(&pid, |slot| slot.number) {
         Ok(k) => Some(k),
         Err(_) => None,
+    }
+}
+
+/// The first number of a place that is greater than this one.
+pub(crate) fn number_after(slots: &[ProcessSlot], last: u32) -> Option<u32>
+    ensures { result ≡ option_map (λ slot. slot.number) (first_where (λ slot. nat_lt last slot.number) slots.now) }
+{
+    let slot = slots.iter().find(|slot| slot.number > last)?;
+    Some(slot.number)
+}
+
+/// The parent and the status of a process that has ended.
+pub(crate) fn left_of(slot: &ProcessSlot) -> Option<(u32, u32)>
+    ensures { result ≡ option_map (λ status. (slot.now.parent, status)) slot.now.status }
+{
+    match slot.status {
+        Some(status) => Some((slot.parent, status)),
+        None => None,
     }
 }
 

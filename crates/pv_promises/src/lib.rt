@@ -10,5 +10,6 @@ mod order;
 pub mod pledge;
 pub mod read;
 
+pub use order::{ALL, has};
 pub use pledge::{Decision, Pledge};
 pub use read::read_promises;

@@ -7,7 +7,7 @@ use bitflags::Flags;
 use pv_model::{Promise, Promises};
 
 /// Each promise, in the order of its bit.
-const ALL: [Promise; 32] = [
+pub const ALL: [Promise; 32] = [
     Promise::Stdio,
     Promise::Rpath,
     Promise::Wpath,
@@ -50,7 +50,7 @@ pub(crate) fn single(promise: Promise) -> Promises
 }
 
 /// Whether a promise is in a set.
-pub(crate) fn has(set: Promises, promise: Promise) -> bool
+pub fn has(set: Promises, promise: Promise) -> bool
     ensures { result ≡ contains set.0 promise }
 {
     set.contains(single(promise))

@@ -7,7 +7,7 @@ use Rattle.pv_model.specs.Start.{Started, image_started}
 use Rattle.pv_model.specs.State.{State}
 use Rattle.pv_laws_runs.specs.Asked.{AsksOfImage}
 use Rattle.pv_run.specs.Images.{IsImageFault}
-use Rattle.pv_run.specs.Run.{RefusesStart}
+use Rattle.pv_run.specs.Run.{IsStartFault, RefusesStart}
 use Rattle.pv_session.specs.Running.{run_of}
 
 -- this is what a run on an image leaves: the bytes are an image of a tree on which the machine boots, the text spells a schedule, and the
@@ -20,7 +20,7 @@ pub record IsLeftBy (image turns : Bytes) (s : State) : Type 0 where
   pub is_asked : image_started image turns ≡ Ok it
 
 -- a refusal is that of what was asked, but for reading and memory
-abbrev pub RefusesMachine : RunFault → Result Started RunFault → Type 0
+abbrev pub RefusesMachine : {A : Type 0} → RunFault → Result A RunFault → Type 0
 RefusesMachine Read asked = ⊤
 RefusesMachine fault asked = RefusesStart fault asked
 
@@ -28,3 +28,8 @@ RefusesMachine fault asked = RefusesStart fault asked
 abbrev pub IsMachineFault : RunFault → Type 0
 IsMachineFault Read = ⊤
 IsMachineFault fault = IsImageFault fault
+
+-- why there may be none of a bundle
+abbrev pub IsBundleMachineFault : RunFault → Type 0
+IsBundleMachineFault Read = ⊤
+IsBundleMachineFault fault = IsStartFault fault

@@ -1,9 +1,10 @@
 //! Runs of bundles.
-ghost use Rattle.std.specs.Prelude.{◌≡◌, ◌⊎◌, ◌≤◌, length, Some, Ok, IfOk, IfErr, IfSome, OnOk};
+ghost use Rattle.std.specs.Prelude.{◌≡◌, ◌⊎◌, ◌≤◌, length, Some, Ok, Err, IfOk, IfErr, IfSome, OnOk};
 ghost use Rattle.pv_model.specs.Grammar.Programs.{program_of};
 ghost use Rattle.pv_model.specs.Start.{bundle_started};
 ghost use Rattle.pv_model.specs.Step.{boot};
 ghost use Rattle.pv_model.specs.Stream.{Rose};
+ghost use Rattle.pv_run.specs.Machines.{IsBundleMachineFault, RefusesMachine};
 ghost use Rattle.pv_run.specs.Run.{HasRun, IsBundleFault, IsBytesFault, IsStartFault, RefusesStart, StandsIn, TellsNothingUnlessCut, BufferedOnlyIfCut, started_from};
 ghost use Rattle.pv_streams.specs.Sources.{FailsToGive};
 
@@ -24,6 +25,29 @@ fn start_bundle(alloc: Global, bytes: &[u8]) -> Result<Ready, RunFault>
     let bundle = Bundle::parse(alloc, bytes)?;
     let store = build(alloc, &bundle.manifest)?;
     start_on(alloc, store, &bytes[bundle.schedule_at..])
+}
+
+/// What the run of a bundle starts from.
+///
+/// The bundle is read whole. Then its manifest, the manifest's entries, the schedule and the program of `init` are checked in
+/// this order.
+///
+/// # Errors
+///
+/// - `Read`: a read failed, or the source gave more than 67,108,864 bytes.
+/// - `Manifest`, `Schedule`, `Init`: the first fault of the bundle, in the order of the checks; each names
+///   the least line of its kind.
+/// - `Memory`: memory was refused.
+pub fn ready_on_bundle<S: Source>(alloc: Global, bundle: &mut S) -> Result<Ready, RunFault>
+    ensures asked { IfOk result (λ r. IfSome (S.remaining bundle.old) (λ bytes. bundle_started bytes ≡ Ok (started_from r.session r.schedule))) }
+    ensures refused { IfErr result (λ fault. IfSome (S.remaining bundle.old) (λ bytes. RefusesMachine fault (bundle_started bytes))) }
+    ensures kind { IfErr result IsBundleMachineFault }
+
+    // A fault of reading was counted.
+    ensures read { result ≡ Err RunFault.Read → FailsToGive S.Source bundle.old bundle.new }
+{
+    let bytes = read_whole(alloc, bundle)?;
+    start_bundle(alloc, &bytes)
 }
 
 // Runs what the bytes of a bundle ask for.

@@ -6,6 +6,7 @@ ghost use Rattle.pv_model.specs.Start.{image_started};
 ghost use Rattle.pv_model.specs.Step.{boot};
 ghost use Rattle.pv_model.specs.Stream.{Rose};
 ghost use Rattle.pv_run.specs.Images.{BeginsImage, HasRunOn, IsImageFault, IsImageRunFault, IsRunFault, IsWriteFault, StandsOn, TellsNeitherUnlessCut, WrittenImage};
+ghost use Rattle.pv_run.specs.Machines.{IsMachineFault, RefusesMachine};
 ghost use Rattle.pv_run.specs.Run.{IsStartFault, RefusesStart, BufferedOnlyIfCut, started_from};
 ghost use Rattle.pv_streams.specs.Sources.{FailsToGive};
 
@@ -67,6 +68,38 @@ pub fn write_image<O: Sink>(alloc: Global, tree: &Tree, image: &mut O) -> Result
         Err(WriteFault::Memory) => Err(RunFault::Memory),
         Err(WriteFault::Write) => Err(RunFault::WriteImage),
     }
+}
+
+/// What a run on an image starts from.
+///
+/// The image and the schedule are read whole. Then the image, the schedule and the program of `init` are checked in this
+/// order. `listed` tells whether all directories of the image will be listed, so that it is worth to put their entries in
+/// order.
+///
+/// # Errors
+///
+/// - `Read`: a read failed, or a source gave more than 67,108,864 bytes.
+/// - `Image`, `Schedule`, `Init`: the first fault, in the order of the checks; each names the least inode, or
+///   the least line, of its kind.
+/// - `Memory`: memory was refused.
+pub fn ready_on_image<I: Source, S: Source>(
+    alloc: Global,
+    image: &mut I,
+    schedule: &mut S,
+    listed: bool,
+) -> Result<Ready, RunFault>
+    ensures asked { IfOk result (λ r. IfSome (I.remaining image.old) (λ bytes. IfSome (S.remaining schedule.old) (λ turns.
+        image_started bytes turns ≡ Ok (started_from r.session r.schedule)))) }
+    ensures refused { IfErr result (λ fault. IfSome (I.remaining image.old) (λ bytes. IfSome (S.remaining schedule.old) (λ turns.
+        RefusesMachine fault (image_started bytes turns)))) }
+    ensures kind { IfErr result IsMachineFault }
+
+    // A fault of reading was counted.
+    ensures read { result ≡ Err RunFault.Read → FailsToGive I.Source image.old image.new ⊎ FailsToGive S.Source schedule.old schedule.new }
+{
+    let image = read_whole(alloc, image)?;
+    let schedule = read_whole(alloc, schedule)?;
+    start_image(alloc, image, &schedule, listed)
 }
 
 // Runs the bytes of an image and of a schedule, and writes an image of what is left.

@@ -22,7 +22,7 @@ fn make_bytes<W: Sink>(alloc: Global, bytes: &[u8], image: &mut W) -> Result<(),
 {
     let manifest = Manifest::parse(alloc, bytes)?;
     let store = build(alloc, &manifest)?;
-    store.facts();
+    store.invariant();
     write_image(alloc, store.tree(), image)
 }
 

@@ -26,9 +26,11 @@ pub struct Summary {
 
 /// The machine at the start of a run, and the turns of its schedule.
 #[derive(Drop)]
-pub(crate) struct Ready {
-    pub(crate) session: Session,
-    pub(crate) schedule: Schedule,
+pub struct Ready {
+    /// The machine before its first step.
+    pub session: Session,
+    /// The turns.
+    pub schedule: Schedule,
 }
 
 // What a run on a tree starts from, by the text of its schedule.
@@ -39,7 +41,7 @@ pub(crate) fn start_on(alloc: Global, store: Store, schedule: &[u8]) -> Result<R
     ensures fault { IfErr result (λ f. RefusesStart f (started_on store (lines_of schedule.now))) }
     ensures kind { IfErr result IsFaultOnTree }
 {
-    store.facts();
+    store.invariant();
     let schedule = Schedule::parse(alloc, schedule)?;
     let session = Session::new(alloc, store)?;
     Ok(Ready { session, schedule })

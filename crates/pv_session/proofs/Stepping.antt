@@ -49,6 +49,16 @@ lines-of : (pid : ℕ) (p : Process) (call : Call) (a : Answered)
 unfolding call_lines lines_by
 lines-of pid p call a same = rw same refl
 
+-- the lines of a call, by the buffer that it left
+pub called-lines_by : (s : State) (pid : ℕ) (me : Process) (call : Call) (a : Answered) → process_at s pid ≡ Some me → answer program_of s pid call ≡ a
+    → call_lines pid me call a ≡ lines_by pid (buffer_of (process_at a.after pid)) call a.outcome a.walks
+called-lines_by s pid me call a at answered = lines-of pid me call a (moved a.after pid me call a.outcome keeps)
+  where
+    keeps : (d n : ℤ) (k : ℕ) → call ≡ Write d n → a.outcome ≡ Value k → buffer_of (process_at a.after pid) ≡ me.buffer
+    keeps d n k write value =
+        let same : answer program_of s pid (Write d n) ≡ a = ap (answer program_of s pid) (sym write) ∙ answered in
+        ap (λ (x : Answered). buffer_of (process_at x.after pid)) (sym same) ∙ write-keeps program_of s pid me d n at k (ap (λ (x : Answered). x.outcome) same ∙ value)
+
 -- a step that makes a call
 pub step-called : (s : State) (pid : ℕ) (me : Process) (call : Call) (a : Answered) → process_at s pid ≡ Some me → next me ≡ calls_for call
     → answer program_of s pid call ≡ a
@@ -58,12 +68,7 @@ step-called s pid me call a at is answered =
     ap (step_of program_of s pid) at ∙ ap (step_by program_of s pid me) is
     ∙ ap (λ x. let it : Stepped = record { after = x.after; outcome = x.outcome; lines = call_lines pid me call x } in it) answered
     ∙ ap (λ (ls : List Line). let it : Stepped = record { after = a.after; outcome = a.outcome; lines = ls } in it)
-    (lines-of pid me call a (moved a.after pid me call a.outcome keeps))
-  where
-    keeps : (d n : ℤ) (k : ℕ) → call ≡ Write d n → a.outcome ≡ Value k → buffer_of (process_at a.after pid) ≡ me.buffer
-    keeps d n k write value =
-        let same : answer program_of s pid (Write d n) ≡ a = ap (answer program_of s pid) (sym write) ∙ answered in
-        ap (λ (x : Answered). buffer_of (process_at x.after pid)) (sym same) ∙ write-keeps program_of s pid me d n at k (ap (λ (x : Answered). x.outcome) same ∙ value)
+    (called-lines_by s pid me call a at answered)
 
 -- ---- what comes next
 

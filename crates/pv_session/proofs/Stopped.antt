@@ -1,5 +1,5 @@
 -- Runs that stop for want of memory, step by step.
-use Rattle.std.proofs.Common.{◌≡◌, ◌<◌, ◌+◌, ◌-◌, ◌++◌, ◌∙◌, ap, sym, subst, ℕ, suc, List, [], ◌∷◌, length, take, drop, get_or, append_assoc, arith, refl, Option, Result, Ok, Err}
+use Rattle.std.proofs.Common.{◌≡◌, ◌<◌, ◌+◌, ◌-◌, ◌++◌, ◌∙◌, ap, sym, subst, ℕ, suc, List, [], ◌∷◌, length, take, drop, get_or, append_assoc, arith, refl, Option, None, Result, Ok, Err}
 use Rattle.std.specs.Prelude.{replicate, IfErr, OnErr}
 use Rattle.std.proofs.lemmas.List.{replicate-append-replicate, take-append-drop}
 use Rattle.std.proofs.lemmas.Grind.{flat_map-append}
@@ -15,7 +15,7 @@ use Rattle.pv_model.proofs.Runs.{run-append}
 use Rattle.pv_session.specs.declared.session.Stop.{Stop}
 use Rattle.pv_session.specs.declared.session.Stop.TheVariants.{Memory, Write}
 use Rattle.pv_session.specs.Running.{WrittenLines, run_of_first, turn}
-use Rattle.pv_session.specs.Stopping.{NextLoads, StopsAtExecve, StopsOn}
+use Rattle.pv_session.specs.Stopping.{NextLoads, StopsAtExecve, StopsOn, StopsUnread}
 use Rattle.pv_session.proofs.Stepping.{Asks, written-none}
 use Rattle.pv_session.proofs.Turns.{following, steps_more, written_after}
 
@@ -95,3 +95,16 @@ stops-called s pid call new written same fetched loads e memory =
 pub called-loads : (s t : State) (pid : ℕ) (call : Call) → s ≡ t → Asks s pid call → (r : Result Outcome StepFault) → IfErr r (λ _. LoadsProgram s pid call) → OnErr r (NextLoads t pid)
 called-loads s t pid call same fetched (Ok outcome) loads = tt
 called-loads s t pid call same fetched (Err fault) loads = subst (λ (u : State). NextLoads u pid) same (next-loads s pid call fetched loads)
+
+-- ---- of steps whose lines nobody reads
+
+-- a step that was refused for memory, in the midst of a turn
+pub unread-in-turn : (s mid now : State) (pid n count : ℕ) → n < count → mid ≡ (turn s pid n).final → now ≡ mid → NextLoads mid pid → StopsUnread (replicate count pid) s now
+unread-in-turn s mid now pid n count more at same loads =
+    in-turn s mid now pid n count None None None more at refl Memory Memory refl
+    (subst (λ (t : State). StopsUnread (pid ∷ []) mid t) (sym same) (stops-here mid pid [] None loads))
+
+-- a turn that stopped so, in the midst of a schedule
+pub unread-in-schedule : (s mid now : State) (schedule : Schedule) (i : ℕ) → i < length schedule → mid ≡ (run_of_first s i schedule).final
+    → StopsUnread (replicate (get_or schedule i (0, 0)).1 (get_or schedule i (0, 0)).0) mid now → StopsUnread (steps_of schedule) s now
+unread-in-schedule s mid now schedule i more at stop = in-schedule s mid now schedule i None None None more at refl Memory Memory refl stop

@@ -14,7 +14,7 @@ use Rattle.pv_streams.proofs.Telling.{written_both, begins_first, begins_then}
 use Rattle.pv_session.specs.Running.{stepped, turn, run_of, run_of_first, WrittenLines, BeginsLines}
 
 -- one copy more, at the end
-replicate_more : {X : Type 0} (n : ℕ) (x : X) → replicate (suc n) x ≡ replicate n x ++ x ∷ []
+pub replicate_more : {X : Type 0} (n : ℕ) (x : X) → replicate (suc n) x ≡ replicate n x ++ x ∷ []
 replicate_more zero x = refl
 replicate_more (suc n) x = ap (λ xs. x ∷ xs) (replicate_more n x)
 

@@ -1,5 +1,5 @@
 -- Where a run stops for want of memory: before an execve that leads to a program.
-use Rattle.std.specs.Prelude.{◌≡◌, ⊤, ℕ, List, ◌∷◌, ◌++◌, Option, Some}
+use Rattle.std.specs.Prelude.{◌≡◌, ⊤, ℕ, List, ◌∷◌, ◌++◌, Option, None, Some}
 use Rattle.pv_calls.specs.Loading.{LoadsProgram}
 use Rattle.pv_model.specs.declared.call.Call.{Call}
 use Rattle.pv_model.specs.Bytes.{Bytes}
@@ -33,3 +33,7 @@ pub record StopsAtExecve (pids : List ℕ) (s now : State) (before after : Optio
 abbrev pub StopsOn : Stop → List ℕ → State → State → Option Bytes → Option Bytes → Type 0
 StopsOn Memory pids s now before after = StopsAtExecve pids s now before after
 StopsOn Write pids s now before after = ⊤
+
+-- the same of steps whose lines nobody reads
+abbrev pub StopsUnread : List ℕ → State → State → Type 0
+StopsUnread pids s now = StopsAtExecve pids s now None None

@@ -2,7 +2,7 @@
 ghost use Rattle.std.specs.Prelude.{◌≡◌, ◌*◌, ◌≤◌, length, replicate, IfOk, IfErr, OnOk, OnErr};
 ghost use Rattle.pv_model.specs.declared.limits.TheConstants.{SCHEDULE_LINES};
 ghost use Rattle.pv_model.specs.Step.{steps_of};
-ghost use Rattle.pv_session.specs.Stopping.{StopsOn};
+ghost use Rattle.pv_session.specs.Stopping.{StopsOn, StopsUnread};
 ghost use Rattle.pv_session.specs.Running.{BeginsLines, FailsBy, WrittenLines, stepped, turn, run_of};
 
 use crate::session::{Session, Stop};
@@ -73,7 +73,8 @@ pub fn run_schedule<W: Sink>(
 
 // Makes so many steps of a process, whose lines nobody reads: those on registers that follow one another at once.
 fn pass_turn(alloc: Global, session: &mut Session, pid: u32, count: u32) -> Result<(), StepFault>
-    ensures { OnOk result (session.new ≡ (turn session.old pid count).final) }
+    ensures after { OnOk result (session.new ≡ (turn session.old pid count).final) }
+    ensures stopped { OnErr result (StopsUnread (replicate count pid) session.old session.new) }
 {
     let mut made = 0;
     while made < count {
@@ -88,13 +89,15 @@ fn pass_turn(alloc: Global, session: &mut Session, pid: u32, count: u32) -> Resu
 ///
 /// # Errors
 ///
-/// `NoMemory` where memory was refused for a step: no step was made after it.
+/// `NoMemory` where memory was refused for the program of an execve(2), which leads to an executable file that the
+/// process's table allows: that step was not made, and no step after it; those before it were.
 pub fn pass_schedule(
     alloc: Global,
     session: &mut Session,
     schedule: &[(u32, u32)],
 ) -> Result<(), StepFault>
-    ensures { OnOk result (session.new ≡ (run_of session.old schedule.now).final) }
+    ensures after { OnOk result (session.new ≡ (run_of session.old schedule.now).final) }
+    ensures stopped { OnErr result (StopsUnread (steps_of schedule.now) session.old session.new) }
 {
     for turn in schedule {
         pass_turn(alloc, session, turn.0, turn.1)?;

@@ -9,7 +9,10 @@ ghost use Rattle.pv_model.specs.Start.{booted};
 ghost use Rattle.pv_model.specs.State.{process_at};
 ghost use Rattle.pv_model.specs.Touch.{IsJustified};
 ghost use Rattle.pv_model.specs.Trace.{buffer_of};
-ghost use Rattle.pv_procs.specs.Turns.{AwaitsCall, CallsNext};
+ghost use Rattle.pv_calls.specs.Kernel.{IsCallable};
+ghost use Rattle.pv_model.specs.Answer.{answer};
+ghost use Rattle.pv_calls_state.specs.Changes.{StepsInside};
+ghost use Rattle.pv_procs.specs.Turns.{AwaitsCall, CallsNext, IsFetched, RegisterNext};
 ghost use Rattle.pv_session.specs.Audits.{KeepsSecret, KeepsSecretAt};
 ghost use Rattle.pv_session.specs.Restraints.{ChildBeginsAlike, GainsNothing, LeavesOthers};
 ghost use Rattle.pv_session.specs.declared.session.Stop.TheVariants.{Memory, Write};
@@ -18,6 +21,8 @@ ghost use Rattle.pv_session.specs.Running.{BeginsLines, FailsBy, WrittenLines, s
 
 use pv_audit::{audit, audit_node};
 use pv_calls::Kernel;
+use pv_calls_plain::answer::Answer;
+use pv_calls_state::Parts;
 use pv_model::{AuditFault, BootFault, CallRef, Outcome, StepFault, Verdict};
 use pv_namei::CachedLookup;
 use pv_procs::Fetched;
@@ -181,11 +186,54 @@ impl Session {
         self.kernel.buffer(pid)
     }
 
+    /// What comes next in a process: nothing where it is not live, an instruction on registers or a jump, or a call, with its
+    /// texts kept: past the last line, an exit. Nothing is made.
+    pub fn fetch<'a>(&self, pid: u32, texts: &'a mut CallTexts) -> Fetched<'a>
+        ensures next { IsFetched result (process_at self.now pid) }
+        ensures callable { IsCallable result }
+    {
+        self.kernel.fetch(pid, texts)
+    }
+
+    /// Makes the instruction on registers or the jump that comes next in a process, as `fetch` tells it.
+    pub fn register(&mut self, pid: u32)
+        requires { RegisterNext (process_at self.old pid) }
+        ensures { StepsInside self.old pid self.new }
+    {
+        self.kernel.register(pid);
+    }
+
+    /// Makes the call that comes next in a process, as `fetch` tells it: what it answers, and how many walks it began. The
+    /// bytes that an outcome tells stand at the front of the process's buffer.
+    ///
+    /// # Errors
+    ///
+    /// `NoMemory` as in `step`; nothing has then changed.
+    pub fn call(&mut self, alloc: Global, pid: u32, call: CallRef<'_>) -> Result<Answer, StepFault>
+        requires next { CallsNext call (process_at self.old pid) }
+        requires callable { IsTrue (is_call (call_of call)) }
+        ensures answered { IfOk result (λ a. answer program_of self.old pid (call_of call.entry) ≡ record { after = self.new; outcome = a.outcome; walks = a.walks }) }
+        ensures unchanged { OnErr result (self.new ≡ self.old) }
+        ensures memory { OnErr result (NextLoads self.old pid) }
+    {
+        let outcome = self.kernel.call(alloc, pid, call)?;
+        let walks = self.kernel.walks();
+        Ok(Answer { outcome, walks })
+    }
+
     /// The tree.
     pub fn tree(&self) -> &Tree
         ensures { result.now.tree ≡ self.now.tree }
     {
         self.kernel.tree()
+    }
+
+    /// The parts of the system: between any two steps their state is one that a run may reach.
+    pub fn parts(&self) -> &Parts
+        ensures value { result.now ≡ self.now }
+        ensures whole { IsWhole self.now }
+    {
+        self.kernel.parts()
     }
 
     /// What is found of the file that a path names: walked from the root, following links, unjudged. It takes no memory.

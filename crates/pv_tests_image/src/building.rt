@@ -11,7 +11,7 @@ fn built(rt: &impl Abort, alloc: Global, text: &str) -> Result<Tree, ManifestFau
     assert!(rt; text.len() < 1_000_000);
     let manifest = Manifest::parse(alloc, text.as_bytes())?;
     let store = build(alloc, &manifest)?;
-    store.facts();
+    store.invariant();
     Ok(Box::into_inner(store.into_tree()))
 }
 

@@ -229,7 +229,7 @@ fn expect_steps<R: Abort + AllocGlobal>(rt: &R, steps: &[Step]) {
     for &step in steps {
         expect_step(rt, &mut processes, step);
     }
-    processes.facts();
+    processes.invariant();
 }
 
 const PARENTS_AND_ORPHANS: &[Step] = &[

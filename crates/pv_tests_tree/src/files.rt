@@ -130,7 +130,7 @@ fn expect_steps(rt: &impl Abort, files: &mut OpenFiles, steps: &[Step]) {
 fn expect_run<R: Abort + AllocGlobal>(rt: &R, steps: &[Step]) -> Result<(), AllocError> {
     let mut files = OpenFiles::new(rt.alloc())?;
     expect_steps(rt, &mut files, steps);
-    files.facts();
+    files.invariant();
     Ok(())
 }
 
@@ -317,5 +317,5 @@ fn marks_what_execve_closes(rt: HostRuntime) {
     let mut copy = descriptors;
     expect_all_asked(&rt, &mut copy, COPIED);
     expect_all_asked(&rt, &mut descriptors, STILL_TWO);
-    descriptors.facts();
+    descriptors.invariant();
 }

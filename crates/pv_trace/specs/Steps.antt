@@ -24,6 +24,10 @@ path_line pid path = line pid (nami_word path)
 abbrev pub path_lines_of : ℕ → Call → ℕ → List Line
 path_lines_of pid call walks = map (path_line pid) (take walks (walked_paths call))
 
+-- the first lines of a call that began so many walks
+abbrev pub first_lines_of : ℕ → Call → ℕ → List Line
+first_lines_of pid call walks = call_lines_of pid call ++ path_lines_of pid call walks
+
 -- what was refused for a promise: a call that lacks it, or a promise that may not be had again
 abbrev pub refusal_verdict : Errno → PromiseVerdict
 refusal_verdict ENOSYS = for_refusal

@@ -1,15 +1,18 @@
 //! Calls with their arguments, as a program writes them.
-ghost use Rattle.std.specs.Prelude.{◌≡◌, ◌++◌, ◌+◌, ◌*◌, ◌≤◌, [], ◌∷◌, length, codes, option_copied};
+ghost use Rattle.std.specs.Prelude.{◌≡◌, ◌++◌, ◌+◌, ◌*◌, ◌≤◌, [], ◌∷◌, length, codes, option_copied, OnOk, OnErr};
 ghost use Rattle.std.specs.Fmt.{signed_decimal};
 ghost use Rattle.std.specs.List.{join_by};
 ghost use Rattle.pv_model.specs.declared.limits.TheConstants.{TEXT};
 ghost use Rattle.pv_model.specs.CallRef.{call_of};
+ghost use Rattle.pv_model.specs.Stream.{Rose};
 ghost use Rattle.pv_model.specs.Trace.{quote, quote_or_null, flag_text, start_text, call_name, call_text, call_line, mode_text, whence_text};
+ghost use Rattle.pv_streams.specs.Sinks.{and_all, TellsBeginning};
 ghost use Rattle.pv_trace.specs.declared.line_buffer.TheConstants.{LINE_BUFFER};
 ghost use Rattle.pv_trace.specs.Words.{flags_bytes};
 
 use crate::line_buffer::{LineBuffer, put, put_quoted, put_quoted_or_null, put_signed};
 use pv_model::{CallRef, Mode, OpenFlags, Start, Text, Whence};
+use pv_streams::{Failed, Sink, write_whole};
 
 // What a file is opened for. Each word is put by itself, here and below, so that its length is known where it is copied.
 fn put_mode(out: &mut LineBuffer, mode: Mode)
@@ -227,4 +230,44 @@ pub(crate) fn put_call(out: &mut LineBuffer, call: CallRef<'_>)
     put(out, b"(");
     put_arguments(out, &call);
     put(out, b")");
+}
+
+/// Writes the name of a call. It is made on the line buffer.
+///
+/// # Errors
+///
+/// `Failed` where a write failed: the sink was given a beginning of the name.
+pub fn write_call_name<W: Sink>(
+    out: &mut W,
+    line_buffer: &mut LineBuffer,
+    call: CallRef<'_>,
+) -> Result<(), Failed>
+    ensures whole { OnOk result (W.written out.new ≡ and_all (W.written out.old) (call_name (call_of call.entry))) }
+    ensures beginning { OnErr result (TellsBeginning (call_name (call_of call.entry)) (W.written out.old) (W.written out.new)) }
+    ensures failed { OnErr result (Rose (W.failures out.old) (W.failures out.new)) }
+    ensures quiet { OnOk result (W.failures out.new ≡ W.failures out.old) }
+{
+    line_buffer.clear();
+    put_name(line_buffer, call);
+    write_whole(out, line_buffer.as_slice())
+}
+
+/// Writes a call with its arguments as a CALL line has it. It is made on the line buffer.
+///
+/// # Errors
+///
+/// `Failed` where a write failed: the sink was given a beginning of the call.
+pub fn write_call<W: Sink>(
+    out: &mut W,
+    line_buffer: &mut LineBuffer,
+    call: CallRef<'_>,
+) -> Result<(), Failed>
+    ensures whole { OnOk result (W.written out.new ≡ and_all (W.written out.old) (call_line (call_of call.entry))) }
+    ensures beginning { OnErr result (TellsBeginning (call_line (call_of call.entry)) (W.written out.old) (W.written out.new)) }
+    ensures failed { OnErr result (Rose (W.failures out.old) (W.failures out.new)) }
+    ensures quiet { OnOk result (W.failures out.new ≡ W.failures out.old) }
+{
+    line_buffer.clear();
+    put_call(line_buffer, call);
+    write_whole(out, line_buffer.as_slice())
 }

@@ -123,9 +123,12 @@ fn put_line(out: &mut LineBuffer, pid: u32, word: &Word)
     }
 }
 
-// Writes a line that is made on a line buffer, whatever that had. It takes no memory. Where a write failed the sink was
-// given a beginning of the line.
-pub(crate) fn write_line_on<W: Sink>(
+/// Writes a line that is made on a line buffer, whatever that had. It takes no memory.
+///
+/// # Errors
+///
+/// `Failed` where a write failed: the sink was given a beginning of the line.
+pub fn write_line_on<W: Sink>(
     out: &mut W,
     line_buffer: &mut LineBuffer,
     line: &Line,

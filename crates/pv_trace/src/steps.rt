@@ -3,19 +3,19 @@ ghost use Rattle.std.specs.Prelude.{◌≡◌, ◌++◌, ◌+◌, ◌*◌, ◌�
 ghost use Rattle.pv_model.specs.declared.limits.TheConstants.{BUFFER};
 ghost use Rattle.pv_model.specs.CallRef.{call_of};
 ghost use Rattle.pv_model.specs.Stream.{Rose};
-ghost use Rattle.pv_model.specs.Trace.{trace_bytes, asked_permissions as permissions_asked, gone_lines};
-ghost use Rattle.pv_trace.specs.Steps.{path_line, path_lines_of, refusal_verdict, promise_lines_of, unveil_lines_of, moved_lines_of, end_lines_of, lines_by};
+ghost use Rattle.pv_model.specs.Trace.{trace_bytes, gone_lines};
+ghost use Rattle.pv_trace.specs.Steps.{first_lines_of, path_line, path_lines_of, promise_lines_of, unveil_lines_of, moved_lines_of, end_lines_of, lines_by};
 ghost use Rattle.pv_streams.specs.Sinks.{and_all, TellsBeginning};
-ghost use Rattle.pv_trace.specs.Words.{promise_verdict_of};
 ghost use Rattle.pv_trace.specs.declared.line_buffer.TheConstants.{LINE_BYTES, PATH_LINE_BYTES, SHORT_LINE_BYTES, LINE_BUFFER};
 
-use crate::line::{Line, PromiseVerdict, UnveilVerdict, Way, Word, write_line_on};
+use crate::line::{Line, Word, write_line_on};
 use crate::line_buffer::LineBuffer;
+use crate::told::{bytes_told, promise_told, table_told};
 use crate::words::{
     put_call_line, put_error_line, put_killed_line, put_moved_line, put_path_line,
     put_promise_line, put_unveil_line, put_value_line, put_wait_line,
 };
-use pv_model::{CallRef, Cause, Errno, Outcome, Perms, Text, Walks};
+use pv_model::{CallRef, Outcome, Text, Walks};
 use pv_streams::{Failed, Sink, write_whole};
 
 // The lines of the walks along one path, of which there is at most one. It answers how many lines it put, as each call
@@ -70,16 +70,6 @@ fn put_path_lines(out: &mut LineBuffer, pid: u32, call: CallRef<'_>, walks: u8) 
     }
 }
 
-// What was refused for a promise: a call that lacks it, or a promise that may not be had again.
-fn verdict_of(errno: Errno) -> PromiseVerdict
-    ensures { promise_verdict_of result ≡ refusal_verdict errno }
-{
-    match errno {
-        Errno::ENOSYS => PromiseVerdict::Refused,
-        _ => PromiseVerdict::Increase,
-    }
-}
-
 // The line of a promise that decided.
 fn put_promise_lines(out: &mut LineBuffer, pid: u32, call: CallRef<'_>, outcome: Outcome) -> u8
     requires { length out.old.items + SHORT_LINE_BYTES ≤ LINE_BUFFER }
@@ -88,24 +78,12 @@ fn put_promise_lines(out: &mut LineBuffer, pid: u32, call: CallRef<'_>, outcome:
     ensures few { result ≤ 1 }
     ensures growth { length out.new.items ≤ length out.old.items + SHORT_LINE_BYTES }
 {
-    let (promise, verdict) = match outcome {
-        Outcome::Killed(promise) => (promise, PromiseVerdict::Killed),
-        Outcome::Failed(errno, Cause::Promise(promise)) => (promise, verdict_of(errno)),
-        _ => return 0,
-    };
-    put_promise_line(out, pid, call, promise, verdict);
-    1
-}
-
-// The permissions that a call asks of the last place that it walked to.
-#[tactic(auto, unfolding(pv_model::specs::Trace::asked_permissions))]
-fn asked_permissions(call: CallRef<'_>, walks: u8) -> Perms
-    ensures { result ≡ permissions_asked (call_of call.entry) walks }
-{
-    match (call.walks(), walks) {
-        (Walks::One(walk) | Walks::Two(walk, _), 1) => walk.needed,
-        (Walks::Two(_, walk), 2) => walk.needed,
-        _ => Perms::NONE,
+    match promise_told(outcome) {
+        Some((promise, verdict)) => {
+            put_promise_line(out, pid, call, promise, verdict);
+            1
+        }
+        None => 0,
     }
 }
 
@@ -123,29 +101,12 @@ fn put_unveil_lines(
     ensures few { result ≤ 1 }
     ensures growth { length out.new.items ≤ length out.old.items + SHORT_LINE_BYTES }
 {
-    let verdict = match outcome {
-        Outcome::Failed(_, Cause::Unveil(None)) => {
-            UnveilVerdict::NoEntry(asked_permissions(call, walks))
+    match table_told(call, walks, outcome) {
+        Some(verdict) => {
+            put_unveil_line(out, pid, verdict);
+            1
         }
-        Outcome::Failed(_, Cause::Unveil(Some(entry))) => {
-            UnveilVerdict::EntryLacks(entry, asked_permissions(call, walks))
-        }
-        Outcome::Failed(_, Cause::Locked) => UnveilVerdict::Locked,
-        _ => return 0,
-    };
-    put_unveil_line(out, pid, verdict);
-    1
-}
-
-// The front of some bytes: all where there are fewer.
-fn front_of(bytes: &[u8], count: usize) -> &[u8]
-    ensures text { result.now ≡ take count bytes.now }
-    ensures few { length result.now ≤ length bytes.now }
-{
-    if count < bytes.len() {
-        &bytes[..count]
-    } else {
-        bytes
+        None => 0,
     }
 }
 
@@ -164,18 +125,12 @@ fn put_moved_lines(
     ensures few { result ≤ 1 }
     ensures growth { length out.new.items ≤ length out.old.items + LINE_BYTES }
 {
-    match (outcome, call) {
-        (Outcome::Text(taken), _) => {
-            let bytes = front_of(front, taken.len as usize);
-            put_moved_line(out, pid, Way::Gave, bytes);
+    match bytes_told(front, call, outcome) {
+        Some((way, bytes)) => {
+            put_moved_line(out, pid, way, bytes);
             1
         }
-        (Outcome::Value(count), CallRef::Write(_, _)) => {
-            let bytes = front_of(front, count as usize);
-            put_moved_line(out, pid, Way::Took, bytes);
-            1
-        }
-        _ => 0,
+        None => 0,
     }
 }
 
@@ -250,6 +205,52 @@ pub fn write_call_lines<W: Sink>(
     let count = put_lines(line_buffer, pid, front, call, outcome, walks);
     write_whole(out, line_buffer.as_slice())?;
     Ok(count)
+}
+
+/// Writes the first lines of a call at once: CALL, and a NAMI line for each walk that it began. They are made on the line
+/// buffer.
+///
+/// # Errors
+///
+/// `Failed` where a write failed: the sink was given a beginning of the lines' text.
+pub fn write_first_lines<W: Sink>(
+    out: &mut W,
+    line_buffer: &mut LineBuffer,
+    pid: u32,
+    call: CallRef<'_>,
+    walks: u8,
+) -> Result<(), Failed>
+    ensures whole { OnOk result (W.written out.new ≡ and_all (W.written out.old) (trace_bytes (first_lines_of pid (call_of call.entry) walks))) }
+    ensures beginning { OnErr result (TellsBeginning (trace_bytes (first_lines_of pid (call_of call.entry) walks)) (W.written out.old) (W.written out.new)) }
+    ensures failed { OnErr result (Rose (W.failures out.old) (W.failures out.new)) }
+    ensures quiet { OnOk result (W.failures out.new ≡ W.failures out.old) }
+{
+    line_buffer.clear();
+    put_call_line(line_buffer, pid, call);
+    put_path_lines(line_buffer, pid, call, walks);
+    write_whole(out, line_buffer.as_slice())
+}
+
+/// Writes the last line of a call, where it has one. It is made on the line buffer.
+///
+/// # Errors
+///
+/// `Failed` where a write failed: the sink was given a beginning of the line.
+pub fn write_last_line<W: Sink>(
+    out: &mut W,
+    line_buffer: &mut LineBuffer,
+    pid: u32,
+    call: CallRef<'_>,
+    outcome: Outcome,
+) -> Result<(), Failed>
+    ensures whole { OnOk result (W.written out.new ≡ and_all (W.written out.old) (trace_bytes (end_lines_of pid (call_of call.entry) outcome))) }
+    ensures beginning { OnErr result (TellsBeginning (trace_bytes (end_lines_of pid (call_of call.entry) outcome)) (W.written out.old) (W.written out.new)) }
+    ensures failed { OnErr result (Rose (W.failures out.old) (W.failures out.new)) }
+    ensures quiet { OnOk result (W.failures out.new ≡ W.failures out.old) }
+{
+    line_buffer.clear();
+    put_end_lines(line_buffer, pid, call, outcome);
+    write_whole(out, line_buffer.as_slice())
 }
 
 /// Writes the one line of a step by a process that is not live, which is made on the line buffer.

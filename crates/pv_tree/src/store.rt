@@ -88,12 +88,12 @@ impl Store {
         Store { tree }
     }
 
-    /// What is true of every store: the tree is well-formed and has room in its image, and each node but the
-    /// root has a name.
-    pub fn facts(&self)
+    /// Does nothing: its contract says what holds of every store: the tree is well-formed and has room in its image, and
+    /// each node but the root has a name.
+    pub fn invariant(&self)
         ensures { IsAtRest self.now }
     {
-        let _ = self.tree.sizes();
+        self.tree.invariant();
     }
 
     /// Puts the entries of the directories in the order of the names, where they are not known to stand so. The

@@ -123,7 +123,14 @@ impl Tree {
         })
     }
 
-    /// The sizes of the image. A caller learns here what is true of every tree.
+    /// Does nothing: its contract says what holds of the tree at any time.
+    pub fn invariant(&self)
+        ensures { IsStanding self.now }
+    {
+        let _ = self.sizes();
+    }
+
+    /// The sizes of the image. They say too what is true of every tree.
     pub fn sizes(&self) -> Sizes
         ensures blocks { result.blocks ≡ self.now.tree.blocks }
         ensures inodes { result.inodes ≡ self.now.tree.inodes }

@@ -32,7 +32,7 @@ fn directory_rights(entries: &Entries, tree: &Tree, directory: u16) -> Option<u8
     ensures in_table { IfSome result (λ k. k < length entries.now) }
 {
     // What the sizes tell with them: the tree is well-formed, so each way up comes to the root or to a removed directory.
-    let _ = tree.sizes();
+    tree.invariant();
     let mut at = directory;
     // (one test for both ends: 0, which is no node's number, stands for the directory above a removed one)
     while at > ROOT {
@@ -61,12 +61,13 @@ pub(crate) fn name_rights(entries: &Entries, tree: &Tree, directory: u16, name: 
     }
 }
 
-// The entry that governs a place: of a directory the one that governs it, and of a name its own, or else
-// the one that governs the directory in which it stands.
+/// The entry that governs a place: of a directory the one that governs it, and of a name its own, or else
+/// the one that governs the directory in which it stands.
 #[tactic(auto, unfolding(pv_model::specs::Unveil::governing_entry))]
-fn governing_entry(entries: &Entries, tree: &Tree, place: &PlaceRef<'_>) -> Option<u8>
+pub(crate) fn governing_entry(entries: &Entries, tree: &Tree, place: &PlaceRef<'_>) -> Option<u8>
     requires { IsTrue (is_directory_at tree.now.tree (directory_of place.now)) }
-    ensures { result ≡ governing_entry tree.now.tree entries.now place.now }
+    ensures value { result ≡ governing_entry tree.now.tree entries.now place.now }
+    ensures in_table { IfSome result (λ k. k < length entries.now) }
 {
     if let Some(node) = place.node() {
         if tree.is_directory(node) {

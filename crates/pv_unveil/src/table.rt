@@ -5,7 +5,7 @@ ghost use Rattle.pv_model.specs.Unveil.{directory_rights, entry_for, permissions
 ghost use Rattle.pv_unveil.specs.Added.{refusal, put_in};
 
 use crate::entries::Entries;
-use crate::rights::{judge_in, name_rights};
+use crate::rights::{governing_entry, judge_in, name_rights};
 use pv_model::limits::UNVEILS;
 use pv_model::{Judgement, Perms, Target};
 use pv_tree::{PlaceRef, Tree};
@@ -71,7 +71,7 @@ impl Table {
     ghost use Rattle.std.specs.Option.{IsSomeAnd, option_or};
     ghost use Rattle.pv_model.specs.Calls.Restraints.{entries_of_table};
     ghost use Rattle.pv_model.specs.Tree.{is_directory_at};
-    ghost use Rattle.pv_model.specs.Unveil.{judgement};
+    ghost use Rattle.pv_model.specs.Unveil.{governing_entry, judgement};
     ghost use Rattle.pv_unveil.specs.Judged.{IsJudged};
     ghost use Rattle.pv_unveil.specs.Up.{directory_of};
     ghost use Rattle.pv_unveil.specs.Added.{add_to};
@@ -145,6 +145,22 @@ impl Table {
         self.entries.for_directory(directory)
     }
 
+    /// The entry for a name in a directory itself, if there is one.
+    pub fn own_name_entry(&self, directory: u16, name: &[u8]) -> Option<u8>
+        ensures value { result ≡ entry_for (entries_of_table self.now.table) (Target.Name directory name.now) }
+        ensures in_table { IfSome result (λ k. k < length (entries_of_table self.now.table)) }
+    {
+        self.entries.for_name(directory, name)
+    }
+
+    /// The entry for a target itself, if there is one.
+    pub fn entry_for(&self, target: &Target) -> Option<u8>
+        ensures value { result ≡ entry_for (entries_of_table self.now.table) target.now }
+        ensures in_table { IfSome result (λ k. k < length (entries_of_table self.now.table)) }
+    {
+        self.entries.for_target(target)
+    }
+
     /// The entry that governs a name in a directory of a tree, under which no directory stands: its own, or else the one
     /// that governs the directory.
     pub fn name_entry(&self, tree: &Tree, directory: u16, name: &[u8]) -> Option<u8>
@@ -153,6 +169,17 @@ impl Table {
         ensures in_table { IfSome result (λ k. k < length (entries_of_table self.now.table)) }
     {
         name_rights(&self.entries, tree, directory, name)
+    }
+
+    /// The entry that governs a place of a tree: of a directory its own, or else the one that governs the directory above,
+    /// and of a name its own, or else the one that governs the directory in which it stands. None where none does. The
+    /// place's name stands in a directory of the tree, or its node is one.
+    pub fn governing(&self, tree: &Tree, place: &PlaceRef<'_>) -> Option<u8>
+        requires { IsTrue (is_directory_at tree.now.tree (directory_of place.now)) }
+        ensures value { result ≡ governing_entry tree.now.tree (entries_of_table self.now.table) place.now }
+        ensures in_table { IfSome result (λ k. k < length (entries_of_table self.now.table)) }
+    {
+        governing_entry(&self.entries, tree, place)
     }
 
     /// Adds an entry for a target, or leaves the one for it with these permissions, which must be among its own.

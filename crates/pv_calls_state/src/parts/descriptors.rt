@@ -32,8 +32,8 @@ pub(super) fn release(tree: &mut Tree, files: &mut OpenFiles, file: usize)
     requires held { HoldsOpened tree.old files.old }
     ensures { Releases (file ∷ []) [] tree.old files.old tree.new files.new }
 {
-    let _ = tree.sizes();
-    files.facts();
+    tree.invariant();
+    files.invariant();
     if let Some(node) = files.release(file) {
         tree.let_go(node);
     }
@@ -52,7 +52,7 @@ fn release_some(tree: &mut Tree, files: &mut OpenFiles, file: Option<usize>)
     requires held { HoldsOpened tree.old files.old }
     ensures { Releases (at_most file) [] tree.old files.old tree.new files.new }
 {
-    let _ = tree.sizes();
+    tree.invariant();
     if let Some(file) = file {
         release(tree, files, file);
     }
@@ -65,7 +65,7 @@ fn close_descriptor(processes: &mut Processes, pid: u32, d: i32) -> Result<usize
     ensures closed { OnOk result (processes.new ≡ update processes.old pid (with_closed_descriptor d)) }
     ensures unchanged { OnErr result (processes.new ≡ processes.old) }
 {
-    processes.facts();
+    processes.invariant();
     processes.record_mut(pid).descriptors.close(d)
 }
 
@@ -84,7 +84,7 @@ fn give_descriptor(
     ensures full { OnErr result ((me : Process) → process_in processes.old pid ≡ Some me → least_free me.descriptors ≡ DESCRIPTORS) }
     ensures unchanged { OnErr result (processes.new ≡ processes.old) }
 {
-    processes.facts();
+    processes.invariant();
     processes
         .record_mut(pid)
         .descriptors
@@ -112,11 +112,11 @@ impl Parts {
         ensures performed { (me : Process) → process_at self.old pid ≡ Some me → trimmed (close self.old pid me d) ≡ plainly self.new result }
         ensures unchanged { OnErr result (self.new ≡ self.old) }
     {
-        let _ = self.tree.sizes();
-        self.files.facts();
+        self.tree.invariant();
+        self.files.invariant();
         let file = close_descriptor(&mut self.processes, pid, d)?;
         release(&mut self.tree, &mut self.files, file);
-        self.files.facts();
+        self.files.invariant();
         Ok(0)
     }
 
@@ -131,12 +131,12 @@ impl Parts {
         ensures performed { (me : Process) → process_at self.old pid ≡ Some me → trimmed (dup self.old pid me d) ≡ plainly self.new result }
         ensures unchanged { OnErr result (self.new ≡ self.old) }
     {
-        let _ = self.tree.sizes();
-        self.files.facts();
+        self.tree.invariant();
+        self.files.invariant();
         let file = self.processes.record(pid).descriptors.at(d)?;
         let number = give_descriptor(&mut self.processes, pid, file, false)?;
         self.files.dup(file);
-        self.files.facts();
+        self.files.invariant();
         Ok(u32::from(number))
     }
 
@@ -151,8 +151,8 @@ impl Parts {
         ensures performed { (me : Process) → process_at self.old pid ≡ Some me → trimmed (dup2 self.old pid me d e) ≡ plainly self.new result }
         ensures unchanged { OnErr result (self.new ≡ self.old) }
     {
-        let _ = self.tree.sizes();
-        self.files.facts();
+        self.tree.invariant();
+        self.files.invariant();
         let descriptors = &self.processes.record(pid).descriptors;
         let file = descriptors.at(d)?;
         let Some(number) = number_of(e) else {
@@ -165,7 +165,7 @@ impl Parts {
         set_descriptor(&mut self.processes, pid, number, file);
         self.files.dup(file);
         release_some(&mut self.tree, &mut self.files, left);
-        self.files.facts();
+        self.files.invariant();
         Ok(u32::from(number))
     }
 
@@ -181,8 +181,8 @@ impl Parts {
         ensures number { (me : Process) → process_at self.old pid ≡ Some me → least_free me.descriptors ≡ result }
         ensures opened { (me : Process) → process_at self.old pid ≡ Some me → self.new ≡ trim (with_node_opened self.old pid me flags node) }
     {
-        let _ = self.tree.sizes();
-        self.files.facts();
+        self.tree.invariant();
+        self.files.invariant();
         cut_if(&mut self.tree, node, flags.truncate);
         let number = open_node(
             &mut self.tree,
@@ -192,8 +192,8 @@ impl Parts {
             node,
             flags,
         );
-        let _ = self.tree.sizes();
-        self.files.facts();
+        self.tree.invariant();
+        self.files.invariant();
         number
     }
 
@@ -222,8 +222,8 @@ impl Parts {
         ensures refused { IfErr result (λ why. (me : Process) → process_at self.old pid ≡ Some me → refusal (trim (with_file_made self.old pid me flags directory name.now)).tree ≡ Some why) }
         ensures unchanged { OnErr result (self.new ≡ self.old) }
     {
-        let _ = self.tree.sizes();
-        self.files.facts();
+        self.tree.invariant();
+        self.files.invariant();
         let node = self.tree.make(directory, name, NewNode::File)?;
         let number = open_node(
             &mut self.tree,
@@ -233,8 +233,8 @@ impl Parts {
             node,
             flags,
         );
-        let _ = self.tree.sizes();
-        self.files.facts();
+        self.tree.invariant();
+        self.files.invariant();
         Ok(number)
     }
 }
@@ -245,7 +245,7 @@ fn cut_if(tree: &mut Tree, node: u16, cuts: bool)
     ensures tree { tree.new.tree ≡ (if cuts then with_content tree.old.tree node [] else tree.old.tree) }
     ensures holds { tree.new.holds ≡ tree.old.holds }
 {
-    let _ = tree.sizes();
+    tree.invariant();
     if cuts {
         let Ok(()) = tree.cut(node, 0) else {
             unreachable!()

@@ -39,15 +39,15 @@ impl Parts {
         ensures performed { (me : Process) → process_at self.old pid ≡ Some me → trimmed (fork self.old pid me) ≡ plainly self.new result }
         ensures unchanged { OnErr result (self.new ≡ self.old) }
     {
-        let _ = self.tree.sizes();
-        self.files.facts();
+        self.tree.invariant();
+        self.files.invariant();
         let child = self.processes.fork(pid)?;
         let record = self.processes.record(child);
         self.tree.hold(record.directory);
         hold_targets(&mut self.tree, &record.unveiled);
         share(&mut self.files, &record.descriptors);
-        let _ = self.tree.sizes();
-        self.files.facts();
+        self.tree.invariant();
+        self.files.invariant();
         Ok(child)
     }
 
@@ -58,9 +58,9 @@ impl Parts {
         ensures blocked { result ≡ Reap.Blocked → self.new ≡ self.old }
         ensures unchanged { result ≡ Reap.NoChild → self.new ≡ self.old }
     {
-        let _ = self.tree.sizes();
-        self.files.facts();
-        self.processes.facts();
+        self.tree.invariant();
+        self.files.invariant();
+        self.processes.invariant();
         self.processes.reap(pid)
     }
 
@@ -70,14 +70,14 @@ impl Parts {
         requires live { IsSome (process_at self.old pid) }
         ensures { (me : Process) → process_at self.old pid ≡ Some me → self.new ≡ trim (end_process self.old pid me status) }
     {
-        let _ = self.tree.sizes();
-        self.files.facts();
+        self.tree.invariant();
+        self.files.invariant();
         let record = self.processes.record(pid);
         release_all(&mut self.tree, &mut self.files, &record.descriptors);
         let_go_targets(&mut self.tree, &record.unveiled);
         self.tree.let_go(record.directory);
         self.processes.end(pid, status);
-        self.files.facts();
+        self.files.invariant();
     }
 
     /// Gives a live process another program, execve(2). The descriptors that execve closes are closed, and without
@@ -87,14 +87,14 @@ impl Parts {
         requires live { IsSome (process_at self.old pid) }
         ensures { self.new ≡ trim (update self.old pid (λ me. with_program self.old pid me program)) }
     {
-        let _ = self.tree.sizes();
-        self.files.facts();
+        self.tree.invariant();
+        self.files.invariant();
         let record = self.processes.record(pid);
         release_marked(&mut self.tree, &mut self.files, &record.descriptors);
         let keeps = keeps_table(&record.pledge);
         let_go_unless(&mut self.tree, &record.unveiled, keeps);
         self.processes.load(pid, program);
-        self.files.facts();
+        self.files.invariant();
     }
 }
 
@@ -122,9 +122,9 @@ fn share(files: &mut OpenFiles, descriptors: &Descriptors)
     requires room { (k : ℕ) → slice_index files.old.users k + times k (files_on descriptors.now) ≤ 65535 }
     ensures { Shares (files_on descriptors.now) [] files.old files.new }
 {
-    descriptors.facts();
+    descriptors.invariant();
     for d in 0..DESCRIPTORS as u8 {
-        files.facts();
+        files.invariant();
         if let Some(file) = file_at(descriptors, d) {
             files.dup(file);
         }
@@ -137,10 +137,10 @@ fn release_all(tree: &mut Tree, files: &mut OpenFiles, descriptors: &Descriptors
     requires held { HoldsOpened tree.old files.old }
     ensures { Releases (files_on descriptors.now) [] tree.old files.old tree.new files.new }
 {
-    let _ = tree.sizes();
-    descriptors.facts();
+    tree.invariant();
+    descriptors.invariant();
     for d in 0..DESCRIPTORS as u8 {
-        files.facts();
+        files.invariant();
         if let Some(file) = file_at(descriptors, d) {
             release(tree, files, file);
         }
@@ -153,10 +153,10 @@ fn release_marked(tree: &mut Tree, files: &mut OpenFiles, descriptors: &Descript
     requires held { HoldsOpened tree.old files.old }
     ensures { Releases (files_on (marked_of descriptors.now)) [] tree.old files.old tree.new files.new }
 {
-    let _ = tree.sizes();
-    descriptors.facts();
+    tree.invariant();
+    descriptors.invariant();
     for d in 0..DESCRIPTORS as u8 {
-        files.facts();
+        files.invariant();
         if let Some(file) = marked_file_at(descriptors, d) {
             release(tree, files, file);
         }
@@ -180,7 +180,7 @@ fn let_go_targets(tree: &mut Tree, table: &Table)
     requires { (n : ℕ) → times n (held_by_table table.now.table) ≤ holds_at tree.old n }
     ensures { LetsGo (held_by_table table.now.table) tree.old tree.new }
 {
-    let _ = tree.sizes();
+    tree.invariant();
     for k in 0..table.len() as u8 {
         tree.let_go(directory_of(table.target(k)));
     }
@@ -191,7 +191,7 @@ fn let_go_unless(tree: &mut Tree, table: &Table, keeps: bool)
     requires { (n : ℕ) → times n (held_by_table table.now.table) ≤ holds_at tree.old n }
     ensures { LetsGo (if keeps then [] else held_by_table table.now.table) tree.old tree.new }
 {
-    let _ = tree.sizes();
+    tree.invariant();
     if !keeps {
         let_go_targets(tree, table);
     }

@@ -53,8 +53,8 @@ impl Parts {
             → refusal (trim (with_bytes_written self.old pid me file f at (take count me.buffer))).tree ≡ Some why) }
         ensures unchanged { OnErr result (self.new ≡ self.old) }
     {
-        let _ = self.tree.sizes();
-        self.files.facts();
+        self.tree.invariant();
+        self.files.invariant();
         let node = self.files.node(file);
         let buffer = self.processes.record(pid).context.buffer();
         self.tree.write_at(node, at, &buffer[..count])?;
@@ -74,8 +74,8 @@ impl Parts {
         ensures refused { IfErr result (λ why. refusal (trim (with_tree self.old (resized self.old.tree node size))).tree ≡ Some why) }
         ensures unchanged { OnErr result (self.new ≡ self.old) }
     {
-        let _ = self.tree.sizes();
-        self.files.facts();
+        self.tree.invariant();
+        self.files.invariant();
         self.tree.cut(node, size)
     }
 }

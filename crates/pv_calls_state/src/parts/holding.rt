@@ -65,7 +65,7 @@ fn add_entry(
     ensures refused { IfErr result (λ fault. (me : Process) → process_in processes.old pid ≡ Some me → add_to (unveiled_of me) target permissions ≡ refusal fault) }
     ensures unchanged { OnErr result (processes.new ≡ processes.old) }
 {
-    processes.facts();
+    processes.invariant();
     add_to_table(&mut processes.record_mut(pid).unveiled, target, permissions)
 }
 
@@ -89,8 +89,8 @@ impl Parts {
         requires there { IsSome (node_at self.old.tree directory) }
         ensures { self.new ≡ trim (update self.old pid (with_directory directory)) }
     {
-        let _ = self.tree.sizes();
-        self.files.facts();
+        self.tree.invariant();
+        self.files.invariant();
         let left = self.processes.record(pid).directory;
         self.tree.hold(directory);
         put_directory(&mut self.processes, pid, directory);
@@ -111,8 +111,8 @@ impl Parts {
         ensures refused { IfErr result (λ fault. (me : Process) → process_at self.old pid ≡ Some me → add_to (unveiled_of me) target permissions ≡ refusal fault) }
         ensures unchanged { OnErr result (self.new ≡ self.old) }
     {
-        let _ = self.tree.sizes();
-        self.files.facts();
+        self.tree.invariant();
+        self.files.invariant();
         let directory = directory_of(&target);
         let is_new = add_entry(&mut self.processes, pid, target, permissions)?;
         hold_if(&mut self.tree, directory, is_new);

@@ -30,8 +30,8 @@ impl Parts {
         ensures refused { IfErr result (λ why. refusal (trim (with_tree self.old (with_new_node self.old.tree directory name.now (new_node kind.entry)))).tree ≡ Some why) }
         ensures unchanged { OnErr result (self.new ≡ self.old) }
     {
-        let _ = self.tree.sizes();
-        self.files.facts();
+        self.tree.invariant();
+        self.files.invariant();
         let _node = self.tree.make(directory, name, kind)?;
         Ok(())
     }
@@ -52,8 +52,8 @@ impl Parts {
         ensures refused { IfErr result (λ why. refusal (trim (with_tree self.old (with_entry self.old.tree directory name.now node))).tree ≡ Some why) }
         ensures unchanged { OnErr result (self.new ≡ self.old) }
     {
-        let _ = self.tree.sizes();
-        self.files.facts();
+        self.tree.invariant();
+        self.files.invariant();
         self.tree.link(directory, name, node)
     }
 
@@ -65,7 +65,7 @@ impl Parts {
         requires empty { entries_there self.old.tree (find_entry self.old.tree directory name.now) ≡ [] }
         ensures { self.new ≡ trim (with_tree self.old (without_entry self.old.tree directory name.now)) }
     {
-        self.files.facts();
+        self.files.invariant();
         self.tree.unlink(directory, name);
     }
 
@@ -88,7 +88,7 @@ impl Parts {
         ensures refused { IfErr result (λ why. refusal (trim (with_tree self.old (moved self.old.tree from name.now to other.now))).tree ≡ Some why) }
         ensures unchanged { OnErr result (self.new ≡ self.old) }
     {
-        self.files.facts();
+        self.files.invariant();
         self.tree.rename(from, name, to, other)
     }
 }

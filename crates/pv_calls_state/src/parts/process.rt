@@ -31,7 +31,7 @@ impl Parts {
     pub fn step_or_fetch<'a>(&mut self, pid: u32, texts: &'a mut CallTexts) -> Fetched<'a>
         ensures { IsRegistered result pid self.old self.new }
     {
-        self.processes.facts();
+        self.processes.invariant();
         self.processes.step_or_fetch(pid, texts)
     }
 
@@ -42,7 +42,7 @@ impl Parts {
         ensures made { PassesInside result pid self.old self.new }
         ensures whole { result < most → AwaitsCall (process_at self.new pid) }
     {
-        self.processes.facts();
+        self.processes.invariant();
         self.processes.pass(pid, most)
     }
 
@@ -51,7 +51,7 @@ impl Parts {
         requires { IsSome (process_at self.old pid) }
         ensures { self.new ≡ update self.old pid at_next_line }
     {
-        self.processes.facts();
+        self.processes.invariant();
         self.processes.advance(pid);
     }
 
@@ -60,7 +60,7 @@ impl Parts {
         requires { IsSome (process_at self.old pid) }
         ensures { self.new ≡ update self.old pid (λ p. with_result p value error) }
     {
-        self.processes.facts();
+        self.processes.invariant();
         self.processes.tell(pid, value, error);
     }
 
@@ -70,7 +70,7 @@ impl Parts {
         requires size { length bytes.now ≤ BUFFER }
         ensures { self.new ≡ update self.old pid (with_front bytes.now) }
     {
-        self.processes.facts();
+        self.processes.invariant();
         self.processes.put_front(pid, bytes);
     }
 
@@ -83,7 +83,7 @@ impl Parts {
         ensures count { result ≡ length (bytes_read self.old.tree node at count) }
         ensures front { self.new ≡ update self.old pid (with_front (bytes_read self.old.tree node at count)) }
     {
-        self.processes.facts();
+        self.processes.invariant();
         let buffer = self.processes.record_mut(pid).context.buffer_mut();
         read_part(&self.tree, node, at, count, buffer)
     }
@@ -93,7 +93,7 @@ impl Parts {
         requires { IsSome (process_at self.old pid) }
         ensures { self.new ≡ update self.old pid (λ p. record p { promises = pledge.promises; execpromises = pledge.execpromises }) }
     {
-        self.processes.facts();
+        self.processes.invariant();
         self.processes.record_mut(pid).pledge = pledge;
     }
 
@@ -102,7 +102,7 @@ impl Parts {
         requires { IsSome (process_at self.old pid) }
         ensures { self.new ≡ update self.old pid (λ p. record p { locked = true }) }
     {
-        self.processes.facts();
+        self.processes.invariant();
         self.processes.record_mut(pid).unveiled.lock();
     }
 }

@@ -1,12 +1,35 @@
 //! The names of a node, one after the other.
 ghost use Rattle.std.specs.Prelude.{◌≡◌};
+ghost use Rattle.pv_model.specs.Answers.Nodes.{least_name};
 ghost use Rattle.pv_model.specs.Tree.{names_of};
 ghost use Rattle.pv_tree.specs.NodeNames.{first_after, last_of, IsNextNameOfNode};
 
 use super::Tree;
 use pv_model::Name;
+use pv_model::limits::ROOT;
 
 impl Tree {
+    /// The least name of a node, with the number of the directory in which it stands: by that number, and then by the
+    /// bytes of the name. None where it has no name. Of a directory it is found in the one above it.
+    pub fn least_name(&self, node: u16) -> Option<(u16, Name)>
+        ensures { result ≡ least_name self.now.tree node }
+    {
+        self.invariant();
+        if !self.is_directory(node) {
+            return self.next_name(node, None);
+        }
+        if node == ROOT {
+            return None;
+        }
+        let Some(above) = self.parent(node) else {
+            return None;
+        };
+        match self.next_name_of(above, node, None) {
+            Some(name) => Some((above, name)),
+            None => None,
+        }
+    }
+
     /// The next name of a node, with the number of the directory in which it stands: the least that is greater than the
     /// last one, by directory, and then by the bytes of the name. With no last one it is the least of all. None where
     /// there is no greater one.

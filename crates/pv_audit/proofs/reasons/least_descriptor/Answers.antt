@@ -27,4 +27,4 @@ loop-d-preserved c =
 
 pub returns : goal.returns
 returns c =
-    sym (quiet-all c.args.files.now.files c.args.descriptors.now c.args.node c.args.needed c.loop-d.d (omega (arith, c.facts.ensures, c.loop-d-test.false)) c.loop-d.invariant)
+    sym (quiet-all c.args.files.now.files c.args.descriptors.now c.args.node c.args.needed c.loop-d.d (omega (arith, c.invariant.ensures, c.loop-d-test.false)) c.loop-d.invariant)

@@ -14,14 +14,14 @@ pub push-requires : goal.push-requires
 push-requires c =
     let rs = c.args.parts.now.processes in
     let lives = sym (c.live.ensures ∙ ap (λ (ps : ProcessTable). is_some (process_in ps c.loop-pid.pid)) c.processes.ensures) ∙ c.if-live.true in
-    let few = suspects-few c.loop-pid.pid rs c.loop-pid.suspects.items c.facts.ensures.processes.ascending c.loop-pid.invariant lives in
-    let small : length c.loop-pid.suspects.items < 32 = omega (arith, few, c.facts.ensures.processes.count) in
+    let few = suspects-few c.loop-pid.pid rs c.loop-pid.suspects.items c.invariant.ensures.processes.ascending c.loop-pid.invariant lives in
+    let small : length c.loop-pid.suspects.items < 32 = omega (arith, few, c.invariant.ensures.processes.count) in
     (lit< tt, small)
 
 pub loop-pid-preserved : goal.loop-pid-preserved
 loop-pid-preserved c =
     let rs = c.args.parts.now.processes in
-    let sorted = c.facts.ensures.processes.ascending in
+    let sorted = c.invariant.ensures.processes.ascending in
     let tested = sym (c.live.ensures ∙ ap (λ (ps : ProcessTable). is_some (process_in ps c.loop-pid.pid)) c.processes.ensures) in
     elim c.if-live.branch [
       | then-live w ↦
@@ -35,7 +35,7 @@ loop-pid-preserved c =
 
 pub returns : goal.returns
 returns c =
-    let ps = c.facts.ensures.processes in
+    let ps = c.invariant.ensures.processes in
     c.loop-pid.invariant
     ∙ ap (map start)
     (below-all c.loop-pid.pid c.args.parts.now.processes (λ (r : Recorded). nat_le 1 r.0 && nat_le r.0 c.args.parts.now.last_process) ps.numbers

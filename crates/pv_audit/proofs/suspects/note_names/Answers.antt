@@ -14,7 +14,7 @@ pub loop-next-init : goal.loop-next-init
 loop-next-init c =
     let t = c.args.parts.now.tree in
     let n = c.args.node in
-    let rise = up t c.tree-tree.result.now.tree n c.tree-tree.ensures c.sizes.ensures.standing.well_formed in
+    let rise = up t c.tree-tree.result.now.tree n c.tree-tree.ensures c.invariant.ensures.well_formed in
     record {
       noted = noted-first c.args.parts.now (names_of t n) rise c.next_name-next.result c.args.suspects.now c.requires
           (c.next_name-next.ensures.value ∙ ap (λ (u : Tree). first_after None (names_of u n)) c.tree-tree.ensures);
@@ -31,7 +31,7 @@ loop-next-smaller c =
     let t = c.args.parts.now.tree in
     let n = c.args.node in
     let x : Named = (c.in-Some.directory, c.in-Some.name) in
-    let rise = up t c.tree-tree.result.now.tree n c.tree-tree.ensures c.sizes.ensures.standing.well_formed in
+    let rise = up t c.tree-tree.result.now.tree n c.tree-tree.ensures c.invariant.ensures.well_formed in
     let next =
     c.next_name-next-in-Some.ensures.value ∙ ap (λ (u : Tree). first_after (Some (c.in-Some.directory, c.as_slice.result.now)) (names_of u n)) c.tree-tree.ensures
     ∙ ap (λ (name : Bytes). first_after (Some (c.in-Some.directory, name)) (names_of t n)) c.as_slice.ensures.value in
@@ -44,7 +44,7 @@ loop-next-preserved c =
     let t = s.tree in
     let n = c.args.node in
     let x : Named = (c.in-Some.directory, c.in-Some.name) in
-    let rise = up t c.tree-tree.result.now.tree n c.tree-tree.ensures c.sizes.ensures.standing.well_formed in
+    let rise = up t c.tree-tree.result.now.tree n c.tree-tree.ensures c.invariant.ensures.well_formed in
     let next =
     c.next_name-next-in-Some.ensures.value ∙ ap (λ (u : Tree). first_after (Some (c.in-Some.directory, c.as_slice.result.now)) (names_of u n)) c.tree-tree.ensures
     ∙ ap (λ (name : Bytes). first_after (Some (c.in-Some.directory, name)) (names_of t n)) c.as_slice.ensures.value in

@@ -3,18 +3,18 @@ use Rattle.pv_calls.proofs.Carrying.{next-live, next-whole, carried-on, next-goe
 use Rattle.pv_calls.proofs.carry.carry_on.Goals as goal
 
 pub perform-requires-clause-whole : goal.perform-requires-clause-whole
-perform-requires-clause-whole g c = next-whole c.args.parts.now c.advance.new.self c.args.pid c.advance.ensures c.requires.live c.requires.whole
+perform-requires-clause-whole g c = next-whole c.args.system.now.parts c.advance.new.self c.args.pid c.advance.ensures c.requires.live c.requires.whole
 
 pub perform-requires-clause-live : goal.perform-requires-clause-live
-perform-requires-clause-live g c = next-live c.args.parts.now c.advance.new.self c.args.pid c.advance.ensures c.requires.live
+perform-requires-clause-live g c = next-live c.args.system.now.parts c.advance.new.self c.args.pid c.advance.ensures c.requires.live
 
 pub perform-requires-clause-goes_on : goal.perform-requires-clause-goes_on
 perform-requires-clause-goes_on g c =
-    next-goes_on c.args.parts.now c.advance.new.self c.args.pid (call_of c.args.call) c.advance.ensures c.requires.live c.requires.whole.processes.ascending (c.is_blocked.ensures.goes_on c.if-is_blocked.false)
+    next-goes_on c.args.system.now.parts c.advance.new.self c.args.pid (call_of c.args.call) c.advance.ensures c.requires.live c.requires.whole.processes.ascending (c.is_blocked.ensures.goes_on c.if-is_blocked.false)
 
 pub returns-then-is_blocked-clause-carried : goal.returns-then-is_blocked-clause-carried
-returns-then-is_blocked-clause-carried g c = blocked-carried c.args.parts.now c.args.pid (call_of c.args.call) c.requires.whole.processes.ascending (c.is_blocked.ensures.blocked c.if-is_blocked.true)
+returns-then-is_blocked-clause-carried g c = blocked-carried c.args.system.now.parts c.args.pid (call_of c.args.call) c.requires.whole.processes.ascending (c.is_blocked.ensures.blocked c.if-is_blocked.true)
 
 pub returns-clause-carried : goal.returns-clause-carried
 returns-clause-carried g c =
-    carried-on c.args.parts.now c.advance.new.self c.args.pid (call_of c.args.call) c.perform.new.parts c.perform.result c.advance.ensures c.perform.ensures.performed
+    carried-on c.args.system.now.parts c.advance.new.self c.args.pid (call_of c.args.call) c.perform.new.system.parts c.perform.result c.advance.ensures c.perform.ensures.performed

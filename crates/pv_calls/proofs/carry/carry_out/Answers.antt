@@ -13,55 +13,55 @@ use Rattle.pv_calls.proofs.carry.carry_out.Goals as goal
 
 pub returns-in_default-clause-answered : goal.returns-in_default-clause-answered
 returns-in_default-clause-answered g c =
-    answer-gone c.args.parts.now c.args.pid (call_of c.args.call) (gone-of c.args.parts.now c.args.pid (c.live_record.ensures ∙ ap option_copied c.in_default.is))
+    answer-gone c.args.system.now.parts c.args.pid (call_of c.args.call) (gone-of c.args.system.now.parts c.args.pid (c.live_record.ensures ∙ ap option_copied c.in_default.is))
 
 pub tell-requires-clause-live : goal.tell-requires-clause-live
 tell-requires-clause-live g c =
     let has = c.live_record.ensures ∙ ap option_copied c.in-Some.is in
-    let live = live-of c.args.parts.now c.args.pid c.in-Some.«record».now has in
-    next-live c.args.parts.now c.advance.new.self c.args.pid c.advance.ensures (subst IsSome (sym live.1) refl)
+    let live = live-of c.args.system.now.parts c.args.pid c.in-Some.«record».now has in
+    next-live c.args.system.now.parts c.advance.new.self c.args.pid c.advance.ensures (subst IsSome (sym live.1) refl)
 
 pub returns-in-Allowed-clause-answered : goal.returns-in-Allowed-clause-answered
 returns-in-Allowed-clause-answered g c =
     let has = c.live_record.ensures ∙ ap option_copied c.in-Some.is in
-    let live = live-of c.args.parts.now c.args.pid c.in-Some.«record».now has in
-    answer-allowed-if c.args.parts.now c.args.pid (call_of c.args.call) live.0 live.1 c.carry_on.new.parts c.carry_on.result
-    (decided c.args.parts.now c.args.pid c.in-Some.«record».now (call_of c.args.call) c.decide.result has c.decide.ensures live.0 live.1 ∙ c.in-Allowed.is) c.carry_on.ensures.carried
+    let live = live-of c.args.system.now.parts c.args.pid c.in-Some.«record».now has in
+    answer-allowed-if c.args.system.now.parts c.args.pid (call_of c.args.call) live.0 live.1 c.carry_on.new.system.parts c.carry_on.result
+    (decided c.args.system.now.parts c.args.pid c.in-Some.«record».now (call_of c.args.call) c.decide.result has c.decide.ensures live.0 live.1 ∙ c.in-Allowed.is) c.carry_on.ensures.carried
 
 pub returns-in-Allowed-clause-memory : goal.returns-in-Allowed-clause-memory
 returns-in-Allowed-clause-memory g c =
     let has = c.live_record.ensures ∙ ap option_copied c.in-Some.is in
-    let live = live-of c.args.parts.now c.args.pid c.in-Some.«record».now has in
-    loads-if c.args.parts.now c.args.pid (call_of c.args.call) live.0 live.1 c.carry_on.result
-    (decided c.args.parts.now c.args.pid c.in-Some.«record».now (call_of c.args.call) c.decide.result has c.decide.ensures live.0 live.1 ∙ c.in-Allowed.is) c.carry_on.ensures.memory
+    let live = live-of c.args.system.now.parts c.args.pid c.in-Some.«record».now has in
+    loads-if c.args.system.now.parts c.args.pid (call_of c.args.call) live.0 live.1 c.carry_on.result
+    (decided c.args.system.now.parts c.args.pid c.in-Some.«record».now (call_of c.args.call) c.decide.result has c.decide.ensures live.0 live.1 ∙ c.in-Allowed.is) c.carry_on.ensures.memory
 
 pub returns-in-Kill-clause-answered : goal.returns-in-Kill-clause-answered
 returns-in-Kill-clause-answered g c =
     let has = c.live_record.ensures ∙ ap option_copied c.in-Some.is in
-    let live = live-of c.args.parts.now c.args.pid c.in-Some.«record».now has in
-    killed-so c.args.parts.now c.args.pid (call_of c.args.call) live.0 live.1 c.in-Kill.promise c.end.new.self
-    (decided c.args.parts.now c.args.pid c.in-Some.«record».now (call_of c.args.call) c.decide.result has c.decide.ensures live.0 live.1 ∙ c.in-Kill.is) (c.end.ensures live.0 live.1)
+    let live = live-of c.args.system.now.parts c.args.pid c.in-Some.«record».now has in
+    killed-so c.args.system.now.parts c.args.pid (call_of c.args.call) live.0 live.1 c.in-Kill.promise c.end.new.self
+    (decided c.args.system.now.parts c.args.pid c.in-Some.«record».now (call_of c.args.call) c.decide.result has c.decide.ensures live.0 live.1 ∙ c.in-Kill.is) (c.end.ensures live.0 live.1)
 
 pub returns-in-Kill-clause-agrees : goal.returns-in-Kill-clause-agrees
 returns-in-Kill-clause-agrees g c =
     let has = c.live_record.ensures ∙ ap option_copied c.in-Some.is in
-    let live = live-of c.args.parts.now c.args.pid c.in-Some.«record».now has in
-    g.met.L.Lookup.same_answers c.args.lookup.now _ _ c.requires.agrees (find-end c.args.parts.now c.args.pid live.0 6 c.end.new.self c.requires.whole (c.end.ensures live.0 live.1))
+    let live = live-of c.args.system.now.parts c.args.pid c.in-Some.«record».now has in
+    g.met.L.Lookup.same_answers c.args.system.now.lookup _ _ c.requires.agrees (find-end c.args.system.now.parts c.args.pid live.0 6 c.end.new.self c.requires.whole (c.end.ensures live.0 live.1))
 
 pub returns-in-Refuse-clause-answered : goal.returns-in-Refuse-clause-answered
 returns-in-Refuse-clause-answered g c =
     let has = c.live_record.ensures ∙ ap option_copied c.in-Some.is in
-    let live = live-of c.args.parts.now c.args.pid c.in-Some.«record».now has in
-    answer-refused c.args.parts.now c.args.pid (call_of c.args.call) live.0 live.1 c.in-Refuse.promise
-    (decided c.args.parts.now c.args.pid c.in-Some.«record».now (call_of c.args.call) c.decide.result has c.decide.ensures live.0 live.1 ∙ c.in-Refuse.is)
-    ∙ c.tell.ensures.told c.args.parts.now (with_process c.args.parts.now c.args.pid (at_next_line live.0)) (at_next_line live.0) (refused 0 ENOSYS (ByPromise c.in-Refuse.promise)) refl
-    (c.advance.ensures ∙ update-is c.args.parts.now c.args.pid at_next_line live.0 live.1)
+    let live = live-of c.args.system.now.parts c.args.pid c.in-Some.«record».now has in
+    answer-refused c.args.system.now.parts c.args.pid (call_of c.args.call) live.0 live.1 c.in-Refuse.promise
+    (decided c.args.system.now.parts c.args.pid c.in-Some.«record».now (call_of c.args.call) c.decide.result has c.decide.ensures live.0 live.1 ∙ c.in-Refuse.is)
+    ∙ c.tell.ensures.told c.args.system.now.parts (with_process c.args.system.now.parts c.args.pid (at_next_line live.0)) (at_next_line live.0) (refused 0 ENOSYS (ByPromise c.in-Refuse.promise)) refl
+    (c.advance.ensures ∙ update-is c.args.system.now.parts c.args.pid at_next_line live.0 live.1)
 
 pub returns-in-Refuse-clause-agrees : goal.returns-in-Refuse-clause-agrees
 returns-in-Refuse-clause-agrees g c =
     let has = c.live_record.ensures ∙ ap option_copied c.in-Some.is in
-    let live = live-of c.args.parts.now c.args.pid c.in-Some.«record».now has in
-    let next = with_process c.args.parts.now c.args.pid (at_next_line live.0) in
-    let told = c.tell.ensures.told c.args.parts.now next (at_next_line live.0) (refused 0 ENOSYS (ByPromise c.in-Refuse.promise)) refl (c.advance.ensures ∙ update-is c.args.parts.now c.args.pid at_next_line live.0 live.1) in
-    subst (λ t. g.L.Lookup.agrees c.args.lookup.now (find_entry t))
-    (sym (told-tree c.args.parts.now next c.args.pid (at_next_line live.0) (record { walks = 0; errno = ENOSYS; cause = ByPromise c.in-Refuse.promise }) c.tell.new.parts c.tell.result told)) c.requires.agrees
+    let live = live-of c.args.system.now.parts c.args.pid c.in-Some.«record».now has in
+    let next = with_process c.args.system.now.parts c.args.pid (at_next_line live.0) in
+    let told = c.tell.ensures.told c.args.system.now.parts next (at_next_line live.0) (refused 0 ENOSYS (ByPromise c.in-Refuse.promise)) refl (c.advance.ensures ∙ update-is c.args.system.now.parts c.args.pid at_next_line live.0 live.1) in
+    subst (λ t. g.L.Lookup.agrees c.args.system.now.lookup (find_entry t))
+    (sym (told-tree c.args.system.now.parts next c.args.pid (at_next_line live.0) (record { walks = 0; errno = ENOSYS; cause = ByPromise c.in-Refuse.promise }) c.tell.new.parts c.tell.result told)) c.requires.agrees

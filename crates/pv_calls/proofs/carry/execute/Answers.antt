@@ -18,19 +18,19 @@ use Rattle.pv_calls.proofs.carry.execute.Goals as goal
 pub tell-requires-clause-live : goal.tell-requires-clause-live
 unfolding effect
 tell-requires-clause-live g c =
-    let s = c.args.parts.now in
+    let s = c.args.system.now.parts in
     let mine = some-at (process_at s c.args.pid) c.requires.live in
-    performed-live s c.execve.new.parts c.args.pid (Ok c.in-Ok.told) (execve s c.args.pid mine.0 program_of c.args.path.now) (c.in-Ok.ensures.performed mine.0 mine.1) tt c.requires.live
+    performed-live s c.execve.new.system.parts c.args.pid (Ok c.in-Ok.told) (execve s c.args.pid mine.0 program_of c.args.path.now) (c.in-Ok.ensures.performed mine.0 mine.1) tt c.requires.live
     (lives s c.args.pid mine.0 mine.1 c.requires.whole (Execve c.args.path.now))
 
 pub tell-requires-in-Err-Refused-clause-live : goal.tell-requires-in-Err-Refused-clause-live
 tell-requires-in-Err-Refused-clause-live g c =
-    next-live c.execve.new.parts c.advance.new.self c.args.pid c.advance.ensures (subst (λ x. IsSome (process_at x c.args.pid)) (sym c.in-Err-Refused.ensures.unchanged) c.requires.live)
+    next-live c.execve.new.system.parts c.advance.new.self c.args.pid c.advance.ensures (subst (λ x. IsSome (process_at x c.args.pid)) (sym c.in-Err-Refused.ensures.unchanged) c.requires.live)
 
 pub returns-in-Ok-clause-carried : goal.returns-in-Ok-clause-carried
 unfolding effect
 returns-in-Ok-clause-carried g c = λ me at.
-    let s = c.args.parts.now in
+    let s = c.args.system.now.parts in
     let next = with_process s c.args.pid (at_next_line me) in
     c.tell.ensures.told s next (at_next_line me) (execve next c.args.pid (at_next_line me) program_of c.args.path.now)
     (ap trimmed (execve-next s c.args.pid me c.args.path.now) ∙ c.in-Ok.ensures.performed me at) tt
@@ -38,13 +38,13 @@ returns-in-Ok-clause-carried g c = λ me at.
 pub returns-in-Err-Refused-clause-carried : goal.returns-in-Err-Refused-clause-carried
 unfolding effect
 returns-in-Err-Refused-clause-carried g c = λ me at.
-    let s = c.args.parts.now in
+    let s = c.args.system.now.parts in
     let next = with_process s c.args.pid (at_next_line me) in
     c.tell-in-Err-Refused.ensures.told s next (at_next_line me) (execve next c.args.pid (at_next_line me) program_of c.args.path.now)
-    (ap trimmed (execve-next s c.args.pid me c.args.path.now) ∙ subst (λ f. Executes s c.args.pid me c.args.path.now c.execve.new.parts (Err f)) c.in-Err-Refused.field-0-is (c.in-Err-Refused.ensures.performed me at))
+    (ap trimmed (execve-next s c.args.pid me c.args.path.now) ∙ subst (λ f. Executes s c.args.pid me c.args.path.now c.execve.new.system.parts (Err f)) c.in-Err-Refused.field-0-is (c.in-Err-Refused.ensures.performed me at))
     (c.advance.ensures ∙ ap (λ x. update x c.args.pid at_next_line) c.in-Err-Refused.ensures.unchanged ∙ update-is s c.args.pid at_next_line me at)
 
 pub returns-in-Err-Memory-clause-memory : goal.returns-in-Err-Memory-clause-memory
 returns-in-Err-Memory-clause-memory g c = λ me at.
-    let s = c.args.parts.now in
-    subst (λ f. Executes s c.args.pid me c.args.path.now c.execve.new.parts (Err f)) c.in-Err-Memory.field-0-is (c.in-Err-Memory.ensures.performed me at)
+    let s = c.args.system.now.parts in
+    subst (λ f. Executes s c.args.pid me c.args.path.now c.execve.new.system.parts (Err f)) c.in-Err-Memory.field-0-is (c.in-Err-Memory.ensures.performed me at)

@@ -9,16 +9,16 @@ use Rattle.pv_calls.proofs.carry.perform.Goals as goal
 
 pub tell-requires : goal.tell-requires
 tell-requires g c = record {
-  live = told-live (λ s me. effect program_of s c.args.pid me (call_of c.args.call)) c.args.parts.now c.dispatch.new.parts c.args.pid c.in-Performed.performed c.in-Performed.ensures.replied c.requires.live
-      (λ me at. lives c.args.parts.now c.args.pid me at c.requires.whole (call_of c.args.call));
+  live = told-live (λ s me. effect program_of s c.args.pid me (call_of c.args.call)) c.args.system.now.parts c.dispatch.new.system.parts c.args.pid c.in-Performed.performed c.in-Performed.ensures.replied c.requires.live
+      (λ me at. lives c.args.system.now.parts c.args.pid me at c.requires.whole (call_of c.args.call));
   small = c.in-Performed.ensures.replied.small;
 }
 
 pub returns-in-Performed-clause-performed : goal.returns-in-Performed-clause-performed
 returns-in-Performed-clause-performed g c = λ before me at.
     let is = c.in-Performed.ensures.replied in
-    c.tell.ensures.told before c.args.parts.now me (effect program_of c.args.parts.now c.args.pid me (call_of c.args.call)) (is.as_defined me at) is.unchanged
+    c.tell.ensures.told before c.args.system.now.parts me (effect program_of c.args.system.now.parts c.args.pid me (call_of c.args.call)) (is.as_defined me at) is.unchanged
 
 pub returns-in-Performed-clause-agrees : goal.returns-in-Performed-clause-agrees
 returns-in-Performed-clause-agrees g c =
-    subst (λ t. g.L.Lookup.agrees c.dispatch.new.lookup (find_entry t)) (sym c.tell.ensures.tree) c.in-Performed.ensures.agrees
+    subst (λ t. g.L.Lookup.agrees c.dispatch.new.system.lookup (find_entry t)) (sym c.tell.ensures.tree) c.in-Performed.ensures.agrees

@@ -16,14 +16,14 @@ pub returns-in_err-node-clause-performed : goal.returns-in_err-node-clause-perfo
 returns-in_err-node-clause-performed g c =
     let p = err_from_is_err_and c.from_residual.result c.from_residual.ensures.1 in
     record {
-      as_defined = λ me at. rw (p.1, p.2) (ap trimmed (missed-as c.args.parts.now me me.directory c.chdir-walk.ensures _ (c.in_err-node.ensures.missed me at) _));
+      as_defined = λ me at. rw (p.1, p.2) (ap trimmed (missed-as c.args.system.now.parts me me.directory c.chdir-walk.ensures _ (c.in_err-node.ensures.missed me at) _));
       unchanged = rw p.1 refl;
       small = rw p.1 tt;
     }
 
 pub returns-then-not-is_directory-clause-performed : goal.returns-then-not-is_directory-clause-performed
 returns-then-not-is_directory-clause-performed g c =
-    let s = c.args.parts.now in
+    let s = c.args.system.now.parts in
     let n = c.in_ok-node.node in
     let other : is_directory_at s.tree n ≡ false = ap (λ t. is_directory_at t n) (sym c.tree.ensures) ∙ sym c.is_directory.ensures ∙ c.if-not-is_directory.true in
     record {
@@ -34,7 +34,7 @@ returns-then-not-is_directory-clause-performed g c =
 
 pub returns-clause-performed : goal.returns-clause-performed
 returns-clause-performed g c =
-    let s = c.args.parts.now in
+    let s = c.args.system.now.parts in
     let n = c.in_ok-node.node in
     let directory : is_directory_at s.tree n ≡ true = ap (λ t. is_directory_at t n) (sym c.tree.ensures) ∙ sym c.is_directory.ensures ∙ c.if-not-is_directory.false in
     record {
@@ -48,6 +48,6 @@ returns-clause-performed g c =
 
 pub returns-clause-agrees : goal.returns-clause-agrees
 returns-clause-agrees g c =
-    let s = c.args.parts.now in
+    let s = c.args.system.now.parts in
     g.met.L.Lookup.same_answers c.reach_node.new.lookup (find_entry s.tree) (find_entry c.set_directory.new.self.tree) c.reach_node.ensures.agrees
     (alike_update s c.requires.whole c.args.pid (with_directory c.in_ok-node.node) c.set_directory.new.self c.set_directory.ensures)

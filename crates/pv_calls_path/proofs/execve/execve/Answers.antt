@@ -20,14 +20,14 @@ use Rattle.pv_calls_path.proofs.execve.execve.Goals as goal
 
 pub kind-requires : goal.kind-requires
 kind-requires g c =
-    rw c.tree.ensures (place-there c.args.parts.now.tree c.requires.whole.tree c.in-Ok.found.place c.in-Ok.found.node c.in-Ok.ensures.fine c.in-Ok.ensures.there)
+    rw c.tree.ensures (place-there c.args.system.now.parts.tree c.requires.whole.tree c.in-Ok.found.place c.in-Ok.found.node c.in-Ok.ensures.fine c.in-Ok.ensures.there)
 
 pub returns-in-Err-clause-performed : goal.returns-in-Err-clause-performed
-returns-in-Err-clause-performed g c = λ me at. ap trimmed (missed-as c.args.parts.now me me.directory c.execve-walk.ensures _ (c.in-Err.ensures.missed me at) _)
+returns-in-Err-clause-performed g c = λ me at. ap trimmed (missed-as c.args.system.now.parts me me.directory c.execve-walk.ensures _ (c.in-Err.ensures.missed me at) _)
 
 pub returns-then-ne-clause-performed : goal.returns-then-ne-clause-performed
 returns-then-ne-clause-performed g c =
-    let s = c.args.parts.now in
+    let s = c.args.system.now.parts in
     let n = c.in-Ok.found.node in
     let none : executable_bytes (node_at s.tree n) ≡ None =
     ap (λ t. executable_bytes (node_at t n)) (sym c.tree.ensures)
@@ -36,7 +36,7 @@ returns-then-ne-clause-performed g c =
 
 pub returns-in-Ok-read_program-clause-performed : goal.returns-in-Ok-read_program-clause-performed
 returns-in-Ok-read_program-clause-performed g c =
-    let s = c.args.parts.now in
+    let s = c.args.system.now.parts in
     let n = c.in-Ok.found.node in
     let executable : c.kind.result ≡ Executable = search rules in
     let bytes = bytes_of (node_at s.tree n) in
@@ -50,7 +50,7 @@ returns-in-Ok-read_program-clause-performed g c =
 
 pub returns-in-Err-Line-clause-performed : goal.returns-in-Err-Line-clause-performed
 returns-in-Err-Line-clause-performed g c =
-    let s = c.args.parts.now in
+    let s = c.args.system.now.parts in
     let n = c.in-Ok.found.node in
     let executable : c.kind.result ≡ Executable = search rules in
     let bytes = bytes_of (node_at s.tree n) in
@@ -61,7 +61,7 @@ returns-in-Err-Line-clause-performed g c =
 
 pub returns-in-Err-Memory-clause-performed : goal.returns-in-Err-Memory-clause-performed
 returns-in-Err-Memory-clause-performed g c =
-    let s = c.args.parts.now in
+    let s = c.args.system.now.parts in
     let n = c.in-Ok.found.node in
     let executable : c.kind.result ≡ Executable = search rules in
     let bytes = bytes_of (node_at s.tree n) in
@@ -70,6 +70,6 @@ returns-in-Err-Memory-clause-performed g c =
 
 pub returns-in-Ok-read_program-clause-agrees : goal.returns-in-Ok-read_program-clause-agrees
 returns-in-Ok-read_program-clause-agrees g c =
-    let s = c.args.parts.now in
+    let s = c.args.system.now.parts in
     g.met.L.Lookup.same_answers c.reach_found.new.lookup (find_entry s.tree) (find_entry c.load.new.self.tree) c.reach_found.ensures.agrees
     (alike_update s c.requires.whole c.args.pid (λ me. with_program s c.args.pid me c.in-Ok-read_program.program) c.load.new.self c.load.ensures)

@@ -7,5 +7,5 @@ use Rattle.pv_calls_path.proofs.looking.lstat.Goals as goal
 
 pub returns-clause-performed : goal.returns-clause-performed
 returns-clause-performed g c = λ before me at.
-    subst (λ (w : Walk). answer_by_attempt before c.args.parts.now c.args.pid me (stat_at c.args.parts.now c.args.pid me w) ≡ answered c.stat_at.new.parts c.stat_at.result) c.lstat.ensures
+    subst (λ (w : Walk). answer_by_attempt before c.args.system.now.parts c.args.pid me (stat_at c.args.system.now.parts c.args.pid me w) ≡ answered c.stat_at.new.system.parts c.stat_at.result) c.lstat.ensures
     (c.stat_at.ensures.performed before me at)

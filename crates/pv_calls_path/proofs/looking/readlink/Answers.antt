@@ -15,14 +15,14 @@ use Rattle.pv_calls_path.proofs.looking.readlink.Goals as goal
 
 pub returns-in-Err-clause-performed : goal.returns-in-Err-clause-performed
 returns-in-Err-clause-performed g c = λ before me at.
-    let s = c.args.parts.now in
+    let s = c.args.system.now.parts in
     let r = c.in-Err.refused in
     ap (answer_by_attempt before s c.args.pid me) (missed-as s me me.directory c.readlink-walk.ensures r (c.in-Err.ensures.missed me at) (λ _. link_rest s))
     ∙ c.tell.ensures.told before s me (refused r.walks r.errno r.cause) refl refl
 
 pub returns-in-Err-clause-agrees : goal.returns-in-Err-clause-agrees
 returns-in-Err-clause-agrees g c =
-    let s = c.args.parts.now in
+    let s = c.args.system.now.parts in
     let r = c.in-Err.refused in
     let new = c.tell.new.parts in
     let me = some-at (process_at s c.args.pid) c.requires.live in
@@ -31,7 +31,7 @@ returns-in-Err-clause-agrees g c =
 
 pub returns-then-not-is_link-clause-performed : goal.returns-then-not-is_link-clause-performed
 returns-then-not-is_link-clause-performed g c = λ before me at.
-    let s = c.args.parts.now in
+    let s = c.args.system.now.parts in
     let n = c.in-Ok.node in
     let other : is_link (node_at s.tree n) ≡ false = ap (λ t. is_link (node_at t n)) (sym c.tree.ensures) ∙ sym c.is_link.ensures ∙ c.if-not-is_link.true in
     ap (answer_by_attempt before s c.args.pid me) (readlink-not s c.args.pid me c.args.path.now n (found-as s me me.directory c.readlink-walk.ensures n (c.in-Ok.ensures.found me at)) other)
@@ -39,7 +39,7 @@ returns-then-not-is_link-clause-performed g c = λ before me at.
 
 pub returns-then-not-is_link-clause-agrees : goal.returns-then-not-is_link-clause-agrees
 returns-then-not-is_link-clause-agrees g c =
-    let s = c.args.parts.now in
+    let s = c.args.system.now.parts in
     let r = c.refusal.result in
     let new = c.tell-then-not-is_link.new.parts in
     let me = some-at (process_at s c.args.pid) c.requires.live in
@@ -49,7 +49,7 @@ returns-then-not-is_link-clause-agrees g c =
 
 pub returns-clause-performed : goal.returns-clause-performed
 returns-clause-performed g c = λ before me at.
-    let s = c.args.parts.now in
+    let s = c.args.system.now.parts in
     let n = c.in-Ok.node in
     let link : is_link (node_at s.tree n) ≡ true = ap (λ t. is_link (node_at t n)) (sym c.tree.ensures) ∙ sym c.is_link.ensures ∙ c.if-not-is_link.false in
     let short = subst (λ t. length (bytes_at t n) ≤ 1023) (sym c.tree-2.ensures) (text-short s c.requires.whole n link) in
@@ -58,12 +58,12 @@ returns-clause-performed g c = λ before me at.
     ap (answer_by_attempt before s c.args.pid me)
     (readlink-is s c.args.pid me c.args.path.now n (found-as s me me.directory c.readlink-walk.ensures n (c.in-Ok.ensures.found me at)) link
     ∙ ap₂ (λ k bs. done 1 (s, returns_bytes k bs)) (ap length (sym same) ∙ sym read.0) (sym same ∙ sym read.1))
-    ∙ c.tell_bytes.ensures before s s me c.facts.ensures.trimmed
+    ∙ c.tell_bytes.ensures before s s me c.invariant.ensures.trimmed
 
 pub returns-clause-agrees : goal.returns-clause-agrees
 returns-clause-agrees g c =
-    let s = c.args.parts.now in
+    let s = c.args.system.now.parts in
     let new = c.tell_bytes.new.parts in
     let me = some-at (process_at s c.args.pid) c.requires.live in
     g.met.L.Lookup.same_answers c.reach_node.new.lookup (find_entry s.tree) (find_entry new.tree) c.in-Ok.ensures.agrees
-    (names-told s c.requires.whole c.args.pid me.0 1 _ _ new c.tell_bytes.result (c.tell_bytes.ensures s s s me.0 c.facts.ensures.trimmed))
+    (names-told s c.requires.whole c.args.pid me.0 1 _ _ new c.tell_bytes.result (c.tell_bytes.ensures s s s me.0 c.invariant.ensures.trimmed))

@@ -11,30 +11,30 @@ use Rattle.pv_calls_path.proofs.looking.stat_at.Goals as goal
 
 pub returns-in-Ok-clause-performed : goal.returns-in-Ok-clause-performed
 returns-in-Ok-clause-performed g c = λ before me at.
-    let s = c.args.parts.now in
+    let s = c.args.system.now.parts in
     let bytes = c.status-bytes.ensures ∙ ap (λ t. status t c.in-Ok.node) c.tree.ensures in
     ap (answer_by_attempt before s c.args.pid me)
     (stat-walks s c.args.pid me (walk_of c.args.walk) c.requires.here ∙ c.in-Ok.ensures.found me at (λ n. answers_bytes s 0 (status s.tree n)) ∙ ap (λ bs. done 1 (s, returns_bytes 0 bs)) (sym bytes))
-    ∙ c.tell_bytes.ensures before s s me c.facts.ensures.trimmed
+    ∙ c.tell_bytes.ensures before s s me c.invariant.ensures.trimmed
 
 pub returns-in-Ok-clause-agrees : goal.returns-in-Ok-clause-agrees
 returns-in-Ok-clause-agrees g c =
-    let s = c.args.parts.now in
+    let s = c.args.system.now.parts in
     let new = c.tell_bytes.new.parts in
     let me = some-at (process_at s c.args.pid) c.requires.live in
     g.met.L.Lookup.same_answers c.reach_node.new.lookup (find_entry s.tree) (find_entry new.tree) c.in-Ok.ensures.agrees
-    (names-told s c.requires.whole c.args.pid me.0 1 0 c.status-bytes.result new c.tell_bytes.result (c.tell_bytes.ensures s s s me.0 c.facts.ensures.trimmed))
+    (names-told s c.requires.whole c.args.pid me.0 1 0 c.status-bytes.result new c.tell_bytes.result (c.tell_bytes.ensures s s s me.0 c.invariant.ensures.trimmed))
 
 pub returns-in-Err-clause-performed : goal.returns-in-Err-clause-performed
 returns-in-Err-clause-performed g c = λ before me at.
-    let s = c.args.parts.now in
+    let s = c.args.system.now.parts in
     let r = c.in-Err.refused in
     ap (answer_by_attempt before s c.args.pid me) (stat-walks s c.args.pid me (walk_of c.args.walk) c.requires.here ∙ c.in-Err.ensures.missed me at (λ _ n. answers_bytes s 0 (status s.tree n)))
     ∙ c.tell.ensures.told before s me (refused r.walks r.errno r.cause) refl refl
 
 pub returns-in-Err-clause-agrees : goal.returns-in-Err-clause-agrees
 returns-in-Err-clause-agrees g c =
-    let s = c.args.parts.now in
+    let s = c.args.system.now.parts in
     let r = c.in-Err.refused in
     let new = c.tell.new.parts in
     let me = some-at (process_at s c.args.pid) c.requires.live in

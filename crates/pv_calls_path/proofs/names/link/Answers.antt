@@ -12,19 +12,19 @@ pub returns-in_err-both-clause-performed : goal.returns-in_err-both-clause-perfo
 returns-in_err-both-clause-performed g c =
     let p = err_from_is_err_and c.from_residual.result c.from_residual.ensures.1 in
     record {
-      as_defined = λ me at. rw (p.1, p.2) (ap trimmed (both-missed-as c.args.parts.now me c.linked-first.ensures c.new_link-second.ensures _ (c.in_err-both.ensures.missed me at) _));
+      as_defined = λ me at. rw (p.1, p.2) (ap trimmed (both-missed-as c.args.system.now.parts me c.linked-first.ensures c.new_link-second.ensures _ (c.in_err-both.ensures.missed me at) _));
       unchanged = rw p.1 refl;
       small = rw p.1 tt;
     }
 
 pub link-requires-clause-node : goal.link-requires-clause-node
 link-requires-clause-node g c =
-    let s = c.args.parts.now in
+    let s = c.args.system.now.parts in
     place-there s.tree c.requires.whole.tree c.in_ok-both.both.first c.in_ok-both.both.node c.in_ok-both.ensures.fine c.in_ok-both.ensures.there
 
 pub returns-in-Err-clause-performed : goal.returns-in-Err-clause-performed
 returns-in-Err-clause-performed g c =
-    let s = c.args.parts.now in
+    let s = c.args.system.now.parts in
     let free : is_some (node_of c.in_ok-both.both.second) ≡ false = ap is_some c.in_ok-directory.ensures.free in
     let plain : is_directory_at s.tree c.in_ok-both.both.node ≡ false = ap (λ t. is_directory_at t c.in_ok-both.both.node) (sym c.tree.ensures) ∙ sym c.is_directory.ensures ∙ c.if-is_directory.false in
     record {
@@ -38,7 +38,7 @@ returns-in-Err-clause-performed g c =
 
 pub returns-clause-agrees : goal.returns-clause-agrees
 returns-clause-agrees g c =
-    let s = c.args.parts.now in
+    let s = c.args.system.now.parts in
     let n = c.in_ok-both.both.node in
     let free : is_some (node_of c.in_ok-both.both.second) ≡ false = ap is_some c.in_ok-directory.ensures.free in
     let plain : is_directory_at s.tree n ≡ false = ap (λ t. is_directory_at t n) (sym c.tree.ensures) ∙ sym c.is_directory.ensures ∙ c.if-is_directory.false in

@@ -24,7 +24,7 @@ returns-in-Err-clause-performed g c =
     let free : is_some (node_of c.in_ok-place.place) ≡ false = ap is_some c.in_ok-directory.ensures.free in
     record {
       as_defined = λ me at. rw (c.refusal.ensures, c.space_errno.ensures)
-          (ap trimmed (make_crowded c.args.parts.now c.args.pid me (walk_of c.args.walk) c.requires.here (new_node c.args.kind) c.in_ok-place.place (c.in_ok-place.ensures.reached me at) free
+          (ap trimmed (make_crowded c.args.system.now.parts c.args.pid me (walk_of c.args.walk) c.requires.here (new_node c.args.kind) c.in_ok-place.place (c.in_ok-place.ensures.reached me at) free
           c.in_ok-directory.directory c.in_ok-directory.name.now c.in_ok-directory.ensures.name c.in-Err.space c.in-Err.ensures.refused));
       unchanged = c.in-Err.ensures.unchanged;
       small = tt;
@@ -32,9 +32,9 @@ returns-in-Err-clause-performed g c =
 
 pub returns-clause-agrees : goal.returns-clause-agrees
 returns-clause-agrees g c =
-    let s = c.args.parts.now in
+    let s = c.args.system.now.parts in
     let free : is_some (node_of c.in_ok-place.place) ≡ false = ap is_some c.in_ok-directory.ensures.free in
-    let fit : fits c.make.new.self.tree ≡ true = ap fits (sym c.tree.ensures) ∙ c.sizes.ensures.standing.fits in
+    let fit : fits c.make.new.self.tree ≡ true = ap fits (sym c.tree.ensures) ∙ c.invariant.ensures.fits in
     c.changed.ensures (find_entry s.tree) (find_entry c.make.new.self.tree) c.reach.ensures.agrees
     (names_made s c.requires.whole c.in_ok-place.place c.in_ok-place.ensures.fine c.in_ok-directory.directory c.in_ok-directory.name.now c.in_ok-directory.ensures.name free
     (new_node c.args.kind) c.requires.node (new-entries c.args.kind) c.make.new.self c.in_default.ensures.made fit)

@@ -13,14 +13,14 @@ returns-in_err-found-clause-performed g c =
     let p = err_from_is_err_and c.from_residual.result c.from_residual.ensures.1 in
     let fine : ends_in_dot c.args.path.now ≡ false = sym c.ends_in_dot.ensures ∙ c.if-ends_in_dot.false in
     record {
-      as_defined = λ me at. rw (p.1, p.2) (ap trimmed (rmdir_missed c.args.parts.now c.args.pid me c.args.path.now fine _ (missed-as c.args.parts.now me me.directory c.rmdir-walk.ensures _ (c.in_err-found.ensures.missed me at))));
+      as_defined = λ me at. rw (p.1, p.2) (ap trimmed (rmdir_missed c.args.system.now.parts c.args.pid me c.args.path.now fine _ (missed-as c.args.system.now.parts me me.directory c.rmdir-walk.ensures _ (c.in_err-found.ensures.missed me at))));
       unchanged = rw p.1 refl;
       small = rw p.1 tt;
     }
 
 pub returns-then-not-is_empty-clause-performed : goal.returns-then-not-is_empty-clause-performed
 returns-then-not-is_empty-clause-performed g c =
-    let s = c.args.parts.now in
+    let s = c.args.system.now.parts in
     let n = c.in_ok-found.found.node in
     let fine : ends_in_dot c.args.path.now ≡ false = sym c.ends_in_dot.ensures ∙ c.if-ends_in_dot.false in
     let directory : is_directory_at s.tree n ≡ true = ap (λ t. is_directory_at t n) (sym c.tree.ensures) ∙ sym c.is_directory.ensures ∙ c.if-not-is_directory.false in
@@ -36,7 +36,7 @@ returns-then-not-is_empty-clause-performed g c =
 
 pub returns-clause-agrees : goal.returns-clause-agrees
 returns-clause-agrees g c =
-    let s = c.args.parts.now in
+    let s = c.args.system.now.parts in
     let bare = ap (λ t. entries_at t c.in_ok-found.found.node) (sym c.tree-2.ensures) ∙ c.is_empty.ensures.0 c.if-not-is_empty.false in
     c.changed.ensures (find_entry s.tree) (find_entry c.unlink.new.self.tree) c.reach_found.ensures.agrees
     (names_left s c.requires.whole c.in_ok-found.found.place c.in_ok-found.ensures.fine c.in-Some.directory c.in-Some.name.now c.in-Some.ensures

@@ -14,10 +14,10 @@ make-requires-clause-node g c =
 
 pub returns-clause-performed : goal.returns-clause-performed
 returns-clause-performed g c =
-    let s = c.args.parts.now in
+    let s = c.args.system.now.parts in
     let short : nat_lt 1023 (length c.args.text.now) ≡ false = le-ltb 1023 (length c.args.text.now) c.if-text-gt-LINK_TEXT.false in
     record {
-      as_defined = λ me at. ap trimmed (symlink_makes s c.args.pid me c.args.text.now c.args.path.now (empty_by_length c.args.text.now (sym c.is_empty.ensures ∙ c.if-is_empty.false)) short) ∙ subst (λ (w : Walk). trimmed (make s c.args.pid me w (link_node c.args.text.now)) ≡ attempt_of c.make.new.parts c.make.result) c.symlink-walk.ensures (c.make.ensures.performed.as_defined me at);
+      as_defined = λ me at. ap trimmed (symlink_makes s c.args.pid me c.args.text.now c.args.path.now (empty_by_length c.args.text.now (sym c.is_empty.ensures ∙ c.if-is_empty.false)) short) ∙ subst (λ (w : Walk). trimmed (make s c.args.pid me w (link_node c.args.text.now)) ≡ attempt_of c.make.new.system.parts c.make.result) c.symlink-walk.ensures (c.make.ensures.performed.as_defined me at);
       unchanged = c.make.ensures.performed.unchanged;
       small = c.make.ensures.performed.small;
     }

@@ -10,14 +10,14 @@ pub returns-in_err-found-clause-performed : goal.returns-in_err-found-clause-per
 returns-in_err-found-clause-performed g c =
     let p = err_from_is_err_and c.from_residual.result c.from_residual.ensures.1 in
     record {
-      as_defined = λ me at. rw (p.1, p.2) (ap trimmed (missed-as c.args.parts.now me me.directory c.unlink-walk.ensures _ (c.in_err-found.ensures.missed me at) _));
+      as_defined = λ me at. rw (p.1, p.2) (ap trimmed (missed-as c.args.system.now.parts me me.directory c.unlink-walk.ensures _ (c.in_err-found.ensures.missed me at) _));
       unchanged = rw p.1 refl;
       small = rw p.1 tt;
     }
 
 pub returns-clause-agrees : goal.returns-clause-agrees
 returns-clause-agrees g c =
-    let s = c.args.parts.now in
+    let s = c.args.system.now.parts in
     let plain : is_directory_at s.tree c.in_ok-found.found.node ≡ false = ap (λ t. is_directory_at t c.in_ok-found.found.node) (sym c.tree.ensures) ∙ sym c.is_directory.ensures ∙ c.if-is_directory.false in
     c.changed.ensures (find_entry s.tree) (find_entry c.unlink.new.self.tree) c.reach_found.ensures.agrees
     (names_left s c.requires.whole c.in_ok-found.found.place c.in_ok-found.ensures.fine c.in-Some.directory c.in-Some.name.now c.in-Some.ensures

@@ -11,7 +11,7 @@ pub returns-in-Ok-clause-agrees : goal.returns-in-Ok-clause-agrees
 returns-in-Ok-clause-agrees g c =
     let s = c.args.parts.now in
     let me = some-at (process_at s c.args.pid) c.requires.live in
-    let fit : fits c.create.new.self.tree ≡ true = ap fits (sym c.tree.ensures) ∙ c.sizes.ensures.standing.fits in
+    let fit : fits c.create.new.self.tree ≡ true = ap fits (sym c.tree.ensures) ∙ c.invariant.ensures.fits in
     c.changed.ensures (find_entry s.tree) (find_entry c.create.new.self.tree) c.requires.agrees
     (names_opened s c.requires.whole c.args.place.now c.requires.fine c.in-Some.directory c.in-Some.name.now c.in-Some.ensures c.requires.absent
     c.args.pid me.0 me.1 c.args.flags (c.requires.descriptor me.0 me.1) c.requires.file c.create.new.self (c.in-Ok.ensures.opened me.0 me.1) fit)

@@ -10,7 +10,7 @@ use Rattle.pv_calls_path.proofs.opening.open_at.Goals as goal
 
 pub returns-in_err-place-clause-performed : goal.returns-in_err-place-clause-performed
 returns-in_err-place-clause-performed g c =
-    let s = c.args.parts.now in
+    let s = c.args.system.now.parts in
     let p = err_from_is_err_and c.from_residual.result c.from_residual.ensures.1 in
     record {
       as_defined = λ me at. rw (p.1, p.2) (ap trimmed (open_stopped s c.args.pid me c.args.start c.args.path.now c.args.flags (sym c.contradicts.ensures ∙ c.if-contradicts.false) (c.in-Ok.ensures.checked me at)
@@ -24,11 +24,11 @@ returns-in_err-place-clause-performed g c =
 
 pub open_there-requires-clause-there : goal.open_there-requires-clause-there
 open_there-requires-clause-there g c =
-    place-there c.args.parts.now.tree c.requires.whole.tree c.in_ok-place.place c.in-Some.node c.in_ok-place.ensures.fine (sym c.in-Some.ensures)
+    place-there c.args.system.now.parts.tree c.requires.whole.tree c.in_ok-place.place c.in-Some.node c.in_ok-place.ensures.fine (sym c.in-Some.ensures)
 
 pub returns-in-Some-clause-performed : goal.returns-in-Some-clause-performed
 returns-in-Some-clause-performed g c =
-    let s = c.args.parts.now in
+    let s = c.args.system.now.parts in
     record {
       as_defined = λ me at. ap trimmed (open_reached s c.args.pid me c.args.start c.args.path.now c.args.flags (sym c.contradicts.ensures ∙ c.if-contradicts.false) (c.in-Ok.ensures.checked me at)
           (few_descriptors me c.record.result.now (recorded (process_at s c.args.pid) me c.record.result.now at c.record.ensures) c.has_room.result c.has_room.ensures.0 c.if-not-has_room.false)
@@ -42,7 +42,7 @@ returns-in-Some-clause-performed g c =
 
 pub returns-in-None-clause-performed : goal.returns-in-None-clause-performed
 returns-in-None-clause-performed g c =
-    let s = c.args.parts.now in
+    let s = c.args.system.now.parts in
     record {
       as_defined = λ me at. ap trimmed (open_reached s c.args.pid me c.args.start c.args.path.now c.args.flags (sym c.contradicts.ensures ∙ c.if-contradicts.false) (c.in-Ok.ensures.checked me at)
           (few_descriptors me c.record.result.now (recorded (process_at s c.args.pid) me c.record.result.now at c.record.ensures) c.has_room.result c.has_room.ensures.0 c.if-not-has_room.false)

@@ -18,14 +18,14 @@ returns-in_err-both-clause-performed g c =
     let fine : ends_in_dot c.args.path.now ≡ false = sym c.ends_in_dot.ensures ∙ c.if-ends_in_dot.false in
     let other : ends_in_dot c.args.new.now ≡ false = sym c.ends_in_dot-else-ends_in_dot.ensures ∙ c.if-ends_in_dot-2.false in
     record {
-      as_defined = λ me at. rw (p.1, p.2) (ap trimmed (rename_missed c.args.parts.now c.args.pid me c.args.path.now c.args.new.now fine other _ (both-missed-as c.args.parts.now me c.rename-first.ensures c.rename-second.ensures _ (c.in_err-both.ensures.missed me at))));
+      as_defined = λ me at. rw (p.1, p.2) (ap trimmed (rename_missed c.args.system.now.parts c.args.pid me c.args.path.now c.args.new.now fine other _ (both-missed-as c.args.system.now.parts me c.rename-first.ensures c.rename-second.ensures _ (c.in_err-both.ensures.missed me at))));
       unchanged = rw p.1 refl;
       small = rw p.1 tt;
     }
 
 pub returns-in-Err-clause-performed : goal.returns-in-Err-clause-performed
 returns-in-Err-clause-performed g c =
-    let s = c.args.parts.now in
+    let s = c.args.system.now.parts in
     let o = node_of c.in_ok-both.both.second in
     let fine : ends_in_dot c.args.path.now ≡ false = sym c.ends_in_dot.ensures ∙ c.if-ends_in_dot.false in
     let other : ends_in_dot c.args.new.now ≡ false = sym c.ends_in_dot-else-ends_in_dot.ensures ∙ c.if-ends_in_dot-2.false in
@@ -43,7 +43,7 @@ returns-in-Err-clause-performed g c =
 
 pub rename-requires-clause-apart : goal.rename-requires-clause-apart
 rename-requires-clause-apart g c =
-    let s = c.args.parts.now in
+    let s = c.args.system.now.parts in
     let o = node_of c.in_ok-both.both.second in
     let differs : same_node o c.in_ok-both.both.node ≡ false = ap (λ x. same_node x c.in_ok-both.both.node) (sym c.node-there.ensures) ∙ sym c.is_same_node.ensures ∙ c.if-is_same_node.false in
     let named = named-place s.tree c.in_ok-both.both.first (c.in-Some-Some.from, c.in-Some-Some.name.now) c.in_ok-both.ensures.fine c.in-Some-Some.ensures in
@@ -52,7 +52,7 @@ rename-requires-clause-apart g c =
 
 pub returns-in-Err-rename-clause-performed : goal.returns-in-Err-rename-clause-performed
 returns-in-Err-rename-clause-performed g c =
-    let s = c.args.parts.now in
+    let s = c.args.system.now.parts in
     let o = node_of c.in_ok-both.both.second in
     let fine : ends_in_dot c.args.path.now ≡ false = sym c.ends_in_dot.ensures ∙ c.if-ends_in_dot.false in
     let other : ends_in_dot c.args.new.now ≡ false = sym c.ends_in_dot-else-ends_in_dot.ensures ∙ c.if-ends_in_dot-2.false in
@@ -74,7 +74,7 @@ returns-in-Err-rename-clause-performed g c =
 
 pub returns-clause-performed : goal.returns-clause-performed
 returns-clause-performed g c =
-    let s = c.args.parts.now in
+    let s = c.args.system.now.parts in
     let o = node_of c.in_ok-both.both.second in
     let fine : ends_in_dot c.args.path.now ≡ false = sym c.ends_in_dot.ensures ∙ c.if-ends_in_dot.false in
     let other : ends_in_dot c.args.new.now ≡ false = sym c.ends_in_dot-else-ends_in_dot.ensures ∙ c.if-ends_in_dot-2.false in
@@ -83,8 +83,8 @@ returns-clause-performed g c =
     ap (λ t. check_move t c.in_ok-both.both.node c.in-Some-Some.to o) (sym c.tree.ensures) ∙ ap (check_move c.tree.result.now.tree c.in_ok-both.both.node c.in-Some-Some.to) (sym c.node-there.ensures) ∙ c.in_default-check_move.ensures in
     let named : FineName s.tree (c.in-Some-Some.from, c.in-Some-Some.name.now) (node_of c.in_ok-both.both.first) =
     named-place s.tree c.in_ok-both.both.first (c.in-Some-Some.from, c.in-Some-Some.name.now) c.in_ok-both.ensures.fine c.in-Some-Some.ensures in
-    let short : is_too_long c.rename.new.self.tree ≡ false = ap is_too_long (sym c.tree-2.ensures) ∙ c.sizes.ensures.standing.short in
-    let roomy : fits c.rename.new.self.tree ≡ true = ap fits (sym c.tree-2.ensures) ∙ c.sizes.ensures.standing.fits in
+    let short : is_too_long c.rename.new.self.tree ≡ false = ap is_too_long (sym c.tree-2.ensures) ∙ c.invariant.ensures.short in
+    let roomy : fits c.rename.new.self.tree ≡ true = ap fits (sym c.tree-2.ensures) ∙ c.invariant.ensures.fits in
     record {
       as_defined = λ me at. rw c.answer_of-2.ensures
           (rename_goes s c.args.pid me c.args.path.now c.args.new.now fine other c.in_ok-both.both.first c.in_ok-both.both.second
@@ -97,7 +97,7 @@ returns-clause-performed g c =
 
 pub returns-clause-agrees : goal.returns-clause-agrees
 returns-clause-agrees g c =
-    let s = c.args.parts.now in
+    let s = c.args.system.now.parts in
     let n = c.in_ok-both.both.node in
     let o = node_of c.in_ok-both.both.second in
     let differs : same_node o n ≡ false = ap (λ x. same_node x n) (sym c.node-there.ensures) ∙ sym c.is_same_node.ensures ∙ c.if-is_same_node.false in

@@ -15,14 +15,14 @@ use Rattle.pv_calls_path.proofs.unveil.unveil_path.Goals as goal
 
 pub unveil-requires-clause-there : goal.unveil-requires-clause-there
 unveil-requires-clause-there g c =
-    let s = c.args.parts.now in
+    let s = c.args.system.now.parts in
     let target = c.target_of-target.ensures ∙ ap (λ (t : Tree). target_of t c.to_place.result) c.tree.ensures ∙ ap (target_of s.tree) c.to_place.ensures in
     subst (λ (x : Target). is_some (node_at s.tree (target_directory x)) ≡ true) (sym target)
     (place_target s.tree c.in_ok-place.place c.in_ok-place.ensures.fine)
 
 pub returns-in-Ok-clause-performed : goal.returns-in-Ok-clause-performed
 returns-in-Ok-clause-performed g c =
-    let s = c.args.parts.now in
+    let s = c.args.system.now.parts in
     let target = c.target_of-target.ensures ∙ ap (λ (t : Tree). target_of t c.to_place.result) c.tree.ensures ∙ ap (target_of s.tree) c.to_place.ensures in
     record {
       as_defined = λ me at.
@@ -32,14 +32,14 @@ returns-in-Ok-clause-performed g c =
           rw c.answer_of.ensures
           (leaves _ (trim (with_process s c.args.pid (with_table added.table me))) c.unveil.new.self
           (ap trimmed (unveil_added s c.args.pid me c.args.path.now c.args.permissions.now c.in-Some.permissions (sym c.in-Some.ensures) unlocked c.in_ok-place.place walked added.table (ap (λ (x : Target). add_to (unveiled_of me) x c.in-Some.permissions) (sym target) ∙ added.added)))
-          (ap trim (sym added.only) ∙ c.facts.ensures.trimmed));
+          (ap trim (sym added.only) ∙ c.invariant.ensures.trimmed));
       unchanged = rw c.answer_of.ensures tt;
       small = rw c.answer_of.ensures (omega arith);
     }
 
 pub returns-in-Ok-clause-agrees : goal.returns-in-Ok-clause-agrees
 returns-in-Ok-clause-agrees g c =
-    let s = c.args.parts.now in
+    let s = c.args.system.now.parts in
     let me = some-at (process_at s c.args.pid) c.requires.live in
     g.met.L.Lookup.same_answers c.walk_to.new.lookup (find_entry s.tree) (find_entry c.unveil.new.self.tree)
     c.walk_to.ensures.agrees
@@ -47,7 +47,7 @@ returns-in-Ok-clause-agrees g c =
 
 pub returns-in-Err-clause-performed : goal.returns-in-Err-clause-performed
 returns-in-Err-clause-performed g c =
-    let s = c.args.parts.now in
+    let s = c.args.system.now.parts in
     let target = c.target_of-target.ensures ∙ ap (λ (t : Tree). target_of t c.to_place.result) c.tree.ensures ∙ ap (target_of s.tree) c.to_place.ensures in
     let told = c.answer_to-in-Err in
     record {
@@ -63,7 +63,7 @@ returns-in-Err-clause-performed g c =
 
 pub returns-in_err-place-clause-performed : goal.returns-in_err-place-clause-performed
 returns-in_err-place-clause-performed g c =
-    let s = c.args.parts.now in
+    let s = c.args.system.now.parts in
     let p = err_from_is_err_and c.from_residual.result c.from_residual.ensures.1 in
     record {
       as_defined = λ me at.

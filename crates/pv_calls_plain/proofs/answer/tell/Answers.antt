@@ -10,4 +10,4 @@ small c = subst (λ r. IfOk r (λ d. d.value ≤ 2147483647)) c.in-Ok.is c.requi
 
 pub returns-in-Ok-clause-told : goal.returns-in-Ok-clause-told
 returns-in-Ok-clause-told c = λ before s me a is same.
-    told_value before s c.args.parts.now c.args.pid me c.facts.ensures.processes.ascending c.in-Ok.field-0 a _ c.tell.new.self (is ∙ ap (attempt_of c.args.parts.now) c.in-Ok.is) (to_z_pos w32 c.in-Ok.field-0.value (omega (arith, small c))) c.tell.ensures
+    told_value before s c.args.parts.now c.args.pid me c.invariant.ensures.processes.ascending c.in-Ok.field-0 a _ c.tell.new.self (is ∙ ap (attempt_of c.args.parts.now) c.in-Ok.is) (to_z_pos w32 c.in-Ok.field-0.value (omega (arith, small c))) c.tell.ensures

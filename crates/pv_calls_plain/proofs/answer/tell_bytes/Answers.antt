@@ -10,4 +10,4 @@ pub returns : goal.returns
 returns c = λ before s after me left.
     let bytes = c.args.bytes.now in
     c.tell_front.ensures before s after me bytes refl
-    (trim-update after c.args.parts.now c.args.pid (with_front bytes) (same-front bytes) c.facts.ensures.processes.ascending left ∙ sym c.put_front.ensures)
+    (trim-update after c.args.parts.now c.args.pid (with_front bytes) (same-front bytes) c.invariant.ensures.processes.ascending left ∙ sym c.put_front.ensures)

@@ -5,5 +5,5 @@ use Rattle.pv_calls_plain.proofs.answer.tell_front.Goals as goal
 
 pub returns : goal.returns
 returns c = λ before s after me bytes long left.
-    told_front before s c.args.parts.now c.args.pid me c.facts.ensures.processes.ascending c.args.told bytes after _ c.tell.new.self c.args.len left
+    told_front before s c.args.parts.now c.args.pid me c.invariant.ensures.processes.ascending c.args.told bytes after _ c.tell.new.self c.args.len left
     (to_z_pos w32 c.args.told.value (omega (arith, c.requires.small))) long c.tell.ensures

@@ -21,7 +21,7 @@ returns-in-None c = record {
       let dir = ap₂ is_directory_at (sym c.tree.ensures) (sym node) ∙ sym c.is_directory.ensures ∙ c.if-not-is_directory.false in
       let none = ap (λ n. next_name on.file.listed (entries_at s.tree n)) (sym node) ∙ sym (c.next_name.ensures on.file on.there) ∙ c.in-None.is in
       ap (answer_by_attempt before s c.args.pid me) (getdents-none s c.args.pid me c.args.d k on.file on.opened dir none)
-      ∙ c.tell_bytes.ensures before s s me c.facts.ensures.trimmed;
+      ∙ c.tell_bytes.ensures before s s me c.invariant.ensures.trimmed;
 }
 
 pub returns-in-Some-next_name : goal.returns-in-Some-next_name
@@ -41,5 +41,5 @@ returns-in-Some-next_name c = record {
       (getdents-some s c.args.pid me c.args.d k on.file on.opened name dir some
       ∙ ap (λ x. done 0 (x, returns_bytes (length name) name)) (sym kept)
       ∙ ap₂ (λ n bs. done 0 (new, returns_bytes n bs)) (sym c.len.ensures.value) (sym c.as_slice.ensures.value))
-      ∙ c.tell_bytes-in-Some-next_name.ensures before s new me c.facts-in-Some-next_name.ensures.trimmed;
+      ∙ c.tell_bytes-in-Some-next_name.ensures before s new me c.invariant-in-Some-next_name.ensures.trimmed;
 }

@@ -51,7 +51,7 @@ returns c = record {
         ∙ sym c.offset_from.ensures ∙ c.in-Some-offset_from.is in
         let kept = part-is (λ (f : OpenFile). with_file s k (record f { offset = offset })) (at_number s.files k) on.file new c.set_offset.ensures on.there in
         ap trimmed (lseek-to s c.args.pid me c.args.d k on.file on.opened c.args.by c.args.whence offset plain found)
-        ∙ ap (λ x. done 0 (x, returns_number offset)) (ap trim (sym kept) ∙ c.facts.ensures.trimmed) ∙ ap (attempt_of new) (sym c.answer_of.ensures);
+        ∙ ap (λ x. done 0 (x, returns_number offset)) (ap trim (sym kept) ∙ c.invariant.ensures.trimmed) ∙ ap (attempt_of new) (sym c.answer_of.ensures);
     unchanged = rw c.answer_of.ensures tt;
     small = rw c.answer_of.ensures (search rules);
   };

@@ -18,7 +18,7 @@ returns-in-Ok c = record {
       let given = c.in-Ok.ensures.performed me at in
       ap (answer_by_attempt before s c.args.pid me)
       (ap₂ (λ d n. read s c.args.pid me d n) (sym (to_z-of_z w32 c.args.d c.ranges.d)) (sym (to_z-of_z w32 c.args.n c.ranges.n)) ∙ given.gives)
-      ∙ c.tell_front.ensures before s given.after me given.bytes given.long (ap trim (sym given.front) ∙ c.facts.ensures.trimmed);
+      ∙ c.tell_front.ensures before s given.after me given.bytes given.long (ap trim (sym given.front) ∙ c.invariant.ensures.trimmed);
 }
 
 pub returns-in-Err : goal.returns-in-Err

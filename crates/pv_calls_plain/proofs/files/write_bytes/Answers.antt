@@ -22,7 +22,7 @@ returns-in-Ok-clause-performed c = λ me f proc at.
     let first = c.write_place-at.result in
     let place = c.write_place-at.ensures.place c.args.pid me f at in
     let short = ap (λ t. is_past_greatest t (first + c.args.count)) (sym c.tree.ensures) ∙ sym c.is_past_greatest.ensures ∙ c.if-is_past_greatest.false in
-    let room = ap refusal (sym c.tree-in-Ok.ensures) ∙ refusal-fits c.tree-in-Ok.result.now.tree c.sizes.ensures.standing.short c.sizes.ensures.standing.fits in
+    let room = ap refusal (sym c.tree-in-Ok.ensures) ∙ refusal-fits c.tree-in-Ok.result.now.tree c.invariant.ensures.short c.invariant.ensures.fits in
     some-written s c.args.pid me c.args.file f c.args.count first c.requires.some place short new (c.in-Ok.ensures.written me f proc at) room
     ∙ ap (attempt_of new) (sym c.answer_of.ensures)
 

@@ -41,7 +41,7 @@ returns-in-Ok-narrow c = record {
         ap trimmed
         (pledge-kept s c.args.pid me (option_copied c.args.promises) (option_copied c.args.execpromises) now later c.in-Ok.ensures c.in-Ok-asked.ensures kept
         (ap (λ (r : ProcessRecord). narrow_both r.pledge now later) (sym lent) ∙ c.in-Ok-narrow.ensures.narrowed))
-        ∙ ap (λ x. done 0 (x, returns 0)) (ap trim (sym (c.set_pledge.ensures ∙ update-is s c.args.pid (with_pledged kept) me at)) ∙ c.facts.ensures.trimmed)
+        ∙ ap (λ x. done 0 (x, returns 0)) (ap trim (sym (c.set_pledge.ensures ∙ update-is s c.args.pid (with_pledged kept) me at)) ∙ c.invariant.ensures.trimmed)
         ∙ sym (ap (attempt_of c.set_pledge.new.self) c.answer_of.ensures);
     unchanged = rw c.answer_of.ensures tt;
     small = rw c.answer_of.ensures (omega arith);

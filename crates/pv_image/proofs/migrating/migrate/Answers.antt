@@ -28,12 +28,12 @@ write_as-requires-clause-inodes g c =
 pub write_as-requires-clause-room : goal.write_as-requires-clause-room
 write_as-requires-clause-room g c =
     let r = roomy c.tree.result.now.tree c.args.blocks c.args.inodes (room-of c.tree.result.now.tree c.in_ok-store.store c.args.blocks c.args.inodes c.tree.ensures.tree c.in_ok-store.ensures.room) in
-    let named = subst EachIsNamed (sym c.tree.ensures.tree) c.facts.ensures.named in
+    let named = subst EachIsNamed (sym c.tree.ensures.tree) c.invariant.ensures.named in
     omega (arith, r.enough, r.table, named_need-needed c.tree.result.now.tree named)
 
 pub returns-in-Ok-clause-as_written : goal.returns-in-Ok-clause-as_written
 returns-in-Ok-clause-as_written g c =
-    tells-migrated c.args.bytes.items c.args.blocks c.args.inodes c.in_ok-store.store c.tree.result.now.tree c.in_ok-store.ensures.mounted c.tree.ensures.tree c.facts.ensures.named
+    tells-migrated c.args.bytes.items c.args.blocks c.args.inodes c.in_ok-store.store c.tree.result.now.tree c.in_ok-store.ensures.mounted c.tree.ensures.tree c.invariant.ensures.named
     (room-of c.tree.result.now.tree c.in_ok-store.store c.args.blocks c.args.inodes c.tree.ensures.tree c.in_ok-store.ensures.room)
     (g.W.Sink.written c.args.out.now) (g.W.Sink.written c.write_as.new.image) c.in-Ok.ensures.whole
 
@@ -42,6 +42,6 @@ failed r f is same = subst (λ (e : WriteFault). r ≡ Err e) same is
 
 pub returns-clause-refused : goal.returns-clause-refused
 returns-clause-refused g c =
-    begins-migrated c.args.bytes.items c.args.blocks c.args.inodes c.in_ok-store.store c.tree.result.now.tree c.in_ok-store.ensures.mounted c.tree.ensures.tree c.facts.ensures.named
+    begins-migrated c.args.bytes.items c.args.blocks c.args.inodes c.in_ok-store.store c.tree.result.now.tree c.in_ok-store.ensures.mounted c.tree.ensures.tree c.invariant.ensures.named
     (room-of c.tree.result.now.tree c.in_ok-store.store c.args.blocks c.args.inodes c.tree.ensures.tree c.in_ok-store.ensures.room)
     (g.W.Sink.written c.args.out.now) (g.W.Sink.written c.write_as.new.image) (c.write_as.ensures.cut (failed c.write_as.result c.in-Err-Write.field-0 c.in-Err-Write.is c.in-Err-Write.field-0-is))

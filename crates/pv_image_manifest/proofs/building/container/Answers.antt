@@ -8,7 +8,7 @@ use Rattle.pv_image_manifest.proofs.building.container.Goals as goal
 pub loop-rest-init : goal.loop-rest-init
 loop-rest-init c =
     IsContained-start c.args.tree.now.tree c.args.path.now _ c.split_component.result.0.now (option_copied c.split_component.result.1) c.requires
-    (take_all _ (drop 1 c.args.path.now) (omega (arith, length-drop 1 c.args.path.now))) c.split_component.ensures.components c.sizes.ensures.standing.well_formed
+    (take_all _ (drop 1 c.args.path.now) (omega (arith, length-drop 1 c.args.path.now))) c.split_component.ensures.components c.invariant.ensures.well_formed
 
 pub returns-in_err-directory-clause-found : goal.returns-in_err-directory-clause-found
 returns-in_err-directory-clause-found c =

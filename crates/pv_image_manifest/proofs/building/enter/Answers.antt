@@ -4,5 +4,5 @@ use Rattle.pv_image_manifest.proofs.building.enter.Goals as goal
 
 pub returns-then-is_directory-clause-stands : goal.returns-then-is_directory-clause-stands
 returns-then-is_directory-clause-stands c =
-    entry-stands c.args.tree.now.tree c.sizes.ensures.standing.well_formed c.args.directory c.args.name.now c.in_ok-number.number
+    entry-stands c.args.tree.now.tree c.invariant.ensures.well_formed c.args.directory c.args.name.now c.in_ok-number.number
     (sym c.is_directory.ensures ∙ c.if-is_directory.true) (sym c.in_ok-number.ensures)

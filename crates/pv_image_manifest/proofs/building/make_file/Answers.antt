@@ -12,7 +12,7 @@ returns-in_default c =
     let d = c.args.directory in
     let name = c.args.name.now in
     out-of-room c.args.line (with_new_node t d name (file_node c.args.executable c.args.bytes.now))
-    (no-room-empty t c.sizes.ensures.standing.well_formed d name c.args.executable c.requires.directory.0 c.requires.absent c.args.bytes.now c.in_default.field-0
+    (no-room-empty t c.invariant.ensures.well_formed d name c.args.executable c.requires.directory.0 c.requires.absent c.args.bytes.now c.in_default.field-0
     (ap (λ node. refusal (with_new_node t d name node)) (sym c.file_kind.ensures) ∙ c.in_default.ensures.refused))
 
 pub write_at-requires : goal.write_at-requires
@@ -23,13 +23,13 @@ write_at-requires c =
     let x = c.args.executable in
     ap (λ h. is_file (node_at h.tree c.in-Ok.node)) c.in-Ok.ensures.ok ∙ ap (λ node. is_file (node_at (with_new_node t d name node) c.in-Ok.node)) c.file_kind.ensures
     ∙ ap (λ n. is_file (node_at (with_new_node t d name (file_node x [])) n)) c.in-Ok.ensures.number
-    ∙ ap is_file (file-there t c.sizes.ensures.standing.well_formed d name x c.requires.directory.0 c.requires.absent [])
+    ∙ ap is_file (file-there t c.invariant.ensures.well_formed d name x c.requires.directory.0 c.requires.absent [])
 
 pub returns-in_default-write_at : goal.returns-in_default-write_at
 returns-in_default-write_at c =
     let made = with_new_node c.args.tree.now.tree c.args.directory c.args.name.now (file_node c.args.executable c.args.bytes.now) in
     let written =
-    file-written-in c.args.tree.now.tree c.sizes.ensures.standing.well_formed c.args.directory c.args.name.now c.args.executable c.requires.directory.0 c.requires.absent c.args.bytes.now
+    file-written-in c.args.tree.now.tree c.invariant.ensures.well_formed c.args.directory c.args.name.now c.args.executable c.requires.directory.0 c.requires.absent c.args.bytes.now
     c.make.new.self.tree (new_node c.file_kind.result) c.in-Ok.node (ap (λ h. h.tree) c.in-Ok.ensures.ok) c.file_kind.ensures c.in-Ok.ensures.number
     in
     out-of-room c.args.line made (room-some made c.in_default-write_at.field-0 (ap refusal (sym written) ∙ c.in_default-write_at.ensures.refused))
@@ -38,7 +38,7 @@ pub returns : goal.returns
 returns c =
     let made = with_new_node c.args.tree.now.tree c.args.directory c.args.name.now (file_node c.args.executable c.args.bytes.now) in
     let written =
-    file-written-in c.args.tree.now.tree c.sizes.ensures.standing.well_formed c.args.directory c.args.name.now c.args.executable c.requires.directory.0 c.requires.absent c.args.bytes.now
+    file-written-in c.args.tree.now.tree c.invariant.ensures.well_formed c.args.directory c.args.name.now c.args.executable c.requires.directory.0 c.requires.absent c.args.bytes.now
     c.make.new.self.tree (new_node c.file_kind.result) c.in-Ok.node (ap (λ h. h.tree) c.in-Ok.ensures.ok) c.file_kind.ensures c.in-Ok.ensures.number
     in
     let is : c.write_at.new.self.tree ≡ made = ap (λ h. h.tree) c.in-Ok-write_at.ensures.ok ∙ written in (

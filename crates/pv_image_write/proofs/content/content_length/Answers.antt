@@ -20,7 +20,7 @@ short h s v names n = content-allowed h s v 0 h.tree.inodes (le_refl h.tree.inod
 pub overflow_mul-result : goal.overflow_mul-result
 overflow_mul-result c =
     let h = c.args.tree.now in
-    let s = c.sizes.ensures.standing in
+    let s = c.invariant.ensures in
     let long = of_directory h s c.args.version c.requires.names c.args.node c.size-size.result c.layout.result.slot_length c.layout.ensures.slot_length (sym c.is_directory.ensures ∙ c.if-is_directory.true) c.size-size.ensures.value in
     let few = short h s c.args.version c.requires.names c.args.node in
     omega (arith, long, few, greatest-small c.args.version)
@@ -28,14 +28,14 @@ overflow_mul-result c =
 pub returns-then-is_directory : goal.returns-then-is_directory
 returns-then-is_directory c =
     let h = c.args.tree.now in
-    let s = c.sizes.ensures.standing in
+    let s = c.invariant.ensures in
     let long = of_directory h s c.args.version c.requires.names c.args.node c.size-size.result c.layout.result.slot_length c.layout.ensures.slot_length (sym c.is_directory.ensures ∙ c.if-is_directory.true) c.size-size.ensures.value in
     record { value = long; allowed = subst (λ k. k ≤ greatest_length c.args.version) (sym long) (short h s c.args.version c.requires.names c.args.node) }
 
 pub returns-else-is_directory : goal.returns-else-is_directory
 returns-else-is_directory c =
     let h = c.args.tree.now in
-    let s = c.sizes.ensures.standing in
+    let s = c.invariant.ensures in
     let long : c.size-size.result ≡ length (content_of c.args.version (node_at h.tree c.args.node)) =
     sym (other-length h s c.args.version 0 h.tree.inodes (le_refl h.tree.inodes) c.requires.names c.args.node c.size-size.result (sym c.is_directory.ensures ∙ c.if-is_directory.false) c.size-size.ensures.value) in
     record { value = long; allowed = subst (λ k. k ≤ greatest_length c.args.version) (sym long) (short h s c.args.version c.requires.names c.args.node) }

@@ -9,13 +9,13 @@ use Rattle.pv_image_write.proofs.content.put_slots.Goals as goal
 pub unreachable-requires : goal.unreachable-requires
 unreachable-requires c =
     let t = c.args.tree.now.tree in
-    let e = met t c.args.directory c.sizes.ensures.standing.well_formed c.args.version c.loop-entry.entry c.size-entry-end.result c.args.bytes.now.items c.loop-entry.bytes.items c.loop-entry.last c.requires.directory c.size-entry-end.ensures.value c.loop-entry-test.true c.loop-entry.invariant.listing in
+    let e = met t c.args.directory c.invariant.ensures.well_formed c.args.version c.loop-entry.entry c.size-entry-end.result c.args.bytes.now.items c.loop-entry.bytes.items c.loop-entry.last c.requires.directory c.size-entry-end.ensures.value c.loop-entry-test.true c.loop-entry.invariant.listing in
     front-none _ e.0.0 c.in_default.is (c.next.ensures.name ∙ e.1.next)
 
 pub put_slot-requires-clause-short : goal.put_slot-requires-clause-short
 put_slot-requires-clause-short c =
     let t = c.args.tree.now.tree in
-    let e = met t c.args.directory c.sizes.ensures.standing.well_formed c.args.version c.loop-entry.entry c.size-entry-end.result c.args.bytes.now.items c.loop-entry.bytes.items c.loop-entry.last c.requires.directory c.size-entry-end.ensures.value c.loop-entry-test.true c.loop-entry.invariant.listing in
+    let e = met t c.args.directory c.invariant.ensures.well_formed c.args.version c.loop-entry.entry c.size-entry-end.result c.args.bytes.now.items c.loop-entry.bytes.items c.loop-entry.last c.requires.directory c.size-entry-end.ensures.value c.loop-entry-test.true c.loop-entry.invariant.listing in
     let name = c.as_slice.ensures.value ∙ front-some _ c.in-Some.name e.0.0 c.in-Some.node c.in-Some.is (c.next.ensures.name ∙ e.1.next) in
     let short = e.1.short in
     omega (arith, ap length name, short, c.requires.names)
@@ -38,7 +38,7 @@ pub loop-entry-preserved : goal.loop-entry-preserved
 loop-entry-preserved c =
     let t = c.args.tree.now.tree in
     let es = entries_at t c.args.directory in
-    let e = met t c.args.directory c.sizes.ensures.standing.well_formed c.args.version c.loop-entry.entry c.size-entry-end.result c.args.bytes.now.items c.loop-entry.bytes.items c.loop-entry.last c.requires.directory c.size-entry-end.ensures.value c.loop-entry-test.true c.loop-entry.invariant.listing in
+    let e = met t c.args.directory c.invariant.ensures.well_formed c.args.version c.loop-entry.entry c.size-entry-end.result c.args.bytes.now.items c.loop-entry.bytes.items c.loop-entry.last c.requires.directory c.size-entry-end.ensures.value c.loop-entry-test.true c.loop-entry.invariant.listing in
     let name = front-some _ c.in-Some.name e.0.0 c.in-Some.node c.in-Some.is (c.next.ensures.name ∙ e.1.next) in
     let both : Some c.in-Some.node ≡ Some e.0.1 = sym c.in-Some.ensures.node ∙ ap (find_entry t c.args.directory) name ∙ e.1.found in
     let node = some-is c.in-Some.node e.0.1 both in
@@ -54,7 +54,7 @@ loop-entry-preserved c =
 
 pub returns-clause-items : goal.returns-clause-items
 returns-clause-items c =
-    all-met c.args.tree.now.tree c.args.directory c.sizes.ensures.standing.well_formed c.args.version c.loop-entry.entry c.size-entry-end.result c.args.bytes.now.items c.loop-entry.bytes.items c.loop-entry.last c.requires.directory c.size-entry-end.ensures.value c.loop-entry-test.false c.loop-entry.invariant.listing
+    all-met c.args.tree.now.tree c.args.directory c.invariant.ensures.well_formed c.args.version c.loop-entry.entry c.size-entry-end.result c.args.bytes.now.items c.loop-entry.bytes.items c.loop-entry.last c.requires.directory c.size-entry-end.ensures.value c.loop-entry-test.false c.loop-entry.invariant.listing
 
 pub returns-clause-len : goal.returns-clause-len
 returns-clause-len c =

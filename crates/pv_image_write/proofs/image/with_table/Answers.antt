@@ -26,7 +26,7 @@ loop-slot-init c =
 
 pub add_inode-requires-clause-counted : goal.add_inode-requires-clause-counted
 add_inode-requires-clause-counted c =
-    placed-counted c.args.tree.now c.sizes.ensures.standing c.args.version c.args.blocks c.args.inodes c.requires.inodes c.requires.names (c.loop-slot.slot + 1)
+    placed-counted c.args.tree.now c.invariant.ensures c.args.version c.args.blocks c.args.inodes c.requires.inodes c.requires.names (c.loop-slot.slot + 1)
 
 pub add_inode-requires-clause-blocks : goal.add_inode-requires-clause-blocks
 unfolding placed
@@ -34,7 +34,7 @@ add_inode-requires-clause-blocks c =
     let h = c.args.tree.now in
     let n = c.loop-slot.slot in
     let u = placed h.tree c.args.version c.args.blocks c.args.inodes in
-    let is : written_at h.tree (n + 1) ≡ node_at u (suc n) = sym (node-placed h c.sizes.ensures.standing c.args.version c.args.blocks c.args.inodes c.requires.inodes c.requires.names (n + 1)) ∙ ap (node_at u) (add-one n) in
+    let is : written_at h.tree (n + 1) ≡ node_at u (suc n) = sym (node-placed h c.invariant.ensures c.args.version c.args.blocks c.args.inodes c.requires.inodes c.requires.names (n + 1)) ∙ ap (node_at u) (add-one n) in
     as_written-room u c.requires.writable n c.loop-slot.first (written_at h.tree (n + 1)) c.loop-slot.invariant.as_written.block_after c.loop-slot-test.true is
 
 pub add_inode-requires-clause-room : goal.add_inode-requires-clause-room
@@ -52,7 +52,7 @@ overflow_cast-first c =
     let h = c.args.tree.now in
     let n = c.loop-slot.slot in
     let u = placed h.tree c.args.version c.args.blocks c.args.inodes in
-    let is : written_at h.tree (n + 1) ≡ node_at u (suc n) = sym (node-placed h c.sizes.ensures.standing c.args.version c.args.blocks c.args.inodes c.requires.inodes c.requires.names (n + 1)) ∙ ap (node_at u) (add-one n) in
+    let is : written_at h.tree (n + 1) ≡ node_at u (suc n) = sym (node-placed h c.invariant.ensures c.args.version c.args.blocks c.args.inodes c.requires.inodes c.requires.names (n + 1)) ∙ ap (node_at u) (add-one n) in
     let room = as_written-room u c.requires.writable n c.loop-slot.first (written_at h.tree (n + 1)) c.loop-slot.invariant.as_written.block_after c.loop-slot-test.true is in
     omega (arith, room, c.taken_blocks.ensures)
 
@@ -62,7 +62,7 @@ overflow_add-first c =
     let h = c.args.tree.now in
     let n = c.loop-slot.slot in
     let u = placed h.tree c.args.version c.args.blocks c.args.inodes in
-    let is : written_at h.tree (n + 1) ≡ node_at u (suc n) = sym (node-placed h c.sizes.ensures.standing c.args.version c.args.blocks c.args.inodes c.requires.inodes c.requires.names (n + 1)) ∙ ap (node_at u) (add-one n) in
+    let is : written_at h.tree (n + 1) ≡ node_at u (suc n) = sym (node-placed h c.invariant.ensures c.args.version c.args.blocks c.args.inodes c.requires.inodes c.requires.names (n + 1)) ∙ ap (node_at u) (add-one n) in
     let room = as_written-room u c.requires.writable n c.loop-slot.first (written_at h.tree (n + 1)) c.loop-slot.invariant.as_written.block_after c.loop-slot-test.true is in
     omega (arith, room, c.taken_blocks.ensures)
 
@@ -72,8 +72,8 @@ loop-slot-preserved c =
     let h = c.args.tree.now in
     let n = c.loop-slot.slot in
     let u = placed h.tree c.args.version c.args.blocks c.args.inodes in
-    let is : written_at h.tree (n + 1) ≡ node_at u (suc n) = sym (node-placed h c.sizes.ensures.standing c.args.version c.args.blocks c.args.inodes c.requires.inodes c.requires.names (n + 1)) ∙ ap (node_at u) (add-one n) in
-    let names : length (names_of h.tree (n + 1)) ≡ length (names_of u (suc n)) = sym (names-placed h c.sizes.ensures.standing c.args.version c.args.blocks c.args.inodes c.requires.inodes c.requires.names (n + 1)) ∙ ap (λ k. length (names_of u k)) (add-one n) in
+    let is : written_at h.tree (n + 1) ≡ node_at u (suc n) = sym (node-placed h c.invariant.ensures c.args.version c.args.blocks c.args.inodes c.requires.inodes c.requires.names (n + 1)) ∙ ap (node_at u) (add-one n) in
+    let names : length (names_of h.tree (n + 1)) ≡ length (names_of u (suc n)) = sym (names-placed h c.invariant.ensures c.args.version c.args.blocks c.args.inodes c.requires.inodes c.requires.names (n + 1)) ∙ ap (λ k. length (names_of u k)) (add-one n) in
     record {
       as_written =
           inodes-step u c.requires.writable n (first_block c.args.version c.args.blocks c.args.inodes) c.loop-slot.bytes.items c.add_inode.new.bytes.items

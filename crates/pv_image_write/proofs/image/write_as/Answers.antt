@@ -28,17 +28,17 @@ write_bytes-requires g c =
       sizes = leb-true (inode_blocks c.args.version c.args.inodes + 1) c.args.blocks second.1;
       names = c.requires.names;
       inodes = c.requires.inodes;
-      writable = placed-writable c.args.tree.now c.sizes.ensures.standing c.args.version c.args.blocks c.args.inodes c.requires.inodes c.requires.names c.requires.sizes c.requires.room;
+      writable = placed-writable c.args.tree.now c.invariant.ensures c.args.version c.args.blocks c.args.inodes c.requires.inodes c.requires.names c.requires.sizes c.requires.room;
     }
 
 pub returns-clause-whole : goal.returns-clause-whole
 returns-clause-whole g c =
     let u = placed c.args.tree.now.tree c.args.version c.args.blocks c.args.inodes in
-    let w = placed-writable c.args.tree.now c.sizes.ensures.standing c.args.version c.args.blocks c.args.inodes c.requires.inodes c.requires.names c.requires.sizes c.requires.room in
+    let w = placed-writable c.args.tree.now c.invariant.ensures c.args.version c.args.blocks c.args.inodes c.requires.inodes c.requires.names c.requires.sizes c.requires.room in
     on_ok_weaker c.write_bytes.result (tells u w (g.O.Sink.written c.args.image.now) (g.O.Sink.written c.write_bytes.new.image)) c.write_bytes.ensures.whole
 
 pub returns-clause-cut : goal.returns-clause-cut
 returns-clause-cut g c failed =
     let u = placed c.args.tree.now.tree c.args.version c.args.blocks c.args.inodes in
-    let w = placed-writable c.args.tree.now c.sizes.ensures.standing c.args.version c.args.blocks c.args.inodes c.requires.inodes c.requires.names c.requires.sizes c.requires.room in
+    let w = placed-writable c.args.tree.now c.invariant.ensures c.args.version c.args.blocks c.args.inodes c.requires.inodes c.requires.names c.requires.sizes c.requires.room in
     begins u w (g.O.Sink.written c.args.image.now) (g.O.Sink.written c.write_bytes.new.image) (c.write_bytes.ensures.cut failed)

@@ -44,7 +44,7 @@ unfolding placed
 add_blocks-requires-clause-blocks g c =
     let n = c.loop-slot.slot in
     let u = placed c.args.tree.now.tree c.args.version c.args.blocks c.args.inodes in
-    let is = next-node c.args.tree.now c.sizes.ensures.standing c.args.version c.args.blocks c.args.inodes c.requires.inodes c.requires.names n in
+    let is = next-node c.args.tree.now c.invariant.ensures c.args.version c.args.blocks c.args.inodes c.requires.inodes c.requires.names n in
     as_written-room u c.requires.writable n c.loop-slot.next (written_at c.args.tree.now.tree (n + 1)) c.loop-slot.invariant.put.as_written.block_after c.loop-slot-test.true is
 
 pub add_blocks-requires-clause-room : goal.add_blocks-requires-clause-room
@@ -52,7 +52,7 @@ unfolding placed
 add_blocks-requires-clause-room g c =
     let n = c.loop-slot.slot in
     let u = placed c.args.tree.now.tree c.args.version c.args.blocks c.args.inodes in
-    let is = next-node c.args.tree.now c.sizes.ensures.standing c.args.version c.args.blocks c.args.inodes c.requires.inodes c.requires.names n in
+    let is = next-node c.args.tree.now c.invariant.ensures c.args.version c.args.blocks c.args.inodes c.requires.inodes c.requires.names n in
     let whole = whole-image c.args.blocks (inode_blocks c.args.version c.args.inodes) c.requires.sizes in
     let room =
     node-room u c.requires.writable n c.args.window.now.items (g.O.Sink.written c.args.image.now) (g.O.Sink.written c.loop-slot.image) c.loop-slot.window.items c.loop-slot.next c.args.blocks
@@ -64,7 +64,7 @@ unfolding placed
 overflow_cast-next g c =
     let n = c.loop-slot.slot in
     let u = placed c.args.tree.now.tree c.args.version c.args.blocks c.args.inodes in
-    let is = next-node c.args.tree.now c.sizes.ensures.standing c.args.version c.args.blocks c.args.inodes c.requires.inodes c.requires.names n in
+    let is = next-node c.args.tree.now c.invariant.ensures c.args.version c.args.blocks c.args.inodes c.requires.inodes c.requires.names n in
     let room = as_written-room u c.requires.writable n c.loop-slot.next (written_at c.args.tree.now.tree (n + 1)) c.loop-slot.invariant.put.as_written.block_after c.loop-slot-test.true is in
     omega (arith, room, c.taken_blocks.ensures)
 
@@ -73,7 +73,7 @@ unfolding placed
 overflow_add-next-in-loop-slot g c =
     let n = c.loop-slot.slot in
     let u = placed c.args.tree.now.tree c.args.version c.args.blocks c.args.inodes in
-    let is = next-node c.args.tree.now c.sizes.ensures.standing c.args.version c.args.blocks c.args.inodes c.requires.inodes c.requires.names n in
+    let is = next-node c.args.tree.now c.invariant.ensures c.args.version c.args.blocks c.args.inodes c.requires.inodes c.requires.names n in
     let room = as_written-room u c.requires.writable n c.loop-slot.next (written_at c.args.tree.now.tree (n + 1)) c.loop-slot.invariant.put.as_written.block_after c.loop-slot-test.true is in
     omega (arith, room, c.taken_blocks.ensures)
 
@@ -86,7 +86,7 @@ returns-in_err-write_full-clause-cut g c =
     let entry = g.O.Sink.written c.args.image.now in
     let mid = g.O.Sink.written c.loop-slot.image in
     let after = g.O.Sink.written c.write_full.new.image in
-    let is = next-node c.args.tree.now c.sizes.ensures.standing c.args.version c.args.blocks c.args.inodes c.requires.inodes c.requires.names n in
+    let is = next-node c.args.tree.now c.invariant.ensures c.args.version c.args.blocks c.args.inodes c.requires.inodes c.requires.names n in
     let put =
     put-node u c.requires.writable n had entry mid c.loop-slot.window.items c.add_blocks.new.bytes.items c.loop-slot.next c.taken_blocks.result (written_at c.args.tree.now.tree (n + 1))
     c.loop-slot.invariant.put is c.add_blocks.ensures.items c.taken_blocks.ensures in
@@ -101,7 +101,7 @@ loop-slot-preserved g c =
     let entry = g.O.Sink.written c.args.image.now in
     let mid = g.O.Sink.written c.loop-slot.image in
     let after = g.O.Sink.written c.write_full.new.image in
-    let is = next-node c.args.tree.now c.sizes.ensures.standing c.args.version c.args.blocks c.args.inodes c.requires.inodes c.requires.names n in
+    let is = next-node c.args.tree.now c.invariant.ensures c.args.version c.args.blocks c.args.inodes c.requires.inodes c.requires.names n in
     let put =
     put-node u c.requires.writable n had entry mid c.loop-slot.window.items c.add_blocks.new.bytes.items c.loop-slot.next c.taken_blocks.result (written_at c.args.tree.now.tree (n + 1))
     c.loop-slot.invariant.put is c.add_blocks.ensures.items c.taken_blocks.ensures in

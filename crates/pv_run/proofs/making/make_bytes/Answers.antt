@@ -20,11 +20,11 @@ pub returns-clause-made : goal.returns-clause-made
 returns-clause-made g c =
     made_whole (tree_made c.args.bytes.now) c.in_ok-store.store c.tree.result.now.tree
     (made-tree c.args.bytes.now (g.W.Sink.written c.args.image.now) (manifest_before c.in_ok-manifest.manifest []) c.in_ok-manifest.ensures c.in_ok-store.store c.in_ok-store.ensures)
-    c.facts.ensures.named c.tree.ensures.tree (g.W.Sink.written c.args.image.now) (g.W.Sink.written c.write_image.new.image) c.write_image.result c.write_image.ensures.whole
+    c.invariant.ensures.named c.tree.ensures.tree (g.W.Sink.written c.args.image.now) (g.W.Sink.written c.write_image.new.image) c.write_image.result c.write_image.ensures.whole
 
 pub returns-clause-refused : goal.returns-clause-refused
 returns-clause-refused g c =
     unmade (tree_made c.args.bytes.now) c.in_ok-store.store c.tree.result.now.tree
     (made-tree c.args.bytes.now (g.W.Sink.written c.args.image.now) (manifest_before c.in_ok-manifest.manifest []) c.in_ok-manifest.ensures c.in_ok-store.store c.in_ok-store.ensures)
-    c.facts.ensures.named c.tree.ensures.tree (g.W.Sink.written c.args.image.now) (g.W.Sink.written c.write_image.new.image)
+    c.invariant.ensures.named c.tree.ensures.tree (g.W.Sink.written c.args.image.now) (g.W.Sink.written c.write_image.new.image)
     c.write_image.result c.write_image.ensures.kind c.write_image.ensures.cut c.write_image.ensures.memory

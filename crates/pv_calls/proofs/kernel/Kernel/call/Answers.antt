@@ -10,6 +10,6 @@ use Rattle.pv_calls.proofs.kernel.Kernel.call.Goals as goal
 pub invariant_of-self-2 : goal.invariant_of-self-2
 invariant_of-self-2 g c = (
   subst IsWhole (ap (λ (a : Answered). a.after) c.in_ok-answer.ensures.answered)
-      (call-keeps_whole program_of program_of-spells c.self.inside.parts c.args.pid (call_of c.args.call) c.requires c.self.invariant.0),
+      (call-keeps_whole program_of program_of-spells c.self.inside.system.parts c.args.pid (call_of c.args.call) c.requires c.self.invariant.0),
   c.carry_out.ensures.agrees,
 )

@@ -6,5 +6,5 @@ use Rattle.pv_calls_state.proofs.parts.Parts.advance.Goals as goal
 pub invariant_of-self : goal.invariant_of-self
 invariant_of-self c =
     subst (λ ps. IsCountedUp c.self.inside.tree c.self.inside.files ps) (sym c.advance.ensures)
-    (counted-update c.self.inside.tree c.self.inside.files c.self.inside.processes c.self.invariant c.facts.ensures.ascending c.args.pid _
+    (counted-update c.self.inside.tree c.self.inside.files c.self.inside.processes c.self.invariant c.invariant.ensures.ascending c.args.pid _
     (λ p at. record { directory = refl; table = refl; descriptors = refl; parent = refl }))

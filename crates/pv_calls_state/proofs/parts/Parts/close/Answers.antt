@@ -17,14 +17,14 @@ use Rattle.pv_calls_state.proofs.parts.Parts.close.Goals as goal
 
 pub release-requires-clause-opened : goal.release-requires-clause-opened
 release-requires-clause-opened c =
-    let p = started c.args.self.now c.self.inside.tree c.self.inside.files c.self.inside.processes c.args.pid c.self.view_is c.requires.whole c.self.invariant c.sizes.ensures.standing c.facts.ensures c.requires.live in
+    let p = started c.args.self.now c.self.inside.tree c.self.inside.files c.self.inside.processes c.args.pid c.self.view_is c.requires.whole c.self.invariant c.invariant.ensures c.invariant-2.ensures c.requires.live in
     let found = ok-descriptor (descriptor_under p.0.descriptors c.args.d) c.in_ok-file.file
     (ap (λ z. ok_or (option_map (λ e. e.file) (descriptor_under p.0.descriptors z)) EBADF) (sym (to_z-of_z w32 c.args.d c.ranges.d)) ∙ sym (c.in_ok-file.ensures.file p.0 p.1.at)) in
     subst (λ k. IsSome (at_number c.self.inside.files.files k)) found.2 (under-opened c.self.inside.tree c.self.inside.files c.self.inside.processes c.args.pid p.0 p.1 c.args.d found.0 found.1)
 
 pub invariant_of-self-2 : goal.invariant_of-self-2
 invariant_of-self-2 c =
-    let p = started c.args.self.now c.self.inside.tree c.self.inside.files c.self.inside.processes c.args.pid c.self.view_is c.requires.whole c.self.invariant c.sizes.ensures.standing c.facts.ensures c.requires.live in
+    let p = started c.args.self.now c.self.inside.tree c.self.inside.files c.self.inside.processes c.args.pid c.self.view_is c.requires.whole c.self.invariant c.invariant.ensures c.invariant-2.ensures c.requires.live in
     let found = ok-descriptor (descriptor_under p.0.descriptors c.args.d) c.in_ok-file.file
     (ap (λ z. ok_or (option_map (λ e. e.file) (descriptor_under p.0.descriptors z)) EBADF) (sym (to_z-of_z w32 c.args.d c.ranges.d)) ∙ sym (c.in_ok-file.ensures.file p.0 p.1.at)) in
     let gone = c.release.ensures in
@@ -36,7 +36,7 @@ invariant_of-self-2 c =
 
 pub returns-clause-performed : goal.returns-clause-performed
 returns-clause-performed c me at =
-    let is = before c.args.self.now c.self.inside.tree c.self.inside.files c.self.inside.processes c.args.pid me c.self.view_is c.requires.whole c.self.invariant c.sizes.ensures.standing c.facts.ensures at in
+    let is = before c.args.self.now c.self.inside.tree c.self.inside.files c.self.inside.processes c.args.pid me c.self.view_is c.requires.whole c.self.invariant c.invariant.ensures c.invariant-2.ensures at in
     let found = ok-descriptor (descriptor_under me.descriptors c.args.d) c.in_ok-file.file
     (ap (λ z. ok_or (option_map (λ e. e.file) (descriptor_under me.descriptors z)) EBADF) (sym (to_z-of_z w32 c.args.d c.ranges.d)) ∙ sym (c.in_ok-file.ensures.file me is.at)) in
     let gone = c.release.ensures in
@@ -45,11 +45,11 @@ returns-clause-performed c me at =
     (c.in_ok-file.ensures.closed ∙ ap (λ z. update c.self.inside.processes c.args.pid (with_closed_descriptor z)) (to_z-of_z w32 c.args.d c.ranges.d)
     ∙ updated c.self.inside.tree c.self.inside.files c.self.inside.processes c.args.pid me is (with_closed_descriptor c.args.d))
     (λ k. omega (arith, gone.users k, times-one k c.in_ok-file.file, times-closed k me.descriptors c.args.d found.0 found.1, ap (λ f. one_if f k) found.2))
-    gone.holds c.args.self.now c.self.view_is c.facts-2.ensures gone.nodes gone.files)
+    gone.holds c.args.self.now c.self.view_is c.invariant-3.ensures gone.nodes gone.files)
 
 pub returns-in_err-file-clause-performed : goal.returns-in_err-file-clause-performed
 returns-in_err-file-clause-performed c me at =
-    let is = before c.args.self.now c.self.inside.tree c.self.inside.files c.self.inside.processes c.args.pid me c.self.view_is c.requires.whole c.self.invariant c.sizes.ensures.standing c.facts.ensures at in
+    let is = before c.args.self.now c.self.inside.tree c.self.inside.files c.self.inside.processes c.args.pid me c.self.view_is c.requires.whole c.self.invariant c.invariant.ensures c.invariant-2.ensures at in
     let p = err_from_is_err_and c.from_residual.result c.from_residual.ensures.1 in
     rw (p.1, p.2) (close-refused c.args.self.now c.args.pid me c.args.d _
     (c.in_err-file.ensures.file me is.at ∙ ap (λ z. ok_or (option_map (λ e. e.file) (descriptor_under me.descriptors z)) EBADF) (to_z-of_z w32 c.args.d c.ranges.d)))

@@ -25,24 +25,24 @@ open_node-number-requires-clause-there c =
 
 pub open_node-number-requires-clause-few : goal.open_node-number-requires-clause-few
 open_node-number-requires-clause-few c =
-    let p = started c.args.self.now c.self.inside.tree c.self.inside.files c.self.inside.processes c.args.pid c.self.view_is c.requires.whole c.self.invariant c.sizes.ensures.standing c.facts.ensures c.requires.live in
+    let p = started c.args.self.now c.self.inside.tree c.self.inside.files c.self.inside.processes c.args.pid c.self.view_is c.requires.whole c.self.invariant c.invariant.ensures c.invariant-2.ensures c.requires.live in
     open-few c.self.inside.tree c.self.inside.files c.self.inside.processes c.args.pid p.0 p.1 c.in_ok-node.node c.args.flags c.make.new.self (ap (λ (x : HeldTree). x.holds) c.in_ok-node.ensures.ok)
 
 pub invariant_of-self-2 : goal.invariant_of-self-2
 invariant_of-self-2 c =
-    let p = started c.args.self.now c.self.inside.tree c.self.inside.files c.self.inside.processes c.args.pid c.self.view_is c.requires.whole c.self.invariant c.sizes.ensures.standing c.facts.ensures c.requires.live in
+    let p = started c.args.self.now c.self.inside.tree c.self.inside.files c.self.inside.processes c.args.pid c.self.view_is c.requires.whole c.self.invariant c.invariant.ensures c.invariant-2.ensures c.requires.live in
     opened-up c.self.inside.tree c.self.inside.files c.self.inside.processes c.args.pid p.0 p.1 c.in_ok-node.node c.args.flags c.make.new.self (ap (λ (x : HeldTree). x.holds) c.in_ok-node.ensures.ok) c.open_node-number.new.tree c.open_node-number.new.files c.open_node-number.new.processes c.open_node-number.ensures.more c.open_node-number.ensures.others
     (omega (arith, c.requires.file, ap (λ (x : State). least_free x.files) c.self.view_is)) c.open_node-number.ensures.files c.open_node-number.ensures.processes
 
 pub returns-clause-opened : goal.returns-clause-opened
 returns-clause-opened c me at =
-    let is = before c.args.self.now c.self.inside.tree c.self.inside.files c.self.inside.processes c.args.pid me c.self.view_is c.requires.whole c.self.invariant c.sizes.ensures.standing c.facts.ensures at in
+    let is = before c.args.self.now c.self.inside.tree c.self.inside.files c.self.inside.processes c.args.pid me c.self.view_is c.requires.whole c.self.invariant c.invariant.ensures c.invariant-2.ensures at in
     let new : State → Tree = λ x. with_new_node x.tree c.args.directory c.args.name.now (new_node File) in
     opened-state c.self.inside.tree c.self.inside.files c.self.inside.processes c.args.pid me is c.in_ok-node.node c.args.flags c.make.new.self (ap (λ (x : HeldTree). x.holds) c.in_ok-node.ensures.ok) c.open_node-number.new.tree c.open_node-number.new.files c.open_node-number.new.processes c.open_node-number.ensures.more c.open_node-number.ensures.others
     (omega (arith, c.requires.file, ap (λ (x : State). least_free x.files) c.self.view_is)) c.open_node-number.ensures.files c.open_node-number.ensures.processes
     c.args.self.now c.self.view_is (new c.args.self.now)
     (c.open_node-number.ensures.tree ∙ ap (λ (x : HeldTree). x.tree) c.in_ok-node.ensures.ok ∙ ap new c.self.view_is)
-    c.sizes-2.ensures.standing c.facts-2.ensures
+    c.invariant-3.ensures c.invariant-4.ensures
     ∙ ap (λ n. trim (with_open_file c.args.self.now c.args.pid me c.args.flags n (new c.args.self.now))) (c.in_ok-node.ensures.number ∙ ap (λ (x : State). new_number x.tree) c.self.view_is)
 
 pub returns-in_err-node-clause-refused : goal.returns-in_err-node-clause-refused

@@ -19,7 +19,7 @@ use Rattle.pv_calls_state.proofs.parts.Parts.dup.Goals as goal
 
 pub dup-requires-clause-opened : goal.dup-requires-clause-opened
 dup-requires-clause-opened c =
-    let p = started c.args.self.now c.self.inside.tree c.self.inside.files c.self.inside.processes c.args.pid c.self.view_is c.requires.whole c.self.invariant c.sizes.ensures.standing c.facts.ensures c.requires.live in
+    let p = started c.args.self.now c.self.inside.tree c.self.inside.files c.self.inside.processes c.args.pid c.self.view_is c.requires.whole c.self.invariant c.invariant.ensures c.invariant-2.ensures c.requires.live in
     let own : p.0.descriptors ≡ c.record.result.now.descriptors = ap (λ r. r.descriptors) (owned c.self.inside.tree c.self.inside.files c.self.inside.processes c.args.pid p.0 p.1 c.record.result.now c.record.ensures) in
     let found = ok-descriptor (descriptor_under p.0.descriptors c.args.d) c.in_ok-file.file
     (ap (λ ds. ok_or (option_map (λ e. e.file) (descriptor_under ds c.args.d)) EBADF) own
@@ -29,12 +29,12 @@ dup-requires-clause-opened c =
 
 pub dup-requires-clause-room : goal.dup-requires-clause-room
 dup-requires-clause-room c =
-    let p = started c.args.self.now c.self.inside.tree c.self.inside.files c.self.inside.processes c.args.pid c.self.view_is c.requires.whole c.self.invariant c.sizes.ensures.standing c.facts.ensures c.requires.live in
+    let p = started c.args.self.now c.self.inside.tree c.self.inside.files c.self.inside.processes c.args.pid c.self.view_is c.requires.whole c.self.invariant c.invariant.ensures c.invariant-2.ensures c.requires.live in
     omega (arith, few-users c.self.inside.tree c.self.inside.files c.self.inside.processes c.args.pid p.0 p.1 c.in_ok-file.file)
 
 pub invariant_of-self-2 : goal.invariant_of-self-2
 invariant_of-self-2 c =
-    let p = started c.args.self.now c.self.inside.tree c.self.inside.files c.self.inside.processes c.args.pid c.self.view_is c.requires.whole c.self.invariant c.sizes.ensures.standing c.facts.ensures c.requires.live in
+    let p = started c.args.self.now c.self.inside.tree c.self.inside.files c.self.inside.processes c.args.pid c.self.view_is c.requires.whole c.self.invariant c.invariant.ensures c.invariant-2.ensures c.requires.live in
     let own : p.0.descriptors ≡ c.record.result.now.descriptors = ap (λ r. r.descriptors) (owned c.self.inside.tree c.self.inside.files c.self.inside.processes c.args.pid p.0 p.1 c.record.result.now c.record.ensures) in
     let found = ok-descriptor (descriptor_under p.0.descriptors c.args.d) c.in_ok-file.file
     (ap (λ ds. ok_or (option_map (λ e. e.file) (descriptor_under ds c.args.d)) EBADF) own
@@ -46,7 +46,7 @@ invariant_of-self-2 c =
     ∙ ap (λ f. with_process c.self.inside.processes c.args.pid (with_opened_descriptor f false p.0)) (sym found.2))
     (λ k. omega (
       arith,
-      one-more c.self.inside.files c.dup.new.self c.in_ok-file.file c.facts.ensures there c.dup.ensures k,
+      one-more c.self.inside.files c.dup.new.self c.in_ok-file.file c.invariant-2.ensures there c.dup.ensures k,
       times-given k p.0.descriptors (record { file = found.0.file; close_on_exec = false }),
       ap (λ f. one_if f k) found.2,
     ))
@@ -54,7 +54,7 @@ invariant_of-self-2 c =
 
 pub returns-clause-performed : goal.returns-clause-performed
 returns-clause-performed c me at =
-    let is = before c.args.self.now c.self.inside.tree c.self.inside.files c.self.inside.processes c.args.pid me c.self.view_is c.requires.whole c.self.invariant c.sizes.ensures.standing c.facts.ensures at in
+    let is = before c.args.self.now c.self.inside.tree c.self.inside.files c.self.inside.processes c.args.pid me c.self.view_is c.requires.whole c.self.invariant c.invariant.ensures c.invariant-2.ensures at in
     let own : me.descriptors ≡ c.record.result.now.descriptors = ap (λ r. r.descriptors) (owned c.self.inside.tree c.self.inside.files c.self.inside.processes c.args.pid me is c.record.result.now c.record.ensures) in
     let found = ok-descriptor (descriptor_under me.descriptors c.args.d) c.in_ok-file.file
     (ap (λ ds. ok_or (option_map (λ e. e.file) (descriptor_under ds c.args.d)) EBADF) own
@@ -68,9 +68,9 @@ returns-clause-performed c me at =
     ∙ ap (λ f. with_process c.self.inside.processes c.args.pid (with_opened_descriptor f false me)) (sym found.2))
     (λ k. omega (
       arith,
-      one-more c.self.inside.files c.dup.new.self c.in_ok-file.file c.facts.ensures there c.dup.ensures k,
+      one-more c.self.inside.files c.dup.new.self c.in_ok-file.file c.invariant-2.ensures there c.dup.ensures k,
       times-given k me.descriptors (record { file = found.0.file; close_on_exec = false }),
       ap (λ f. one_if f k) found.2,
     ))
     (λ n. ap (λ x. holds_at c.self.inside.tree n + times n (open_nodes x.files)) (sym c.dup.ensures))
-    c.args.self.now c.self.view_is c.facts-2.ensures (sym c.sizes.ensures.standing.is_trimmed) (λ k more. ap (λ (x : Counted). at_number x.files k) c.dup.ensures))
+    c.args.self.now c.self.view_is c.invariant-3.ensures (sym c.invariant.ensures.is_trimmed) (λ k more. ap (λ (x : Counted). at_number x.files k) c.dup.ensures))

@@ -20,7 +20,7 @@ use Rattle.pv_calls_state.proofs.parts.Parts.dup2.Goals as goal
 
 pub dup-requires-clause-opened : goal.dup-requires-clause-opened
 dup-requires-clause-opened c =
-    let p = started c.args.self.now c.self.inside.tree c.self.inside.files c.self.inside.processes c.args.pid c.self.view_is c.requires.whole c.self.invariant c.sizes.ensures.standing c.facts.ensures c.requires.live in
+    let p = started c.args.self.now c.self.inside.tree c.self.inside.files c.self.inside.processes c.args.pid c.self.view_is c.requires.whole c.self.invariant c.invariant.ensures c.invariant-2.ensures c.requires.live in
     let own : p.0.descriptors ≡ c.record.result.now.descriptors = ap (λ r. r.descriptors) (owned c.self.inside.tree c.self.inside.files c.self.inside.processes c.args.pid p.0 p.1 c.record.result.now c.record.ensures) in
     let found = ok-descriptor (descriptor_under p.0.descriptors c.args.d) c.in_ok-file.file
     (ap (λ ds. ok_or (option_map (λ e. e.file) (descriptor_under ds c.args.d)) EBADF) own
@@ -30,19 +30,19 @@ dup-requires-clause-opened c =
 
 pub dup-requires-clause-room : goal.dup-requires-clause-room
 dup-requires-clause-room c =
-    let p = started c.args.self.now c.self.inside.tree c.self.inside.files c.self.inside.processes c.args.pid c.self.view_is c.requires.whole c.self.invariant c.sizes.ensures.standing c.facts.ensures c.requires.live in
+    let p = started c.args.self.now c.self.inside.tree c.self.inside.files c.self.inside.processes c.args.pid c.self.view_is c.requires.whole c.self.invariant c.invariant.ensures c.invariant-2.ensures c.requires.live in
     omega (arith, few-users c.self.inside.tree c.self.inside.files c.self.inside.processes c.args.pid p.0 p.1 c.in_ok-file.file)
 
 pub release_some-requires-clause-opened : goal.release_some-requires-clause-opened
 release_some-requires-clause-opened c =
-    let p = started c.args.self.now c.self.inside.tree c.self.inside.files c.self.inside.processes c.args.pid c.self.view_is c.requires.whole c.self.invariant c.sizes.ensures.standing c.facts.ensures c.requires.live in
+    let p = started c.args.self.now c.self.inside.tree c.self.inside.files c.self.inside.processes c.args.pid c.self.view_is c.requires.whole c.self.invariant c.invariant.ensures c.invariant-2.ensures c.requires.live in
     let own : p.0.descriptors ≡ c.record.result.now.descriptors = ap (λ r. r.descriptors) (owned c.self.inside.tree c.self.inside.files c.self.inside.processes c.args.pid p.0 p.1 c.record.result.now c.record.ensures) in
     left-opened c.self.inside.tree c.self.inside.files c.self.inside.processes c.args.pid p.0 p.1 c.dup.new.self c.in-Some.number c.file_at-left.result
     (c.file_at-left.ensures ∙ ap (λ ds. option_map (λ e. e.file) (at_number ds c.in-Some.number)) (sym own)) (ap (λ (x : Counted). x.files) c.dup.ensures)
 
 pub invariant_of-self : goal.invariant_of-self
 invariant_of-self c =
-    let p = started c.args.self.now c.self.inside.tree c.self.inside.files c.self.inside.processes c.args.pid c.self.view_is c.requires.whole c.self.invariant c.sizes.ensures.standing c.facts.ensures c.requires.live in
+    let p = started c.args.self.now c.self.inside.tree c.self.inside.files c.self.inside.processes c.args.pid c.self.view_is c.requires.whole c.self.invariant c.invariant.ensures c.invariant-2.ensures c.requires.live in
     let own : p.0.descriptors ≡ c.record.result.now.descriptors = ap (λ r. r.descriptors) (owned c.self.inside.tree c.self.inside.files c.self.inside.processes c.args.pid p.0 p.1 c.record.result.now c.record.ensures) in
     let found = ok-descriptor (descriptor_under p.0.descriptors c.args.d) c.in_ok-file.file
     (ap (λ ds. ok_or (option_map (λ e. e.file) (descriptor_under ds c.args.d)) EBADF) own
@@ -56,7 +56,7 @@ invariant_of-self c =
     ∙ ap (λ f. with_process c.self.inside.processes c.args.pid (with_descriptor_at c.in-Some.number f p.0)) (sym found.2))
     (λ k. omega (
       arith,
-      one-more c.self.inside.files c.dup.new.self c.in_ok-file.file c.facts.ensures there c.dup.ensures k,
+      one-more c.self.inside.files c.dup.new.self c.in_ok-file.file c.invariant-2.ensures there c.dup.ensures k,
       gone.users k,
       times-set k p.0.descriptors c.in-Some.number (record { file = found.0.file; close_on_exec = false }) c.file_at-left.result left,
       ap (λ f. one_if f k) found.2,
@@ -65,7 +65,7 @@ invariant_of-self c =
 
 pub returns-clause-performed : goal.returns-clause-performed
 returns-clause-performed c me at =
-    let is = before c.args.self.now c.self.inside.tree c.self.inside.files c.self.inside.processes c.args.pid me c.self.view_is c.requires.whole c.self.invariant c.sizes.ensures.standing c.facts.ensures at in
+    let is = before c.args.self.now c.self.inside.tree c.self.inside.files c.self.inside.processes c.args.pid me c.self.view_is c.requires.whole c.self.invariant c.invariant.ensures c.invariant-2.ensures at in
     let own : me.descriptors ≡ c.record.result.now.descriptors = ap (λ r. r.descriptors) (owned c.self.inside.tree c.self.inside.files c.self.inside.processes c.args.pid me is c.record.result.now c.record.ensures) in
     let found = ok-descriptor (descriptor_under me.descriptors c.args.d) c.in_ok-file.file
     (ap (λ ds. ok_or (option_map (λ e. e.file) (descriptor_under ds c.args.d)) EBADF) own
@@ -82,10 +82,10 @@ returns-clause-performed c me at =
     ∙ ap (λ f. with_process c.self.inside.processes c.args.pid (with_descriptor_at c.in-Some.number f me)) (sym found.2))
     (λ k. omega (
       arith,
-      one-more c.self.inside.files c.dup.new.self c.in_ok-file.file c.facts.ensures there c.dup.ensures k,
+      one-more c.self.inside.files c.dup.new.self c.in_ok-file.file c.invariant-2.ensures there c.dup.ensures k,
       gone.users k,
       times-set k me.descriptors c.in-Some.number (record { file = found.0.file; close_on_exec = false }) c.file_at-left.result left,
       ap (λ f. one_if f k) found.2,
     ))
     (λ n. omega (arith, gone.holds n, ap (λ (x : Counted). times n (open_nodes x.files)) c.dup.ensures))
-    c.args.self.now c.self.view_is c.facts-2.ensures gone.nodes (λ k more. gone.files k more ∙ ap (λ (x : Counted). at_number x.files k) c.dup.ensures))
+    c.args.self.now c.self.view_is c.invariant-3.ensures gone.nodes (λ k more. gone.files k more ∙ ap (λ (x : Counted). at_number x.files k) c.dup.ensures))

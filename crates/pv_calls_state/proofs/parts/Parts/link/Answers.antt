@@ -12,14 +12,14 @@ kept : (c : goal.After-link) → trimmed (change c c.args.self.now.tree) c.self.
 kept c =
     let i = c.self.inside in
     let t = c.args.self.now.tree in
-    kept-entry t i.tree.holds (ordered-seen t c.requires.whole.tree.well_formed) (kept-seen i.tree i.files i.processes c.args.self.now c.self.view_is c.self.invariant c.facts.ensures c.sizes.ensures.standing) c.args.directory c.args.name.now c.args.node c.requires.directory.0 c.requires.absent
+    kept-entry t i.tree.holds (ordered-seen t c.requires.whole.tree.well_formed) (kept-seen i.tree i.files i.processes c.args.self.now c.self.view_is c.self.invariant c.invariant-2.ensures c.invariant.ensures) c.args.directory c.args.name.now c.args.node c.requires.directory.0 c.requires.absent
 
 pub returns-clause-linked : goal.returns-clause-linked
 returns-clause-linked c =
     let i = c.self.inside in
-    on_ok_weaker c.link.result (grown-changed i.tree i.files i.processes c.args.self.now c.self.view_is c.self.invariant c.facts.ensures (change c) (kept c) c.link.new.self) c.link.ensures.ok
+    on_ok_weaker c.link.result (grown-changed i.tree i.files i.processes c.args.self.now c.self.view_is c.self.invariant c.invariant-2.ensures (change c) (kept c) c.link.new.self) c.link.ensures.ok
 
 pub returns-clause-refused : goal.returns-clause-refused
 returns-clause-refused c =
     let i = c.self.inside in
-    IfErr-weaker c.link.result _ _ (grown-refused i.tree i.files i.processes c.args.self.now c.self.view_is c.self.invariant c.facts.ensures (change c) (kept c)) c.link.ensures.refused
+    IfErr-weaker c.link.result _ _ (grown-refused i.tree i.files i.processes c.args.self.now c.self.view_is c.self.invariant c.invariant-2.ensures (change c) (kept c)) c.link.ensures.refused

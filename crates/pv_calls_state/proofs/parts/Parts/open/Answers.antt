@@ -12,7 +12,7 @@ use Rattle.pv_calls_state.proofs.parts.Parts.open.Goals as goal
 
 pub open_node-number-requires-clause-there : goal.open_node-number-requires-clause-there
 open_node-number-requires-clause-there c =
-    let p = started c.args.self.now c.self.inside.tree c.self.inside.files c.self.inside.processes c.args.pid c.self.view_is c.requires.whole c.self.invariant c.sizes.ensures.standing c.facts.ensures c.requires.live in
+    let p = started c.args.self.now c.self.inside.tree c.self.inside.files c.self.inside.processes c.args.pid c.self.view_is c.requires.whole c.self.invariant c.invariant.ensures c.invariant-2.ensures c.requires.live in
     let view = c.self.view_is in
     subst (λ x. IsSome (node_at x c.args.node)) (sym c.cut_if.ensures.tree)
     (cut-there c.self.inside.tree.tree p.1.whole.tree c.args.node c.args.flags.truncate
@@ -21,20 +21,20 @@ open_node-number-requires-clause-there c =
 
 pub open_node-number-requires-clause-few : goal.open_node-number-requires-clause-few
 open_node-number-requires-clause-few c =
-    let p = started c.args.self.now c.self.inside.tree c.self.inside.files c.self.inside.processes c.args.pid c.self.view_is c.requires.whole c.self.invariant c.sizes.ensures.standing c.facts.ensures c.requires.live in
+    let p = started c.args.self.now c.self.inside.tree c.self.inside.files c.self.inside.processes c.args.pid c.self.view_is c.requires.whole c.self.invariant c.invariant.ensures c.invariant-2.ensures c.requires.live in
     open-few c.self.inside.tree c.self.inside.files c.self.inside.processes c.args.pid p.0 p.1 c.args.node c.args.flags c.cut_if.new.tree c.cut_if.ensures.holds
 
 pub invariant_of-self : goal.invariant_of-self
 invariant_of-self c =
-    let p = started c.args.self.now c.self.inside.tree c.self.inside.files c.self.inside.processes c.args.pid c.self.view_is c.requires.whole c.self.invariant c.sizes.ensures.standing c.facts.ensures c.requires.live in
+    let p = started c.args.self.now c.self.inside.tree c.self.inside.files c.self.inside.processes c.args.pid c.self.view_is c.requires.whole c.self.invariant c.invariant.ensures c.invariant-2.ensures c.requires.live in
     opened-up c.self.inside.tree c.self.inside.files c.self.inside.processes c.args.pid p.0 p.1 c.args.node c.args.flags c.cut_if.new.tree c.cut_if.ensures.holds c.open_node-number.new.tree c.open_node-number.new.files c.open_node-number.new.processes c.open_node-number.ensures.more c.open_node-number.ensures.others
     (omega (arith, c.requires.file, ap (λ (x : State). least_free x.files) c.self.view_is)) c.open_node-number.ensures.files c.open_node-number.ensures.processes
 
 pub returns-clause-opened : goal.returns-clause-opened
 returns-clause-opened c me at =
-    let is = before c.args.self.now c.self.inside.tree c.self.inside.files c.self.inside.processes c.args.pid me c.self.view_is c.requires.whole c.self.invariant c.sizes.ensures.standing c.facts.ensures at in
+    let is = before c.args.self.now c.self.inside.tree c.self.inside.files c.self.inside.processes c.args.pid me c.self.view_is c.requires.whole c.self.invariant c.invariant.ensures c.invariant-2.ensures at in
     opened-state c.self.inside.tree c.self.inside.files c.self.inside.processes c.args.pid me is c.args.node c.args.flags c.cut_if.new.tree c.cut_if.ensures.holds c.open_node-number.new.tree c.open_node-number.new.files c.open_node-number.new.processes c.open_node-number.ensures.more c.open_node-number.ensures.others
     (omega (arith, c.requires.file, ap (λ (x : State). least_free x.files) c.self.view_is)) c.open_node-number.ensures.files c.open_node-number.ensures.processes
     c.args.self.now c.self.view_is (tree_for_open c.args.self.now.tree c.args.flags c.args.node)
     (c.open_node-number.ensures.tree ∙ c.cut_if.ensures.tree ∙ ap (λ (x : State). tree_for_open x.tree c.args.flags c.args.node) c.self.view_is)
-    c.sizes-2.ensures.standing c.facts-2.ensures
+    c.invariant-3.ensures c.invariant-4.ensures

@@ -23,10 +23,10 @@ counted c =
     let found = c.reap.ensures.waited i.tree.tree i.files.files (me c).0 in
     let same = λ (none : c.reap.result ≡ NoChild). ap (state_of i.tree i.files) (c.reap.ensures.unchanged none) in
     record {
-      users = λ k. c.self.invariant.users k ∙ ap (times k) (sym (reap-same before after c.args.pid (me c).0 c.facts-2.ensures.ascending used_files c.reap.result found same));
+      users = λ k. c.self.invariant.users k ∙ ap (times k) (sym (reap-same before after c.args.pid (me c).0 c.invariant-3.ensures.ascending used_files c.reap.result found same));
       holds = λ n.
           c.self.invariant.holds n
-          ∙ ap (λ ns. times n ns + times n (open_nodes i.files.files)) (sym (reap-same before after c.args.pid (me c).0 c.facts-2.ensures.ascending held_by_process c.reap.result found same));
+          ∙ ap (λ ns. times n ns + times n (open_nodes i.files.files)) (sym (reap-same before after c.args.pid (me c).0 c.invariant-3.ensures.ascending held_by_process c.reap.result found same));
     }
 
 pub invariant_of-self : goal.invariant_of-self
@@ -37,11 +37,11 @@ returns-clause-performed c = λ p at.
     let i = c.self.inside in
     let after = state_of i.tree i.files c.reap.new.self in
     ap (λ s. trimmed (wait s c.args.pid p)) (sym c.self.view_is) ∙ ap trimmed (c.reap.ensures.waited i.tree.tree i.files.files p)
-    ∙ trimmed-waited c.reap.result after (trim-none i.tree i.files c.reap.new.self (counted c) c.facts.ensures c.sizes.ensures.standing)
+    ∙ trimmed-waited c.reap.result after (trim-none i.tree i.files c.reap.new.self (counted c) c.invariant-2.ensures c.invariant.ensures)
 
 pub returns-clause-blocked : goal.returns-clause-blocked
 returns-clause-blocked c = λ none.
     let i = c.self.inside in
-    reap-blocked (state_of i.tree i.files i.processes) (state_of i.tree i.files c.reap.new.self) c.args.pid (me c).0 c.facts-2.ensures.ascending c.reap.result
+    reap-blocked (state_of i.tree i.files i.processes) (state_of i.tree i.files c.reap.new.self) c.args.pid (me c).0 c.invariant-3.ensures.ascending c.reap.result
     (c.reap.ensures.waited i.tree.tree i.files.files (me c).0) none
     ∙ c.self.view_is

@@ -7,12 +7,12 @@ pub returns-clause-moved : goal.returns-clause-moved
 returns-clause-moved c =
     let i = c.self.inside in
     on_ok_weaker c.rename.result
-    (after-changed i.tree i.files i.processes c.args.self.now c.self.view_is c.self.invariant c.facts.ensures (λ t. moved t c.args.from c.args.name.now c.args.to c.args.other.now) c.rename.new.self)
+    (after-changed i.tree i.files i.processes c.args.self.now c.self.view_is c.self.invariant c.invariant.ensures (λ t. moved t c.args.from c.args.name.now c.args.to c.args.other.now) c.rename.new.self)
     c.rename.ensures.ok
 
 pub returns-clause-refused : goal.returns-clause-refused
 returns-clause-refused c =
     let i = c.self.inside in
     IfErr-weaker c.rename.result _ _
-    (after-refused i.tree i.files i.processes c.args.self.now c.self.view_is c.self.invariant c.facts.ensures (λ t. moved t c.args.from c.args.name.now c.args.to c.args.other.now))
+    (after-refused i.tree i.files i.processes c.args.self.now c.self.view_is c.self.invariant c.invariant.ensures (λ t. moved t c.args.from c.args.name.now c.args.to c.args.other.now))
     c.rename.ensures.refused

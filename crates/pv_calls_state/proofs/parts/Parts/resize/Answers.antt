@@ -13,14 +13,14 @@ kept : (c : goal.After-cut) → trimmed (change c c.args.self.now.tree) c.self.i
 kept c =
     let i = c.self.inside in
     let t = c.args.self.now.tree in
-    kept-content t i.tree.holds (ordered-seen t c.requires.whole.tree.well_formed) (kept-seen i.tree i.files i.processes c.args.self.now c.self.view_is c.self.invariant c.facts.ensures c.sizes.ensures.standing) c.args.node _
+    kept-content t i.tree.holds (ordered-seen t c.requires.whole.tree.well_formed) (kept-seen i.tree i.files i.processes c.args.self.now c.self.view_is c.self.invariant c.invariant-2.ensures c.invariant.ensures) c.args.node _
 
 pub returns-clause-resized : goal.returns-clause-resized
 returns-clause-resized c =
     let i = c.self.inside in
-    on_ok_weaker c.cut.result (grown-changed i.tree i.files i.processes c.args.self.now c.self.view_is c.self.invariant c.facts.ensures (change c) (kept c) c.cut.new.self) c.cut.ensures.ok
+    on_ok_weaker c.cut.result (grown-changed i.tree i.files i.processes c.args.self.now c.self.view_is c.self.invariant c.invariant-2.ensures (change c) (kept c) c.cut.new.self) c.cut.ensures.ok
 
 pub returns-clause-refused : goal.returns-clause-refused
 returns-clause-refused c =
     let i = c.self.inside in
-    IfErr-weaker c.cut.result _ _ (grown-refused i.tree i.files i.processes c.args.self.now c.self.view_is c.self.invariant c.facts.ensures (change c) (kept c)) c.cut.ensures.refused
+    IfErr-weaker c.cut.result _ _ (grown-refused i.tree i.files i.processes c.args.self.now c.self.view_is c.self.invariant c.invariant-2.ensures (change c) (kept c)) c.cut.ensures.refused

@@ -20,7 +20,7 @@ overflow_add-at c =
     omega (
       arith,
       long,
-      write-within i.tree i.files i.processes c.args.self.now c.self.view_is c.self.invariant c.facts.ensures c.sizes.ensures.standing c.requires.whole.tree.well_formed c.args.file c.node-node.result c.args.at (take c.args.count buffer)
+      write-within i.tree i.files i.processes c.args.self.now c.self.view_is c.self.invariant c.invariant-2.ensures c.invariant.ensures c.requires.whole.tree.well_formed c.args.file c.node-node.result c.args.at (take c.args.count buffer)
           (subst (λ n. 0 < n) (sym long) c.requires.some) c.node-node.ensures c.requires.opened c.requires.there c.in_ok-write_at.ensures.allowed,
     )
 
@@ -36,7 +36,7 @@ returns-clause-written c = λ me f lives there.
     let buffer = c.buffer-buffer.result.now in
     let long = length-take-le c.args.count buffer (subst (λ n. c.args.count ≤ n) (sym c.buffer-buffer.ensures.size) c.requires.few) in
     let moved = subst (λ n. option_map (λ f. with_file i.files c.args.file (record f { offset = c.args.at + n })) (at_number i.files.files c.args.file) ≡ Some c.set_offset.new.self) (sym long) c.set_offset.ensures in
-    write-changed i.tree i.files i.processes c.args.self.now c.self.view_is c.self.invariant c.facts.ensures c.sizes.ensures.standing c.requires.whole.tree.well_formed c.args.file c.node-node.result c.args.at (take c.args.count buffer)
+    write-changed i.tree i.files i.processes c.args.self.now c.self.view_is c.self.invariant c.invariant-2.ensures c.invariant.ensures c.requires.whole.tree.well_formed c.args.file c.node-node.result c.args.at (take c.args.count buffer)
     (subst (λ n. 0 < n) (sym long) c.requires.some) c.node-node.ensures c.write_at.new.self c.set_offset.new.self c.in_ok-write_at.ensures.ok moved f there
     ∙ ap (λ b. trim (with_bytes_written c.args.self.now c.args.pid me c.args.file f c.args.at (take c.args.count b)))
     (own-buffer i.tree i.files i.processes c.args.self.now c.self.view_is c.args.pid me c.record.result.now buffer lives c.record.ensures c.buffer-buffer.ensures.value)
@@ -51,6 +51,6 @@ returns-in_err-write_at-clause-refused c =
     (λ why no_room me f lives there.
     let own = own-buffer i.tree i.files i.processes c.args.self.now c.self.view_is c.args.pid me c.record.result.now buffer lives c.record.ensures c.buffer-buffer.ensures.value in
     ap (λ b. refusal (trim (with_bytes_written c.args.self.now c.args.pid me c.args.file f c.args.at (take c.args.count b))).tree) (sym own)
-    ∙ write-refused i.tree i.files i.processes c.args.self.now c.self.view_is c.self.invariant c.facts.ensures c.sizes.ensures.standing c.requires.whole.tree.well_formed c.args.file c.node-node.result c.args.at (take c.args.count buffer)
+    ∙ write-refused i.tree i.files i.processes c.args.self.now c.self.view_is c.self.invariant c.invariant-2.ensures c.invariant.ensures c.requires.whole.tree.well_formed c.args.file c.node-node.result c.args.at (take c.args.count buffer)
     (subst (λ n. 0 < n) (sym long) c.requires.some) c.node-node.ensures why no_room f there)
     (search rules)

@@ -26,5 +26,5 @@ returns-clause-closed c =
 pub returns-clause-unchanged : goal.returns-clause-unchanged
 returns-clause-unchanged c =
     on_err_weaker c.close.result
-    (λ same. same-owned c.args.processes.now c.args.pid c.facts.ensures.ascending c.requires c.record_mut.result.now c.record_mut.ensures.value _ (ap (λ ds. record c.record_mut.result.now { descriptors = ds }) same))
+    (λ same. same-owned c.args.processes.now c.args.pid c.invariant.ensures.ascending c.requires c.record_mut.result.now c.record_mut.ensures.value _ (ap (λ ds. record c.record_mut.result.now { descriptors = ds }) same))
     c.close.ensures.unchanged

@@ -7,4 +7,4 @@ use Rattle.pv_calls_state.proofs.parts.descriptors.cut_if.Goals as goal
 pub unreachable-requires : goal.unreachable-requires
 unreachable-requires c =
     let wrong : ◌≡◌ {A = Rattle.std.specs.Prelude.Option Space} None (Some c.in_default.field-0) =
-    sym (cut-fits c.args.tree.now.tree c.args.node (c.requires c.if-cuts.true) c.sizes.ensures.standing.short c.sizes.ensures.standing.fits) ∙ c.in_default.ensures.refused in cc wrong
+    sym (cut-fits c.args.tree.now.tree c.args.node (c.requires c.if-cuts.true) c.invariant.ensures.short c.invariant.ensures.fits) ∙ c.in_default.ensures.refused in cc wrong

@@ -20,7 +20,7 @@ loop-d-preserved c =
     elim c.match-file_at.branch [
       | in-Some w ↦ subst P (sym w.files-is)
           (shares-next c.args.descriptors.now c.loop-d.d w.in-Some.file c.args.files.now c.loop-d.files (sym c.file_at.ensures ∙ w.in-Some.is) c.loop-d.invariant c.requires.opened
-          w.dup.new.self c.facts-in-loop-d.ensures w.dup.ensures)
+          w.dup.new.self c.invariant-in-loop-d.ensures w.dup.ensures)
       | in_default w ↦ subst P (sym w.files-is)
           (shares-nothing c.args.descriptors.now c.loop-d.d c.args.files.now c.loop-d.files (sym c.file_at.ensures ∙ w.in_default.is) c.loop-d.invariant)
     ]

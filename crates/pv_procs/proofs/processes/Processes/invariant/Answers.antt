@@ -1,7 +1,7 @@
 use Rattle.std.proofs.Common.{subst}
 use Rattle.pv_procs.specs.ProcessTable.{IsProcessTable}
 use Rattle.pv_procs.proofs.Forks.{told}
-use Rattle.pv_procs.proofs.processes.Processes.facts.Goals as goal
+use Rattle.pv_procs.proofs.processes.Processes.invariant.Goals as goal
 
 pub returns : goal.returns
 returns c =

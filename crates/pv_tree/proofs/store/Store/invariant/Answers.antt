@@ -2,13 +2,13 @@ use Rattle.std.proofs.Common.{ap, sym, subst, ◌∙◌}
 use Rattle.pv_tree.specs.Holding.{HeldTree, IsUnheld}
 use Rattle.pv_tree.specs.Standing.{IsAtRest}
 use Rattle.pv_tree.proofs.Keeping.{unheld-named}
-use Rattle.pv_tree.proofs.store.Store.facts.Goals as goal
+use Rattle.pv_tree.proofs.store.Store.invariant.Goals as goal
 
 pub returns : goal.returns
 returns c =
     let h = c.deref.result.now in
     let unheld : IsUnheld h.holds = subst (λ (t : HeldTree). IsUnheld t.holds) (sym c.deref.ensures) c.self.invariant in
-    let s = c.sizes.ensures.standing in
+    let s = c.invariant.ensures in
     let rest : IsAtRest h.tree =
     record {
       well_formed = s.well_formed;

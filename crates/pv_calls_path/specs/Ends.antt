@@ -1,0 +1,23 @@
+-- Where the walks of a call end.
+use Rattle.std.specs.Prelude.{ℕ, Option, None, Some}
+use Rattle.pv_model.specs.declared.place.Place.{Place}
+use Rattle.pv_model.specs.Attempt.{Attempt, done, refused}
+use Rattle.pv_model.specs.Calls.Descriptors.{check_start}
+use Rattle.pv_model.specs.Effect.{end_of}
+use Rattle.pv_model.specs.State.{Process, State}
+use Rattle.pv_model.specs.Touch.{place_found}
+use Rattle.pv_model.specs.Walks.{Walk}
+
+-- a place, where nothing has refused the walk to it
+abbrev pub if_given : Attempt (Unit {0}) → Option Place → Option Place
+if_given (done walks given) place = place
+if_given (refused walks e cause) place = None
+
+module _ (s : State) (pid : ℕ) (me : Process) where
+  -- the place at which a walk ends, if it is begun: a relative path asks its descriptor for a directory
+  abbrev pub end_begun : Walk → Option Place
+  end_begun w = if_given (check_start s pid me w.start w.path) (place_found (end_of s me w))
+
+  abbrev pub end_of_some : Option Walk → Option Place
+  end_of_some None = None
+  end_of_some (Some w) = end_begun w
