@@ -1,0 +1,5 @@
+use Rattle.pv_laws_answers.proofs.Pledged.{less-changes}
+use Rattle.pv_laws_answers.proofs.begun.one_less_changes_the_trace.Goals as goal
+
+pub returns : goal.returns
+returns c = less-changes

@@ -1,0 +1,5 @@
+use Rattle.pv_laws_answers.proofs.Remarks.{explained-text}
+use Rattle.pv_laws_answers.proofs.explained.explains_the_text.Goals as goal
+
+pub returns : goal.returns
+returns c = explained-text

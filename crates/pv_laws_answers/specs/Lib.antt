@@ -1,0 +1,9 @@
+pub mod Explained
+pub mod Levels
+pub mod Reach
+pub mod Settings
+pub mod Wanted
+pub mod Stints
+pub mod Begun
+pub mod OverTime
+pub mod Examples
