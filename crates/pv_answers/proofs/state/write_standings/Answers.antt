@@ -1,0 +1,34 @@
+use Rattle.std.proofs.Common.{◌∙◌, refl, sym}
+use Rattle.pv_listing.proofs.Rests.{rest_after, rest_begins}
+use Rattle.pv_streams.proofs.Telling.{on_err}
+use Rattle.pv_answers.proofs.Following.{next-record, fewer-after}
+use Rattle.pv_answers.proofs.States.{standings-left, standings-next, standings-end}
+use Rattle.pv_answers.proofs.state.write_standings.Goals as goal
+
+pub loop-pid-init : goal.loop-pid-init
+loop-pid-init g c = record { left = standings-left c.args.parts.now _ c.invariant.ensures.processes; quiet = refl }
+
+pub returns-in_err-write_standing-clause-beginning : goal.returns-in_err-write_standing-clause-beginning
+returns-in_err-write_standing-clause-beginning g c =
+    let s = c.args.parts.now in
+    let next = next-record c.loop-pid.last c.in-Some.pid s.processes c.invariant.ensures.processes.ascending (sym (rw c.processes.ensures at c.in-Some.ensures)) in
+    on_err c.from_residual.result (rest_begins _ _ _ _ _ _ _ c.loop-pid.invariant.left (standings-next s c.loop-pid.last c.in-Some.pid next) c.in_err-write_standing.ensures.beginning)
+
+pub loop-pid-smaller : goal.loop-pid-smaller
+loop-pid-smaller g c =
+    let s = c.args.parts.now in
+    let next = next-record c.loop-pid.last c.in-Some.pid s.processes c.invariant.ensures.processes.ascending (sym (rw c.processes.ensures at c.in-Some.ensures)) in
+    fewer-after c.loop-pid.last c.in-Some.pid s.processes next
+
+pub loop-pid-preserved : goal.loop-pid-preserved
+loop-pid-preserved g c =
+    let s = c.args.parts.now in
+    let next = next-record c.loop-pid.last c.in-Some.pid s.processes c.invariant.ensures.processes.ascending (sym (rw c.processes.ensures at c.in-Some.ensures)) in
+    record {
+      left = rest_after _ _ _ _ _ _ _ c.loop-pid.invariant.left (standings-next s c.loop-pid.last c.in-Some.pid next) c.in_ok-write_standing.ensures.whole;
+      quiet = c.in_ok-write_standing.ensures.quiet ∙ c.loop-pid.invariant.quiet;
+    }
+
+pub returns-clause-whole : goal.returns-clause-whole
+returns-clause-whole g c =
+    standings-end c.args.parts.now c.loop-pid.last _ _ _ (sym (rw c.processes.ensures at c.in_default.ensures)) c.loop-pid.invariant.left

@@ -1,0 +1,173 @@
+-- What a process may do at places, part by part.
+use Rattle.std.specs.Prelude.{ℕ, Bool, true, not, ◌&&◌, if◌then◌else◌, ◌==◌, List, [], ◌∷◌, ◌++◌, flat_map, codes, slice_get, is_none, unwrap_or, Option, None, Some, option_map, option_to_list}
+use Rattle.std.specs.Fmt.{decimal}
+use Rattle.std.specs.Option.{option_and_then}
+use Rattle.pv_answers.specs.declared.reach.names.LinkedPath.{LinkedPath, Root, Below'}
+use Rattle.pv_answers.specs.declared.reach.reacher.Reacher.{Reacher}
+use Rattle.pv_answers.specs.Texts.{line_front}
+use Rattle.pv_model.specs.declared.open_flags.Mode.{Mode}
+use Rattle.pv_model.specs.declared.perms.Perms.{Perms}
+use Rattle.pv_model.specs.declared.place.Place.{Place}
+use Rattle.pv_model.specs.declared.place.Place.TheVariants.{At, Node as Unnamed}
+use Rattle.pv_model.specs.declared.promise.Promise.TheVariants.{Rpath, Wpath, Cpath, Exec}
+use Rattle.pv_model.specs.declared.target.Target.{Target}
+use Rattle.pv_model.specs.declared.target.Target.TheVariants.{Directory, Name}
+use Rattle.pv_model.specs.Answers.Lines.{AnswerLine, counted, permissions_in_places}
+use Rattle.pv_model.specs.Answers.Nodes.{name_words, node_path, node_words, with_name}
+use Rattle.pv_model.specs.Answers.ProcessRecord.{open_descriptors}
+use Rattle.pv_model.specs.Answers.Reach.{ListedName, descriptor_part, descriptor_texts, descriptors_of_node, directory_texts, entry_texts, listed_names, name_text, names_within, reach_of_one, unnamed_text}
+use Rattle.pv_model.specs.Bytes.{Bytes}
+use Rattle.pv_model.specs.Calls.Restraints.{entries_of_table}
+use Rattle.pv_model.specs.Listing.{listed_path}
+use Rattle.pv_model.specs.Numbered.{at_number}
+use Rattle.pv_model.specs.Perms.{no_permissions}
+use Rattle.pv_model.specs.Promises.{Promises, holds}
+use Rattle.pv_model.specs.State.{OpenFile, Process, State, first_process}
+use Rattle.pv_model.specs.Trace.{mode_text, quote}
+use Rattle.pv_model.specs.Tree.{Entries, Tree, find_entry, is_removed}
+use Rattle.pv_model.specs.Unveil.{Table, entry_for, permissions_at}
+use Rattle.pv_procs.specs.declared.record.ProcessRecord.{ProcessRecord}
+use Rattle.pv_procs.specs.Parts.{with_record}
+
+-- the lines of what the process of a number may do: none where it is not live
+abbrev pub reached_by : State → ℕ → List AnswerLine
+reached_by s pid = unwrap_or (reach_of_one s pid) []
+
+-- ---- who reaches
+
+-- a process that owns what a record has
+abbrev pub owner : ProcessRecord → Process
+owner r = with_record (first_process []) r
+
+abbrev pub state_of : Reacher → State
+state_of x = x.parts.now
+
+abbrev pub process_of : Reacher → Process
+process_of x = owner x.owned.now
+
+abbrev pub table_of : Reacher → Option Table
+table_of x = x.owned.now.unveiled.table
+
+-- a line of it
+abbrev pub may_line : Reacher → Bytes → Bytes
+may_line x text = line_front x.pid (codes "MAY ") ++ text ++ 10 ∷ []
+
+abbrev pub may_lines : Reacher → List Bytes → Bytes
+may_lines x texts = flat_map (may_line x) texts
+
+-- ---- by the entry that governs a place
+
+-- the permissions that a table gives: all where there is none
+abbrev pub given_by : Option Table → Option ℕ → Perms
+given_by None entry = record { r = true; w = true; x = true; c = true }
+given_by (Some table) None = no_permissions
+given_by (Some table) (Some k) = permissions_at table k
+
+-- those of them with which the promises go
+abbrev pub promised : Option Promises → Perms → Perms
+promised held given = record {
+  r = given.r && holds held Rpath;
+  w = given.w && holds held Wpath;
+  x = given.x && holds held Exec;
+  c = given.c && holds held Cpath;
+}
+
+-- the permissions that may be asked
+abbrev pub permitted_by : ProcessRecord → Option ℕ → Perms
+permitted_by r entry = promised r.pledge.promises (given_by r.unveiled.table entry)
+
+-- who governs
+abbrev pub who_by : Option Table → Option ℕ → Bytes
+who_by None entry = codes "no table"
+who_by (Some table) None = codes "none"
+who_by (Some table) (Some k) = codes "entry " ++ decimal k
+
+-- a place in words, with its permissions and who governs it
+abbrev pub governed_words : Reacher → Option ℕ → Bytes → Bytes
+governed_words x entry words = permissions_in_places (permitted_by x.owned.now entry) ++ codes " " ++ words ++ codes ", " ++ who_by (table_of x) entry
+
+-- ---- descriptors
+
+-- the open file of a descriptor, if there is one: its node and its mode
+abbrev pub opened_at : Reacher → ℕ → Option (ℕ × Mode)
+opened_at x d = option_map (λ f. (f.node, f.mode)) (option_and_then (λ e. at_number (state_of x).files e.file) (at_number x.owned.now.descriptors d))
+
+abbrev pub descriptor_words : ℕ → Mode → Bytes
+descriptor_words d mode = codes ", descriptor " ++ decimal d ++ codes " " ++ mode_text mode
+
+-- what is said of a descriptor after a node on which it is
+abbrev pub words_on : ℕ → ℕ → Option (ℕ × Mode) → Bytes
+words_on n d None = []
+words_on n d (Some opened) = if opened.0 == n then descriptor_words d opened.1 else []
+
+-- what is said of all descriptors on a node
+abbrev pub all_on : Reacher → ℕ → Bytes
+all_on x n = flat_map (descriptor_part (state_of x) (process_of x)) (descriptors_of_node (state_of x) (process_of x) n)
+
+-- ---- names of the tree
+
+-- the bytes of a path
+abbrev pub path_of : LinkedPath → Bytes
+path_of Root = []
+path_of (Below' p above name) = with_name name.now (path_of above)
+
+-- what is said of a name, by the entry that governs it
+abbrev pub listed_words : Reacher → Bytes → Option ℕ → ℕ → Bytes
+listed_words x path entry n = governed_words x entry (quote (listed_path path)) ++ all_on x n
+
+abbrev pub listed_line : Reacher → ListedName → Bytes
+listed_line x l = may_line x (name_text (state_of x) (process_of x) l)
+
+-- the lines of names
+abbrev pub listed_lines : Reacher → List ListedName → Bytes
+listed_lines x ls = flat_map (listed_line x) ls
+
+-- those from a path on, so deep
+abbrev pub lines_within : Reacher → ℕ → Bytes → Place → ℕ → Bytes
+lines_within x depth path place n = listed_lines x (names_within (state_of x).tree depth path place n)
+
+-- those of entries of a directory
+abbrev pub lines_under : Reacher → ℕ → Bytes → ℕ → Entries → Bytes
+lines_under x depth path n es = flat_map (λ e. lines_within x depth (with_name e.0 path) (At n e.0 (Some e.1)) e.1) es
+
+-- ---- what is no name of the tree
+
+-- a name that is not there, in a directory that is not removed
+abbrev pub is_absent_in : Tree → ℕ → Bytes → Bool
+is_absent_in t d name = is_none (find_entry t d name) && not (is_removed t d)
+
+abbrev pub absent_words : Reacher → ℕ → Option ℕ → ℕ → Bytes → Bytes
+absent_words x k entry d name =
+    permissions_in_places (permitted_by x.owned.now entry) ++ codes " " ++ name_words (state_of x).tree d name ++ codes ", entry " ++ decimal k ++ codes ", absent"
+
+-- the line of an entry of the table, where it is for a name that is not there
+abbrev pub absent_line : Reacher → ℕ → Bytes
+absent_line x k =
+    may_lines x (flat_map (λ e. entry_texts (state_of x) (process_of x) (k, e)) (option_to_list (slice_get (entries_of_table (table_of x)) k)))
+
+-- a removed directory, which its own entry alone governs
+abbrev pub removed_words : Reacher → ℕ → Bytes
+removed_words x n = governed_words x (entry_for (entries_of_table (table_of x)) (Directory n)) (node_words (state_of x).tree n)
+
+-- a node without a path, and a descriptor on it
+abbrev pub unnamed_words : Reacher → ℕ → ℕ → Mode → Bytes
+unnamed_words x n d mode = unnamed_text (state_of x) (process_of x) n ++ descriptor_words d mode
+
+-- the line of a descriptor, where it is on a node without a path
+abbrev pub unnamed_line : Reacher → ℕ → Option (ℕ × Mode) → Bytes
+unnamed_line x d None = []
+unnamed_line x d (Some opened) = if is_none (node_path (state_of x).tree opened.0) then may_line x (unnamed_words x opened.0 d opened.1) else []
+
+-- ---- all of a process
+
+abbrev pub absent_lines : Reacher → Bytes
+absent_lines x = may_lines x (flat_map (entry_texts (state_of x) (process_of x)) (counted (entries_of_table (table_of x))))
+
+abbrev pub directory_lines : Reacher → Bytes
+directory_lines x = may_lines x (directory_texts (state_of x) (process_of x))
+
+abbrev pub unnamed_lines : Reacher → Bytes
+unnamed_lines x = may_lines x (flat_map (descriptor_texts (state_of x) (process_of x)) (open_descriptors (state_of x) (process_of x)))
+
+abbrev pub process_lines : Reacher → Bytes
+process_lines x = listed_lines x (listed_names (state_of x).tree) ++ absent_lines x ++ directory_lines x ++ unnamed_lines x

@@ -1,0 +1,56 @@
+-- Parts of a line, and of the words for a node.
+use Rattle.std.specs.Prelude.{ℕ, Bool, true, false, List, [], ◌++◌, map, filter, flat_map, codes, Option, None, Some}
+use Rattle.std.specs.Fmt.{decimal}
+use Rattle.pv_model.specs.declared.promise.Promise.{Promise}
+use Rattle.pv_model.specs.Answers.Lines.{spaced}
+use Rattle.pv_model.specs.Answers.ProcessRecord.{next_text}
+use Rattle.pv_model.specs.Bytes.{Bytes}
+use Rattle.pv_model.specs.Listing.{listed_path}
+use Rattle.pv_model.specs.Program.{next}
+use Rattle.pv_model.specs.Promise.{promise_name}
+use Rattle.pv_model.specs.Promises.{Promises, contains}
+use Rattle.pv_model.specs.State.{Process}
+use Rattle.pv_model.specs.Trace.{pad_left, pad_right, quote, quote_byte}
+
+-- what stands before the text of a line
+abbrev pub line_front : ℕ → Bytes → Bytes
+line_front pid word = pad_left 5 (decimal pid) ++ codes " " ++ pad_right 4 word ++ codes "  "
+
+-- a path between its marks
+abbrev pub path_bytes : Option Bytes → Bytes
+path_bytes None = []
+path_bytes (Some path) = flat_map quote_byte path
+
+-- a path as a text
+abbrev pub path_text : Option Bytes → Bytes
+path_text None = []
+path_text (Some path) = quote (listed_path path)
+
+-- a name after a slash
+abbrev pub own_step : Option (ℕ × Bytes) → Bytes
+own_step None = []
+own_step (Some (d, name)) = codes "/" ++ name
+
+-- what comes next in a process that is live
+abbrev pub next_words : Option Process → Bytes
+next_words None = []
+next_words (Some p) = next_text (next p)
+
+-- the text of a fragment that is there
+abbrev pub text_where : {P : Type 0} → (P → Bytes) → Option P → Bytes
+text_where text None = []
+text_where text (Some p) = text p
+
+-- the keywords of those promises that are in a set
+abbrev pub keywords_in : Promises → List Promise → List Bytes
+keywords_in set promises = map promise_name (filter (contains set) promises)
+
+-- a keyword, after a space where it is not the first
+abbrev pub keyword_after : Bool → Promise → Bytes
+keyword_after true promise = promise_name promise
+keyword_after false promise = codes " " ++ promise_name promise
+
+-- words with one space between, or one before each where a word stands before them
+abbrev pub words_after : Bool → List Bytes → Bytes
+words_after true words = spaced words
+words_after false words = flat_map (λ word. codes " " ++ word) words

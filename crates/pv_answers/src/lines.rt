@@ -1,0 +1,325 @@
+//! A line, its front, and the small words of its text.
+ghost use Rattle.std.specs.Prelude.{◌≡◌, ◌++◌, ◌≤◌, [], ◌∷◌, flat_map, length, replicate, decimal, OnOk, OnErr};
+ghost use Rattle.pv_answers.specs.Texts.{keyword_after, keywords_in, line_front};
+ghost use Rattle.pv_model.specs.Answers.Lines.{permissions_in_places, promises_text, pledged_text, spaced};
+ghost use Rattle.pv_model.specs.Promise.{all_promises};
+ghost use Rattle.pv_model.specs.Stream.{Rose};
+ghost use Rattle.pv_model.specs.Trace.{mode_text, pad_left, quote, quote_byte};
+ghost use Rattle.pv_promises.specs.Pledge.{bits_of};
+ghost use Rattle.pv_streams.specs.Sinks.{and_all, TellsBeginning};
+
+use crate::fragments::{Fragment, Plain};
+use itoa::Buffer;
+use pv_listing::write_bytes;
+use pv_model::{Mode, Perms, Promise, Promises};
+use pv_promises::{ALL, has};
+use pv_streams::{Failed, Sink, write_whole};
+
+/// Writes a number in decimal digits.
+///
+/// # Errors
+///
+/// `Failed` where a write failed: the sink was given a beginning of the digits.
+pub fn write_decimal<W: Sink>(out: &mut W, number: u32) -> Result<(), Failed>
+    ensures whole { OnOk result (W.written out.new ≡ and_all (W.written out.old) (decimal number)) }
+    ensures beginning { OnErr result (TellsBeginning (decimal number) (W.written out.old) (W.written out.new)) }
+    ensures failed { OnErr result (Rose (W.failures out.old) (W.failures out.new)) }
+    ensures quiet { OnOk result (W.failures out.new ≡ W.failures out.old) }
+{
+    let mut buffer = Buffer::new();
+    write_whole(out, buffer.format(number).as_bytes())
+}
+
+// The bytes of a text, as a program writes them between its marks.
+#[derive(Clone, Copy)]
+pub(crate) struct Escaped<'a>(pub(crate) &'a [u8]);
+
+impl<'a> Fragment for Escaped<'a> {
+    ghost text = { λ p. flat_map quote_byte p.0.now };
+
+    fn write<W: Sink>(&self, out: &mut W) -> Result<(), Failed> {
+        write_bytes(out, self.0)
+    }
+}
+
+/// Writes bytes of any length as a program writes a text, in its shortest form.
+///
+/// # Errors
+///
+/// `Failed` where a write failed: the sink was given a beginning of the text.
+pub fn write_quoted<W: Sink>(out: &mut W, bytes: &[u8]) -> Result<(), Failed>
+    ensures whole { OnOk result (W.written out.new ≡ and_all (W.written out.old) (quote bytes.now)) }
+    ensures beginning { OnErr result (TellsBeginning (quote bytes.now) (W.written out.old) (W.written out.new)) }
+    ensures failed { OnErr result (Rose (W.failures out.old) (W.failures out.new)) }
+    ensures quiet { OnOk result (W.failures out.new ≡ W.failures out.old) }
+{
+    (Plain(b"\""), Escaped(bytes), Plain(b"\"")).write(out)
+}
+
+// So many spaces, at most five.
+fn spaces(count: usize) -> &'static [u8]
+    requires { count ≤ 5 }
+    ensures { result.now ≡ replicate count 32 }
+{
+    &b"     "[..count]
+}
+
+// A number right in five places.
+#[derive(Clone, Copy)]
+struct Places(u32);
+
+impl Fragment for Places {
+    ghost text = { λ p. pad_left 5 (decimal p.0) };
+
+    fn write<W: Sink>(&self, out: &mut W) -> Result<(), Failed> {
+        let mut buffer = Buffer::new();
+        let digits = buffer.format(self.0).as_bytes();
+        (
+            Plain(spaces(5usize.saturating_sub(digits.len()))),
+            Plain(digits),
+        )
+            .write(out)
+    }
+}
+
+/// Writes what stands before the text of a line: the number of a process, right in five places, and a word of at most
+/// four bytes, padded to four, with the blanks around it.
+///
+/// # Errors
+///
+/// `Failed` where a write failed: the sink was given a beginning of it.
+pub fn write_front<W: Sink>(out: &mut W, pid: u32, word: &[u8]) -> Result<(), Failed>
+    requires { length word.now ≤ 4 }
+    ensures whole { OnOk result (W.written out.new ≡ and_all (W.written out.old) (line_front pid word.now)) }
+    ensures beginning { OnErr result (TellsBeginning (line_front pid word.now) (W.written out.old) (W.written out.new)) }
+    ensures failed { OnErr result (Rose (W.failures out.old) (W.failures out.new)) }
+    ensures quiet { OnOk result (W.failures out.new ≡ W.failures out.old) }
+{
+    let padded = (Plain(word), Plain(spaces(4 - word.len())));
+    (Places(pid), Plain(b" "), padded, Plain(b"  ")).write(out)
+}
+
+// What stands before the text of a line.
+#[derive(Clone, Copy)]
+struct LineFront {
+    pid: u32,
+    word: [u8; 4],
+}
+
+impl Fragment for LineFront {
+    ghost text = { λ p. line_front p.pid p.word };
+
+    fn write<W: Sink>(&self, out: &mut W) -> Result<(), Failed> {
+        write_front(out, self.pid, &self.word)
+    }
+}
+
+/// A line: the number of its process, its word in four bytes, with spaces after a shorter one, and its text.
+#[derive(Clone, Copy)]
+pub struct Line<P> {
+    /// The number of the process.
+    pub pid: u32,
+    /// The word.
+    pub word: [u8; 4],
+    /// The text.
+    pub text: P,
+}
+
+impl<P: Fragment> Fragment for Line<P> {
+    ghost text = { λ l. line_front l.pid l.word ++ P.text l.text ++ 10 ∷ [] };
+
+    fn write<W: Sink>(&self, out: &mut W) -> Result<(), Failed> {
+        let front = LineFront {
+            pid: self.pid,
+            word: self.word,
+        };
+        (front, &self.text, Plain(b"\n")).write(out)
+    }
+}
+
+/// Writes permissions in four places, in the order rwxc: the letter of each that is there, and a dash for one that is not.
+///
+/// # Errors
+///
+/// `Failed` where a write failed: the sink was given a beginning of the places.
+pub fn write_permissions<W: Sink>(out: &mut W, permissions: Perms) -> Result<(), Failed>
+    ensures whole { OnOk result (W.written out.new ≡ and_all (W.written out.old) (permissions_in_places permissions)) }
+    ensures beginning { OnErr result (TellsBeginning (permissions_in_places permissions) (W.written out.old) (W.written out.new)) }
+    ensures failed { OnErr result (Rose (W.failures out.old) (W.failures out.new)) }
+    ensures quiet { OnOk result (W.failures out.new ≡ W.failures out.old) }
+{
+    let places = [
+        if permissions.r { b'r' } else { b'-' },
+        if permissions.w { b'w' } else { b'-' },
+        if permissions.x { b'x' } else { b'-' },
+        if permissions.c { b'c' } else { b'-' },
+    ];
+    write_whole(out, &places)
+}
+
+/// Writes what a file is open for: `r`, `w` or `rw`.
+///
+/// # Errors
+///
+/// `Failed` where a write failed: the sink was given a beginning of it.
+pub fn write_mode<W: Sink>(out: &mut W, mode: Mode) -> Result<(), Failed>
+    ensures whole { OnOk result (W.written out.new ≡ and_all (W.written out.old) (mode_text mode)) }
+    ensures beginning { OnErr result (TellsBeginning (mode_text mode) (W.written out.old) (W.written out.new)) }
+    ensures failed { OnErr result (Rose (W.failures out.old) (W.failures out.new)) }
+    ensures quiet { OnOk result (W.failures out.new ≡ W.failures out.old) }
+{
+    let letters: &[u8] = match mode {
+        Mode::Read => b"r",
+        Mode::Write => b"w",
+        Mode::ReadWrite => b"rw",
+    };
+    write_whole(out, letters)
+}
+
+// Writes a keyword, after a space where it is not the first.
+fn write_keyword<W: Sink>(out: &mut W, is_first: bool, promise: Promise) -> Result<(), Failed>
+    ensures whole { OnOk result (W.written out.new ≡ and_all (W.written out.old) (keyword_after is_first promise)) }
+    ensures beginning { OnErr result (TellsBeginning (keyword_after is_first promise) (W.written out.old) (W.written out.new)) }
+    ensures failed { OnErr result (Rose (W.failures out.old) (W.failures out.new)) }
+    ensures quiet { OnOk result (W.failures out.new ≡ W.failures out.old) }
+{
+    let keyword = Plain(promise.name().as_bytes());
+    if is_first {
+        keyword.write(out)
+    } else {
+        (Plain(b" "), keyword).write(out)
+    }
+}
+
+// Writes the keywords of a set, a space between.
+fn write_keywords<W: Sink>(out: &mut W, promises: Promises) -> Result<(), Failed>
+    ensures whole { OnOk result (W.written out.new ≡ and_all (W.written out.old) (spaced (keywords_in promises.0 all_promises))) }
+    ensures beginning { OnErr result (TellsBeginning (spaced (keywords_in promises.0 all_promises)) (W.written out.old) (W.written out.new)) }
+    ensures failed { OnErr result (Rose (W.failures out.old) (W.failures out.new)) }
+    ensures quiet { OnOk result (W.failures out.new ≡ W.failures out.old) }
+{
+    let mut is_first = true;
+    for promise in ALL {
+        if has(promises, promise) {
+            write_keyword(out, is_first, promise)?;
+            is_first = false;
+        }
+    }
+    Ok(())
+}
+
+// The keywords of a set, a space between, as a text has them: each byte stands for itself.
+#[derive(Clone, Copy)]
+struct Keywords(Promises);
+
+impl Fragment for Keywords {
+    ghost text = { λ p. flat_map quote_byte (spaced (keywords_in p.0.0 all_promises)) };
+
+    fn write<W: Sink>(&self, out: &mut W) -> Result<(), Failed> {
+        write_keywords(out, self.0)
+    }
+}
+
+/// Writes a set of promises as a keyword list: the keywords in their order in one pair of quotation marks, a space between.
+///
+/// # Errors
+///
+/// `Failed` where a write failed: the sink was given a beginning of the list.
+pub fn write_promises<W: Sink>(out: &mut W, promises: Promises) -> Result<(), Failed>
+    ensures whole { OnOk result (W.written out.new ≡ and_all (W.written out.old) (promises_text promises.0)) }
+    ensures beginning { OnErr result (TellsBeginning (promises_text promises.0) (W.written out.old) (W.written out.new)) }
+    ensures failed { OnErr result (Rose (W.failures out.old) (W.failures out.new)) }
+    ensures quiet { OnOk result (W.failures out.new ≡ W.failures out.old) }
+{
+    (Plain(b"\""), Keywords(promises), Plain(b"\"")).write(out)
+}
+
+/// Writes the promises of a process, or of what it executes, as a keyword list, or `none` where it is not pledged.
+///
+/// # Errors
+///
+/// `Failed` where a write failed: the sink was given a beginning of it.
+pub fn write_pledged<W: Sink>(out: &mut W, pledged: Option<Promises>) -> Result<(), Failed>
+    ensures whole { OnOk result (W.written out.new ≡ and_all (W.written out.old) (pledged_text (bits_of pledged))) }
+    ensures beginning { OnErr result (TellsBeginning (pledged_text (bits_of pledged)) (W.written out.old) (W.written out.new)) }
+    ensures failed { OnErr result (Rose (W.failures out.old) (W.failures out.new)) }
+    ensures quiet { OnOk result (W.failures out.new ≡ W.failures out.old) }
+{
+    match pledged {
+        Some(promises) => write_promises(out, promises),
+        None => write_whole(out, b"none"),
+    }
+}
+
+/// A number in decimal digits.
+#[derive(Clone, Copy)]
+pub struct Decimal(pub u32);
+
+impl Fragment for Decimal {
+    ghost text = { λ p. decimal p.0 };
+
+    fn write<W: Sink>(&self, out: &mut W) -> Result<(), Failed> {
+        write_decimal(out, self.0)
+    }
+}
+
+/// Bytes as a program writes a text, in its shortest form.
+#[derive(Clone, Copy)]
+pub struct Quoted<'a>(pub &'a [u8]);
+
+impl<'a> Fragment for Quoted<'a> {
+    ghost text = { λ p. quote p.0.now };
+
+    fn write<W: Sink>(&self, out: &mut W) -> Result<(), Failed> {
+        write_quoted(out, self.0)
+    }
+}
+
+/// Permissions in four places.
+#[derive(Clone, Copy)]
+pub struct Letters(pub Perms);
+
+impl Fragment for Letters {
+    ghost text = { λ p. permissions_in_places p.0 };
+
+    fn write<W: Sink>(&self, out: &mut W) -> Result<(), Failed> {
+        write_permissions(out, self.0)
+    }
+}
+
+/// What a file is open for, as `write_mode` tells it.
+#[derive(Clone, Copy)]
+pub struct ModeLetters(pub Mode);
+
+impl Fragment for ModeLetters {
+    ghost text = { λ p. mode_text p.0 };
+
+    fn write<W: Sink>(&self, out: &mut W) -> Result<(), Failed> {
+        write_mode(out, self.0)
+    }
+}
+
+/// Promises as a keyword list, or `none`.
+#[derive(Clone, Copy)]
+pub struct Pledged(pub Option<Promises>);
+
+impl Fragment for Pledged {
+    ghost text = { λ p. pledged_text (bits_of p.0) };
+
+    fn write<W: Sink>(&self, out: &mut W) -> Result<(), Failed> {
+        write_pledged(out, self.0)
+    }
+}
+
+// A number of things in decimal digits.
+#[derive(Clone, Copy)]
+pub(crate) struct Count(pub(crate) usize);
+
+impl Fragment for Count {
+    ghost text = { λ p. decimal p.0 };
+
+    fn write<W: Sink>(&self, out: &mut W) -> Result<(), Failed> {
+        let mut buffer = Buffer::new();
+        write_whole(out, buffer.format(self.0).as_bytes())
+    }
+}

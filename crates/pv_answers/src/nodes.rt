@@ -1,0 +1,268 @@
+//! Nodes, names and targets in words.
+ghost use Rattle.std.specs.Prelude.{◌≡◌, ◌++◌, codes, flat_map, is_some, IsSome, IsTrue, OnOk, OnErr};
+ghost use Rattle.pv_answers.specs.Texts.{own_step, path_bytes, path_text};
+ghost use Rattle.pv_model.specs.Answers.Nodes.{least_name, name_words, node_path, node_words, path_within, target_words};
+ghost use Rattle.pv_model.specs.Stream.{Rose};
+ghost use Rattle.pv_model.specs.Trace.{quote_byte};
+ghost use Rattle.pv_model.specs.Tree.{is_directory_at};
+ghost use Rattle.pv_streams.specs.Sinks.{and_all, TellsBeginning};
+
+use crate::fragments::{Fragment, Plain};
+use crate::lines::{Decimal, Escaped, Quoted};
+use pv_model::Target;
+use pv_model::limits::ROOT;
+use pv_streams::{Failed, Sink, write_whole};
+use pv_tree::Tree;
+
+/// Whether a node has a path: a directory that is not removed, or a file or link that has a name.
+pub fn has_path(tree: &Tree, node: u16) -> bool
+    ensures { result ≡ is_some (node_path tree.now.tree node) }
+{
+    // What the sizes tell with them: the tree is well-formed.
+    let _ = tree.sizes();
+    node == ROOT || (tree.is_used(node) && tree.names(node) > 0)
+}
+
+/// A slash and a name, as a text has them.
+#[derive(Clone, Copy)]
+pub(crate) struct Step<'a>(pub(crate) &'a [u8]);
+
+impl<'a> Fragment for Step<'a> {
+    ghost text = { λ p. flat_map quote_byte (codes "/" ++ p.0.now) };
+
+    fn write<W: Sink>(&self, out: &mut W) -> Result<(), Failed> {
+        (Plain(b"/"), Escaped(self.0)).write(out)
+    }
+}
+
+// Writes a slash and the name of a directory, as a text has them. It stands apart, so that a step of `write_above` takes
+// little room.
+#[inline(never)]
+fn write_own_name<W: Sink>(out: &mut W, tree: &Tree, directory: u16) -> Result<(), Failed>
+    ensures whole { OnOk result (W.written out.new ≡ and_all (W.written out.old) (flat_map quote_byte (own_step (least_name tree.now.tree directory)))) }
+    ensures beginning { OnErr result (TellsBeginning (flat_map quote_byte (own_step (least_name tree.now.tree directory))) (W.written out.old) (W.written out.new)) }
+    ensures failed { OnErr result (Rose (W.failures out.old) (W.failures out.new)) }
+    ensures quiet { OnOk result (W.failures out.new ≡ W.failures out.old) }
+{
+    match tree.least_name(directory) {
+        Some((_above, name)) => Step(name.as_slice()).write(out),
+        None => Ok(()),
+    }
+}
+
+// Writes the bytes of the path of a directory that has one so deep, as a text has them: nothing for the root.
+fn write_above<W: Sink>(out: &mut W, tree: &Tree, depth: u16, directory: u16) -> Result<(), Failed>
+    requires directory { IsTrue (is_directory_at tree.now.tree directory) }
+    requires path { IsSome (path_within tree.now.tree depth directory) }
+    ensures whole { OnOk result (W.written out.new ≡ and_all (W.written out.old) (path_bytes (path_within tree.now.tree depth directory))) }
+    ensures beginning { OnErr result (TellsBeginning (path_bytes (path_within tree.now.tree depth directory)) (W.written out.old) (W.written out.new)) }
+    ensures failed { OnErr result (Rose (W.failures out.old) (W.failures out.new)) }
+    ensures quiet { OnOk result (W.failures out.new ≡ W.failures out.old) }
+{
+    // What the sizes tell with them: the tree is well-formed.
+    let _ = tree.sizes();
+    if directory == ROOT {
+        return Ok(());
+    }
+    let Some(above) = tree.parent(directory) else {
+        unreachable!()
+    };
+    write_above(out, tree, depth - 1, above)?;
+    write_own_name(out, tree, directory)
+}
+
+// The bytes of the path of a node, as a text has them: nothing for the root, and of a node that has none.
+#[derive(Clone, Copy)]
+struct Steps<'a> {
+    tree: &'a Tree,
+    node: u16,
+}
+
+impl<'a> Fragment for Steps<'a> {
+    ghost text = { λ p. path_bytes (node_path p.tree.now.tree p.node) };
+
+    fn write<W: Sink>(&self, out: &mut W) -> Result<(), Failed> {
+        write_steps(out, self.tree, self.node)
+    }
+}
+
+// Writes the bytes of the path of a node, as a text has them: nothing for the root, and of a node that has none.
+fn write_steps<W: Sink>(out: &mut W, tree: &Tree, node: u16) -> Result<(), Failed>
+    ensures whole { OnOk result (W.written out.new ≡ and_all (W.written out.old) (path_bytes (node_path tree.now.tree node))) }
+    ensures beginning { OnErr result (TellsBeginning (path_bytes (node_path tree.now.tree node)) (W.written out.old) (W.written out.new)) }
+    ensures failed { OnErr result (Rose (W.failures out.old) (W.failures out.new)) }
+    ensures quiet { OnOk result (W.failures out.new ≡ W.failures out.old) }
+{
+    if !has_path(tree, node) {
+        return Ok(());
+    }
+    let depth = tree.sizes().inodes + 1;
+    if tree.is_directory(node) {
+        return write_above(out, tree, depth, node);
+    }
+    let Some((directory, name)) = tree.least_name(node) else {
+        unreachable!()
+    };
+    write_above(out, tree, depth - 1, directory)?;
+    Step(name.as_slice()).write(out)
+}
+
+/// Writes the path of a node as a text: a slash for the root. Of a node that has none nothing is written.
+///
+/// # Errors
+///
+/// `Failed` where a write failed: the sink was given a beginning of the text.
+pub fn write_path_of<W: Sink>(out: &mut W, tree: &Tree, node: u16) -> Result<(), Failed>
+    ensures whole { OnOk result (W.written out.new ≡ and_all (W.written out.old) (path_text (node_path tree.now.tree node))) }
+    ensures beginning { OnErr result (TellsBeginning (path_text (node_path tree.now.tree node)) (W.written out.old) (W.written out.new)) }
+    ensures failed { OnErr result (Rose (W.failures out.old) (W.failures out.new)) }
+    ensures quiet { OnOk result (W.failures out.new ≡ W.failures out.old) }
+{
+    // What the sizes tell with them: the tree is well-formed.
+    let _ = tree.sizes();
+    if node == ROOT {
+        return write_whole(out, b"\"/\"");
+    }
+    if !has_path(tree, node) {
+        return Ok(());
+    }
+    let steps = Steps { tree, node };
+    (Plain(b"\""), steps, Plain(b"\"")).write(out)
+}
+
+/// The path of a node as a text, as `write_path_of` writes it.
+#[derive(Clone, Copy)]
+pub struct PathOf<'a> {
+    /// The tree of the node.
+    pub tree: &'a Tree,
+    /// Its number.
+    pub node: u16,
+}
+
+impl<'a> Fragment for PathOf<'a> {
+    ghost text = { λ p. path_text (node_path p.tree.now.tree p.node) };
+
+    fn write<W: Sink>(&self, out: &mut W) -> Result<(), Failed> {
+        write_path_of(out, self.tree, self.node)
+    }
+}
+
+/// Writes a node in words: `node` and its number, and its path as a text, where it has one. The path of a file or a link
+/// is that of its least name, by the number of the directory and then by the bytes of the name.
+///
+/// # Errors
+///
+/// `Failed` where a write failed: the sink was given a beginning of the words.
+pub fn write_node<W: Sink>(out: &mut W, tree: &Tree, node: u16) -> Result<(), Failed>
+    ensures whole { OnOk result (W.written out.new ≡ and_all (W.written out.old) (node_words tree.now.tree node)) }
+    ensures beginning { OnErr result (TellsBeginning (node_words tree.now.tree node) (W.written out.old) (W.written out.new)) }
+    ensures failed { OnErr result (Rose (W.failures out.old) (W.failures out.new)) }
+    ensures quiet { OnOk result (W.failures out.new ≡ W.failures out.old) }
+{
+    let number = Decimal(u32::from(node));
+    if has_path(tree, node) {
+        let path = PathOf { tree, node };
+        (Plain(b"node "), number, Plain(b" "), path).write(out)
+    } else {
+        (Plain(b"node "), number).write(out)
+    }
+}
+
+/// A node in words, as `write_node` writes it.
+#[derive(Clone, Copy)]
+pub struct NodeWords<'a> {
+    /// The tree of the node.
+    pub tree: &'a Tree,
+    /// Its number.
+    pub node: u16,
+}
+
+impl<'a> Fragment for NodeWords<'a> {
+    ghost text = { λ p. node_words p.tree.now.tree p.node };
+
+    fn write<W: Sink>(&self, out: &mut W) -> Result<(), Failed> {
+        write_node(out, self.tree, self.node)
+    }
+}
+
+/// Writes a name of a directory in words, which need not be there: its path as a text, or the bare name and the directory's
+/// number, where that is removed.
+///
+/// # Errors
+///
+/// `Failed` where a write failed: the sink was given a beginning of the words.
+pub fn write_name<W: Sink>(
+    out: &mut W,
+    tree: &Tree,
+    directory: u16,
+    name: &[u8],
+) -> Result<(), Failed>
+    ensures whole { OnOk result (W.written out.new ≡ and_all (W.written out.old) (name_words tree.now.tree directory name.now)) }
+    ensures beginning { OnErr result (TellsBeginning (name_words tree.now.tree directory name.now) (W.written out.old) (W.written out.new)) }
+    ensures failed { OnErr result (Rose (W.failures out.old) (W.failures out.new)) }
+    ensures quiet { OnOk result (W.failures out.new ≡ W.failures out.old) }
+{
+    if has_path(tree, directory) {
+        let steps = Steps {
+            tree,
+            node: directory,
+        };
+        (Plain(b"\""), steps, Step(name), Plain(b"\"")).write(out)
+    } else {
+        let number = Decimal(u32::from(directory));
+        (Quoted(name), Plain(b" in node "), number).write(out)
+    }
+}
+
+/// A name of a directory in words, as `write_name` writes it.
+#[derive(Clone, Copy)]
+pub struct NameWords<'a> {
+    /// The tree of the directory.
+    pub tree: &'a Tree,
+    /// The number of the directory.
+    pub directory: u16,
+    /// The name.
+    pub name: &'a [u8],
+}
+
+impl<'a> Fragment for NameWords<'a> {
+    ghost text = { λ p. name_words p.tree.now.tree p.directory p.name.now };
+
+    fn write<W: Sink>(&self, out: &mut W) -> Result<(), Failed> {
+        write_name(out, self.tree, self.directory, self.name)
+    }
+}
+
+/// Writes a target in words: a directory as `write_node` does, and a name as `write_name` does.
+///
+/// # Errors
+///
+/// `Failed` where a write failed: the sink was given a beginning of the words.
+pub fn write_target<W: Sink>(out: &mut W, tree: &Tree, target: &Target) -> Result<(), Failed>
+    ensures whole { OnOk result (W.written out.new ≡ and_all (W.written out.old) (target_words tree.now.tree target.now)) }
+    ensures beginning { OnErr result (TellsBeginning (target_words tree.now.tree target.now) (W.written out.old) (W.written out.new)) }
+    ensures failed { OnErr result (Rose (W.failures out.old) (W.failures out.new)) }
+    ensures quiet { OnOk result (W.failures out.new ≡ W.failures out.old) }
+{
+    match target {
+        Target::Directory(node) => write_node(out, tree, *node),
+        Target::Name { dir, name } => write_name(out, tree, *dir, name.as_slice()),
+    }
+}
+
+/// A target in words, as `write_target` writes it.
+#[derive(Clone, Copy)]
+pub struct TargetWords<'a> {
+    /// The tree of the target.
+    pub tree: &'a Tree,
+    /// The target.
+    pub target: &'a Target,
+}
+
+impl<'a> Fragment for TargetWords<'a> {
+    ghost text = { λ p. target_words p.tree.now.tree p.target.now };
+
+    fn write<W: Sink>(&self, out: &mut W) -> Result<(), Failed> {
+        write_target(out, self.tree, self.target)
+    }
+}

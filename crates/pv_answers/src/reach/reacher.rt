@@ -1,0 +1,233 @@
+//! Who reaches places, and what it may do there by the entry that governs.
+ghost use Rattle.std.specs.Prelude.{◌≡◌, ◌<◌, length, option_map, IfSome, IsTrue, OnOk, OnErr};
+ghost use Rattle.pv_answers.specs.Reaching.{all_on, descriptor_words, given_by, may_line, opened_at, permitted_by, state_of, table_of, who_by, words_on};
+ghost use Rattle.pv_model.specs.Calls.Restraints.{entries_of_table};
+ghost use Rattle.pv_model.specs.Numbered.{at_number};
+ghost use Rattle.pv_model.specs.Promises.{holds};
+ghost use Rattle.pv_model.specs.Stream.{Rose};
+ghost use Rattle.pv_model.specs.Tree.{is_directory_at};
+ghost use Rattle.pv_model.specs.Unveil.{governing_entry};
+ghost use Rattle.pv_streams.specs.Sinks.{and_all, TellsBeginning};
+ghost use Rattle.pv_unveil.specs.Up.{directory_of};
+
+use crate::fragments::{Fragment, Plain};
+use crate::lines::{Decimal, Line, ModeLetters};
+use pv_calls_state::Parts;
+use pv_files::{Descriptors, OpenFiles};
+use pv_model::limits::DESCRIPTORS;
+use pv_model::{Mode, Perms, Promise};
+use pv_procs::ProcessRecord;
+use pv_promises::{Pledge, has};
+use pv_streams::{Failed, Sink, write_whole};
+use pv_tree::PlaceRef;
+use pv_unveil::Table;
+
+/// A live process of a state.
+#[derive(Clone, Copy)]
+pub(crate) struct Reacher<'a> {
+    /// The state.
+    pub(crate) parts: &'a Parts,
+    /// What the process owns.
+    pub(crate) owned: &'a ProcessRecord,
+    /// Its number.
+    pub(crate) pid: u32,
+}
+
+/// Writes a line MAY of a process.
+///
+/// # Errors
+///
+/// `Failed` where a write failed: the sink was given a beginning of the line.
+pub(crate) fn write_may<W: Sink, P: Fragment + Copy>(
+    out: &mut W,
+    reacher: &Reacher<'_>,
+    text: P,
+) -> Result<(), Failed>
+    ensures whole { OnOk result (W.written out.new ≡ and_all (W.written out.old) (may_line reacher.now (P.text text))) }
+    ensures beginning { OnErr result (TellsBeginning (may_line reacher.now (P.text text)) (W.written out.old) (W.written out.new)) }
+    ensures failed { OnErr result (Rose (W.failures out.old) (W.failures out.new)) }
+    ensures quiet { OnOk result (W.failures out.new ≡ W.failures out.old) }
+{
+    let line = Line {
+        pid: reacher.pid,
+        word: *b"MAY ",
+        text,
+    };
+    line.write(out)
+}
+
+// Whether a promise is held, which a process that is not pledged holds all of.
+fn holds(pledge: &Pledge, promise: Promise) -> bool
+    ensures { result ≡ holds pledge.now.promises promise }
+{
+    match pledge.promises() {
+        None => true,
+        Some(held) => has(held, promise),
+    }
+}
+
+// The permissions that a table gives by the entry that governs a place: all where there is no table.
+fn given(table: &Table, entry: Option<u8>) -> Perms
+    requires { IfSome entry (λ k. k < length (entries_of_table table.now.table)) }
+    ensures { result ≡ given_by table.now.table entry }
+{
+    if table.is_empty() {
+        return Perms {
+            r: true,
+            w: true,
+            x: true,
+            c: true,
+        };
+    }
+    match entry {
+        Some(k) => table.permissions(k),
+        None => Perms::NONE,
+    }
+}
+
+/// The permissions that a process may ask of a place, by the entry that governs it: those that the table gives, where the
+/// promises have what goes with them.
+pub(crate) fn permitted(owned: &ProcessRecord, entry: Option<u8>) -> Perms
+    requires { IfSome entry (λ k. k < length (entries_of_table owned.now.unveiled.table)) }
+    ensures { result ≡ permitted_by owned.now entry }
+{
+    let given = given(&owned.unveiled, entry);
+    let pledge = &owned.pledge;
+    Perms {
+        r: given.r && holds(pledge, Promise::Rpath),
+        w: given.w && holds(pledge, Promise::Wpath),
+        x: given.x && holds(pledge, Promise::Exec),
+        c: given.c && holds(pledge, Promise::Cpath),
+    }
+}
+
+/// The entry that governs a place, at which a link is not followed: none where none does.
+pub(crate) fn governing(reacher: &Reacher<'_>, place: &PlaceRef<'_>) -> Option<u8>
+    requires { IsTrue (is_directory_at (state_of reacher.now).tree (directory_of place.now)) }
+    ensures value { result ≡ governing_entry (state_of reacher.now).tree (entries_of_table (table_of reacher.now)) place.now }
+    ensures in_table { IfSome result (λ k. k < length (entries_of_table (table_of reacher.now))) }
+{
+    let tree = reacher.parts.tree();
+    reacher.owned.unveiled.governing(tree, place)
+}
+
+/// Who governs a place, by the entry that does: `no table`, `none`, or the entry with its number.
+#[derive(Clone, Copy)]
+pub(crate) struct Governor<'a> {
+    /// The table of the process.
+    pub(crate) table: &'a Table,
+    /// The entry that governs, if one does.
+    pub(crate) entry: Option<u8>,
+}
+
+impl<'a> Fragment for Governor<'a> {
+    ghost text = { λ g. who_by g.table.now.table g.entry };
+
+    fn write<W: Sink>(&self, out: &mut W) -> Result<(), Failed> {
+        if self.table.is_empty() {
+            return write_whole(out, b"no table");
+        }
+        match self.entry {
+            None => write_whole(out, b"none"),
+            Some(k) => (Plain(b"entry "), Decimal(u32::from(k))).write(out),
+        }
+    }
+}
+
+/// A descriptor, after what is said of a node on which it is.
+#[derive(Clone, Copy)]
+pub(crate) struct AndDescriptor {
+    /// Its number.
+    pub(crate) number: u8,
+    /// What its file is open for.
+    pub(crate) mode: Mode,
+}
+
+impl Fragment for AndDescriptor {
+    ghost text = { λ d. descriptor_words d.number d.mode };
+
+    fn write<W: Sink>(&self, out: &mut W) -> Result<(), Failed> {
+        let number = Decimal(u32::from(self.number));
+        let mode = ModeLetters(self.mode);
+        (Plain(b", descriptor "), number, Plain(b" "), mode).write(out)
+    }
+}
+
+// The number of the open file of a descriptor, where there is one.
+fn file_at(descriptors: &Descriptors, number: u8) -> Option<usize>
+    ensures { result ≡ option_map (λ e. e.file) (at_number descriptors.now number) }
+{
+    descriptors.at(i32::from(number)).ok()
+}
+
+// The node and the mode of an open file, where there is one.
+fn opened_file(files: &OpenFiles, file: usize) -> Option<(u16, Mode)>
+    ensures { result ≡ option_map (λ f. (f.node, f.mode)) (at_number files.now.files file) }
+{
+    if files.is_open(file) {
+        Some((files.node(file), files.mode(file)))
+    } else {
+        None
+    }
+}
+
+/// The node and the mode of the open file that a descriptor is on, where there is one.
+pub(crate) fn opened(reacher: &Reacher<'_>, number: u8) -> Option<(u16, Mode)>
+    ensures { result ≡ opened_at reacher.now number }
+{
+    let file = file_at(&reacher.owned.descriptors, number)?;
+    opened_file(reacher.parts.files(), file)
+}
+
+// Writes a descriptor after a node, where it is on it.
+fn write_where_on<W: Sink>(
+    out: &mut W,
+    node: u16,
+    number: u8,
+    opened: Option<(u16, Mode)>,
+) -> Result<(), Failed>
+    ensures whole { OnOk result (W.written out.new ≡ and_all (W.written out.old) (words_on node number opened)) }
+    ensures beginning { OnErr result (TellsBeginning (words_on node number opened) (W.written out.old) (W.written out.new)) }
+    ensures failed { OnErr result (Rose (W.failures out.old) (W.failures out.new)) }
+    ensures quiet { OnOk result (W.failures out.new ≡ W.failures out.old) }
+{
+    match opened {
+        Some((on, mode)) if on == node => AndDescriptor { number, mode }.write(out),
+        _ => Ok(()),
+    }
+}
+
+// Writes each descriptor of a process on a node, by their numbers, after what is said of the node.
+fn write_descriptors_on<W: Sink>(
+    out: &mut W,
+    reacher: &Reacher<'_>,
+    node: u16,
+) -> Result<(), Failed>
+    ensures whole { OnOk result (W.written out.new ≡ and_all (W.written out.old) (all_on reacher.now node)) }
+    ensures beginning { OnErr result (TellsBeginning (all_on reacher.now node) (W.written out.old) (W.written out.new)) }
+    ensures failed { OnErr result (Rose (W.failures out.old) (W.failures out.new)) }
+    ensures quiet { OnOk result (W.failures out.new ≡ W.failures out.old) }
+{
+    reacher.owned.descriptors.invariant();
+    for number in 0..DESCRIPTORS as u8 {
+        write_where_on(out, node, number, opened(reacher, number))?;
+    }
+    Ok(())
+}
+
+/// Each descriptor of a process on a node, by their numbers, after what is said of the node.
+#[derive(Clone, Copy)]
+pub(crate) struct AndDescriptors<'a> {
+    /// The process.
+    pub(crate) reacher: Reacher<'a>,
+    /// The number of the node.
+    pub(crate) node: u16,
+}
+
+impl<'a> Fragment for AndDescriptors<'a> {
+    ghost text = { λ d. all_on d.reacher d.node };
+
+    fn write<W: Sink>(&self, out: &mut W) -> Result<(), Failed> {
+        write_descriptors_on(out, &self.reacher, self.node)
+    }
+}
