@@ -1,0 +1,204 @@
+-- The lines of a directory and of those above it, level by level.
+use Rattle.std.proofs.Common.{◌≡◌, ◌<◌, ◌≤◌, ◌+◌, ◌-◌, ◌∙◌, ℕ, zero, suc, Bool, true, false, cond, ◌==◌, List, [], ◌∷◌, ◌++◌, map, length, Option, None, Some, refl, ap, ap₂, sym, subst, append_assoc, arith}
+use Rattle.std.specs.Prelude.{flat_map, is_some, option_to_list}
+use Rattle.std.proofs.lemmas.Bool.{false≢true}
+use Rattle.std.proofs.lemmas.Grind.{flat_map-append}
+use Rattle.std.proofs.lemmas.List.{append-nil}
+use Rattle.pv_model.specs.declared.perms.Perms.{Perms}
+use Rattle.pv_model.specs.declared.place.Place.{Place}
+use Rattle.pv_model.specs.declared.place.Place.TheVariants.{At}
+use Rattle.pv_model.specs.declared.target.Target.{Target}
+use Rattle.pv_model.specs.declared.target.Target.TheVariants.{Directory, Name}
+use Rattle.pv_model.specs.Answers.Levels.{Level, level, unless_found, and_above, levels_within, directory_levels, name_levels, levels}
+use Rattle.pv_model.specs.Answers.Lines.{AnswerLine, answer_bytes, answer_line_bytes}
+use Rattle.pv_model.specs.Bytes.{Bytes}
+use Rattle.pv_model.specs.Tree.{Tree, root, is_directory_at, above_or_none, parent, IsWellFormed}
+use Rattle.pv_model.specs.Unveil.{Table, entry_for}
+use Rattle.pv_streams.specs.Sinks.{and_all, TellsBeginning}
+use Rattle.pv_streams.proofs.Telling.{written_both, written_none, begins_first, begins_then}
+use Rattle.pv_unveil.specs.Up.{up}
+use Rattle.pv_unveil.proofs.Climbing.{up-directory}
+use Rattle.pv_explain.specs.declared.levels.Basis.{Basis}
+use Rattle.pv_explain.specs.Basis.{table_of, level_line, lines_of}
+
+pub none-found : (o : Option ℕ) → false ≡ is_some o → o ≡ None
+none-found None is = refl
+none-found (Some k) is = absurd (false≢true is)
+
+pub some-found : (o : Option ℕ) → true ≡ is_some o → (k : ℕ) × (o ≡ Some k)
+some-found None is = absurd (false≢true (sym is))
+some-found (Some k) is = (k, refl)
+
+-- what is above a directory
+above-up : (t : Tree) (d : ℕ) → above_or_none t d ≡ option_to_list (up t d)
+above-up t d = elim (d == root) as (λ b. cond b [] (option_to_list (parent t d)) ≡ option_to_list (cond b None (parent t d))) [ true ↦ refl | false ↦ refl ]
+
+module _ (b : Basis) (asked : Perms) where
+  abbrev tree : Tree
+  tree = b.tree.now.tree
+
+  abbrev lines : List Level → Bytes
+  lines ls = answer_bytes (lines_of b asked ls)
+
+  abbrev line_of : Target → Option ℕ → Bytes
+  line_of target entry = answer_line_bytes (level_line b asked (record { target = target; entry = entry }))
+
+  map-append : (xs ys : List Level) → lines_of b asked (xs ++ ys) ≡ lines_of b asked xs ++ lines_of b asked ys
+  map-append [] ys = refl
+  map-append (x ∷ xs) ys = ap (λ (ls : List AnswerLine). level_line b asked x ∷ ls) (map-append xs ys)
+
+  lines-append : (xs ys : List Level) → lines (xs ++ ys) ≡ lines xs ++ lines ys
+  lines-append xs ys = ap answer_bytes (map-append xs ys) ∙ flat_map-append answer_line_bytes (lines_of b asked xs) (lines_of b asked ys)
+
+  one-level : (l : Level) → lines (l ∷ []) ≡ answer_line_bytes (level_line b asked l)
+  one-level l = append-nil (answer_line_bytes (level_line b asked l))
+
+  -- ---- the levels from a directory on, in so many steps
+
+  module _ (steps d : ℕ) where
+    abbrev here : Level
+    here = level tree (table_of b) (Directory d)
+
+    governed : (k : ℕ) → entry_for (table_of b) (Directory d) ≡ Some k → levels_within tree (table_of b) (suc steps) d ≡ here ∷ []
+    governed k is = ap (λ o. here ∷ unless_found tree (table_of b) o (flat_map (levels_within tree (table_of b) steps) (above_or_none tree d))) is
+
+    at-top : entry_for (table_of b) (Directory d) ≡ None → up tree d ≡ None → levels_within tree (table_of b) (suc steps) d ≡ here ∷ []
+    at-top none top =
+        ap (λ o. here ∷ unless_found tree (table_of b) o (flat_map (levels_within tree (table_of b) steps) (above_or_none tree d))) none
+        ∙ ap (λ ds. here ∷ flat_map (levels_within tree (table_of b) steps) ds) (above-up tree d ∙ ap option_to_list top)
+
+    on-above : (above : ℕ) → entry_for (table_of b) (Directory d) ≡ None → up tree d ≡ Some above → levels_within tree (table_of b) (suc steps) d ≡ here ∷ levels_within tree (table_of b) steps above
+    on-above above none rises =
+        ap (λ o. here ∷ unless_found tree (table_of b) o (flat_map (levels_within tree (table_of b) steps) (above_or_none tree d))) none
+        ∙ ap (λ ds. here ∷ flat_map (levels_within tree (table_of b) steps) ds) (above-up tree d ∙ ap option_to_list rises)
+        ∙ ap (λ (ls : List Level). here ∷ ls) (append-nil (levels_within tree (table_of b) steps above))
+
+  -- ---- as the loop climbs
+
+  module _ (directory : ℕ) where
+    abbrev pub all : List Level
+    all = directory_levels tree (table_of b) directory
+
+    -- so many levels are written, and these are left
+    pub record IsClimbing (index reached : ℕ) (before now : Option Bytes) : Type 0 where
+      pub seen : List Level
+      pub parts : directory_levels tree (table_of b) directory ≡ seen ++ levels_within tree (table_of b) (suc (length tree.nodes) - index) reached
+      pub written : now ≡ and_all before (lines seen)
+      pub stands : is_directory_at tree reached ≡ true
+
+    pub climbing-init : (written : Option Bytes) → is_directory_at tree directory ≡ true → IsClimbing 0 directory written written
+    climbing-init written stands = record {
+      seen = [];
+      parts = let whole : suc (length tree.nodes) ≡ suc (length tree.nodes) - 0 = omega arith in ap (λ n. levels_within tree (table_of b) n directory) whole;
+      written = written_none written;
+      stands = stands;
+    }
+
+    module _ (index reached : ℕ) (before mid : Option Bytes) (so_far : IsClimbing index reached before mid) where
+      -- nothing is left
+      pub climbing-end : suc (length tree.nodes) ≤ index → mid ≡ and_all before (lines all)
+      climbing-end past =
+          let none : suc (length tree.nodes) - index ≡ 0 = omega (arith, past) in
+          let same : all ≡ so_far.seen = so_far.parts ∙ ap (λ n. so_far.seen ++ levels_within tree (table_of b) n reached) none ∙ append-nil so_far.seen in
+          so_far.written ∙ ap (λ ls. and_all before (lines ls)) (sym same)
+
+      module _ (within : index < suc (length tree.nodes)) (entry : Option ℕ) (own : entry ≡ entry_for (table_of b) (Directory reached)) where
+        abbrev steps : ℕ
+        steps = suc (length tree.nodes) - (index + 1)
+
+        abbrev this : Level
+        this = record { target = Directory reached; entry = entry }
+
+        parts-here : all ≡ so_far.seen ++ levels_within tree (table_of b) (suc steps) reached
+        parts-here =
+            let one : suc (length tree.nodes) - index ≡ suc steps = omega (arith, within) in
+            so_far.parts ∙ ap (λ n. so_far.seen ++ levels_within tree (table_of b) n reached) one
+
+        this-is : level tree (table_of b) (Directory reached) ≡ this
+        this-is = ap (λ o. let it : Level = record { target = Directory reached; entry = o } in it) (sym own)
+
+        written-here : (after : Option Bytes) → after ≡ and_all mid (line_of (Directory reached) entry) → after ≡ and_all before (lines (so_far.seen ++ this ∷ []))
+        written-here after written =
+            written_both (lines so_far.seen) (line_of (Directory reached) entry) before mid after so_far.written written
+            ∙ ap (and_all before) (ap (λ (bs : Bytes). lines so_far.seen ++ bs) (sym (one-level this)) ∙ sym (lines-append so_far.seen (this ∷ [])))
+
+        -- the last level is written
+        ended : (after : Option Bytes) → after ≡ and_all mid (line_of (Directory reached) entry) → levels_within tree (table_of b) (suc steps) reached ≡ level tree (table_of b) (Directory reached) ∷ []
+            → after ≡ and_all before (lines all)
+        ended after written last =
+            written-here after written
+            ∙ ap (λ ls. and_all before (lines ls)) (sym (parts-here ∙ ap (λ ls. so_far.seen ++ ls) (last ∙ ap (λ (l : Level). l ∷ []) this-is)))
+
+        pub climbing-governed : (k : ℕ) → entry ≡ Some k → (after : Option Bytes) → after ≡ and_all mid (line_of (Directory reached) entry) → after ≡ and_all before (lines all)
+        climbing-governed k is after written = ended after written (governed steps reached k (sym own ∙ is))
+
+        pub climbing-top : entry ≡ None → up tree reached ≡ None → (after : Option Bytes) → after ≡ and_all mid (line_of (Directory reached) entry) → after ≡ and_all before (lines all)
+        climbing-top none top after written = ended after written (at-top steps reached (sym own ∙ none) top)
+
+        pub climbing-on : IsWellFormed tree → (above : ℕ) → entry ≡ None → up tree reached ≡ Some above → (after : Option Bytes) → after ≡ and_all mid (line_of (Directory reached) entry)
+            → IsClimbing (index + 1) above before after
+        climbing-on well above none rises after written = record {
+          seen = so_far.seen ++ this ∷ [];
+          parts =
+              parts-here ∙ ap (λ ls. so_far.seen ++ ls) (on-above steps reached above (sym own ∙ none) rises ∙ ap (λ (l : Level). l ∷ levels_within tree (table_of b) steps above) this-is)
+              ∙ sym (append_assoc so_far.seen (this ∷ []) (levels_within tree (table_of b) steps above));
+          written = written-here after written;
+          stands = up-directory tree well reached above rises;
+        }
+
+        -- a line that was not written whole
+        pub climbing-begun : (after : Option Bytes) → TellsBeginning (line_of (Directory reached) entry) mid after → TellsBeginning (lines all) before after
+        climbing-begun after begun =
+            let rest : List Level = unless_found tree (table_of b) (entry_for (table_of b) (Directory reached)) (flat_map (levels_within tree (table_of b) steps) (above_or_none tree reached)) in
+            let whole : all ≡ so_far.seen ++ this ∷ rest = parts-here ∙ ap (λ (l : Level). so_far.seen ++ l ∷ rest) this-is in
+            let bytes : lines all ≡ lines so_far.seen ++ (line_of (Directory reached) entry ++ lines rest) = ap lines whole ∙ lines-append so_far.seen (this ∷ rest) in
+            subst (λ (bs : Bytes). TellsBeginning bs before after) (sym bytes)
+            (begins_then (lines so_far.seen) (line_of (Directory reached) entry ++ lines rest) before mid after so_far.written
+            (begins_first (line_of (Directory reached) entry) (lines rest) mid after begun))
+
+  -- ---- a name, and its directory
+
+  module _ (d : ℕ) (name : Bytes) (entry : Option ℕ) (own : entry ≡ entry_for (table_of b) (Name d name)) where
+    abbrev named : Level
+    named = record { target = Name d name; entry = entry }
+
+    named-is : level tree (table_of b) (Name d name) ≡ named
+    named-is = ap (λ o. let it : Level = record { target = Name d name; entry = o } in it) (sym own)
+
+    pub name-governed : (k : ℕ) → entry ≡ Some k → line_of (Name d name) entry ≡ lines (name_levels tree (table_of b) d name)
+    name-governed k is =
+        sym (one-level named)
+        ∙ ap lines (ap (λ (l : Level). l ∷ []) (sym named-is) ∙ sym (ap (λ o. level tree (table_of b) (Name d name) ∷ unless_found tree (table_of b) o (directory_levels tree (table_of b) d)) (sym own ∙ is)))
+
+    pub name-bare : entry ≡ None → line_of (Name d name) entry ++ lines (directory_levels tree (table_of b) d) ≡ lines (name_levels tree (table_of b) d name)
+    name-bare none =
+        ap lines
+        (ap (λ (l : Level). l ∷ directory_levels tree (table_of b) d) (sym named-is)
+        ∙ sym (ap (λ o. level tree (table_of b) (Name d name) ∷ unless_found tree (table_of b) o (directory_levels tree (table_of b) d)) (sym own ∙ none)))
+
+    -- the line of the name is a beginning
+    pub name-begun : (before after : Option Bytes) → TellsBeginning (line_of (Name d name) entry) before after → TellsBeginning (lines (name_levels tree (table_of b) d name)) before after
+    name-begun before after begun =
+        let rest : List Level = unless_found tree (table_of b) (entry_for (table_of b) (Name d name)) (directory_levels tree (table_of b) d) in
+        let bytes : line_of (Name d name) entry ++ lines rest ≡ lines (name_levels tree (table_of b) d name) = ap (λ (l : Level). lines (l ∷ rest)) (sym named-is) in
+        subst (λ (bs : Bytes). TellsBeginning bs before after) bytes (begins_first (line_of (Name d name) entry) (lines rest) before after begun)
+
+  -- ---- a place that is no directory
+
+  module _ (place : Place) (d : ℕ) (name : Bytes) (node : Option ℕ) (is : place ≡ At d name node) (written : Bytes) (same : written ≡ name) where
+    named-same : lines (name_levels tree (table_of b) d written) ≡ lines (name_levels tree (table_of b) d name)
+    named-same = ap (λ (w : Bytes). lines (name_levels tree (table_of b) d w)) same
+
+    -- there is nothing of the name
+    pub place-bare : node ≡ None → lines (name_levels tree (table_of b) d written) ≡ lines (levels tree (table_of b) place)
+    unfolding levels
+    place-bare none = named-same ∙ sym (ap (λ (p : Place). lines (levels tree (table_of b) p)) (is ∙ ap (λ o. At d name o) none))
+
+    -- it is a file or a link
+    pub place-other : (n : ℕ) → node ≡ Some n → false ≡ is_directory_at tree n → lines (name_levels tree (table_of b) d written) ≡ lines (levels tree (table_of b) place)
+    unfolding levels
+    place-other n some other =
+        named-same
+        ∙ sym
+        (ap (λ (p : Place). lines (levels tree (table_of b) p)) (is ∙ ap (λ o. At d name o) some)
+        ∙ ap (λ u. lines (cond u (directory_levels tree (table_of b) n) (name_levels tree (table_of b) d name))) (sym other))

@@ -1,0 +1,55 @@
+use Rattle.std.proofs.Common.{◌≡◌, ◌+◌, ◌<◌, ◌∙◌, ℕ, ap, sym, subst, refl, length, get_or, take, arith}
+use Rattle.std.specs.Prelude.{replicate}
+use Rattle.std.proofs.lemmas.Result.{err_from_is_err_and}
+use Rattle.pv_model.specs.Answers.Lines.{answer_bytes}
+use Rattle.pv_model.specs.Step.{steps_of}
+use Rattle.pv_session.specs.declared.session.Stop.{Stop}
+use Rattle.pv_streams.specs.Sinks.{and_all, TellsBeginning}
+use Rattle.pv_streams.proofs.Telling.{on_err}
+use Rattle.pv_explain.specs.Steps.{StopsExplained, steps_lines}
+use Rattle.pv_explain.proofs.Steps.{none-made, schedule-on, schedule-begun, schedule-stopped, schedule-number}
+use Rattle.pv_explain.proofs.explain.explain_steps.Goals as goal
+
+pub loop-turn-preserved : goal.loop-turn-preserved
+loop-turn-preserved g c =
+    let i = c.loop-turn in
+    let ok = c.in_ok-explain_turn.ensures in
+    let entry = get_or c.args.schedule.now i.turn-index (0, 0) in
+    let done = steps_of (take i.turn-index c.args.schedule.now) in
+    record {
+      made = schedule-on c.args.explainer.now c.args.schedule.now i.turn-index c.loop-turn-test.true c.args.session.now i.session i.explainer _ _ i.invariant.made c.parts.ensures.whole
+          c.explain_turn.new.session c.explain_turn.new.explainer _ ok.after
+          (ok.whole ∙ ap (λ n. and_all (g.W.Sink.written i.out) (answer_bytes (steps_lines n i.explainer (replicate entry.1 entry.0) i.session))) i.invariant.number) ok.keeps;
+      number =
+          ap (λ n. n + c.from-number.result) i.invariant.number ∙ ap (λ n. 1 + length done + n) c.from-number.ensures
+          ∙ schedule-number c.args.explainer.now c.args.schedule.now i.turn-index c.loop-turn-test.true c.args.session.now i.session i.explainer _ _ i.invariant.made c.parts.ensures.whole;
+      few = omega (arith, i.invariant.few, c.from-number.ensures);
+      quiet = ok.quiet ∙ i.invariant.quiet;
+    }
+
+pub explain_turn-requires : goal.explain_turn-requires
+explain_turn-requires g c = omega (arith, c.loop-turn.invariant.few, c.requires, c.loop-turn-test.true)
+
+pub overflow_add-number : goal.overflow_add-number
+overflow_add-number g c = omega (arith, c.loop-turn.invariant.few, c.requires, c.loop-turn-test.true, c.from-number.ensures)
+
+pub returns-in_err-explain_turn-clause-beginning : goal.returns-in_err-explain_turn-clause-beginning
+returns-in_err-explain_turn-clause-beginning g c =
+    let i = c.loop-turn in
+    let entry = get_or c.args.schedule.now i.turn-index (0, 0) in
+    on_err c.from_residual.result
+    (schedule-begun c.args.explainer.now c.args.schedule.now i.turn-index c.loop-turn-test.true c.args.session.now i.session i.explainer _ _ i.invariant.made c.parts.ensures.whole _
+    (subst (λ (n : ℕ). TellsBeginning (answer_bytes (steps_lines n i.explainer (replicate entry.1 entry.0) i.session)) (g.W.Sink.written i.out) (g.W.Sink.written c.explain_turn.new.out))
+    i.invariant.number c.in_err-explain_turn.ensures.beginning))
+
+pub returns-in_err-explain_turn-clause-stopped : goal.returns-in_err-explain_turn-clause-stopped
+returns-in_err-explain_turn-clause-stopped g c =
+    let i = c.loop-turn in
+    let entry = get_or c.args.schedule.now i.turn-index (0, 0) in
+    let p = err_from_is_err_and c.from_residual.result c.from_residual.ensures.1 in
+    rw p.1 (schedule-stopped c.args.explainer.now c.args.schedule.now i.turn-index c.loop-turn-test.true c.args.session.now i.session i.explainer _ _ i.invariant.made c.parts.ensures.whole
+    c.explain_turn.new.session (g.W.Sink.written c.explain_turn.new.out) p.0
+    (subst (λ (n : ℕ). StopsExplained p.0 n i.explainer (replicate entry.1 entry.0) i.session c.explain_turn.new.session (g.W.Sink.written i.out) (g.W.Sink.written c.explain_turn.new.out))
+    i.invariant.number
+    (subst (λ (stop : Stop). StopsExplained stop i.number i.explainer (replicate entry.1 entry.0) i.session c.explain_turn.new.session (g.W.Sink.written i.out) (g.W.Sink.written c.explain_turn.new.out))
+    (sym p.2) c.in_err-explain_turn.ensures.stopped)))

@@ -1,0 +1,116 @@
+-- A step that was made, and its lines with what is said of them, by what is told of the states before and after it.
+use Rattle.std.specs.Prelude.{◌≡◌, ⊤, ℕ, IsTrue, List, [], ◌∷◌, ◌++◌, map, flat_map, Option, None, Some}
+use Rattle.pv_model.specs.declared.call.Call.{Call}
+use Rattle.pv_model.specs.declared.place.Place.{Place}
+use Rattle.pv_model.specs.Answer.{answer}
+use Rattle.pv_model.specs.Answers.Lines.{AnswerLine, of_trace}
+use Rattle.pv_model.specs.Answers.Settings.{Setting, Settings}
+use Rattle.pv_model.specs.Calls.Restraints.{entries_of_table}
+use Rattle.pv_model.specs.CallRef.{call_of}
+use Rattle.pv_model.specs.Grammar.Programs.{program_of}
+use Rattle.pv_model.specs.Program.{inside, calls_for, next}
+use Rattle.pv_model.specs.State.{Process, State, process_at, with_process}
+use Rattle.pv_model.specs.Trace.{Word, gio_word, gone_lines, promise_words, unveil_words, buffer_of}
+use Rattle.pv_model.specs.Tree.{Tree, is_directory_at}
+use Rattle.pv_trace.specs.Steps.{first_lines_of, end_lines_of, moved_by}
+use Rattle.pv_unveil.specs.Up.{directory_of}
+use Rattle.pv_explain.specs.declared.making.MadeCall.{MadeCall}
+use Rattle.pv_explain.specs.declared.making.MadeStep.{MadeStep}
+use Rattle.pv_explain.specs.declared.making.MadeStep.TheVariants.{Gone, Register, Call as CallMade}
+use Rattle.pv_explain.specs.Before.{IsBefore, place_of}
+use Rattle.pv_explain.specs.Keeping.{entry_at, settings_told}
+use Rattle.pv_explain.specs.Moved.{IsMoved}
+use Rattle.pv_explain.specs.Parts.{promise_part, table_part, moved_part}
+
+-- ---- its lines
+
+module _ (pid : ℕ) (mine : List Setting) (m : MadeCall) (after : State) where
+  abbrev pub first_part_lines : List AnswerLine
+  first_part_lines = map of_trace (first_lines_of pid (call_of m.call) m.answer.walks)
+
+  abbrev pub promise_lines : List AnswerLine
+  promise_lines = flat_map (promise_part pid m.before.pledge (call_of m.call)) (promise_words (call_of m.call) m.answer.outcome)
+
+  abbrev pub table_lines_of : Option Process → List AnswerLine
+  table_lines_of None = []
+  table_lines_of (Some q) =
+      flat_map (table_part after.tree (entries_of_table q.table) mine pid (call_of m.call) (place_of m.before m.answer.walks))
+      (unveil_words (call_of m.call) m.answer.walks m.answer.outcome)
+
+  abbrev pub table_lines : List AnswerLine
+  table_lines = table_lines_of (process_at after pid)
+
+  abbrev pub moved_lines : List AnswerLine
+  moved_lines =
+      flat_map (moved_part pid after m.before.file (call_of m.call)) (moved_by (buffer_of (process_at after pid)) (call_of m.call) m.answer.outcome)
+
+  abbrev pub last_lines : List AnswerLine
+  last_lines = map of_trace (end_lines_of pid (call_of m.call) m.answer.outcome)
+
+  -- the lines of a call that was made
+  unfoldable pub call_made_lines : List AnswerLine
+  call_made_lines = first_part_lines ++ promise_lines ++ table_lines ++ moved_lines ++ last_lines
+
+-- the lines of a step that was made
+abbrev pub made_lines : ℕ → List Setting → MadeStep → State → List AnswerLine
+made_lines pid mine Gone after = map of_trace (gone_lines pid)
+made_lines pid mine (Register line) after = []
+made_lines pid mine (CallMade m) after = call_made_lines pid mine m after
+
+-- the line at which its process stood
+abbrev pub line_of : MadeStep → Option ℕ
+line_of Gone = None
+line_of (Register line) = Some line
+line_of (CallMade m) = Some m.before.line
+
+-- ---- what was made
+
+-- a call was made in this state, and left that one
+pub record IsMadeCall (s : State) (pid : ℕ) (m : MadeCall) (after : State) : Type 0 where
+  pub me : Process
+  pub lives : process_at s pid ≡ Some me
+  pub comes : next me ≡ calls_for (call_of m.call)
+  pub answered : answer program_of s pid (call_of m.call) ≡ record { after = after; outcome = m.answer.outcome; walks = m.answer.walks }
+  pub before : IsBefore s pid me (call_of m.call) m.before
+
+-- an instruction on registers was made
+pub record IsMadeInside (s : State) (pid line : ℕ) (after : State) : Type 0 where
+  pub me : Process
+  pub lives : process_at s pid ≡ Some me
+  pub stood : line ≡ me.line
+  pub then_is : Process
+  pub comes : next me ≡ inside then_is
+  pub left : after ≡ with_process s pid then_is
+
+abbrev pub IsMade : State → ℕ → MadeStep → State → Type 0
+IsMade s pid Gone after = (process_at s pid ≡ None) × (after ≡ s)
+IsMade s pid (Register line) after = IsMadeInside s pid line after
+IsMade s pid (CallMade m) after = IsMadeCall s pid m after
+
+-- ---- what its lines can be told of
+
+abbrev pub IsInDirectory : Tree → Option Place → Type 0
+IsInDirectory t None = ⊤
+IsInDirectory t (Some place) = IsTrue (is_directory_at t (directory_of place))
+
+-- the bytes that a line tells
+abbrev pub AreMoved : Call → List Word → Type 0
+AreMoved call [] = ⊤
+AreMoved call (gio_word way bytes ∷ ws) = IsMoved call bytes
+AreMoved call (w ∷ ws) = ⊤
+
+-- the place of a refused walk is still one of a directory, and the bytes have their size
+pub record IsFitCall (pid : ℕ) (m : MadeCall) (after : State) : Type 0 where
+  pub place : (unveil_words (call_of m.call) m.answer.walks m.answer.outcome ≡ [] → ⊥) → IsInDirectory after.tree (place_of m.before m.answer.walks)
+  pub bytes : AreMoved (call_of m.call) (moved_by (buffer_of (process_at after pid)) (call_of m.call) m.answer.outcome)
+
+abbrev pub IsFit : ℕ → MadeStep → State → Type 0
+IsFit pid (CallMade m) after = IsFitCall pid m after
+IsFit pid made after = ⊤
+
+-- ---- what it leaves of where entries were set
+
+abbrev pub settings_made : ℕ → MadeStep → State → Settings → Settings
+settings_made pid (CallMade m) after all =
+    settings_told pid m.before.line (process_at after pid) (entry_at m.before.target (process_at after pid)) all (call_of m.call) m.answer.outcome
+settings_made pid made after all = all

@@ -1,0 +1,42 @@
+-- The lines of several steps, what is kept after them, and where they stop.
+use Rattle.std.specs.Prelude.{◌≡◌, ⊤, ℕ, ◌+◌, List, [], ◌∷◌, ◌++◌, Option}
+use Rattle.pv_model.specs.Answers.Explain.{explained_step, set_text, settings_next, step_line}
+use Rattle.pv_model.specs.Answers.Lines.{AnswerLine, answer_bytes}
+use Rattle.pv_model.specs.Answers.Settings.{Settings, settings_of}
+use Rattle.pv_model.specs.Bytes.{Bytes}
+use Rattle.pv_model.specs.Grammar.Programs.{program_of}
+use Rattle.pv_model.specs.State.{State}
+use Rattle.pv_model.specs.Step.{run, step}
+use Rattle.pv_session.specs.declared.session.Stop.{Stop}
+use Rattle.pv_session.specs.declared.session.Stop.TheVariants.{Memory, Write}
+use Rattle.pv_session.specs.Stopping.{NextLoads}
+use Rattle.pv_streams.specs.Sinks.{and_all, TellsBeginning}
+
+-- the lines of a step
+abbrev pub step_lines : ℕ → Settings → State → ℕ → List AnswerLine
+step_lines k all s pid = step_line program_of k s pid ∷ explained_step program_of (set_text program_of (settings_of all pid)) s pid
+
+-- the lines of steps, from number k on
+abbrev pub steps_lines : ℕ → Settings → List ℕ → State → List AnswerLine
+steps_lines k all [] s = []
+steps_lines k all (pid ∷ pids) s = step_lines k all s pid ++ steps_lines (k + 1) (settings_next program_of s pid all) pids (step program_of s pid).after
+
+-- where entries were set, after steps
+abbrev pub settings_through : Settings → List ℕ → State → Settings
+settings_through all [] s = all
+settings_through all (pid ∷ pids) s = settings_through (settings_next program_of s pid all) pids (step program_of s pid).after
+
+-- of the steps of these processes the first were made, and their lines written, and the next is an execve that leads to a program
+pub record StopsAtLoad (k : ℕ) (all : Settings) (pids : List ℕ) (s now : State) (before after : Option Bytes) : Type 0 where
+  pub made : List ℕ
+  pub pid : ℕ
+  pub rest : List ℕ
+  pub parts : pids ≡ made ++ pid ∷ rest
+  pub left : now ≡ (run program_of made s).final
+  pub as_written : after ≡ and_all before (answer_bytes (steps_lines k all made s))
+  pub loads : NextLoads now pid
+
+-- want of memory stops there alone
+abbrev pub StopsExplained : Stop → ℕ → Settings → List ℕ → State → State → Option Bytes → Option Bytes → Type 0
+StopsExplained Memory k all pids s now before after = StopsAtLoad k all pids s now before after
+StopsExplained Write k all pids s now before after = ⊤

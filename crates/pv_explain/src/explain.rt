@@ -1,0 +1,215 @@
+//! Schedules, step by step, with what is said of their lines.
+ghost use Rattle.std.specs.Prelude.{◌≡◌, ◌+◌, ◌≤◌, ◌<◌, ◌^◌, [], ◌∷◌, length, replicate, IfErr, IfOk, IfSome, OnErr, OnOk, option_copied};
+ghost use Rattle.pv_explain.specs.Keeping.{Agree, entry_at};
+ghost use Rattle.pv_explain.specs.Made.{settings_made};
+ghost use Rattle.pv_explain.specs.Steps.{StopsExplained, settings_through, step_lines, steps_lines};
+ghost use Rattle.pv_model.specs.declared.limits.TheConstants.{SCHEDULE_LINES, UNVEILS};
+ghost use Rattle.pv_model.specs.Answers.Explain.{explain_lines, settings_next};
+ghost use Rattle.pv_model.specs.Answers.Lines.{answer_bytes};
+ghost use Rattle.pv_model.specs.Grammar.Programs.{program_of};
+ghost use Rattle.pv_model.specs.State.{process_at};
+ghost use Rattle.pv_model.specs.Step.{steps_of};
+ghost use Rattle.pv_session.specs.Running.{FailsBy, run_of, stepped, turn};
+ghost use Rattle.pv_streams.specs.Sinks.{and_all, TellsBeginning};
+
+use crate::explained::{write_made, write_step_line};
+use crate::making::{MadeStep, make_step};
+use crate::origins::Origins;
+use pv_answers::write_standings;
+use pv_calls_state::Parts;
+use pv_model::Target;
+use pv_script::CallTexts;
+use pv_session::{Session, Stop};
+use pv_streams::Sink;
+use pv_trace::LineBuffer;
+use std::alloc::{AllocError, Global};
+use std::marker::Model;
+
+// The entry for a target in the table of a process, where there is one.
+fn entry_for(parts: &Parts, pid: u32, target: Option<&Target>) -> Option<u8>
+    ensures value { result ≡ entry_at (option_copied target.entry) (process_at parts.now pid) }
+    ensures few { IfSome result (λ k. k < UNVEILS) }
+{
+    let target = target?;
+    let table = &parts.live_record(pid)?.unveiled;
+    let _ = table.len();
+    match target {
+        Target::Directory(directory) => table.directory_entry(*directory),
+        Target::Name { dir, name } => table.own_name_entry(*dir, name.as_slice()),
+    }
+}
+
+// What a step that was made leaves of where entries were set.
+fn follow(origins: &mut Origins, parts: &Parts, pid: u32, made: &MadeStep<'_>)
+    ensures { Agree parts.now origins.new (settings_made pid made.now parts.now origins.old) }
+{
+    let MadeStep::Call(made) = made else {
+        return;
+    };
+    let given = entry_for(parts, pid, made.before.target.as_ref());
+    origins.follow(
+        parts,
+        pid,
+        made.before.line,
+        made.call,
+        made.answer.outcome,
+        given,
+    );
+}
+
+/// Explains steps, one after another: it keeps at which line each entry of each table was set.
+#[derive(Drop)]
+pub struct Explainer {
+    // The texts of the call that was made last.
+    texts: CallTexts,
+    // What the lines of a trace are made on.
+    line_buffer: Box<LineBuffer>,
+    origins: Origins,
+}
+
+impl Model for Explainer {
+    ghost use Rattle.pv_model.specs.Answers.Settings.{Settings};
+
+    ghost Value = { Settings };
+
+    ghost view = { λ e. e.origins };
+}
+
+impl Explainer {
+    /// It knows of no entry where it was set.
+    ///
+    /// # Errors
+    ///
+    /// Where there is no memory for what it keeps. No other call of it asks for any but for a program that is executed.
+    pub fn new(alloc: Global) -> Result<Explainer, AllocError>
+        ensures { IfOk result (λ explainer. explainer ≡ []) }
+    {
+        Ok(Explainer {
+            texts: CallTexts::new(),
+            line_buffer: Box::new(alloc, LineBuffer::new())?,
+            origins: Origins::new(alloc)?,
+        })
+    }
+
+    /// Makes a step of a process, and writes the line of its number and its lines, with what is said of them.
+    ///
+    /// # Errors
+    ///
+    /// `Memory` where memory was refused for the program of an execve(2), as in `Session::step`: the step was not made, and nothing
+    /// was written. `Write` where a write failed: the sink was given a beginning of the lines.
+    pub fn explain_step<W: Sink>(
+        &mut self,
+        alloc: Global,
+        session: &mut Session,
+        pid: u32,
+        number: u64,
+        out: &mut W,
+    ) -> Result<(), Stop>
+        ensures after { OnOk result (session.new ≡ (stepped session.old pid).after) }
+        ensures whole { OnOk result (W.written out.new ≡ and_all (W.written out.old) (answer_bytes (step_lines number self.old session.old pid))) }
+        ensures beginning { OnErr result (TellsBeginning (answer_bytes (step_lines number self.old session.old pid)) (W.written out.old) (W.written out.new)) }
+        ensures failed { IfErr result (λ stop. FailsBy stop (W.failures out.old) (W.failures out.new)) }
+        ensures quiet { OnOk result (W.failures out.new ≡ W.failures out.old) }
+        ensures stopped { IfErr result (λ stop. StopsExplained stop number self.old (pid ∷ []) session.old session.new (W.written out.old) (W.written out.new)) }
+
+        // Of the processes that are live, it knows where entries were set.
+        ensures keeps { OnOk result (Agree session.new self.new (settings_next program_of session.old pid self.old)) }
+    {
+        let made = make_step(alloc, session, &mut self.texts, pid)?;
+        write_step_line(out, pid, number, made.line())?;
+        write_made(
+            out,
+            &mut *self.line_buffer,
+            session,
+            pid,
+            &made,
+            self.origins.of(pid),
+        )?;
+        follow(&mut self.origins, session.parts(), pid, &made);
+        Ok(())
+    }
+}
+
+// Explains so many steps of a process, from a number on.
+fn explain_turn<W: Sink>(
+    alloc: Global,
+    session: &mut Session,
+    explainer: &mut Explainer,
+    pid: u32,
+    count: u32,
+    number: u64,
+    out: &mut W,
+) -> Result<(), Stop>
+    requires { number + count < 2 ^ 64 }
+    ensures after { OnOk result (session.new ≡ (turn session.old pid count).final) }
+    ensures whole { OnOk result (W.written out.new ≡ and_all (W.written out.old) (answer_bytes (steps_lines number explainer.old (replicate count pid) session.old))) }
+    ensures beginning { OnErr result (TellsBeginning (answer_bytes (steps_lines number explainer.old (replicate count pid) session.old)) (W.written out.old) (W.written out.new)) }
+    ensures failed { IfErr result (λ stop. FailsBy stop (W.failures out.old) (W.failures out.new)) }
+    ensures quiet { OnOk result (W.failures out.new ≡ W.failures out.old) }
+    ensures stopped { IfErr result (λ stop. StopsExplained stop number explainer.old (replicate count pid) session.old session.new (W.written out.old) (W.written out.new)) }
+    ensures keeps { OnOk result (Agree session.new explainer.new (settings_through explainer.old (replicate count pid) session.old)) }
+{
+    for step in 0..count {
+        // (what its parts tell with them: the state is one that a run may reach)
+        let _ = session.parts();
+        let at = number + u64::from(step);
+        explainer.explain_step(alloc, session, pid, at, out)?;
+    }
+    Ok(())
+}
+
+// Explains the steps of a schedule.
+fn explain_steps<W: Sink>(
+    alloc: Global,
+    session: &mut Session,
+    explainer: &mut Explainer,
+    schedule: &[(u32, u32)],
+    out: &mut W,
+) -> Result<(), Stop>
+    requires { length schedule.now ≤ SCHEDULE_LINES }
+    ensures after { OnOk result (session.new ≡ (run_of session.old schedule.now).final) }
+    ensures whole { OnOk result (W.written out.new ≡ and_all (W.written out.old) (answer_bytes (steps_lines 1 explainer.old (steps_of schedule.now) session.old))) }
+    ensures beginning { OnErr result (TellsBeginning (answer_bytes (steps_lines 1 explainer.old (steps_of schedule.now) session.old)) (W.written out.old) (W.written out.new)) }
+    ensures failed { IfErr result (λ stop. FailsBy stop (W.failures out.old) (W.failures out.new)) }
+    ensures quiet { OnOk result (W.failures out.new ≡ W.failures out.old) }
+    ensures stopped { IfErr result (λ stop. StopsExplained stop 1 explainer.old (steps_of schedule.now) session.old session.new (W.written out.old) (W.written out.new)) }
+{
+    let mut number = 1;
+    for turn in schedule {
+        let _ = session.parts();
+        let (pid, count) = *turn;
+        explain_turn(alloc, session, explainer, pid, count, number, out)?;
+        number += u64::from(count);
+    }
+    Ok(())
+}
+
+/// Makes the steps of a schedule, and writes the lines of each before the next, with what is said of them: before them its number,
+/// after bytes what they are, and after a refusal why. Then it writes who each process is, and at what.
+///
+/// The explainer is one that has explained nothing yet.
+///
+/// # Errors
+///
+/// `Write` where a write failed: no step was made after it, and the sink was given a beginning of the lines. `Memory` where
+/// memory was refused for the program of an execve(2), which leads to an executable file that the process's table allows: that
+/// step was not made, and the sink was given just the lines of the steps before.
+pub fn explain_schedule<W: Sink>(
+    alloc: Global,
+    session: &mut Session,
+    explainer: &mut Explainer,
+    schedule: &[(u32, u32)],
+    out: &mut W,
+) -> Result<(), Stop>
+    requires lines { length schedule.now ≤ SCHEDULE_LINES }
+    requires fresh { explainer.old ≡ [] }
+    ensures after { OnOk result (session.new ≡ (run_of session.old schedule.now).final) }
+    ensures whole { OnOk result (W.written out.new ≡ and_all (W.written out.old) (answer_bytes (explain_lines program_of (steps_of schedule.now) session.old))) }
+    ensures beginning { OnErr result (TellsBeginning (answer_bytes (explain_lines program_of (steps_of schedule.now) session.old)) (W.written out.old) (W.written out.new)) }
+    ensures failed { IfErr result (λ stop. FailsBy stop (W.failures out.old) (W.failures out.new)) }
+    ensures quiet { OnOk result (W.failures out.new ≡ W.failures out.old) }
+    ensures stopped { IfErr result (λ stop. StopsExplained stop 1 [] (steps_of schedule.now) session.old session.new (W.written out.old) (W.written out.new)) }
+{
+    explain_steps(alloc, session, explainer, schedule, out)?;
+    Ok(write_standings(out, session.parts())?)
+}

@@ -1,0 +1,175 @@
+//! The lines of a step that was made, with what is said of them.
+ghost use Rattle.std.specs.Prelude.{◌≡◌, codes, OnErr, OnOk};
+ghost use Rattle.pv_explain.specs.Keeping.{settings_in};
+ghost use Rattle.pv_explain.specs.Made.{IsFit, IsFitCall, call_made_lines, made_lines, table_lines};
+ghost use Rattle.pv_explain.specs.Parts.{step_text};
+ghost use Rattle.pv_model.specs.Answers.Lines.{answer_bytes, answer_line, answer_line_bytes};
+ghost use Rattle.pv_model.specs.Stream.{Rose};
+ghost use Rattle.pv_streams.specs.Sinks.{and_all, TellsBeginning};
+
+use crate::levels::Basis;
+use crate::making::{MadeCall, MadeStep};
+use crate::moved::write_moved_part;
+use crate::origins::Origin;
+use crate::reasons::{write_promise_part, write_table_part};
+use itoa::Buffer;
+use pv_answers::{Decimal, Fragment, Line, Plain};
+use pv_calls_plain::answer::Answer;
+use pv_calls_state::Parts;
+use pv_session::Session;
+use pv_streams::{Failed, Sink, write_whole};
+use pv_trace::{
+    LineBuffer, bytes_told, promise_told, table_told, write_first_lines, write_gone_line,
+    write_last_line,
+};
+
+// Writes the lines of a table that decided a call, and of why it did.
+fn write_table_lines<W: Sink>(
+    out: &mut W,
+    line_buffer: &mut LineBuffer,
+    parts: &Parts,
+    pid: u32,
+    made: &MadeCall<'_>,
+    origins: &[Origin],
+) -> Result<(), Failed>
+    requires { IsFitCall pid made.now parts.now }
+    ensures whole { OnOk result (W.written out.new ≡ and_all (W.written out.old) (answer_bytes (table_lines pid (settings_in origins.now) made.now parts.now))) }
+    ensures beginning { OnErr result (TellsBeginning (answer_bytes (table_lines pid (settings_in origins.now) made.now parts.now)) (W.written out.old) (W.written out.new)) }
+    ensures failed { OnErr result (Rose (W.failures out.old) (W.failures out.new)) }
+    ensures quiet { OnOk result (W.failures out.new ≡ W.failures out.old) }
+{
+    let walks = made.answer.walks;
+    let Some(verdict) = table_told(made.call, walks, made.answer.outcome) else {
+        return Ok(());
+    };
+    let Some(record) = parts.live_record(pid) else {
+        return Ok(());
+    };
+    let basis = Basis {
+        pid,
+        tree: parts.tree(),
+        table: &record.unveiled,
+        origins,
+    };
+    let place = made.before.place(walks);
+    write_table_part(out, line_buffer, &basis, made.call, place, verdict)
+}
+
+// Writes the lines of a call that was made.
+fn write_call<W: Sink>(
+    out: &mut W,
+    line_buffer: &mut LineBuffer,
+    session: &Session,
+    pid: u32,
+    made: &MadeCall<'_>,
+    origins: &[Origin],
+) -> Result<(), Failed>
+    requires { IsFitCall pid made.now session.now }
+    ensures whole { OnOk result (W.written out.new ≡ and_all (W.written out.old) (answer_bytes (call_made_lines pid (settings_in origins.now) made.now session.now))) }
+    ensures beginning { OnErr result (TellsBeginning (answer_bytes (call_made_lines pid (settings_in origins.now) made.now session.now)) (W.written out.old) (W.written out.new)) }
+    ensures failed { OnErr result (Rose (W.failures out.old) (W.failures out.new)) }
+    ensures quiet { OnOk result (W.failures out.new ≡ W.failures out.old) }
+{
+    let call = made.call;
+    let Answer { outcome, walks } = made.answer;
+    let before = &made.before;
+    let parts = session.parts();
+    let moved = bytes_told(session.buffer(pid), call, outcome);
+    write_first_lines(out, line_buffer, pid, call, walks)?;
+    write_promise_part(
+        out,
+        line_buffer,
+        pid,
+        before.pledge,
+        call,
+        promise_told(outcome),
+    )?;
+    write_table_lines(out, line_buffer, parts, pid, made, origins)?;
+    write_moved_part(out, line_buffer, pid, parts, before.file, call, moved)?;
+    write_last_line(out, line_buffer, pid, call, outcome)
+}
+
+/// Writes the lines of a step that was just made, with what is said of them. `origins` are where the entries of its process were
+/// set before it: nothing is said of those that are not among them.
+///
+/// # Errors
+///
+/// `Failed` where a write failed: the sink was given a beginning of the lines.
+#[tactic(auto, using(pv_streams::proofs::Telling::written_both, pv_streams::proofs::Telling::begins_first, pv_streams::proofs::Telling::begins_then, pv_streams::proofs::Telling::written_none))]
+pub fn write_made<W: Sink>(
+    out: &mut W,
+    line_buffer: &mut LineBuffer,
+    session: &Session,
+    pid: u32,
+    made: &MadeStep<'_>,
+    origins: &[Origin],
+) -> Result<(), Failed>
+    requires { IsFit pid made.now session.now }
+    ensures whole { OnOk result (W.written out.new ≡ and_all (W.written out.old) (answer_bytes (made_lines pid (settings_in origins.now) made.now session.now))) }
+    ensures beginning { OnErr result (TellsBeginning (answer_bytes (made_lines pid (settings_in origins.now) made.now session.now)) (W.written out.old) (W.written out.new)) }
+    ensures failed { OnErr result (Rose (W.failures out.old) (W.failures out.new)) }
+    ensures quiet { OnOk result (W.failures out.new ≡ W.failures out.old) }
+{
+    match made {
+        MadeStep::Gone => write_gone_line(out, line_buffer, pid),
+        MadeStep::Register(_) => Ok(()),
+        MadeStep::Call(made) => write_call(out, line_buffer, session, pid, made, origins),
+    }
+}
+
+// The number of a step.
+#[derive(Clone, Copy)]
+struct StepNumber(u64);
+
+impl Fragment for StepNumber {
+    ghost use Rattle.std.specs.Prelude.{decimal};
+
+    ghost text = { λ p. decimal p.0 };
+
+    fn write<W: Sink>(&self, out: &mut W) -> Result<(), Failed> {
+        let mut buffer = Buffer::new();
+        write_whole(out, buffer.format(self.0).as_bytes())
+    }
+}
+
+// The line at which a process stands, where it is live.
+#[derive(Clone, Copy)]
+struct StandingText(Option<u16>);
+
+impl Fragment for StandingText {
+    ghost use Rattle.pv_explain.specs.Parts.{standing_text};
+
+    ghost text = { λ p. standing_text p.0 };
+
+    fn write<W: Sink>(&self, out: &mut W) -> Result<(), Failed> {
+        match self.0 {
+            Some(line) => (Plain(b", line "), Decimal(u32::from(line))).write(out),
+            None => Ok(()),
+        }
+    }
+}
+
+/// Writes the line of a step: its number, and the line at which its process stands, where that is live.
+///
+/// # Errors
+///
+/// `Failed` where a write failed: the sink was given a beginning of the line.
+#[tactic(auto, unfolding(pv_model::specs::Trace::text_line))]
+pub(crate) fn write_step_line<W: Sink>(
+    out: &mut W,
+    pid: u32,
+    number: u64,
+    line: Option<u16>,
+) -> Result<(), Failed>
+    ensures whole { OnOk result (W.written out.new ≡ and_all (W.written out.old) (answer_line_bytes (answer_line pid (codes "STEP") (step_text number line)))) }
+    ensures beginning { OnErr result (TellsBeginning (answer_line_bytes (answer_line pid (codes "STEP") (step_text number line))) (W.written out.old) (W.written out.new)) }
+    ensures failed { OnErr result (Rose (W.failures out.old) (W.failures out.new)) }
+    ensures quiet { OnOk result (W.failures out.new ≡ W.failures out.old) }
+{
+    let line = Line {
+        pid,
+        word: *b"STEP",
+        text: (StepNumber(number), StandingText(line)),
+    };
+    line.write(out)
+}

@@ -1,0 +1,317 @@
+//! How the judgement of a place by a table came about, level by level.
+ghost use Rattle.std.specs.Prelude.{◌≡◌, IsTrue, OnOk, OnErr};
+ghost use Rattle.pv_explain.specs.Basis.{directory_level, level_line, lines_of, name_level, table_of};
+ghost use Rattle.pv_model.specs.Answers.Explain.{permissions_lacked};
+ghost use Rattle.pv_model.specs.Answers.Levels.{directory_levels, levels, name_levels};
+ghost use Rattle.pv_model.specs.Answers.Lines.{answer_bytes, answer_line_bytes};
+ghost use Rattle.pv_model.specs.Calls.Restraints.{entries_of_table};
+ghost use Rattle.pv_model.specs.Stream.{Rose};
+ghost use Rattle.pv_model.specs.Tree.{is_directory_at};
+ghost use Rattle.pv_model.specs.Unveil.{permissions_at};
+ghost use Rattle.pv_streams.specs.Sinks.{and_all, TellsBeginning};
+ghost use Rattle.pv_unveil.specs.Up.{directory_of};
+
+use crate::origins::Origin;
+use pv_answers::{Decimal, Fragment, Letters, Line, NameWords, NodeWords, PathOf, Plain, has_path};
+use pv_model::{Perms, Place};
+use pv_streams::{Failed, Sink, write_whole};
+use pv_tree::Tree;
+use pv_unveil::{Table, above};
+
+/// What the places of a process are judged by.
+#[derive(Clone, Copy)]
+pub(crate) struct Basis<'a> {
+    /// The number of the process.
+    pub(crate) pid: u32,
+    /// The tree.
+    pub(crate) tree: &'a Tree,
+    /// The table of the process.
+    pub(crate) table: &'a Table,
+    /// Where its entries were set, as far as that is known.
+    pub(crate) origins: &'a [Origin],
+}
+
+// The permissions of an entry: none where there is no such entry.
+fn permissions_of(table: &Table, entry: u8) -> Perms
+    ensures { result ≡ permissions_at (entries_of_table table.now.table) entry }
+{
+    if (entry as usize) < table.len() {
+        table.permissions(entry)
+    } else {
+        Perms::NONE
+    }
+}
+
+// The permissions of the second that the first has not.
+fn lacked(has: Perms, asked: Perms) -> Perms
+    ensures { result ≡ permissions_lacked has asked }
+{
+    Perms {
+        r: asked.r && !has.r,
+        w: asked.w && !has.w,
+        x: asked.x && !has.x,
+        c: asked.c && !has.c,
+    }
+}
+
+/// Where an entry was set: nothing where that is not known.
+#[derive(Clone, Copy)]
+pub(crate) struct OriginText<'a> {
+    /// Where the entries of its table were set.
+    pub(crate) origins: &'a [Origin],
+    /// Its number.
+    pub(crate) entry: u8,
+}
+
+impl<'a> Fragment for OriginText<'a> {
+    ghost use Rattle.pv_explain.specs.Keeping.{settings_in};
+    ghost use Rattle.pv_explain.specs.Parts.{source_of};
+
+    ghost text = { λ p. source_of (settings_in p.origins.now) p.entry };
+
+    fn write<W: Sink>(&self, out: &mut W) -> Result<(), Failed> {
+        let Some(origin) = self.origins.get(self.entry as usize) else {
+            return Ok(());
+        };
+        let line = Decimal(u32::from(origin.line));
+        if origin.earlier {
+            (
+                Plain(b", set at line "),
+                line,
+                Plain(b", of an earlier program"),
+            )
+                .write(out)
+        } else {
+            (Plain(b", set at line "), line).write(out)
+        }
+    }
+}
+
+/// An entry with its permissions.
+#[derive(Clone, Copy)]
+pub(crate) struct EntryText<'a> {
+    /// Its table.
+    pub(crate) table: &'a Table,
+    /// Its number.
+    pub(crate) entry: u8,
+}
+
+impl<'a> Fragment for EntryText<'a> {
+    ghost use Rattle.pv_model.specs.Calls.Restraints.{entries_of_table};
+    ghost use Rattle.pv_explain.specs.Parts.{has_text};
+
+    ghost text = { λ p. has_text (entries_of_table p.table.now.table) p.entry };
+
+    fn write<W: Sink>(&self, out: &mut W) -> Result<(), Failed> {
+        let number = Decimal(u32::from(self.entry));
+        let permissions = Letters(permissions_of(self.table, self.entry));
+        (Plain(b"entry "), number, Plain(b" has "), permissions).write(out)
+    }
+}
+
+// What is found at a level: an entry, what it lacks of what was asked, and where it was set.
+#[derive(Clone, Copy)]
+struct FoundText<'a> {
+    table: &'a Table,
+    origins: &'a [Origin],
+    asked: Perms,
+    entry: Option<u8>,
+}
+
+impl<'a> Fragment for FoundText<'a> {
+    ghost use Rattle.pv_model.specs.Calls.Restraints.{entries_of_table};
+    ghost use Rattle.pv_explain.specs.Keeping.{settings_in};
+    ghost use Rattle.pv_explain.specs.Parts.{found_by};
+
+    ghost text = { λ p. found_by (entries_of_table p.table.now.table) (settings_in p.origins.now) p.asked p.entry };
+
+    fn write<W: Sink>(&self, out: &mut W) -> Result<(), Failed> {
+        let (table, origins) = (self.table, self.origins);
+        let Some(entry) = self.entry else {
+            return write_whole(out, b"no entry");
+        };
+        let lacks = Letters(lacked(permissions_of(table, entry), self.asked));
+        let found = EntryText { table, entry };
+        (
+            found,
+            Plain(b", lacks "),
+            lacks,
+            OriginText { origins, entry },
+        )
+            .write(out)
+    }
+}
+
+// A directory: its path, or its number where it is removed.
+#[derive(Clone, Copy)]
+struct DirectoryWords<'a> {
+    tree: &'a Tree,
+    directory: u16,
+}
+
+impl<'a> Fragment for DirectoryWords<'a> {
+    ghost use Rattle.pv_model.specs.Answers.Nodes.{node_path};
+    ghost use Rattle.pv_explain.specs.Parts.{directory_words_by};
+
+    ghost text = { λ p. directory_words_by p.tree.now.tree p.directory (node_path p.tree.now.tree p.directory) };
+
+    fn write<W: Sink>(&self, out: &mut W) -> Result<(), Failed> {
+        let (tree, node) = (self.tree, self.directory);
+        if has_path(tree, node) {
+            PathOf { tree, node }.write(out)
+        } else {
+            NodeWords { tree, node }.write(out)
+        }
+    }
+}
+
+// Writes the line of a directory.
+#[tactic(auto, unfolding(pv_model::specs::Trace::text_line))]
+fn write_directory_level<W: Sink>(
+    out: &mut W,
+    basis: &Basis<'_>,
+    asked: Perms,
+    directory: u16,
+    entry: Option<u8>,
+) -> Result<(), Failed>
+    ensures whole { OnOk result (W.written out.new ≡ and_all (W.written out.old) (answer_line_bytes (level_line basis.now asked (directory_level directory entry)))) }
+    ensures beginning { OnErr result (TellsBeginning (answer_line_bytes (level_line basis.now asked (directory_level directory entry))) (W.written out.old) (W.written out.new)) }
+    ensures failed { OnErr result (Rose (W.failures out.old) (W.failures out.new)) }
+    ensures quiet { OnOk result (W.failures out.new ≡ W.failures out.old) }
+{
+    let words = DirectoryWords {
+        tree: basis.tree,
+        directory,
+    };
+    let found = FoundText {
+        table: basis.table,
+        origins: basis.origins,
+        asked,
+        entry,
+    };
+    let line = Line {
+        pid: basis.pid,
+        word: *b"WHY ",
+        text: (Plain(b"directory "), words, Plain(b": "), found),
+    };
+    line.write(out)
+}
+
+// Writes the line of a name in a directory.
+#[tactic(auto, unfolding(pv_model::specs::Trace::text_line))]
+fn write_name_level<W: Sink>(
+    out: &mut W,
+    basis: &Basis<'_>,
+    asked: Perms,
+    directory: u16,
+    name: &[u8],
+    entry: Option<u8>,
+) -> Result<(), Failed>
+    ensures whole { OnOk result (W.written out.new ≡ and_all (W.written out.old) (answer_line_bytes (level_line basis.now asked (name_level directory name.now entry)))) }
+    ensures beginning { OnErr result (TellsBeginning (answer_line_bytes (level_line basis.now asked (name_level directory name.now entry))) (W.written out.old) (W.written out.new)) }
+    ensures failed { OnErr result (Rose (W.failures out.old) (W.failures out.new)) }
+    ensures quiet { OnOk result (W.failures out.new ≡ W.failures out.old) }
+{
+    let words = NameWords {
+        tree: basis.tree,
+        directory,
+        name,
+    };
+    let found = FoundText {
+        table: basis.table,
+        origins: basis.origins,
+        asked,
+        entry,
+    };
+    let line = Line {
+        pid: basis.pid,
+        word: *b"WHY ",
+        text: (Plain(b"name "), words, Plain(b": "), found),
+    };
+    line.write(out)
+}
+
+// Writes the lines of a directory and of those above it, up to one that has an entry, the root or a removed one.
+fn write_directory_levels<W: Sink>(
+    out: &mut W,
+    basis: &Basis<'_>,
+    asked: Perms,
+    directory: u16,
+) -> Result<(), Failed>
+    requires { IsTrue (is_directory_at basis.now.tree.now.tree directory) }
+    ensures whole { OnOk result (W.written out.new ≡ and_all (W.written out.old) (answer_bytes (lines_of basis.now asked (directory_levels basis.now.tree.now.tree (table_of basis.now) directory)))) }
+    ensures beginning { OnErr result (TellsBeginning (answer_bytes (lines_of basis.now asked (directory_levels basis.now.tree.now.tree (table_of basis.now) directory))) (W.written out.old) (W.written out.new)) }
+    ensures failed { OnErr result (Rose (W.failures out.old) (W.failures out.new)) }
+    ensures quiet { OnOk result (W.failures out.new ≡ W.failures out.old) }
+{
+    let mut reached = directory;
+    for _level in 0..basis.tree.sizes().inodes + 2 {
+        let entry = basis.table.directory_entry(reached);
+        write_directory_level(out, basis, asked, reached, entry)?;
+        if entry.is_some() {
+            return Ok(());
+        }
+        let Some(above) = above(basis.tree, reached) else {
+            return Ok(());
+        };
+        reached = above;
+    }
+    Ok(())
+}
+
+// Writes the lines of a name, and of its directory and those above it where the name has no entry.
+fn write_name_levels<W: Sink>(
+    out: &mut W,
+    basis: &Basis<'_>,
+    asked: Perms,
+    directory: u16,
+    name: &[u8],
+) -> Result<(), Failed>
+    requires { IsTrue (is_directory_at basis.now.tree.now.tree directory) }
+    ensures whole { OnOk result (W.written out.new ≡ and_all (W.written out.old) (answer_bytes (lines_of basis.now asked (name_levels basis.now.tree.now.tree (table_of basis.now) directory name.now)))) }
+    ensures beginning { OnErr result (TellsBeginning (answer_bytes (lines_of basis.now asked (name_levels basis.now.tree.now.tree (table_of basis.now) directory name.now))) (W.written out.old) (W.written out.new)) }
+    ensures failed { OnErr result (Rose (W.failures out.old) (W.failures out.new)) }
+    ensures quiet { OnOk result (W.failures out.new ≡ W.failures out.old) }
+{
+    let entry = basis.table.own_name_entry(directory, name);
+    write_name_level(out, basis, asked, directory, name, entry)?;
+    if entry.is_some() {
+        Ok(())
+    } else {
+        write_directory_levels(out, basis, asked, directory)
+    }
+}
+
+/// Writes how the judgement of a place came about, from the place upwards: a line for the name, if the place is no directory,
+/// and for its directory and each one above it, up to the one that has an entry, the root or a removed one.
+///
+/// # Errors
+///
+/// `Failed` where a write failed: the sink was given a beginning of the lines.
+#[tactic(auto, unfolding(pv_model::specs::Answers::Levels::levels))]
+pub(crate) fn write_levels<W: Sink>(
+    out: &mut W,
+    basis: &Basis<'_>,
+    asked: Perms,
+    place: &Place,
+) -> Result<(), Failed>
+    requires { IsTrue (is_directory_at basis.now.tree.now.tree (directory_of place.now)) }
+    ensures whole { OnOk result (W.written out.new ≡ and_all (W.written out.old) (answer_bytes (lines_of basis.now asked (levels basis.now.tree.now.tree (table_of basis.now) place.now)))) }
+    ensures beginning { OnErr result (TellsBeginning (answer_bytes (lines_of basis.now asked (levels basis.now.tree.now.tree (table_of basis.now) place.now))) (W.written out.old) (W.written out.new)) }
+    ensures failed { OnErr result (Rose (W.failures out.old) (W.failures out.new)) }
+    ensures quiet { OnOk result (W.failures out.new ≡ W.failures out.old) }
+{
+    match place {
+        Place::Node(node) => write_directory_levels(out, basis, asked, *node),
+        Place::At { dir, name, node } => match node {
+            None => write_name_levels(out, basis, asked, *dir, name.as_slice()),
+            Some(node) => {
+                if basis.tree.is_directory(*node) {
+                    write_directory_levels(out, basis, asked, *node)
+                } else {
+                    write_name_levels(out, basis, asked, *dir, name.as_slice())
+                }
+            }
+        },
+    }
+}

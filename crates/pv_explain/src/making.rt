@@ -1,0 +1,101 @@
+//! A step that is made, with what its lines tell of the state before it.
+ghost use Rattle.std.specs.Prelude.{◌≡◌, IfOk, IsTrue, OnErr};
+ghost use Rattle.pv_explain.specs.Made.{IsFit, IsMade, line_of};
+ghost use Rattle.pv_laws_states.specs.States.{is_call};
+ghost use Rattle.pv_model.specs.CallRef.{call_of};
+ghost use Rattle.pv_model.specs.State.{process_at};
+ghost use Rattle.pv_procs.specs.Turns.{CallsNext};
+ghost use Rattle.pv_session.specs.Stopping.{NextLoads};
+
+use crate::before::Before;
+use pv_calls_plain::answer::Answer;
+use pv_model::{CallRef, StepFault};
+use pv_procs::Fetched;
+use pv_script::CallTexts;
+use pv_session::Session;
+use std::alloc::Global;
+
+/// A call that was made, with what is told of the state before it.
+#[derive(Drop)]
+pub struct MadeCall<'a> {
+    /// The call.
+    pub call: CallRef<'a>,
+    /// What it answered.
+    pub answer: Answer,
+    /// What is told of the state before it.
+    pub before: Before,
+}
+
+/// A step that was made.
+#[derive(Drop)]
+pub enum MadeStep<'a> {
+    /// Of a process that is not live: nothing was made.
+    Gone,
+    /// On registers, by a process that stood at this line.
+    Register(u16),
+    /// A call.
+    Call(MadeCall<'a>),
+}
+
+impl<'a> MadeStep<'a> {
+    /// The line at which the process stood before it, where it was live.
+    pub fn line(&self) -> Option<u16>
+        ensures { result ≡ line_of self.now }
+    {
+        match self {
+            MadeStep::Gone => None,
+            MadeStep::Register(line) => Some(*line),
+            MadeStep::Call(made) => Some(made.before.line),
+        }
+    }
+}
+
+// Makes a call that comes next in a process.
+fn make_call<'a>(
+    alloc: Global,
+    session: &mut Session,
+    pid: u32,
+    call: CallRef<'a>,
+) -> Result<MadeStep<'a>, StepFault>
+    requires next { CallsNext call (process_at session.old pid) }
+    requires callable { IsTrue (is_call (call_of call)) }
+    ensures made { IfOk result (λ made. IsMade session.old pid made session.new) }
+    ensures fit { IfOk result (λ made. IsFit pid made session.new) }
+    ensures unchanged { OnErr result (session.new ≡ session.old) }
+    ensures memory { OnErr result (NextLoads session.old pid) }
+{
+    let before = Before::of(session.parts(), pid, call);
+    let answer = session.call(alloc, pid, call)?;
+    Ok(MadeStep::Call(MadeCall {
+        call,
+        answer,
+        before,
+    }))
+}
+
+/// Makes a step of a process, and keeps what its lines tell of the state before it. The texts of a call are kept in `texts`.
+///
+/// # Errors
+///
+/// `NoMemory` where memory was refused for the program of an execve(2); nothing has then changed.
+pub fn make_step<'a>(
+    alloc: Global,
+    session: &mut Session,
+    texts: &'a mut CallTexts,
+    pid: u32,
+) -> Result<MadeStep<'a>, StepFault>
+    ensures made { IfOk result (λ made. IsMade session.old pid made session.new) }
+    ensures fit { IfOk result (λ made. IsFit pid made session.new) }
+    ensures unchanged { OnErr result (session.new ≡ session.old) }
+    ensures memory { OnErr result (NextLoads session.old pid) }
+{
+    match session.fetch(pid, texts) {
+        Fetched::Gone => Ok(MadeStep::Gone),
+        Fetched::Register => {
+            let line = session.parts().record(pid).context.line();
+            session.register(pid);
+            Ok(MadeStep::Register(line))
+        }
+        Fetched::Call(call) => make_call(alloc, session, pid, call),
+    }
+}

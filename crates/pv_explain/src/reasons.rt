@@ -1,0 +1,378 @@
+//! Why a promise or a table decided.
+ghost use Rattle.std.specs.Prelude.{◌≡◌, codes, flat_map, map, IfSome, IsTrue, OnOk, OnErr, Some, option_copied};
+ghost use Rattle.std.specs.Result.{is_err};
+ghost use Rattle.pv_explain.specs.Basis.{set_of, sets_of, table_of};
+ghost use Rattle.pv_explain.specs.Parts.{increase_by, judgement_lines, promise_part, promise_reason_by, table_part, table_reasons, values_asked, widening_by, why};
+ghost use Rattle.pv_model.specs.Answers.Explain.{asked_set, increase_text, lack_text, need_text};
+ghost use Rattle.pv_model.specs.Answers.Lines.{answer_bytes, answer_line_bytes, keyword_list};
+ghost use Rattle.pv_model.specs.CallRef.{call_of};
+ghost use Rattle.pv_model.specs.Needs.{needs, needs_of_open};
+ghost use Rattle.pv_model.specs.Promises.{is_lenient, narrow_promises};
+ghost use Rattle.pv_model.specs.Stream.{Rose};
+ghost use Rattle.pv_model.specs.Tree.{is_directory_at};
+ghost use Rattle.pv_promises.specs.Pledge.{bits_of};
+ghost use Rattle.pv_streams.specs.Sinks.{and_all, TellsBeginning};
+ghost use Rattle.pv_trace.specs.Told.{promise_words_of, unveil_words_of};
+ghost use Rattle.pv_trace.specs.Words.{promise_verdict_of, unveil_verdict_of};
+ghost use Rattle.pv_unveil.specs.Up.{directory_of};
+
+use crate::levels::{Basis, EntryText, OriginText, write_levels};
+use pv_answers::{Fragment, Letters, Line as AnswerLine, Plain, Pledged};
+use pv_model::{CallRef, Mode, OpenFlags, Perms, Place, Promise, Promises, Text};
+use pv_promises::{Pledge, read_promises};
+use pv_streams::{Failed, Sink};
+use pv_trace::{
+    Line, LineBuffer, PromiseVerdict, UnveilVerdict, Word, write_call_name, write_line_on,
+};
+
+// The promises that an open needs, as a keyword list.
+fn needs_of_open(flags: OpenFlags) -> &'static [u8]
+    ensures { result.now ≡ keyword_list (map need_text (needs_of_open flags)) }
+{
+    match (flags.mode, flags.create) {
+        (Mode::Read, false) => b"\"rpath\"",
+        (Mode::Read, true) => b"\"rpath cpath\"",
+        (Mode::Write, false) => b"\"wpath\"",
+        (Mode::Write, true) => b"\"wpath cpath\"",
+        (Mode::ReadWrite, false) => b"\"rpath wpath\"",
+        (Mode::ReadWrite, true) => b"\"rpath wpath cpath\"",
+    }
+}
+
+// The promises that a call needs, as a keyword list: `rpath|wpath` where one of the two would do.
+#[tactic(auto, unfolding(pv_model::specs::Needs::needs))]
+fn needs_of(call: CallRef<'_>) -> &'static [u8]
+    ensures { result.now ≡ keyword_list (map need_text (needs (call_of call.entry))) }
+{
+    match call {
+        CallRef::Exit(_) | CallRef::Pledge(_, _) => b"\"\"",
+        CallRef::Fork => b"\"proc\"",
+        CallRef::Execve(_) => b"\"exec\"",
+        CallRef::Unveil(_, _) => b"\"unveil\"",
+        CallRef::Open(_, flags) | CallRef::OpenAt(_, _, flags) => needs_of_open(flags),
+        CallRef::Chdir(_) => b"\"rpath\"",
+        CallRef::Stat(_) | CallRef::Lstat(_) | CallRef::Readlink(_) => b"\"rpath|wpath\"",
+        CallRef::Mkdir(_)
+        | CallRef::Symlink(_, _)
+        | CallRef::Link(_, _)
+        | CallRef::Unlink(_)
+        | CallRef::Rmdir(_)
+        | CallRef::Rename(_, _) => b"\"cpath\"",
+        CallRef::GetPid
+        | CallRef::GetPpid
+        | CallRef::Wait
+        | CallRef::Close(_)
+        | CallRef::Dup(_)
+        | CallRef::Dup2(_, _)
+        | CallRef::Read(_, _)
+        | CallRef::Write(_, _)
+        | CallRef::Lseek(_, _, _)
+        | CallRef::Fstat(_)
+        | CallRef::Ftruncate(_, _)
+        | CallRef::Getdents(_)
+        | CallRef::Fchdir(_) => b"\"stdio\"",
+    }
+}
+
+// The set that a text asks for, where it asks for one.
+fn asked(text: Option<&Text>) -> Option<Promises>
+    ensures { bits_of result ≡ asked_set (option_copied text.entry) }
+{
+    match text {
+        Some(text) => read_promises(text.as_slice()).ok(),
+        None => None,
+    }
+}
+
+// Whether the first value of a pledge is refused.
+fn is_first_refused(pledge: Pledge, asked: Option<Promises>) -> bool
+    ensures { result ≡ is_err (narrow_promises (is_lenient pledge.promises) pledge.promises (bits_of asked)) }
+{
+    let mut narrowed = pledge;
+    narrowed.narrow(asked, None).is_err()
+}
+
+// The name of a call.
+#[derive(Clone, Copy)]
+struct CallName<'a>(CallRef<'a>);
+
+impl<'a> Fragment for CallName<'a> {
+    ghost use Rattle.pv_model.specs.CallRef.{call_of};
+    ghost use Rattle.pv_model.specs.Trace.{call_name};
+
+    ghost text = { λ p. call_name (call_of p.0) };
+
+    fn write<W: Sink>(&self, out: &mut W) -> Result<(), Failed> {
+        write_call_name(out, &mut LineBuffer::new(), self.0)
+    }
+}
+
+// Writes the line of what a call needs and what is held.
+#[tactic(auto, unfolding(pv_model::specs::Trace::text_line))]
+fn write_lack<W: Sink>(
+    out: &mut W,
+    pid: u32,
+    call: CallRef<'_>,
+    held: Option<Promises>,
+) -> Result<(), Failed>
+    ensures whole { OnOk result (W.written out.new ≡ and_all (W.written out.old) (answer_line_bytes (why pid (lack_text (call_of call.entry) (bits_of held))))) }
+    ensures beginning { OnErr result (TellsBeginning (answer_line_bytes (why pid (lack_text (call_of call.entry) (bits_of held)))) (W.written out.old) (W.written out.new)) }
+    ensures failed { OnErr result (Rose (W.failures out.old) (W.failures out.new)) }
+    ensures quiet { OnOk result (W.failures out.new ≡ W.failures out.old) }
+{
+    let line = AnswerLine {
+        pid,
+        word: *b"WHY ",
+        text: (
+            CallName(call),
+            Plain(b" needs "),
+            Plain(needs_of(call)),
+            Plain(b", has "),
+            Pledged(held),
+        ),
+    };
+    line.write(out)
+}
+
+// Writes the line of what was asked for one of two values, and what it was.
+#[tactic(auto, unfolding(pv_model::specs::Trace::text_line))]
+fn write_value<W: Sink>(
+    out: &mut W,
+    pid: u32,
+    what: &[u8],
+    asked: Option<Promises>,
+    held: Option<Promises>,
+) -> Result<(), Failed>
+    ensures whole { OnOk result (W.written out.new ≡ and_all (W.written out.old) (answer_line_bytes (why pid (increase_text what.now (bits_of asked) (bits_of held))))) }
+    ensures beginning { OnErr result (TellsBeginning (answer_line_bytes (why pid (increase_text what.now (bits_of asked) (bits_of held)))) (W.written out.old) (W.written out.new)) }
+    ensures failed { OnErr result (Rose (W.failures out.old) (W.failures out.new)) }
+    ensures quiet { OnOk result (W.failures out.new ≡ W.failures out.old) }
+{
+    let line = AnswerLine {
+        pid,
+        word: *b"WHY ",
+        text: (
+            Plain(what),
+            Plain(b" asked "),
+            Pledged(asked),
+            Plain(b", has "),
+            Pledged(held),
+        ),
+    };
+    line.write(out)
+}
+
+// What a pledge asks for, for itself and for what it executes: None of another call.
+fn values_asked(call: CallRef<'_>) -> Option<(Option<Promises>, Option<Promises>)>
+    ensures { sets_of result ≡ values_asked (call_of call.entry) }
+{
+    match call {
+        CallRef::Pledge(promises, execpromises) => Some((asked(promises), asked(execpromises))),
+        _ => None,
+    }
+}
+
+// Writes the line of which value of a pledge was refused, and why.
+#[tactic(auto, unfolding(pv_model::specs::Trace::text_line))]
+fn write_increase<W: Sink>(
+    out: &mut W,
+    pid: u32,
+    pledge: Pledge,
+    asked: Option<(Option<Promises>, Option<Promises>)>,
+) -> Result<(), Failed>
+    ensures whole { OnOk result (W.written out.new ≡ and_all (W.written out.old) (answer_line_bytes (why pid (increase_by pledge (sets_of asked))))) }
+    ensures beginning { OnErr result (TellsBeginning (answer_line_bytes (why pid (increase_by pledge (sets_of asked)))) (W.written out.old) (W.written out.new)) }
+    ensures failed { OnErr result (Rose (W.failures out.old) (W.failures out.new)) }
+    ensures quiet { OnOk result (W.failures out.new ≡ W.failures out.old) }
+{
+    let Some((promises, execpromises)) = asked else {
+        let line = AnswerLine {
+            pid,
+            word: *b"WHY ",
+            text: Plain(b""),
+        };
+        return line.write(out);
+    };
+    if is_first_refused(pledge, promises) {
+        write_value(out, pid, b"promises", promises, pledge.promises())
+    } else {
+        write_value(
+            out,
+            pid,
+            b"execpromises",
+            execpromises,
+            pledge.execpromises(),
+        )
+    }
+}
+
+// Writes the line of why a promise decided.
+fn write_promise_line<W: Sink>(
+    out: &mut W,
+    pid: u32,
+    pledge: Pledge,
+    call: CallRef<'_>,
+    verdict: PromiseVerdict,
+) -> Result<(), Failed>
+    ensures whole { OnOk result (W.written out.new ≡ and_all (W.written out.old) (answer_line_bytes (why pid (promise_reason_by pledge (call_of call.entry) (promise_verdict_of verdict))))) }
+    ensures beginning { OnErr result (TellsBeginning (answer_line_bytes (why pid (promise_reason_by pledge (call_of call.entry) (promise_verdict_of verdict)))) (W.written out.old) (W.written out.new)) }
+    ensures failed { OnErr result (Rose (W.failures out.old) (W.failures out.new)) }
+    ensures quiet { OnOk result (W.failures out.new ≡ W.failures out.old) }
+{
+    match verdict {
+        PromiseVerdict::Increase => write_increase(out, pid, pledge, values_asked(call)),
+        PromiseVerdict::Killed | PromiseVerdict::Refused => {
+            write_lack(out, pid, call, pledge.promises())
+        }
+    }
+}
+
+/// Writes the line of a promise that decided a call, and the reason: what the call needs and what was held, or what was asked
+/// and what was held. `pledge` is what the process had promised before the call.
+///
+/// # Errors
+///
+/// `Failed` where a write failed: the sink was given a beginning of the lines.
+#[tactic(auto, using(pv_streams::proofs::Telling::written_both, pv_streams::proofs::Telling::begins_first, pv_streams::proofs::Telling::begins_then, pv_streams::proofs::Telling::written_none))]
+pub(crate) fn write_promise_part<W: Sink>(
+    out: &mut W,
+    line_buffer: &mut LineBuffer,
+    pid: u32,
+    pledge: Pledge,
+    call: CallRef<'_>,
+    told: Option<(Promise, PromiseVerdict)>,
+) -> Result<(), Failed>
+    ensures whole { OnOk result (W.written out.new ≡ and_all (W.written out.old) (answer_bytes (flat_map (promise_part pid pledge (call_of call.entry)) (promise_words_of (call_of call.entry) told)))) }
+    ensures beginning { OnErr result (TellsBeginning (answer_bytes (flat_map (promise_part pid pledge (call_of call.entry)) (promise_words_of (call_of call.entry) told))) (W.written out.old) (W.written out.new)) }
+    ensures failed { OnErr result (Rose (W.failures out.old) (W.failures out.new)) }
+    ensures quiet { OnOk result (W.failures out.new ≡ W.failures out.old) }
+{
+    let Some((promise, verdict)) = told else {
+        return Ok(());
+    };
+    let line = Line {
+        pid,
+        word: Word::Pldg(call, promise, verdict),
+    };
+    write_line_on(out, line_buffer, &line)?;
+    write_promise_line(out, pid, pledge, call, verdict)
+}
+
+// Writes the line of an unveil that would widen an entry.
+#[tactic(auto, unfolding(pv_model::specs::Trace::text_line))]
+fn write_widening<W: Sink>(
+    out: &mut W,
+    basis: &Basis<'_>,
+    entry: u8,
+    asked: Perms,
+) -> Result<(), Failed>
+    ensures whole { OnOk result (W.written out.new ≡ and_all (W.written out.old) (answer_line_bytes (why basis.now.pid (widening_by (table_of basis.now) (set_of basis.now) entry asked)))) }
+    ensures beginning { OnErr result (TellsBeginning (answer_line_bytes (why basis.now.pid (widening_by (table_of basis.now) (set_of basis.now) entry asked))) (W.written out.old) (W.written out.new)) }
+    ensures failed { OnErr result (Rose (W.failures out.old) (W.failures out.new)) }
+    ensures quiet { OnOk result (W.failures out.new ≡ W.failures out.old) }
+{
+    let has = EntryText {
+        table: basis.table,
+        entry,
+    };
+    let origin = OriginText {
+        origins: basis.origins,
+        entry,
+    };
+    let line = AnswerLine {
+        pid: basis.pid,
+        word: *b"WHY ",
+        text: (has, Plain(b", asked "), Letters(asked), origin),
+    };
+    line.write(out)
+}
+
+// Writes the line of a locked table.
+#[tactic(auto, unfolding(pv_model::specs::Trace::text_line))]
+fn write_locked<W: Sink>(out: &mut W, pid: u32) -> Result<(), Failed>
+    ensures whole { OnOk result (W.written out.new ≡ and_all (W.written out.old) (answer_line_bytes (why pid (codes "the table is locked")))) }
+    ensures beginning { OnErr result (TellsBeginning (answer_line_bytes (why pid (codes "the table is locked"))) (W.written out.old) (W.written out.new)) }
+    ensures failed { OnErr result (Rose (W.failures out.old) (W.failures out.new)) }
+    ensures quiet { OnOk result (W.failures out.new ≡ W.failures out.old) }
+{
+    let line = AnswerLine {
+        pid,
+        word: *b"WHY ",
+        text: Plain(b"the table is locked"),
+    };
+    line.write(out)
+}
+
+// The lines of how the judgement of a place came about, where there is one.
+#[tactic(auto, using(pv_streams::proofs::Telling::written_none))]
+fn write_judgement<W: Sink>(
+    out: &mut W,
+    basis: &Basis<'_>,
+    asked: Perms,
+    place: Option<&Place>,
+) -> Result<(), Failed>
+    requires { IfSome place (λ place. IsTrue (is_directory_at basis.now.tree.now.tree (directory_of place.now))) }
+    ensures whole { OnOk result (W.written out.new ≡ and_all (W.written out.old) (answer_bytes (judgement_lines basis.now.tree.now.tree (table_of basis.now) (set_of basis.now) basis.now.pid asked (option_copied place.entry)))) }
+    ensures beginning { OnErr result (TellsBeginning (answer_bytes (judgement_lines basis.now.tree.now.tree (table_of basis.now) (set_of basis.now) basis.now.pid asked (option_copied place.entry))) (W.written out.old) (W.written out.new)) }
+    ensures failed { OnErr result (Rose (W.failures out.old) (W.failures out.new)) }
+    ensures quiet { OnOk result (W.failures out.new ≡ W.failures out.old) }
+{
+    match place {
+        Some(place) => write_levels(out, basis, asked, place),
+        None => Ok(()),
+    }
+}
+
+// The lines of why a table decided.
+fn write_table_reasons<W: Sink>(
+    out: &mut W,
+    basis: &Basis<'_>,
+    call: CallRef<'_>,
+    place: Option<&Place>,
+    verdict: UnveilVerdict,
+) -> Result<(), Failed>
+    requires { IfSome place (λ place. IsTrue (is_directory_at basis.now.tree.now.tree (directory_of place.now))) }
+    ensures whole { OnOk result (W.written out.new ≡ and_all (W.written out.old) (answer_bytes (table_reasons basis.now.tree.now.tree (table_of basis.now) (set_of basis.now) basis.now.pid (call_of call.entry) (option_copied place.entry) (unveil_verdict_of verdict)))) }
+    ensures beginning { OnErr result (TellsBeginning (answer_bytes (table_reasons basis.now.tree.now.tree (table_of basis.now) (set_of basis.now) basis.now.pid (call_of call.entry) (option_copied place.entry) (unveil_verdict_of verdict))) (W.written out.old) (W.written out.new)) }
+    ensures failed { OnErr result (Rose (W.failures out.old) (W.failures out.new)) }
+    ensures quiet { OnOk result (W.failures out.new ≡ W.failures out.old) }
+{
+    match (call, verdict) {
+        (_, UnveilVerdict::Locked) => write_locked(out, basis.pid),
+        (CallRef::Unveil(_, _), UnveilVerdict::EntryLacks(entry, asked)) => {
+            write_widening(out, basis, entry, asked)
+        }
+        (_, UnveilVerdict::EntryLacks(_, asked) | UnveilVerdict::NoEntry(asked)) => {
+            write_judgement(out, basis, asked, place)
+        }
+    }
+}
+
+/// Writes the line of a table that decided a call, and the reason: that it is locked, the entry that an unveil would widen, or
+/// how the judgement of the place of the call's last walk came about.
+///
+/// # Errors
+///
+/// `Failed` where a write failed: the sink was given a beginning of the lines.
+#[tactic(auto, using(pv_streams::proofs::Telling::written_both, pv_streams::proofs::Telling::begins_first, pv_streams::proofs::Telling::begins_then, pv_streams::proofs::Telling::written_none))]
+pub(crate) fn write_table_part<W: Sink>(
+    out: &mut W,
+    line_buffer: &mut LineBuffer,
+    basis: &Basis<'_>,
+    call: CallRef<'_>,
+    place: Option<&Place>,
+    verdict: UnveilVerdict,
+) -> Result<(), Failed>
+    requires { IfSome place (λ place. IsTrue (is_directory_at basis.now.tree.now.tree (directory_of place.now))) }
+    ensures whole { OnOk result (W.written out.new ≡ and_all (W.written out.old) (answer_bytes (flat_map (table_part basis.now.tree.now.tree (table_of basis.now) (set_of basis.now) basis.now.pid (call_of call.entry) (option_copied place.entry)) (unveil_words_of (Some verdict))))) }
+    ensures beginning { OnErr result (TellsBeginning (answer_bytes (flat_map (table_part basis.now.tree.now.tree (table_of basis.now) (set_of basis.now) basis.now.pid (call_of call.entry) (option_copied place.entry)) (unveil_words_of (Some verdict)))) (W.written out.old) (W.written out.new)) }
+    ensures failed { OnErr result (Rose (W.failures out.old) (W.failures out.new)) }
+    ensures quiet { OnOk result (W.failures out.new ≡ W.failures out.old) }
+{
+    let line = Line {
+        pid: basis.pid,
+        word: Word::Unvl(verdict),
+    };
+    write_line_on(out, line_buffer, &line)?;
+    write_table_reasons(out, basis, call, place, verdict)
+}

@@ -1,0 +1,228 @@
+-- The targets at which walks were judged, and what is kept of them, one walk more.
+use Rattle.std.proofs.Common.{◌≡◌, ◌∙◌, ℕ, Bool, true, false, cond, not, ◌&&◌, ◌||◌, bytes_eq, List, [], ◌∷◌, ◌++◌, map, append_assoc, refl, sym, ap, ap₂}
+use Rattle.std.specs.Prelude.{◌==◌}
+use Rattle.std.specs.List.{filter, list_any}
+use Rattle.std.proofs.lemmas.Bool.{and_parts, eq-eqb, eqb-true, or_parts}
+use Rattle.std.proofs.lemmas.List.{append-nil, map-append}
+use Rattle.std.proofs.lemmas.List.Elements.{filter-append}
+use Rattle.std.proofs.lemmas.Slice.Eq.{bytes_eq-Decides}
+use Rattle.pv_model.specs.declared.perms.Perms.{Perms}
+use Rattle.pv_model.specs.declared.target.Target.{Target}
+use Rattle.pv_model.specs.declared.target.Target.TheVariants.{Directory, Name}
+use Rattle.pv_model.specs.Answers.Needs.{Judged, permissions_asked, same_judged, targets_in, walks_to}
+use Rattle.pv_model.specs.Bytes.{Bytes}
+use Rattle.pv_model.specs.Unveil.{same_target}
+use Rattle.pv_needs.specs.declared.stints.KeptTarget.{KeptTarget}
+use Rattle.pv_needs.specs.declared.stints.Times.{Times}
+use Rattle.pv_needs.specs.Stints.{first_walk, kept_target, kept_targets, target_more, times_of, walk_more, walks_more}
+use Rattle.pv_needs.proofs.Times.{permissions-more, times-more}
+
+-- ---- targets that are one
+
+target-equal : (a b : Target) → same_target a b ≡ true → a ≡ b
+target-equal (Directory d) (Directory e) same = ap Directory (eqb-true d e same)
+target-equal (Directory d) (Name e name) same = cc same
+target-equal (Name d name) (Directory e) same = cc same
+target-equal (Name d name) (Name e other) same =
+    let parts = and_parts (d == e) (bytes_eq name other) same in ap₂ Name (eqb-true d e parts.0) ((bytes_eq-Decides name other).0 parts.1)
+
+bytes_eq-same : (name : List ℕ) → bytes_eq name name ≡ true
+bytes_eq-same name = (bytes_eq-Decides name name).1 refl
+
+target-same : (target : Target) → same_target target target ≡ true
+target-same (Directory d) = eq-eqb d d refl
+target-same (Name d name) = rw (eq-eqb d d refl, bytes_eq-same name) refl
+
+record AreOne (a b : Judged) : Type 0 where
+  target : a.target ≡ b.target
+  words : a.words ≡ b.words
+
+are-one : (a b : Judged) → same_judged a b ≡ true → AreOne a b
+are-one a b same =
+    let parts = and_parts (same_target a.target b.target) (bytes_eq a.words b.words) same in
+    record { target = target-equal a.target b.target parts.0; words = (bytes_eq-Decides a.words b.words).0 parts.1 }
+
+-- what is one with another is one with what that is one with
+alike : (a b x : Judged) → same_judged a b ≡ true → same_judged a x ≡ same_judged b x
+alike a b x same = let one = are-one a b same in ap₂ (λ (t : Target) (w : Bytes). same_target t x.target && bytes_eq w x.words) one.target one.words
+
+same-self : (a : Judged) → same_judged a a ≡ true
+same-self a = both (same_target a.target a.target) (bytes_eq a.words a.words) (target-same a.target) (bytes_eq-same a.words)
+  where
+    both : (x y : Bool) → x ≡ true → y ≡ true → (x && y) ≡ true
+    both true y p q = q
+    both false y p q = p
+
+same-back : (a b : Judged) → same_judged a b ≡ true → same_judged b a ≡ true
+same-back a b same = sym (alike a b a same) ∙ same-self a
+
+swapped : (a b : Judged) → same_judged a b ≡ false → same_judged b a ≡ false
+swapped a b apart = by (same_judged b a) refl
+  where
+    by : (x : Bool) → same_judged b a ≡ x → same_judged b a ≡ false
+    by true is = let back = same-back b a is in cc (back, apart)
+    by false is = is
+
+-- ---- targets, each once
+
+abbrev unlike : Judged → Judged → Bool
+unlike a b = not (same_judged a b)
+
+-- whether a target is one of others
+abbrev among : List Judged → Judged → Bool
+among ts w = list_any (λ t. same_judged t w) ts
+
+abbrev unless_among : Bool → List Judged → Judged → List Judged
+unless_among true ts w = ts
+unless_among false ts w = ts ++ w ∷ []
+
+among-one : (b : Bool) (t w : Judged) (fs ts : List Judged) → (b ≡ true → same_judged t w ≡ false) → among fs w ≡ among ts w
+    → among (cond (not b) (t ∷ fs) fs) w ≡ (same_judged t w || among ts w)
+among-one true t w fs ts apart same = same ∙ sym (ap (λ (x : Bool). x || among ts w) (apart refl))
+among-one false t w fs ts apart same = ap (λ (x : Bool). same_judged t w || x) same
+
+-- without those that are one with another target, the rest is as much among them
+among-kept : (v w : Judged) → same_judged v w ≡ false → (ts : List Judged) → among (filter (unlike v) ts) w ≡ among ts w
+among-kept v w apart [] = refl
+among-kept v w apart (t ∷ ts) =
+    among-one (same_judged v t) t w (filter (unlike v) ts) ts (λ is. sym (alike v t w is) ∙ apart) (among-kept v w apart ts)
+
+filter-one : (b : Bool) (v w : Judged) → same_judged v w ≡ b → filter (unlike v) (w ∷ []) ≡ cond (not b) (w ∷ []) []
+filter-one b v w is = ap (λ (x : Bool). cond (not x) (w ∷ []) []) is
+
+module _ (v w : Judged) where
+  cut-same : same_judged v w ≡ true → (b : Bool) (ts : List Judged) → filter (unlike v) (unless_among b ts w) ≡ filter (unlike v) ts
+  cut-same same true ts = refl
+  cut-same same false ts =
+      filter-append (unlike v) ts (w ∷ []) ∙ ap (λ (xs : List Judged). filter (unlike v) ts ++ xs) (filter-one true v w same) ∙ append-nil (filter (unlike v) ts)
+
+  cut-apart : same_judged v w ≡ false → (b : Bool) (ts : List Judged) → v ∷ filter (unlike v) (unless_among b ts w) ≡ unless_among b (v ∷ filter (unlike v) ts) w
+  cut-apart apart true ts = refl
+  cut-apart apart false ts =
+      ap (λ (xs : List Judged). v ∷ xs) (filter-append (unlike v) ts (w ∷ []) ∙ ap (λ (xs : List Judged). filter (unlike v) ts ++ xs) (filter-one false v w apart))
+
+  -- one target more, after the first
+  target-then : (b : Bool) → same_judged v w ≡ b → (ts : List Judged)
+      → v ∷ filter (unlike v) (unless_among (among ts w) ts w) ≡ unless_among (b || among (filter (unlike v) ts) w) (v ∷ filter (unlike v) ts) w
+  target-then true is ts = ap (λ (xs : List Judged). v ∷ xs) (cut-same is (among ts w) ts)
+  target-then false is ts =
+      cut-apart is (among ts w) ts ∙ ap (λ (x : Bool). unless_among x (v ∷ filter (unlike v) ts) w) (sym (among-kept v w is ts))
+
+-- the targets of walks, and one walk more
+targets-more : (ws : List (ℕ × Judged)) (w : ℕ × Judged) → targets_in (ws ++ w ∷ []) ≡ unless_among (among (targets_in ws) w.1) (targets_in ws) w.1
+targets-more [] w = refl
+targets-more (v ∷ ws) w =
+    ap (λ (ts : List Judged). v.1 ∷ filter (unlike v.1) ts) (targets-more ws w) ∙ target-then v.1 w.1 (same_judged v.1 w.1) refl (targets_in ws)
+
+-- ---- the walks to a target
+
+walks-more : (ws : List (ℕ × Judged)) (w : ℕ × Judged) (t : Judged) (b : Bool) → same_judged t w.1 ≡ b → walks_to t (ws ++ w ∷ []) ≡ walks_to t ws ++ cond b (w ∷ []) []
+walks-more ws w t b is =
+    filter-append (λ (v : ℕ × Judged). same_judged t v.1) ws (w ∷ []) ∙ ap (λ (x : Bool). walks_to t ws ++ cond x (w ∷ []) []) is
+
+-- none leads to what is not among the targets
+none-there : (ws : List (ℕ × Judged)) (w : Judged) → among (targets_in ws) w ≡ false → walks_to w ws ≡ []
+none-there [] w none = refl
+none-there (v ∷ ws) w none =
+    let parts = or_parts (same_judged v.1 w) (among (filter (unlike v.1) (targets_in ws)) w) none in
+    ap (λ (x : Bool). cond x (v ∷ walks_to w ws) (walks_to w ws)) (swapped v.1 w parts.0)
+    ∙ none-there ws w (sym (among-kept v.1 w parts.0 (targets_in ws)) ∙ parts.1)
+
+-- ---- no two targets are one
+
+abbrev AreApart : List Judged → Type 0
+AreApart [] = Unit {0}
+AreApart (t ∷ ts) = (list_any (same_judged t) ts ≡ false) × AreApart ts
+
+any-filter : (p q : Judged → Bool) (ts : List Judged) → list_any q ts ≡ false → list_any q (filter p ts) ≡ false
+any-filter p q [] none = refl
+any-filter p q (t ∷ ts) none = let parts = or_parts (q t) (list_any q ts) none in by (p t) parts.0 (any-filter p q ts parts.1)
+  where
+    by : (b : Bool) → q t ≡ false → list_any q (filter p ts) ≡ false → list_any q (cond b (t ∷ filter p ts) (filter p ts)) ≡ false
+    by true here rest = ap (λ (x : Bool). x || list_any q (filter p ts)) here ∙ rest
+    by false here rest = rest
+
+apart-filter : (p : Judged → Bool) (ts : List Judged) → AreApart ts → AreApart (filter p ts)
+apart-filter p [] apart = tt
+apart-filter p (t ∷ ts) apart = by (p t) (apart-filter p ts apart.1)
+  where
+    by : (b : Bool) → AreApart (filter p ts) → AreApart (cond b (t ∷ filter p ts) (filter p ts))
+    by true rest = (any-filter p (same_judged t) ts apart.0, rest)
+    by false rest = rest
+
+none-like : (v : Judged) (ts : List Judged) → list_any (same_judged v) (filter (unlike v) ts) ≡ false
+none-like v [] = refl
+none-like v (t ∷ ts) = by (same_judged v t) refl (none-like v ts)
+  where
+    by : (b : Bool) → same_judged v t ≡ b → list_any (same_judged v) (filter (unlike v) ts) ≡ false
+        → list_any (same_judged v) (cond (not b) (t ∷ filter (unlike v) ts) (filter (unlike v) ts)) ≡ false
+    by true is rest = rest
+    by false is rest = ap (λ (x : Bool). x || list_any (same_judged v) (filter (unlike v) ts)) is ∙ rest
+
+targets-apart : (ws : List (ℕ × Judged)) → AreApart (targets_in ws)
+targets-apart [] = tt
+targets-apart (v ∷ ws) = (none-like v.1 (targets_in ws), apart-filter (unlike v.1) (targets_in ws) (targets-apart ws))
+
+-- ---- what is kept
+
+module _ (ws : List (ℕ × Judged)) (line : ℕ) (w : Judged) where
+  abbrev later : List (ℕ × Judged)
+  later = ws ++ (line, w) ∷ []
+
+  -- of a target to which the walk does not lead
+  unmoved : (t : Judged) → same_judged t w ≡ false → kept_target later t ≡ kept_target ws t
+  unmoved t apart =
+      ap (λ (there : List (ℕ × Judged)). let it : KeptTarget = record { judged = record t { permissions = permissions_asked there }; times = times_of (map (λ v. v.0) there) } in it)
+      (walks-more ws (line, w) t false apart ∙ append-nil (walks_to t ws))
+
+  -- of the one to which it leads
+  moved : (t : Judged) → same_judged t w ≡ true → kept_target later t ≡ target_more (kept_target ws t) line w.permissions
+  moved t same =
+      ap (λ (there : List (ℕ × Judged)). let it : KeptTarget = record { judged = record t { permissions = permissions_asked there }; times = times_of (map (λ v. v.0) there) } in it)
+      (walks-more ws (line, w) t true same)
+      ∙ ap₂ (λ (p : Perms) (times : Times). let it : KeptTarget = record { judged = record t { permissions = p }; times = times } in it)
+      (permissions-more (walks_to t ws) (line, w))
+      (ap times_of (map-append (λ (v : ℕ × Judged). v.0) (walks_to t ws) ((line, w) ∷ [])) ∙ times-more (map (λ v. v.0) (walks_to t ws)) line)
+
+  -- of a target to which no walk has led
+  first : walks_to w ws ≡ [] → kept_target later w ≡ first_walk line w
+  first none =
+      ap (λ (there : List (ℕ × Judged)). let it : KeptTarget = record { judged = record w { permissions = permissions_asked there }; times = times_of (map (λ v. v.0) there) } in it)
+      (walks-more ws (line, w) w true (same-self w) ∙ ap (λ (vs : List (ℕ × Judged)). vs ++ (line, w) ∷ []) none)
+      ∙ ap (λ (p : Perms). let it : KeptTarget = record { judged = record w { permissions = p }; times = record { count = 1; last = line } } in it)
+      (permissions-more [] (line, w))
+
+  others : (t : Judged) → same_judged t w ≡ true → (ts : List Judged) → list_any (same_judged t) ts ≡ false → map (kept_target ws) ts ≡ map (kept_target later) ts
+  others t same [] apart = refl
+  others t same (u ∷ ts) apart =
+      let parts = or_parts (same_judged t u) (list_any (same_judged t) ts) apart in
+      ap₂ (λ (x : KeptTarget) (xs : List KeptTarget). x ∷ xs) (sym (unmoved u (swapped w u (sym (alike t w u same) ∙ parts.0)))) (others t same ts parts.1)
+
+  walk-in : (ts : List Judged) → AreApart ts → (among ts w ≡ false → walks_to w ws ≡ [])
+      → walk_more (map (kept_target ws) ts) line w ≡ map (kept_target later) (unless_among (among ts w) ts w)
+  walk-in [] apart none = ap (λ (x : KeptTarget). x ∷ []) (sym (first (none refl)))
+  walk-in (t ∷ ts) apart none = by (same_judged t w) refl (walk-in ts apart.1)
+    where
+      onto : (b : Bool) → t ∷ unless_among b ts w ≡ unless_among b (t ∷ ts) w
+      onto true = refl
+      onto false = refl
+
+      by : (b : Bool) → same_judged t w ≡ b
+          → ((among ts w ≡ false → walks_to w ws ≡ []) → walk_more (map (kept_target ws) ts) line w ≡ map (kept_target later) (unless_among (among ts w) ts w))
+          → cond b (target_more (kept_target ws t) line w.permissions ∷ map (kept_target ws) ts) (kept_target ws t ∷ walk_more (map (kept_target ws) ts) line w)
+          ≡ map (kept_target later) (unless_among (b || among ts w) (t ∷ ts) w)
+      by true is rest = ap₂ (λ (x : KeptTarget) (xs : List KeptTarget). x ∷ xs) (sym (moved t is)) (others t is ts apart.0)
+      by false is rest =
+          ap₂ (λ (x : KeptTarget) (xs : List KeptTarget). x ∷ xs) (sym (unmoved t is))
+          (rest (λ absent. none (ap (λ (x : Bool). x || among ts w) is ∙ absent)))
+          ∙ ap (map (kept_target later)) (onto (among ts w))
+
+  walk-kept : walk_more (kept_targets ws) line w ≡ kept_targets later
+  walk-kept = walk-in (targets_in ws) (targets-apart ws) (none-there ws w) ∙ ap (map (kept_target later)) (sym (targets-more ws (line, w)))
+
+-- the walks of a call, one after another
+pub walks-kept : (line : ℕ) (js : List Judged) (ws : List (ℕ × Judged)) → walks_more (kept_targets ws) line js ≡ kept_targets (ws ++ map (λ (w : Judged). (line, w)) js)
+walks-kept line [] ws = ap kept_targets (sym (append-nil ws))
+walks-kept line (w ∷ js) ws =
+    ap (λ (ts : List KeptTarget). walks_more ts line js) (walk-kept ws line w)
+    ∙ walks-kept line js (ws ++ (line, w) ∷ []) ∙ ap kept_targets (append_assoc ws ((line, w) ∷ []) (map (λ (v : Judged). (line, v)) js))

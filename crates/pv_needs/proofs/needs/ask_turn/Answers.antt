@@ -1,0 +1,15 @@
+use Rattle.std.proofs.Common.{◌∙◌, ap, sym}
+use Rattle.pv_model.specs.Step.{Run}
+use Rattle.pv_session.proofs.Turns.{turn_more}
+use Rattle.pv_needs.proofs.AskedRuns.{keeps-turn}
+use Rattle.pv_needs.proofs.needs.ask_turn.Goals as goal
+
+pub loop-preserved : goal.loop-preserved
+loop-preserved c = record {
+  after =
+      c.in_ok-ask_step.ensures.after
+      ∙ sym (ap (λ (r : Run). r.final) (turn_more c.args.session.now c.loop.session c.args.pid c.loop.counter c.loop.invariant.after));
+  kept =
+      keeps-turn c.args.session.now c.loop.session c.args.pid c.loop.counter c.args.kept.now c.loop.kept c.ask_step.new.kept c.loop.invariant.after c.loop.invariant.kept
+      c.in_ok-ask_step.ensures.kept;
+}

@@ -1,0 +1,10 @@
+use Rattle.std.proofs.Common.{length}
+use Rattle.pv_answers.proofs.Following.{records_after}
+use Rattle.pv_needs.proofs.TurnsTaken.{IsLeft}
+use Rattle.pv_needs.proofs.turns.turn_between.Given as goal
+
+abbrev pub invariant-loop-pid : goal.invariant-loop-pid
+invariant-loop-pid l = IsLeft l.initial.session l.after l.up_to l.last l.session
+
+abbrev pub decreases-loop-pid : goal.decreases-loop-pid
+decreases-loop-pid l = length (records_after l.last l.session.processes)

@@ -1,0 +1,4 @@
+pub mod Asking
+pub mod KeptLines
+pub mod Stints
+pub mod Turning

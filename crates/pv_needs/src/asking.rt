@@ -1,0 +1,151 @@
+//! What a call asks of its sandbox: the promises that it needs, and the walks that are judged.
+ghost use Rattle.std.specs.Prelude.{◌≡◌, filter_map, IfOk, IsSome, OnOk, Some};
+ghost use Rattle.pv_needs.specs.Asking.{ends_before, judged_begun};
+ghost use Rattle.pv_laws_states.specs.Courses.{is_unveil};
+ghost use Rattle.pv_laws_states.specs.States.{IsWhole};
+ghost use Rattle.pv_model.specs.Answers.Needs.{begins_program as begins_by_definition, promises_needed as needed_by_definition};
+ghost use Rattle.pv_model.specs.Answers.Nodes.{first_of, target_words};
+ghost use Rattle.pv_model.specs.CallRef.{call_of, walk_of};
+ghost use Rattle.pv_model.specs.Needs.{needs_of_open};
+ghost use Rattle.pv_model.specs.State.{Process, process_at};
+
+use crate::stints::{JudgedWalk, JudgedWalks};
+use pv_answers::write_target;
+use pv_calls_path::ends::end_of;
+use pv_calls_path::unveil::target_of;
+use pv_calls_state::Parts;
+use pv_model::{CallRef, Mode, OpenFlags, Outcome, Promise, Target, Walk, Walks};
+use pv_streams::Gathered;
+use pv_tree::Tree;
+use std::alloc::{AllocError, Global};
+
+// The promises that an open needs.
+fn needed_to_open(flags: OpenFlags) -> &'static [Promise]
+    ensures { result.now ≡ filter_map first_of (needs_of_open flags) }
+{
+    match (flags.mode, flags.create) {
+        (Mode::Read, false) => &[Promise::Rpath],
+        (Mode::Read, true) => &[Promise::Rpath, Promise::Cpath],
+        (Mode::Write, false) => &[Promise::Wpath],
+        (Mode::Write, true) => &[Promise::Wpath, Promise::Cpath],
+        (Mode::ReadWrite, false) => &[Promise::Rpath, Promise::Wpath],
+        (Mode::ReadWrite, true) => &[Promise::Rpath, Promise::Wpath, Promise::Cpath],
+    }
+}
+
+/// The promises that a call needs: of two of which one would do, the first.
+#[tactic(auto, unfolding(pv_model::specs::Needs::needs))]
+pub(crate) fn promises_needed(call: CallRef<'_>) -> &'static [Promise]
+    ensures { result.now ≡ needed_by_definition (call_of call.entry) }
+{
+    match call {
+        CallRef::Exit(_) | CallRef::Pledge(_, _) => &[],
+        CallRef::Fork => &[Promise::Proc],
+        CallRef::Execve(_) => &[Promise::Exec],
+        CallRef::Unveil(_, _) => &[Promise::Unveil],
+        CallRef::Open(_, flags) | CallRef::OpenAt(_, _, flags) => needed_to_open(flags),
+        CallRef::Chdir(_) | CallRef::Stat(_) | CallRef::Lstat(_) | CallRef::Readlink(_) => {
+            &[Promise::Rpath]
+        }
+        CallRef::Mkdir(_)
+        | CallRef::Symlink(_, _)
+        | CallRef::Link(_, _)
+        | CallRef::Unlink(_)
+        | CallRef::Rmdir(_)
+        | CallRef::Rename(_, _) => &[Promise::Cpath],
+        CallRef::GetPid
+        | CallRef::GetPpid
+        | CallRef::Wait
+        | CallRef::Close(_)
+        | CallRef::Dup(_)
+        | CallRef::Dup2(_, _)
+        | CallRef::Read(_, _)
+        | CallRef::Write(_, _)
+        | CallRef::Lseek(_, _, _)
+        | CallRef::Fstat(_)
+        | CallRef::Ftruncate(_, _)
+        | CallRef::Getdents(_)
+        | CallRef::Fchdir(_) => &[Promise::Stdio],
+    }
+}
+
+/// Whether a call that had this outcome has begun a program.
+pub(crate) fn begins_program(call: CallRef<'_>, outcome: Outcome) -> bool
+    ensures { result ≡ begins_by_definition (call_of call.entry) outcome }
+{
+    match (call, outcome) {
+        (CallRef::Execve(_), Outcome::Value(_)) => true,
+        _ => false,
+    }
+}
+
+// A target in words.
+fn words_of(alloc: Global, tree: &Tree, target: &Target) -> Result<Vec<u8>, AllocError>
+    ensures { IfOk result (λ words. words.items ≡ target_words tree.now.tree target.now) }
+{
+    let mut words = Gathered::new(alloc);
+    match write_target(&mut words, tree, target) {
+        Ok(()) => Ok(words.bytes),
+        Err(_) => Err(AllocError),
+    }
+}
+
+// What a walk asks in the state as it is: nothing where it is not begun, or ends at no place.
+fn judged(
+    alloc: Global,
+    parts: &Parts,
+    pid: u32,
+    walk: Walk<'_>,
+) -> Result<Option<JudgedWalk>, AllocError>
+    requires whole { IsWhole parts.now }
+    requires live { IsSome (process_at parts.now pid) }
+    ensures { IfOk result (λ found. (me : Process) → process_at parts.now pid ≡ Some me → found ≡ judged_begun parts.now pid me (walk_of walk.entry)) }
+{
+    let Some(place) = end_of(parts, pid, walk) else {
+        return Ok(None);
+    };
+    let target = target_of(parts.tree(), place);
+    let words = words_of(alloc, parts.tree(), &target)?;
+    Ok(Some(JudgedWalk::new(target, words, walk.needed)))
+}
+
+// Whether a call is an unveil: its walk is not judged.
+fn is_unveil(call: CallRef<'_>) -> bool
+    ensures { result ≡ is_unveil (call_of call.entry) }
+{
+    match call {
+        CallRef::Unveil(_, _) => true,
+        _ => false,
+    }
+}
+
+/// What the walks of a call that a live process makes would ask, in the state before it. An unveil's walk is not judged.
+///
+/// # Errors
+///
+/// Where there is no memory for the words.
+pub(crate) fn judged_walks(
+    alloc: Global,
+    parts: &Parts,
+    pid: u32,
+    call: CallRef<'_>,
+) -> Result<JudgedWalks, AllocError>
+    requires whole { IsWhole parts.now }
+    requires live { IsSome (process_at parts.now pid) }
+    ensures { IfOk result (λ walks. (me : Process) → process_at parts.now pid ≡ Some me → walks ≡ ends_before parts.now pid me (call_of call.entry)) }
+{
+    if is_unveil(call) {
+        return Ok(JudgedWalks::none());
+    }
+    match call.walks() {
+        Walks::Zero => Ok(JudgedWalks::none()),
+        Walks::One(walk) => Ok(JudgedWalks {
+            first: judged(alloc, parts, pid, walk)?,
+            second: None,
+        }),
+        Walks::Two(first, second) => Ok(JudgedWalks {
+            first: judged(alloc, parts, pid, first)?,
+            second: judged(alloc, parts, pid, second)?,
+        }),
+    }
+}
