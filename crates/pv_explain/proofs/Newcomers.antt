@@ -89,8 +89,8 @@ module _ (s : State) (pid : ℕ) (me : Process) (call : Call) (order : IsInOrder
       (λ other. inl (lives.0, sym (process_at-other s (suc s.last_process) (child s pid me) k other) ∙ lives.1)) (cases_eq k (suc s.last_process))
 
   came : (k : ℕ) (after : State) (r : Reply) → HasEffect s pid me call after r → IsLive after k → Came k r
-  came k _ _ (stays r) lives = inl lives
-  came k _ _ (restrains q r no_more same table goes) lives = own q r k lives
+  came k _ _ (stays r waiting) lives = inl lives
+  came k _ _ (restrains q r no_more same parent table goes) lives = own q r k lives
   came k _ _ (begins path program is) lives = own (with_program s pid me program) (returns 0) k lives
   came k _ _ (closes d) lives = own _ (returns 0) k lives
   came k _ _ (copies d x n is) lives = own _ (returns n) k lives

@@ -59,8 +59,8 @@ module _ (s : State) (pid : ℕ) (me : Process) (call : Call) (order : IsInOrder
       found-live (record s { processes = where_key nat_cmp (λ other. not (other == k)) s.processes }) j p (filtered-found (λ r. not (r.0 == k)) s.processes j (live p) there (ap not (ne_eqb j k other)))
 
   pub caller : (after : State) (r : Reply) → HasEffect s pid me call after r → HasNoMore me pid call after r
-  caller _ _ (stays r) = itself r
-  caller _ _ (restrains q r no_more same table goes) = becomes s q r no_more table
+  caller _ _ (stays r waiting) = itself r
+  caller _ _ (restrains q r no_more same parent table goes) = becomes s q r no_more table
   caller _ _ (begins path program is) = (
     with_program s pid me program,
     process_at-same s pid (with_program s pid me program),
@@ -83,8 +83,8 @@ module _ (s : State) (pid : ℕ) (me : Process) (call : Call) (order : IsInOrder
 
   -- each other live process stays as it is
   pub other : (k : ℕ) (p : Process) → k ≢ pid → process_at s k ≡ Some p → (after : State) (r : Reply) → HasEffect s pid me call after r → process_at after k ≡ Some p
-  other k p apart there _ _ (stays r) = there
-  other k p apart there _ _ (restrains q r no_more same table goes) = process_at-other s pid q k apart ∙ there
+  other k p apart there _ _ (stays r waiting) = there
+  other k p apart there _ _ (restrains q r no_more same parent table goes) = process_at-other s pid q k apart ∙ there
   other k p apart there _ _ (begins path program is) = process_at-other s pid (with_program s pid me program) k apart ∙ there
   other k p apart there _ _ (closes d) = process_at-other s pid _ k apart ∙ there
   other k p apart there _ _ (copies d x n is) = process_at-other s pid _ k apart ∙ there

@@ -16,9 +16,9 @@ use Rattle.pv_laws_access.proofs.EffectByTree.{does-mkdir, does-symlink, does-li
 
 pub does-effect : (program_of : Bytes → Option Program) (s : State) (pid : ℕ) (me : Process) (call : Call) → Leads (Did s pid me call) (effect program_of s pid me call)
 unfolding effect
-does-effect program_of s pid me (Exit code) = stays (ends (exit_status code))
-does-effect program_of s pid me GetPid = stays (returns pid)
-does-effect program_of s pid me GetPpid = stays (returns me.parent)
+does-effect program_of s pid me (Exit code) = stays (ends (exit_status code)) (λ no. cc no)
+does-effect program_of s pid me GetPid = stays (returns pid) (λ no. cc no)
+does-effect program_of s pid me GetPpid = stays (returns me.parent) (λ no. cc no)
 does-effect program_of s pid me Fork = does-fork s pid me
 does-effect program_of s pid me Wait = does-wait s pid me
 does-effect program_of s pid me (Pledge promises execpromises) = does-pledge s pid me promises execpromises

@@ -46,7 +46,7 @@ module _ (s : State) (pid : ℕ) (me : Process) where
       (answers (record (with_process s (suc s.last_process) (child s pid me)) { last_process = suc s.last_process }) (suc s.last_process)) (forks refl)
 
   does-reap : (ss : List (ℕ × ℕ)) → statuses (children s pid me) ≡ ss → Leads (D TheCall.Wait) (reap s pid me ss)
-  does-reap [] is = stays waits
+  does-reap [] is = stays waits (λ waiting. refl)
   does-reap ((k, status) ∷ rs) is =
       reaps k (returns_bytes k (little_endian 4 status))
       (λ sorted. let ended = first-ended s.processes (λ (r : ℕ × ProcessRecord). parent_of r.1 == pid) sorted k status rs is in (ended.0, status, ended.1)) refl
@@ -76,7 +76,7 @@ module _ (s : State) (pid : ℕ) (me : Process) where
           table = table-itself me.table;
           lock = λ is. is;
           closed = λ is. refl;
-        }) refl (λ no. (refl, refl)) refl))))
+        }) refl refl (λ no. (refl, refl)) refl))))
 
   with_table : (table : Table) → me.locked ≡ false → KeepsEntries (entries_of_table me.table) table → MayDoNoMore me (record me { table = Some table })
   with_table table unlocked keeps = record {
@@ -90,7 +90,7 @@ module _ (s : State) (pid : ℕ) (me : Process) where
   pub does-unveil : (path permissions : Option Bytes) → Leads (D (TheCall.Unveil path permissions)) (unveil s pid me path permissions)
   does-unveil None None =
       restrains (record me { locked = true }) (returns 0)
-      (record { promises = gains-self me.promises; execpromises = gains-self me.execpromises; table = table-itself me.table; lock = λ is. refl; closed = λ is. refl }) refl (λ no. cc no) refl
+      (record { promises = gains-self me.promises; execpromises = gains-self me.execpromises; table = table-itself me.table; lock = λ is. refl; closed = λ is. refl }) refl refl (λ no. cc no) refl
   does-unveil None (Some permissions) = tt
   does-unveil (Some path) None = tt
   does-unveil (Some path) (Some text) =
@@ -100,7 +100,7 @@ module _ (s : State) (pid : ℕ) (me : Process) where
       leads-walk (D C) s me.directory Last path (Rests.unveil_2 s pid me permissions) (λ place found.
       leads-bind (D C) (KeepsEntries (entries_of_table me.table)) (add_target s pid me (target_of s.tree place) permissions) (Rests.unveil_3 s pid me)
       (leads-add_entry (entries_of_table me.table) (target_of s.tree place) permissions (entry_for (entries_of_table me.table) (target_of s.tree place)) refl) (λ table keeps.
-      restrains (record me { table = Some table }) (returns 0) (with_table table unlocked keeps) refl (λ no. cc no) refl))))
+      restrains (record me { table = Some table }) (returns 0) (with_table table unlocked keeps) refl refl (λ no. cc no) refl))))
 
   pub does-execve : (program_of : Bytes → Option Program) (path : Bytes) → Leads (D (TheCall.Execve path)) (execve s pid me program_of path)
   does-execve program_of path =
@@ -113,7 +113,7 @@ module _ (s : State) (pid : ℕ) (me : Process) where
   -- paths
 
   goes : (call : Call) (n : ℕ) → HasEffect s pid me call (with_process s pid (record me { directory = n })) (returns 0)
-  goes call n = restrains (record me { directory = n }) (returns 0) (no_more-same me (record me { directory = n }) refl refl refl refl) refl (λ no. (refl, refl)) refl
+  goes call n = restrains (record me { directory = n }) (returns 0) (no_more-same me (record me { directory = n }) refl refl refl refl) refl refl (λ no. (refl, refl)) refl
 
   pub does-chdir : (path : Bytes) → Leads (D (TheCall.Chdir path)) (chdir s pid me path)
   does-chdir path =
@@ -125,19 +125,19 @@ module _ (s : State) (pid : ℕ) (me : Process) where
   pub does-stat : (call : Call) (follow : Follow) (path : Bytes) → Leads (D call) (stat_at s pid me (from_here follow path permission_r))
   does-stat call follow path =
       leads-place (D call) s me me.directory follow path permission_r (Rests.stat_1 s pid me) (λ place found.
-      leads-demand (D call) ENOENT (node_of place) (λ n. answers_bytes s 0 (status s.tree n)) (λ n is. stays (returns_bytes 0 (status s.tree n))))
+      leads-demand (D call) ENOENT (node_of place) (λ n. answers_bytes s 0 (status s.tree n)) (λ n is. stays (returns_bytes 0 (status s.tree n)) (λ no. cc no)))
 
   pub does-readlink : (path : Bytes) → Leads (D (TheCall.Readlink path)) (readlink s pid me path)
   does-readlink path =
       let C : Call = TheCall.Readlink path in
       leads-place (D C) s me me.directory Keep path permission_r (Rests.readlink_1 s pid me) (λ place found.
       leads-demand (D C) ENOENT (node_of place) (Rests.readlink_2 s pid me) (λ n is.
-      leads-demand (D C) EINVAL (link_text (node_at s.tree n)) (λ text. answers_bytes s (length text) text) (λ text link. stays (returns_bytes (length text) text))))
+      leads-demand (D C) EINVAL (link_text (node_at s.tree n)) (λ text. answers_bytes s (length text) text) (λ text link. stays (returns_bytes (length text) text) (λ no. cc no))))
 
   -- descriptors
 
   pub does-fstat : (d : ℤ) → Leads (D (TheCall.Fstat d)) (fstat s pid me d)
-  does-fstat d = leads-demand (D (TheCall.Fstat d)) EBADF (open_file s me d) (λ (k, file). answers_bytes s 0 (status s.tree file.node)) (λ f is. stays (returns_bytes 0 (status s.tree f.1.node)))
+  does-fstat d = leads-demand (D (TheCall.Fstat d)) EBADF (open_file s me d) (λ (k, file). answers_bytes s 0 (status s.tree file.node)) (λ f is. stays (returns_bytes 0 (status s.tree f.1.node)) (λ no. cc no))
 
   pub does-fchdir : (d : ℤ) → Leads (D (TheCall.Fchdir d)) (fchdir s pid me d)
   does-fchdir d =
@@ -162,7 +162,7 @@ module _ (s : State) (pid : ℕ) (me : Process) where
       leads-demand (D C) EBADF (descriptor_at me d) (Rests.dup2_1 s pid me d e) (λ x is.
       leads-demand (D C) EBADF (within 15 e) (Rests.dup2_2 s pid me d x) (λ number low.
       elim (is_number d number) as (λ b. HasEffect s pid me C (if b then s else with_process s pid (record me { descriptors = with_number me.descriptors number (record x { close_on_exec = false }) })) (returns number)) [
-        | true ↦ stays (returns number)
+        | true ↦ stays (returns number) (λ no. cc no)
         | false ↦ copies d x number is
       ]))
 
@@ -193,5 +193,5 @@ module _ (s : State) (pid : ℕ) (me : Process) where
       (listed k file is (open_file-at s me d k file is) (next_name file.listed (entries_at s.tree file.node))))
     where
       listed : (k : ℕ) (file : OpenFile) → open_file s me d ≡ Some (k, file) → Rattle.pv_model.specs.Numbered.at_number s.files k ≡ Some file → (o : Option Bytes) → Leads (D (TheCall.Getdents d)) (list_name s pid me k file o)
-      listed k file is there None = stays (returns_bytes 0 [])
+      listed k file is there None = stays (returns_bytes 0 []) (λ no. cc no)
       listed k file is there (Some name) = moves k file (record file { listed = Some name }) (returns_bytes (length name) name) there refl refl (d, refl, is) refl

@@ -153,7 +153,7 @@ module _ (s : State) (pid : ℕ) (me : Process) where
       leads-demand (D C) EBUSY (name_of old_place) (Rests.rename_4 s pid me new_place n) (λ p old_named.
       leads-demand (D C) EBUSY (name_of new_place) (Rests.rename_5 s pid me new_place n p) (λ q new_named.
       elim (same_node (node_of new_place) n) as (λ b. Leads (D C) (if b then answers s 0 else move_entry s pid me n p.0 p.1 q.0 q.1 (node_of new_place))) [
-        | true ↦ stays (returns 0)
+        | true ↦ stays (returns 0) (λ no. cc no)
         | false ↦ does-move C old_place new_place n p q (node_of new_place)
             (changing C Keep path old_place p (first-place ends (rename_walk path) (rename_walk new ∷ []) old_place (ap place_found old_found))
             (λ texts. (and_parts (is_text path) (is_text new) texts).0) old_found old_allowed old_named (rename-needs path new))
@@ -165,7 +165,7 @@ module _ (s : State) (pid : ℕ) (me : Process) where
 
   does-written : (d n : ℤ) (k : ℕ) (file : OpenFile) (count : ℕ) → WritesBy s me (TheCall.Write d n) file.node → open_file s me d ≡ Some (k, file) → Rattle.pv_model.specs.Numbered.at_number s.files k ≡ Some file
       → HasEffect s pid me (TheCall.Write d n) (after_write s pid me k file count) (returns count)
-  does-written d n k file zero has is there = stays (returns 0)
+  does-written d n k file zero has is there = stays (returns 0) (λ no. cc no)
   does-written d n k file (suc m) has is there =
       let bytes = take (suc m) me.buffer in
       writes_bytes file.node (overwrite (bytes_of (node_at s.tree file.node)) (write_place s pid me file) bytes) k file (record file { offset = write_place s pid me file + length bytes }) (suc m) has there refl refl (d, refl, is)

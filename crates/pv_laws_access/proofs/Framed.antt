@@ -77,8 +77,8 @@ module _ (s : State) (pid k : ℕ) (left : OpenFile) where
         (cases_eq k (least_free s.files))
 
     came-does : (after : State) (r : Reply) → HasEffect.HasEffect y pid now call after r → at_number after.files k ≡ Some left → Came
-    came-does _ _ (HasEffect.stays r) is = as_it_was left is
-    came-does _ _ (HasEffect.restrains q r no_more same table goes) is = as_it_was left is
+    came-does _ _ (HasEffect.stays r waiting) is = as_it_was left is
+    came-does _ _ (HasEffect.restrains q r no_more same parent table goes) is = as_it_was left is
     came-does _ _ (HasEffect.begins path program new) is = as_it_was left is
     came-does _ _ (HasEffect.closes d) is = as_it_was left is
     came-does _ _ (HasEffect.copies d x n found) is = as_it_was left is

@@ -76,8 +76,8 @@ module _ (s : State) (pid : ℕ) (me : Process) (call : Call) (k : ℕ) (file : 
 
   -- what a call leaves
   left-does : (after : State) (r : Reply) → HasEffect s pid me call after r → IsLeft Own after.files k file
-  left-does _ _ (stays r) = as_it_is
-  left-does _ _ (restrains q r no_more same table goes) = as_it_is
+  left-does _ _ (stays r waiting) = as_it_is
+  left-does _ _ (restrains q r no_more same parent table goes) = as_it_is
   left-does _ _ (begins path program is) = as_it_is
   left-does _ _ (closes d) = as_it_is
   left-does _ _ (copies d x n is) = as_it_is

@@ -5,7 +5,7 @@ use Rattle.std.specs.Prelude.{Contains, filter_map}
 use Rattle.std.specs.FinMap.Entries.{find, is_sorted, where_key}
 use Rattle.std.specs.Ordering.{nat_cmp}
 use Rattle.pv_model.specs.declared.call.Call.{Call}
-use Rattle.pv_model.specs.declared.call.Call.TheVariants.{Execve, Fork}
+use Rattle.pv_model.specs.declared.call.Call.TheVariants.{Execve, Fork, Wait}
 use Rattle.pv_model.specs.declared.follow.Follow.{Follow}
 use Rattle.pv_model.specs.declared.judgement.Judgement.{Judgement}
 use Rattle.pv_model.specs.declared.judgement.Judgement.TheVariants.{Allowed, Hidden, Denied}
@@ -62,10 +62,10 @@ module _ (s : State) (pid : ℕ) (me : Process) (call : Call) where
   IsOwnFile k file = (d : ℤ) × (descriptor_of call ≡ Some d) × (open_file s me d ≡ Some (k, file))
 
   pub data HasEffect : State → Reply → Type 0 where
-    -- nothing, or its end
-    stays : (r : Reply) → HasEffect s r
+    -- nothing, or its end; and a wait may wait
+    stays : (r : Reply) → (r ≡ waits → call ≡ Wait) → HasEffect s r
     -- it narrows its restraints, or goes elsewhere
-    restrains : (q : Process) (r : Reply) → MayDoNoMore me q → q.descriptors ≡ me.descriptors → (is_unveil call ≡ false → (q.table ≡ me.table) × (q.locked ≡ me.locked)) → goes_on r ≡ true
+    restrains : (q : Process) (r : Reply) → MayDoNoMore me q → q.descriptors ≡ me.descriptors → q.parent ≡ me.parent → (is_unveil call ≡ false → (q.table ≡ me.table) × (q.locked ≡ me.locked)) → goes_on r ≡ true
         → HasEffect (with_process s pid q) r
     begins : (path : Bytes) (program : Program) → call ≡ Execve path → HasEffect (with_process s pid (with_program s pid me program)) (returns 0)
     -- a descriptor less, or one more of the same open file
@@ -103,8 +103,8 @@ module _ (s : State) (pid : ℕ) (me : Process) (call : Call) where
 
   -- a call that ends its process leaves the rest to the end
   pub ends-stays : (after : State) (r : Reply) (status : ℕ) → HasEffect after r → r ≡ ends status → after ≡ s
-  ends-stays _ _ status (stays r) is = refl
-  ends-stays _ _ status (restrains q r no_more same table goes) is = let on = ap goes_on is in cc
+  ends-stays _ _ status (stays r waiting) is = refl
+  ends-stays _ _ status (restrains q r no_more same parent table goes) is = let on = ap goes_on is in cc
   ends-stays _ _ status (begins path program new) is = cc
   ends-stays _ _ status (closes d) is = cc
   ends-stays _ _ status (copies d x n found) is = cc

@@ -171,8 +171,8 @@ module _ (s : State) (pid : ℕ) (me : Process) (call : Call) (whole : IsWhole s
         (λ other. absurd (differs (ap (λ (t : Tree). find_entry t d name) is ∙ entry-new_other s.tree p node dir bare below d name other))) (cases_entry d p.0 name p.1)
 
     pub entries-by : (after : State) (r : Reply) → HasEffect.HasEffect s pid me call after r → IsTree after.tree → Differs after.tree → E
-    entries-by _ _ (HasEffect.stays r) tree differs = absurd (differs refl)
-    entries-by _ _ (HasEffect.restrains q r no_more same table goes) tree differs = absurd (differs refl)
+    entries-by _ _ (HasEffect.stays r waiting) tree differs = absurd (differs refl)
+    entries-by _ _ (HasEffect.restrains q r no_more same parent table goes) tree differs = absurd (differs refl)
     entries-by _ _ (HasEffect.begins path program is) tree differs = absurd (differs refl)
     entries-by _ _ (HasEffect.closes n) tree differs = absurd (differs refl)
     entries-by _ _ (HasEffect.copies e x n is) tree differs = absurd (differs refl)
@@ -230,8 +230,8 @@ module _ (s : State) (pid : ℕ) (me : Process) (call : Call) (whole : IsWhole s
         stays-same u (ap (λ (t : Tree). node_at t f) is ∙ file-new s.tree p node dir bare below f file) changes
 
     pub files-by : (after : State) (r : Reply) → HasEffect.HasEffect s pid me call after r → IsTree after.tree → Changes after.tree → W f
-    files-by _ _ (HasEffect.stays r) tree changes = absurd (changes refl)
-    files-by _ _ (HasEffect.restrains q r no_more same table goes) tree changes = absurd (changes refl)
+    files-by _ _ (HasEffect.stays r waiting) tree changes = absurd (changes refl)
+    files-by _ _ (HasEffect.restrains q r no_more same parent table goes) tree changes = absurd (changes refl)
     files-by _ _ (HasEffect.begins path program is) tree changes = absurd (changes refl)
     files-by _ _ (HasEffect.closes n) tree changes = absurd (changes refl)
     files-by _ _ (HasEffect.copies e x n is) tree changes = absurd (changes refl)

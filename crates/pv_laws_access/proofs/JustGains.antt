@@ -162,8 +162,8 @@ module _ (s : State) (pid : ℕ) (me : Process) (call : Call) (order : IsInOrder
       (with_number-was s.files (least_free s.files) (new_open_file flags m) opens.descriptor.file opens.file opens.opened)
 
   pub gains-by : (after : State) (r : Reply) → HasEffect.HasEffect s pid me call after r → (q : Process) → process_at after pid ≡ Some q → NowOpens after.files q.descriptors → J
-  gains-by _ _ (HasEffect.stays r) q there opens = by_same q there opens
-  gains-by _ _ (HasEffect.restrains p r no_more same table goes) q there opens = absurd (not_open (subst (NowOpens s.files) same (by_change s p q there s.files opens)))
+  gains-by _ _ (HasEffect.stays r waiting) q there opens = by_same q there opens
+  gains-by _ _ (HasEffect.restrains p r no_more same parent table goes) q there opens = absurd (not_open (subst (NowOpens s.files) same (by_change s p q there s.files opens)))
   gains-by _ _ (HasEffect.begins path program is) q there opens =
       let now = by_change s _ q there s.files opens in
       absurd (not_open (record { number = now.number; descriptor = now.descriptor; file = now.file; there = kept_descriptor me.descriptors now.number now.descriptor now.there; opened = now.opened; node = now.node; mode_is = now.mode_is }))

@@ -258,8 +258,8 @@ module _ (s : State) (pid : ℕ) (me : Process) (call : Call) (whole : IsWhole s
   many u tree same = tree.well_formed.numbers ∙ ap suc same ∙ sym whole.tree.well_formed.numbers
 
   kinds-by : (after : State) (r : Reply) → HasEffect.HasEffect s pid me call after r → IsTree after.tree → is_directory_at after.tree n ≡ is_directory_at s.tree n
-  kinds-by _ _ (HasEffect.stays r) tree = refl
-  kinds-by _ _ (HasEffect.restrains q r no_more same table goes) tree = refl
+  kinds-by _ _ (HasEffect.stays r waiting) tree = refl
+  kinds-by _ _ (HasEffect.restrains q r no_more same parent table goes) tree = refl
   kinds-by _ _ (HasEffect.begins path program is) tree = refl
   kinds-by _ _ (HasEffect.closes k) tree = refl
   kinds-by _ _ (HasEffect.copies e x k is) tree = refl

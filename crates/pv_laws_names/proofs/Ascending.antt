@@ -90,8 +90,8 @@ module _ (s : State) (pid : ℕ) (me : Process) (k : ℕ) where
 
   -- a call by no descriptor
   by-does : (call : Call) → descriptor_of call ≡ None → (after : State) (r : Reply) → HasEffect s pid me call after r → Ascends k s.files after.files
-  by-does call none _ _ (stays r) = same-files k s.files
-  by-does call none _ _ (restrains q r no_more same table goes) = same-files k s.files
+  by-does call none _ _ (stays r waiting) = same-files k s.files
+  by-does call none _ _ (restrains q r no_more same parent table goes) = same-files k s.files
   by-does call none _ _ (begins path program is) = same-files k s.files
   by-does call none _ _ (closes d) = same-files k s.files
   by-does call none _ _ (copies d x n is) = same-files k s.files

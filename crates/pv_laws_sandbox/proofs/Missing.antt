@@ -97,8 +97,8 @@ module _ (s : State) (pid : ℕ) (me : Process) (call : Call) (whole : IsWhole s
   same-node t same there = let no : is_some (node_at t n) ≡ false = same ∙ fresh in cc
 
   made-by : (after : State) (r : Reply) → HasEffect.HasEffect s pid me call after r → is_some (node_at after.tree n) ≡ true → AsksCpath call
-  made-by _ _ (HasEffect.stays r) there = same-node s.tree refl there
-  made-by _ _ (HasEffect.restrains q r no_more same table goes) there = same-node s.tree refl there
+  made-by _ _ (HasEffect.stays r waiting) there = same-node s.tree refl there
+  made-by _ _ (HasEffect.restrains q r no_more same parent table goes) there = same-node s.tree refl there
   made-by _ _ (HasEffect.begins path program is) there = same-node s.tree refl there
   made-by _ _ (HasEffect.closes k) there = same-node s.tree refl there
   made-by _ _ (HasEffect.copies e x k is) there = same-node s.tree refl there

@@ -73,8 +73,8 @@ module _ (s : State) (pid : ℕ) (me : Process) (call : Call) (whole : IsWhole s
       (λ other. as_was u (ap (λ (t : Tree). find_entry t d name) is ∙ entry-new_other s.tree p node dir bare below d name other) has) (cases_entry d p.0 name p.1)
 
   pub moved-by : (after : State) (r : Reply) → HasEffect.HasEffect s pid me call after r → IsTree after.tree → Has after.tree → M
-  moved-by _ _ (HasEffect.stays r) tree has = as_was s.tree refl has
-  moved-by _ _ (HasEffect.restrains q r no_more same table goes) tree has = as_was s.tree refl has
+  moved-by _ _ (HasEffect.stays r waiting) tree has = as_was s.tree refl has
+  moved-by _ _ (HasEffect.restrains q r no_more same parent table goes) tree has = as_was s.tree refl has
   moved-by _ _ (HasEffect.begins path program is) tree has = as_was s.tree refl has
   moved-by _ _ (HasEffect.closes k) tree has = as_was s.tree refl has
   moved-by _ _ (HasEffect.copies e x k is) tree has = as_was s.tree refl has

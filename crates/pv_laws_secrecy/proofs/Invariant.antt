@@ -79,8 +79,8 @@ module _ (s : State) (pid : ℕ) (me : Process) (call : Call) (whole : IsWhole s
       ap (λ (t : Tree). is_file (node_at t f)) is ∙ ap is_file (file-new s.tree p node dir bare below f file) ∙ file
 
   still-by : (after : State) (r : Reply) → HasEffect.HasEffect s pid me call after r → IsTree after.tree → IsStill after.tree
-  still-by _ _ (HasEffect.stays r) tree = file
-  still-by _ _ (HasEffect.restrains q r no_more same table goes) tree = file
+  still-by _ _ (HasEffect.stays r waiting) tree = file
+  still-by _ _ (HasEffect.restrains q r no_more same parent table goes) tree = file
   still-by _ _ (HasEffect.begins path program is) tree = file
   still-by _ _ (HasEffect.closes k) tree = file
   still-by _ _ (HasEffect.copies e x k is) tree = file

@@ -61,8 +61,8 @@ module _ (s : State) (pid : ℕ) (me : Process) (call : Call) (k : ℕ) (q : Pro
   beside p there files = still (sym (process_at-other s pid p k apart) ∙ there) files
 
   pub born-by : (after : State) (r : Reply) → HasEffect.HasEffect s pid me call after r → is_sorted nat_cmp s.processes ≡ true → process_at after k ≡ Some q → IsBorn after.files
-  born-by _ _ (HasEffect.stays r) ascending there = still there s.files
-  born-by _ _ (HasEffect.restrains p r no_more same table goes) ascending there = beside p there _
+  born-by _ _ (HasEffect.stays r waiting) ascending there = still there s.files
+  born-by _ _ (HasEffect.restrains p r no_more same parent table goes) ascending there = beside p there _
   born-by _ _ (HasEffect.begins path program is) ascending there = beside (with_program s pid me program) there _
   born-by _ _ (HasEffect.closes d) ascending there = beside _ there _
   born-by _ _ (HasEffect.copies e x n is) ascending there = beside _ there _

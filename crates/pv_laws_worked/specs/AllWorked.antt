@@ -2,6 +2,7 @@
 use Rattle.pv_laws_worked.specs.Audits
 use Rattle.pv_laws_worked.specs.Errors
 use Rattle.pv_laws_worked.specs.Execve
+use Rattle.pv_laws_worked.specs.Explored
 use Rattle.pv_laws_worked.specs.Files
 use Rattle.pv_laws_worked.specs.Grammars
 use Rattle.pv_laws_worked.specs.Images
@@ -13,6 +14,7 @@ use Rattle.pv_laws_worked.specs.Processes
 use Rattle.pv_laws_worked.specs.Promises
 use Rattle.pv_laws_worked.specs.Questions
 use Rattle.pv_laws_worked.specs.Rooms
+use Rattle.pv_laws_worked.specs.Sources
 use Rattle.pv_laws_worked.specs.Starts
 use Rattle.pv_laws_worked.specs.Texts
 use Rattle.pv_laws_worked.specs.Unveils
@@ -65,6 +67,13 @@ pub record AllExecve : Type 0 where
   pub execve_keeps_lock : Stated Execve.execve_keeps_lock
   pub execve_without_execpromises : Stated Execve.execve_without_execpromises
   pub close_on_exec : Stated Execve.close_on_exec
+
+pub record AllExplored : Type 0 where
+  pub a_loop_has_two_states : Stated Explored.a_loop_has_two_states
+  pub a_loop_leads_back : Stated Explored.a_loop_leads_back
+  pub each_text_has_its_way : Stated Explored.each_text_has_its_way
+  pub a_state_is_left_out : Stated Explored.a_state_is_left_out
+  pub two_orders_end_apart : Stated Explored.two_orders_end_apart
 
 pub record AllFiles : Type 0 where
   pub shared_offset : Stated Files.shared_offset
@@ -205,6 +214,22 @@ pub record AllRooms : Type 0 where
   pub moved : Stated Rooms.moved
   pub added : Stated Rooms.added
 
+pub record AllSources : Type 0 where
+  pub words_and_comments : Stated Sources.words_and_comments
+  pub hash_in_a_word : Stated Sources.hash_in_a_word
+  pub text_without_its_end : Stated Sources.text_without_its_end
+  pub labels_are_numbers : Stated Sources.labels_are_numbers
+  pub lines_are_taken_as_they_are : Stated Sources.lines_are_taken_as_they_are
+  pub nothing_that_counts : Stated Sources.nothing_that_counts
+  pub sizes_come_first : Stated Sources.sizes_come_first
+  pub each_line_is_judged : Stated Sources.each_line_is_judged
+  pub labels_at_fault : Stated Sources.labels_at_fault
+  pub faults_of_the_tree : Stated Sources.faults_of_the_tree
+  pub init_is_a_directory : Stated Sources.init_is_a_directory
+  pub exec_at_fault : Stated Sources.exec_at_fault
+  pub twenty_are_told : Stated Sources.twenty_are_told
+  pub instructions_too_many : Stated Sources.instructions_too_many
+
 pub record AllStarts : Type 0 where
   pub form_comes_first : Stated Starts.form_comes_first
   pub sizes_come_before_entries : Stated Starts.sizes_come_before_entries
@@ -257,6 +282,7 @@ pub record AllWorked : Type 0 where
   pub audits : AllAudits
   pub errors : AllErrors
   pub execve : AllExecve
+  pub explored : AllExplored
   pub files : AllFiles
   pub grammars : AllGrammars
   pub images : AllImages
@@ -268,6 +294,7 @@ pub record AllWorked : Type 0 where
   pub promises : AllPromises
   pub questions : AllQuestions
   pub rooms : AllRooms
+  pub sources : AllSources
   pub starts : AllStarts
   pub texts : AllTexts
   pub unveils : AllUnveils

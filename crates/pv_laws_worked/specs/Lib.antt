@@ -3,6 +3,7 @@ pub mod Audits
 pub mod Bundles
 pub mod Errors
 pub mod Execve
+pub mod Explored
 pub mod Files
 pub mod Grammars
 pub mod Images
@@ -14,6 +15,7 @@ pub mod Processes
 pub mod Promises
 pub mod Questions
 pub mod Rooms
+pub mod Sources
 pub mod Starts
 pub mod Texts
 pub mod Unveils

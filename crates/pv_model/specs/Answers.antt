@@ -1,9 +1,12 @@
 -- Answers to questions of a state or of a run, line by line.
 pub mod Explain
+pub mod Explore
+pub mod Graph
 pub mod Levels
 pub mod Lines
 pub mod Needs
 pub mod Nodes
+pub mod Numbers
 pub mod OnLiterals
 pub mod Reach
 pub mod ProcessRecord

@@ -45,8 +45,8 @@ last-told s after pid f low =
     let same = last-trim (update after pid f) ∙ last_process-update after pid f in subst (λ n. s.last_process ≤ n) (sym same) low
 
 last-effect : (s : State) (pid : ℕ) (me : Process) (call : Call) (after : State) (r : Reply) → HasEffect s pid me call after r → s.last_process ≤ after.last_process
-last-effect s pid me call _ _ (stays r) = omega arith
-last-effect s pid me call _ _ (restrains q r no_more same table goes) = omega arith
+last-effect s pid me call _ _ (stays r waiting) = omega arith
+last-effect s pid me call _ _ (restrains q r no_more same parent table goes) = omega arith
 last-effect s pid me call _ _ (begins path program new) = omega arith
 last-effect s pid me call _ _ (closes d) = omega arith
 last-effect s pid me call _ _ (copies d x n found) = omega arith

@@ -2,6 +2,7 @@
 use Rattle.pv_laws_worked.specs.Audits
 use Rattle.pv_laws_worked.specs.Errors
 use Rattle.pv_laws_worked.specs.Execve
+use Rattle.pv_laws_worked.specs.Explored
 use Rattle.pv_laws_worked.specs.Files
 use Rattle.pv_laws_worked.specs.Grammars
 use Rattle.pv_laws_worked.specs.Images
@@ -13,6 +14,7 @@ use Rattle.pv_laws_worked.specs.Processes
 use Rattle.pv_laws_worked.specs.Promises
 use Rattle.pv_laws_worked.specs.Questions
 use Rattle.pv_laws_worked.specs.Rooms
+use Rattle.pv_laws_worked.specs.Sources
 use Rattle.pv_laws_worked.specs.Starts
 use Rattle.pv_laws_worked.specs.Texts
 use Rattle.pv_laws_worked.specs.Unveils
@@ -64,6 +66,13 @@ returns c = record {
     execve_keeps_lock = Execve.execve_keeps_lock;
     execve_without_execpromises = Execve.execve_without_execpromises;
     close_on_exec = Execve.close_on_exec;
+  };
+  explored = record {
+    a_loop_has_two_states = Explored.a_loop_has_two_states;
+    a_loop_leads_back = Explored.a_loop_leads_back;
+    each_text_has_its_way = Explored.each_text_has_its_way;
+    a_state_is_left_out = Explored.a_state_is_left_out;
+    two_orders_end_apart = Explored.two_orders_end_apart;
   };
   files = record {
     shared_offset = Files.shared_offset;
@@ -203,6 +212,22 @@ returns c = record {
     full = Rooms.full;
     moved = Rooms.moved;
     added = Rooms.added;
+  };
+  sources = record {
+    words_and_comments = Sources.words_and_comments;
+    hash_in_a_word = Sources.hash_in_a_word;
+    text_without_its_end = Sources.text_without_its_end;
+    labels_are_numbers = Sources.labels_are_numbers;
+    lines_are_taken_as_they_are = Sources.lines_are_taken_as_they_are;
+    nothing_that_counts = Sources.nothing_that_counts;
+    sizes_come_first = Sources.sizes_come_first;
+    each_line_is_judged = Sources.each_line_is_judged;
+    labels_at_fault = Sources.labels_at_fault;
+    faults_of_the_tree = Sources.faults_of_the_tree;
+    init_is_a_directory = Sources.init_is_a_directory;
+    exec_at_fault = Sources.exec_at_fault;
+    twenty_are_told = Sources.twenty_are_told;
+    instructions_too_many = Sources.instructions_too_many;
   };
   starts = record {
     form_comes_first = Starts.form_comes_first;

@@ -1,0 +1,13 @@
+-- Lemmas of the search of all schedules: Lists (what is in a list), Reading (the numbers of a state read back), Ways (their order),
+-- LiveOnes (the live processes), Searching (the search, step by step), Sound (what is found is reached).
+pub mod Complete
+pub mod Least
+pub mod Lists
+pub mod LiveOnes
+pub mod New
+pub mod Reading
+pub mod Searching
+pub mod Sound
+pub mod Older
+pub mod Waiting
+pub mod Ways

@@ -1,0 +1,11 @@
+//! Laws of the search of all schedules, of the machine's definitions in `pv_model`.
+//!
+//! Each function has an empty body: its contract is the law, which the check proves. The statements stand in `specs/`, one
+//! file for a subject (`Ways` has the words for schedules and their order):
+//!
+//! - `waits`: no schedule ends in a deadlock.
+//! - `search`: what is found and told, whether the search is complete or not, and that nothing is missing where it is.
+#![tactic(auto)]
+
+pub mod search;
+pub mod waits;

@@ -1,0 +1,168 @@
+-- Sources and what they stand for: a manifest or bundle, or the lines at fault.
+use Rattle.std.specs.Prelude.{◌≡◌, refl, [], ◌∷◌, ◌++◌, Ok, Err, codes, replicate}
+use Rattle.pv_model.specs.Source.Judged.{read_source}
+use Rattle.pv_model.specs.Source.OnLiterals.{sources_on_literals}
+use Rattle.pv_model.specs.Source.Words.{words_of}
+use Rattle.pv_laws_worked.specs.Bundles.{lines_text}
+
+-- ---- lines
+
+-- a comment begins where a word would, and not within a text; the CR before an LF counts for nothing
+pub words_and_comments : words_of (codes "  put \t \"a  # b\"  # c \"" ++ 13 ∷ []) ≡ codes "put" ∷ codes "\"a  # b\"" ∷ []
+unfolding sources_on_literals
+words_and_comments = refl
+
+pub hash_in_a_word : words_of (codes "fork#child \"a\"#b #c") ≡ codes "fork#child" ∷ codes "\"a\"#b" ∷ []
+unfolding sources_on_literals
+hash_in_a_word = refl
+
+-- a text that no quotation mark ends is parted like other words
+pub text_without_its_end : words_of (codes "put \"a b # c") ≡ codes "put" ∷ codes "\"a" ∷ codes "b" ∷ []
+unfolding sources_on_literals
+text_without_its_end = refl
+
+-- ---- what is written
+
+pub labels_are_numbers : read_source (lines_text (
+    codes "# a loop" ∷
+    codes "image 16 16" ∷
+    [] ∷
+    codes "exec  \"/init\"   <<END   # until a byte is read" ∷
+    codes "\topen \"/init\" r" ∷
+    codes "again: read r0 1" ∷
+    codes "  jz r0 again" ∷
+    codes "first:" ∷
+    codes "second: jmp out" ∷
+    codes "  jmp first" ∷
+    codes "out:" ∷
+    codes "END" ∷
+    codes "schedule" ∷
+    codes "1   9" ∷ [])) ≡ Ok (lines_text (
+    codes "image 16 16" ∷
+    codes "exec \"/init\" 6" ∷
+    codes "open \"/init\" r" ∷
+    codes "read r0 1" ∷
+    codes "jz r0 2" ∷
+    codes "jmp 6" ∷
+    codes "jmp 4" ∷
+    codes "exit 0" ∷
+    codes "schedule" ∷
+    codes "1 9" ∷ []))
+unfolding sources_on_literals
+labels_are_numbers = refl
+
+-- the next K lines are taken with all their bytes, also as bytes of a program
+pub lines_are_taken_as_they_are : read_source (lines_text (
+    codes "image 32 32" ∷
+    codes "exec \"/bin\" 4 # four" ∷
+    codes "# no comment" ∷
+    [] ∷
+    codes "again: \t" ∷
+    codes "schedule" ∷
+    codes "exec \"/init\" 1" ∷
+    codes "getpid" ∷ [])) ≡ Ok (lines_text (
+    codes "image 32 32" ∷
+    codes "exec \"/bin\" 4" ∷
+    codes "# no comment" ∷
+    [] ∷
+    codes "again: \t" ∷
+    codes "schedule" ∷
+    codes "exec \"/init\" 1" ∷
+    codes "getpid" ∷ []))
+unfolding sources_on_literals
+lines_are_taken_as_they_are = refl
+
+-- ---- faults
+
+-- where no line counts, the one after the last is told
+pub nothing_that_counts : (read_source [] ≡ Err (1 ∷ [])) × (read_source (codes "# one\n\n# three") ≡ Err (4 ∷ []))
+unfolding sources_on_literals
+nothing_that_counts = (refl, refl)
+
+pub sizes_come_first : read_source (codes "\ndir \"/a\"\nimage 16 16\n") ≡ Err (2 ∷ 3 ∷ [])
+unfolding sources_on_literals
+sizes_come_first = refl
+
+-- the tree is judged up to the first line of the manifest that has another fault; programs and the schedule are, all the way
+pub each_line_is_judged : read_source (lines_text (
+    codes "image 16 16" ∷
+    codes "exec \"/ect/p\" <<END" ∷
+    codes "frok" ∷
+    codes "getpid 1" ∷
+    codes "END" ∷
+    codes "dri \"/a\"" ∷
+    codes "dir \"/a/b\"" ∷
+    codes "exec \"/init\" 1" ∷
+    codes "jmp again" ∷
+    codes "schedule now" ∷
+    codes "1" ∷
+    codes "0" ∷ [])) ≡ Err (2 ∷ 3 ∷ 4 ∷ 6 ∷ 9 ∷ 10 ∷ 12 ∷ [])
+unfolding sources_on_literals
+each_line_is_judged = refl
+
+-- a label that is not set, one that is set twice, and words that are no labels
+pub labels_at_fault : read_source (lines_text (
+    codes "image 16 16" ∷
+    codes "exec \"/init\" <<END" ∷
+    codes "a: jz r0 child" ∷
+    codes "b:" ∷
+    codes "a: fork" ∷
+    codes "c: d: fork" ∷
+    codes "1st: fork" ∷
+    codes "e : fork" ∷
+    codes "jz b" ∷
+    codes "END" ∷ [])) ≡ Err (3 ∷ 5 ∷ 6 ∷ 7 ∷ 8 ∷ 9 ∷ [])
+unfolding sources_on_literals
+labels_at_fault = refl
+
+-- an entry with a fault makes nothing, and want of room is told once
+pub faults_of_the_tree : read_source (lines_text (
+    codes "image 16 3" ∷
+    codes "dir \"/a\"" ∷
+    codes "dir \"/a\"" ∷
+    codes "name \"/b\" \"/a\"" ∷
+    codes "dir \"/c/d\"" ∷
+    codes "dir \"/c\"" ∷
+    codes "dir \"/d\"" ∷
+    codes "dir \"/e\"" ∷
+    codes "dir \"/d/f\"" ∷ [])) ≡ Err (3 ∷ 4 ∷ 5 ∷ 7 ∷ 9 ∷ [])
+unfolding sources_on_literals
+faults_of_the_tree = refl
+
+-- `/init` is an `exec`; what it is instead is made and judged on
+pub init_is_a_directory : read_source (lines_text (
+    codes "image 16 16" ∷
+    codes "exec \"/p\" 0" ∷
+    codes "dir \"/init\"" ∷
+    codes "dir \"/init/a\"" ∷
+    codes "dir \"/init\"" ∷
+    codes "dir \"/b/c\"" ∷ [])) ≡ Err (3 ∷ 5 ∷ 6 ∷ [])
+unfolding sources_on_literals
+init_is_a_directory = refl
+
+-- an `exec` line at fault takes its lines; where they are not there, nothing after it is told
+pub exec_at_fault : read_source (lines_text (
+    codes "image 16 16" ∷
+    codes "exec /p <<END" ∷
+    codes "frok" ∷
+    codes "END" ∷
+    codes "exec \"/init\" and 2" ∷
+    codes "frok" ∷
+    codes "schedule" ∷
+    codes "exec \"/q\" 3" ∷
+    codes "frok" ∷
+    codes "schedule 1" ∷ [])) ≡ Err (2 ∷ 3 ∷ 5 ∷ 6 ∷ 7 ∷ 8 ∷ [])
+unfolding sources_on_literals
+exec_at_fault = refl
+
+-- twenty are told, in the order of their lines
+pub twenty_are_told : read_source (codes "image 16 16\nschedule\n" ++ lines_text (replicate 30 (codes "0")))
+    ≡ Err (3 ∷ 4 ∷ 5 ∷ 6 ∷ 7 ∷ 8 ∷ 9 ∷ 10 ∷ 11 ∷ 12 ∷ 13 ∷ 14 ∷ 15 ∷ 16 ∷ 17 ∷ 18 ∷ 19 ∷ 20 ∷ 21 ∷ 22 ∷ [])
+unfolding sources_on_literals
+twenty_are_told = refl
+
+-- the 257th instruction is told once, and also where it is the `exit 0` of a label
+pub instructions_too_many : (read_source (codes "image 99 16\nexec \"/init\" <<END\n" ++ lines_text (replicate 256 (codes "fork")) ++ codes "fork\nfork\nfrok\nEND\n") ≡ Err (259 ∷ 261 ∷ []))
+    × (read_source (codes "image 99 16\nexec \"/init\" <<END\n" ++ lines_text (replicate 256 (codes "fork")) ++ codes "end:\nEND\n") ≡ Err (259 ∷ []))
+unfolding sources_on_literals
+instructions_too_many = (refl, refl)

@@ -1,0 +1,7 @@
+-- Sources: texts with comments, blanks and labels, and the manifests and bundles that they stand for.
+pub mod Blocks
+pub mod Judged
+pub mod OnLiterals
+pub mod Programs
+pub mod Words
+pub mod Written

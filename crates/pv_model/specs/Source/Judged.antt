@@ -1,0 +1,155 @@
+-- What is judged of a source: the lines at fault, or the manifest or bundle that it stands for.
+use Rattle.std.specs.Prelude.{ℕ, suc, Bool, true, false, not, ◌&&◌, ◌||◌, if◌then◌else◌, ◌==◌, nat_le, List, [], ◌∷◌, ◌++◌, length, take, codes, bytes_eq, is_none, Option, None, Some, option_map, Result, Ok, Err}
+use Rattle.pv_model.specs.declared.fault.ManifestFault.{ManifestFault}
+use Rattle.pv_model.specs.declared.fault.ManifestFault.TheVariants.{Room}
+use Rattle.pv_model.specs.declared.limits.TheConstants.{PROGRAM_LINES, SCHEDULE_LINES}
+use Rattle.pv_model.specs.Answers.Lines.{spaced}
+use Rattle.pv_model.specs.Bytes.{Bytes}
+use Rattle.pv_model.specs.Grammar.Arguments.{text_at, if_last}
+use Rattle.pv_model.specs.Grammar.Lines.{lines_of}
+use Rattle.pv_model.specs.Grammar.Manifests.{entry_of, sizes_of, are_sizes, if_path, path_of, add_entry, data_blocks}
+use Rattle.pv_model.specs.Grammar.Schedules.{turn_of}
+use Rattle.pv_model.specs.Grammar.Texts.{ended}
+use Rattle.pv_model.specs.Manifest.{Entry, make, empty_tree}
+use Rattle.pv_model.specs.Source.Blocks.{Block, single, program, taken, cut_off, schedule, blocks_of}
+use Rattle.pv_model.specs.Source.Programs.{program_lines, taken_lines, instructions_of, told_if, program_faults}
+use Rattle.pv_model.specs.Source.Words.{NumberedWords, lines_that_count}
+use Rattle.pv_model.specs.Source.Written.{bytes_of_lines, text_of_blocks}
+use Rattle.pv_model.specs.Tree.{Tree, file_node}
+
+-- ---- the form of a block
+
+-- the text that the second word is, and the path of a line `exec TEXT K` or `exec TEXT <<END`
+abbrev pub second_text : List Bytes → Option Bytes
+second_text [] = None
+second_text (word ∷ []) = None
+second_text (word ∷ text ∷ words) = if_last (text_at text)
+
+abbrev pub has_three_words : List Bytes → Bool
+has_three_words words = length words == 3
+
+abbrev pub exec_path : List Bytes → Option Bytes
+exec_path words = if has_three_words words then if_path (second_text words) else None
+
+abbrev pub executable : List Bytes → Option Bytes → Option Entry
+executable lines path = option_map (λ p. make p (file_node true (ended lines))) path
+
+-- the entry that a block of a manifest makes, if it has the form of one
+unfoldable pub entry_of_block : Block → Option Entry
+entry_of_block (single n words) = option_map (λ taking. taking.0) (entry_of (spaced words) [])
+entry_of_block (program n words body) = executable (instructions_of (program_lines body)) (exec_path words)
+entry_of_block (taken n words body) = if nat_le (length body) PROGRAM_LINES then executable (bytes_of_lines body) (exec_path words) else None
+entry_of_block (cut_off n) = None
+entry_of_block (schedule n words body) = None
+
+-- ---- faults in the lines that belong to a block
+
+abbrev pub is_init : Option Bytes → Bool
+is_init None = false
+is_init (Some path) = bytes_eq path (codes "/init")
+
+-- whether the line after so many turns is none; the 65,537th is one too many
+abbrev pub wrong_turn : ℕ → List Bytes → Bool
+wrong_turn before words = (before == SCHEDULE_LINES) || is_none (turn_of (spaced words))
+
+abbrev pub wrong_turns : ℕ → List NumberedWords → List ℕ
+wrong_turns before [] = []
+wrong_turns before (line ∷ lines) = told_if (wrong_turn before line.1) line.0 (wrong_turns (suc before) lines)
+
+-- programs between <<END and END are judged, that of `/init` is, and the schedule
+abbrev pub faults_in : Block → List ℕ
+faults_in (single n words) = []
+faults_in (program n words body) = program_faults (program_lines body)
+faults_in (taken n words body) = if is_init (second_text words) then program_faults (taken_lines body) else []
+faults_in (cut_off n) = []
+faults_in (schedule n words body) = wrong_turns 0 (lines_that_count body)
+
+-- ---- the tree
+
+-- the tree that the lines so far have made, as long as it is known, and whether want of room was told
+pub record Standing : Type 0 where
+  pub tree : Option Tree
+  pub lacked_room : Bool
+
+-- whether a line is told, and what stands after it
+abbrev pub Judgement : Type 0
+Judgement = Bool × Standing
+
+abbrev pub unknown : Standing → Standing
+unknown s = record s { tree = None }
+
+-- an entry with a fault makes nothing; want of room is told once
+abbrev pub made_or_told : Standing → Result Tree ManifestFault → Judgement
+made_or_told s (Ok t) = (false, record s { tree = Some t })
+made_or_told s (Err (Room n)) = (not s.lacked_room, record s { lacked_room = true })
+made_or_told s (Err fault) = (true, s)
+
+abbrev pub with_entry_made : Standing → ℕ → Entry → Option Tree → Judgement
+with_entry_made s n entry None = (false, s)
+with_entry_made s n entry (Some t) = made_or_told s (add_entry n t entry)
+
+abbrev pub or_told : Bool → Judgement → Judgement
+or_told told judgement = (told || judgement.0, judgement.1)
+
+-- a line that has no form is told, and the tree is not known from there on; a `/init` that is no `exec` is told and made
+abbrev pub with_entry_of : Standing → ℕ → Bool → Option Entry → Judgement
+with_entry_of s n is_exec None = (true, unknown s)
+with_entry_of s n is_exec (Some entry) =
+    or_told (not is_exec && is_init (Some (path_of entry))) (with_entry_made s n entry s.tree)
+
+-- ---- the blocks in order
+
+abbrev pub number_of : Block → ℕ
+number_of (single n words) = n
+number_of (program n words body) = n
+number_of (taken n words body) = n
+number_of (cut_off n) = n
+number_of (schedule n words body) = n
+
+abbrev pub is_exec_block : Block → Bool
+is_exec_block (program n words body) = true
+is_exec_block (taken n words body) = true
+is_exec_block _ = false
+
+-- a block after the first: the line `schedule` has that word alone
+abbrev pub judged_block : Standing → Block → Judgement
+judged_block s (schedule n words body) = (not (length words == 1), s)
+judged_block s block = with_entry_of s (number_of block) (is_exec_block block) (entry_of_block block)
+
+abbrev pub image_standing : Option (ℕ × ℕ) → Judgement
+image_standing None = (true, record { tree = None; lacked_room = false })
+image_standing (Some sizes) =
+    if are_sizes sizes.0 sizes.1 then (false, record { tree = Some (empty_tree (data_blocks sizes.0 sizes.1) sizes.1); lacked_room = false })
+    else (true, record { tree = None; lacked_room = false })
+
+-- the first block is the image's sizes
+abbrev pub judged_first : Block → Judgement
+judged_first (single n words) = image_standing (sizes_of (spaced words))
+judged_first _ = image_standing None
+
+abbrev pub told_of : Block → Judgement → (Standing → List ℕ) → List ℕ
+told_of block judgement onward = told_if judgement.0 (number_of block) (faults_in block ++ onward judgement.1)
+
+abbrev pub faults_from : List Block → Standing → List ℕ
+faults_from [] s = []
+faults_from (block ∷ blocks) s = told_of block (judged_block s block) (faults_from blocks)
+
+-- the lines at fault, in their order; where no line counts, the one after the last is
+unfoldable pub faults_of_blocks : ℕ → List Block → List ℕ
+faults_of_blocks last [] = last ∷ []
+faults_of_blocks last (block ∷ blocks) = told_of block (judged_first block) (faults_from blocks)
+
+-- ---- sources
+
+-- how many lines at fault are told
+abbrev pub TOLD : ℕ
+TOLD = 20
+
+abbrev pub or_faults : List Block → List ℕ → Result Bytes (List ℕ)
+or_faults blocks [] = Ok (text_of_blocks blocks)
+or_faults blocks (n ∷ told) = Err (n ∷ told)
+
+-- the manifest or bundle that a source stands for, or the lines at fault
+unfoldable pub read_source : Bytes → Result Bytes (List ℕ)
+read_source source =
+    let blocks = blocks_of source in or_faults blocks (take TOLD (faults_of_blocks (suc (length (lines_of source))) blocks))
