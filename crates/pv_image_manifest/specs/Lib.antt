@@ -1,4 +1,5 @@
 pub mod Building
 pub mod Contents
 pub mod Entries
+pub mod Growing
 pub mod Reading

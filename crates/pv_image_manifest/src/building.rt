@@ -171,8 +171,8 @@ fn make(
     }
 }
 
-// Adds an entry of a manifest to a tree.
-fn add(tree: &mut Tree, entry: &Entry) -> Result<(), ManifestFault>
+/// Adds an entry of a manifest to a tree.
+pub(crate) fn add(tree: &mut Tree, entry: &Entry) -> Result<(), ManifestFault>
     requires { tree.old.tree.version ≡ V1 }
     ensures { Makes result (add_entry entry.now.line tree.old.tree (entry_of_line entry.now).1) tree.old tree.new }
 {

@@ -59,8 +59,9 @@ fn one_count(bytes: &[u8]) -> Option<u32>
     if rest.is_empty() { Some(first) } else { None }
 }
 
-// A process and how many steps it makes, as a line tells them: one step where no count stands.
-fn turn(line: &[u8]) -> Option<(u32, u32)>
+/// A process and how many steps it makes, as a line of a schedule tells them, each from 1 to 99,999: one step where no count
+/// stands. Nothing of another line.
+pub fn turn(line: &[u8]) -> Option<(u32, u32)>
     ensures { result ≡ turn_of line.now }
 {
     let (process, rest) = count(line)?;

@@ -1,0 +1,8 @@
+pub mod Found
+pub mod Outcome
+pub mod ReadBlocks
+pub mod ReadEntries
+pub mod ReadPrograms
+pub mod Reading
+pub mod Saying
+pub mod Telling

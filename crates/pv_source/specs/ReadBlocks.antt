@@ -1,0 +1,37 @@
+-- What is read of a source as its blocks.
+use Rattle.std.specs.Prelude.{◌≡◌, ℕ, suc, ◌+◌, ◌≤◌, List, [], ◌∷◌, length, drop, Option, None, Some}
+use Rattle.pv_source.specs.declared.blocks.Block.{Block as ReadBlock}
+use Rattle.pv_source.specs.declared.blocks.Kind.{Kind}
+use Rattle.pv_source.specs.declared.blocks.Kind.TheVariants.{Single, Program, Taken, CutOff, Schedule}
+use Rattle.pv_source.specs.declared.lines.Lines.{Lines}
+use Rattle.pv_source.specs.Reading.{numbered, numbered_text}
+use Rattle.pv_model.specs.Source.Blocks.{Block, single, program, taken, cut_off, schedule, blocks_from}
+use Rattle.pv_model.specs.Source.Words.{NumberedLine, between, words_from}
+
+abbrev pub block_by : Kind → ℕ → List (List ℕ) → List NumberedLine → Block
+block_by Single n words body = single n words
+block_by Program n words body = program n words body
+block_by Taken n words body = taken n words body
+block_by CutOff n words body = cut_off n
+block_by Schedule n words body = schedule n words body
+
+-- the block that was read
+abbrev pub block_of : ReadBlock → Block
+block_of b = block_by b.kind b.number (words_from b.words.now between) (numbered_text (b.number + 1) b.body.now)
+
+-- a block that was read, and the blocks of the lines after it
+abbrev pub blocks_read : Option (ReadBlock × Lines) → List Block
+blocks_read None = []
+blocks_read (Some p) = block_of p.0 ∷ blocks_from (numbered p.1) 0
+
+-- a block and the lines after it are what was to be read: those after as many lines as it took
+abbrev pub Reads : Option (ReadBlock × Lines) → Option (Block × ℕ) → List NumberedLine → Type 0
+Reads None block lines = block ≡ None
+Reads (Some p) block lines = (count : ℕ) × (block ≡ Some (block_of p.0, count)) × (drop count lines ≡ numbered p.1)
+
+-- a block and the lines after it lie within lines
+abbrev pub IsInside : Option (ReadBlock × Lines) → Lines → Type 0
+IsInside None lines = Unit {0}
+IsInside (Some p) lines =
+    (p.0.number + 1 + length p.0.body.now ≤ lines.number + length lines.text.now) × (p.1.number + length p.1.text.now ≤ lines.number + length lines.text.now)
+    × (length p.1.text.now ≤ length lines.text.now)

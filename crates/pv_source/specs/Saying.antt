@@ -1,0 +1,21 @@
+-- What a fault says.
+use Rattle.std.specs.Prelude.{◌≡◌, ℕ, ◌++◌, [], ◌∷◌, Bool, true, ◌&&◌, if◌then◌else◌, nat_le, flat_map, codes}
+use Rattle.std.specs.List.{list_all}
+use Rattle.pv_model.specs.Bytes.{Bytes}
+use Rattle.pv_model.specs.Trace.{hex_byte}
+
+-- a byte from 20 to 7E
+abbrev pub is_printable : ℕ → Bool
+is_printable b = nat_le 32 b && nat_le b 126
+
+-- bytes that stand in one line
+abbrev pub IsPrintable : Bytes → Type 0
+IsPrintable bytes = list_all is_printable bytes ≡ true
+
+-- how a byte is said: by its number where it is none of these
+abbrev pub said_byte : ℕ → Bytes
+said_byte b = if is_printable b then b ∷ [] else codes "\\x" ++ hex_byte b
+
+-- how bytes are said
+abbrev pub said : Bytes → Bytes
+said bytes = flat_map said_byte bytes

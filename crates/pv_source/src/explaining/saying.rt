@@ -1,0 +1,112 @@
+//! Bytes put into words.
+ghost use Rattle.std.specs.Prelude.{◌≡◌, ◌++◌, [], ◌∷◌, true, codes, OnOk};
+ghost use Rattle.std.specs.Fmt.{decimal};
+ghost use Rattle.pv_model.specs.Trace.{hex_byte};
+ghost use Rattle.pv_source.specs.Saying.{is_printable, IsPrintable, said_byte, said};
+
+use itoa::Buffer;
+use pv_model::hex_digit;
+use std::alloc::{AllocError, Global};
+use std::marker::Model;
+
+/// What a fault says: bytes from 20 to 7E, which stand in one line.
+#[derive(Drop)]
+pub struct Saying {
+    bytes: Vec<u8>,
+}
+
+impl Model for Saying {
+    ghost use Rattle.std.specs.Prelude.{ℕ, List};
+    ghost use Rattle.pv_source.specs.Saying.{IsPrintable};
+
+    ghost Value = { List ℕ };
+
+    ghost view = { λ s. s.bytes.items };
+
+    ghost invariant = { λ s. IsPrintable s.bytes.items };
+}
+
+impl Saying {
+    /// Nothing, so far.
+    pub fn new(alloc: Global) -> Saying
+        ensures { result ≡ [] }
+    {
+        Saying {
+            bytes: Vec::new(alloc),
+        }
+    }
+
+    /// The bytes that it says.
+    pub fn bytes(&self) -> &[u8]
+        ensures value { result.now ≡ self.now }
+        ensures line { IsPrintable self.now }
+    {
+        self.bytes.as_slice()
+    }
+
+    // Says a byte from 20 to 7E.
+    #[tactic(auto, using(crate::proofs::SaidBytes::printable_more))]
+    fn push(&mut self, byte: u8) -> Result<(), AllocError>
+        requires { is_printable byte ≡ true }
+        ensures { OnOk result (self.new ≡ self.old ++ byte ∷ []) }
+    {
+        self.bytes.push(byte)?;
+        Ok(())
+    }
+}
+
+/// Says a byte by its number: two hexadecimal digits.
+///
+/// `Err` says that memory was refused.
+#[tactic(auto, using(crate::proofs::SaidBytes::digit_printable))]
+pub fn say_hex(out: &mut Saying, byte: u8) -> Result<(), AllocError>
+    ensures { OnOk result (out.new ≡ out.old ++ hex_byte byte) }
+{
+    out.push(hex_digit(byte / 16))?;
+    out.push(hex_digit(byte % 16))
+}
+
+// Says a byte, by its number where it is not from 20 to 7E.
+fn say_byte(out: &mut Saying, byte: u8) -> Result<(), AllocError>
+    ensures { OnOk result (out.new ≡ out.old ++ said_byte byte) }
+{
+    if matches!(byte, b' '..=b'~') {
+        return out.push(byte);
+    }
+    out.push(b'\\')?;
+    out.push(b'x')?;
+    say_hex(out, byte)
+}
+
+/// Says bytes: those that are not from 20 to 7E by their numbers.
+///
+/// `Err` says that memory was refused.
+pub fn say(out: &mut Saying, bytes: &[u8]) -> Result<(), AllocError>
+    ensures { OnOk result (out.new ≡ out.old ++ said bytes.now) }
+{
+    for byte in bytes {
+        say_byte(out, *byte)?;
+    }
+    Ok(())
+}
+
+/// Says bytes between marks.
+///
+/// `Err` says that memory was refused.
+pub fn say_marked(out: &mut Saying, bytes: &[u8]) -> Result<(), AllocError>
+    ensures { OnOk result (out.new ≡ out.old ++ codes "'" ++ said bytes.now ++ codes "'") }
+{
+    out.push(b'\'')?;
+    say(out, bytes)?;
+    out.push(b'\'')
+}
+
+/// Says a number.
+///
+/// `Err` says that memory was refused.
+pub fn say_number(out: &mut Saying, n: u32) -> Result<(), AllocError>
+    ensures { OnOk result (out.new ≡ out.old ++ said (decimal n)) }
+{
+    let mut buffer = Buffer::new();
+    say(out, buffer.format(n).as_bytes())
+}

@@ -1,0 +1,121 @@
+//! The lines of a source.
+ghost use Rattle.std.specs.Prelude.{◌≡◌, ◌+◌, ◌<◌, ◌≤◌, ◌^◌, length, None, MatchOption, IfSome, option_map};
+ghost use Rattle.pv_model.specs.Grammar.Lines.{lines_of};
+ghost use Rattle.pv_model.specs.Source.Blocks.{lines_up_to};
+ghost use Rattle.pv_source.specs.Reading.{first_that_counts, numbered, worded, BeginsWith, Ends, Takes};
+ghost use Rattle.pv_model.specs.Source.Words.{between, words_from};
+
+use crate::words::{content, is_alone, next_word};
+use pv_text::lines::split_line;
+
+/// Lines that are still to be read: their text, and the number of the first.
+#[derive(Clone, Copy)]
+pub struct Lines<'a> {
+    /// The text that the lines are.
+    pub text: &'a [u8],
+    /// The number of the first, counted from 1 where the source begins.
+    pub number: u32,
+}
+
+/// A line that counts: its number, and its bytes without a CR at the end.
+#[derive(Clone, Copy)]
+pub struct Line<'a> {
+    /// Its number in the source, counted from 1.
+    pub number: u32,
+    /// The first of its words.
+    pub first: &'a [u8],
+    /// What its words are read of.
+    pub words: &'a [u8],
+}
+
+/// The first line that has a word, and the lines after it; nothing where no line has one.
+pub fn next_line<'a>(lines: Lines<'a>) -> Option<(Line<'a>, Lines<'a>)>
+    requires { lines.number + length lines.text.now < 2 ^ 32 }
+    ensures counts { first_that_counts (numbered lines.entry) ≡ option_map (λ p. (worded p.0, numbered p.1)) result }
+    ensures first { IfSome result (λ p. BeginsWith p.0.first.now (words_from p.0.words.now between)) }
+    ensures next { IfSome result (λ p. p.1.number ≡ p.0.number + 1) }
+    ensures room { IfSome result (λ p. p.1.number + length p.1.text.now ≤ lines.entry.number + length lines.entry.text.now) }
+    ensures shorter { IfSome result (λ p. length p.1.text.now < length lines.entry.text.now) }
+{
+    let mut rest = lines.text;
+    let mut number = lines.number;
+    while let Some((line, following)) = split_line(rest) {
+        let words = content(line);
+        if let Some((first, _)) = next_word(words) {
+            let line = Line {
+                number,
+                first,
+                words,
+            };
+            let rest = Lines {
+                text: following,
+                number: number + 1,
+            };
+            return Some((line, rest));
+        }
+        rest = following;
+        number += 1;
+    }
+    None
+}
+
+/// The text of the lines before the first that is a mark alone, and the lines after that one; nothing where there is none.
+pub fn lines_before_mark<'a>(mark: &[u8], lines: Lines<'a>) -> Option<(&'a [u8], Lines<'a>)>
+    requires { lines.number + length lines.text.now < 2 ^ 32 }
+    ensures found { MatchOption result (lines_up_to mark.now (numbered lines.entry) ≡ None) (λ p. Ends mark.now lines.entry p.0.now p.1) }
+    ensures within { IfSome result (λ p. length p.0.now ≤ length lines.entry.text.now) }
+    ensures room { IfSome result (λ p. p.1.number + length p.1.text.now ≤ lines.entry.number + length lines.entry.text.now) }
+    ensures shorter { IfSome result (λ p. length p.1.text.now < length lines.entry.text.now) }
+{
+    let mut rest = lines.text;
+    let mut number = lines.number;
+    while let Some((line, following)) = split_line(rest) {
+        if is_alone(mark, content(line)) {
+            let body = &lines.text[..lines.text.len() - rest.len()];
+            let rest = Lines {
+                text: following,
+                number: number + 1,
+            };
+            return Some((body, rest));
+        }
+        rest = following;
+        number += 1;
+    }
+    None
+}
+
+/// The text of the next lines, so many, and the lines after them; nothing where there are fewer.
+pub fn next_lines<'a>(count: u32, lines: Lines<'a>) -> Option<(&'a [u8], Lines<'a>)>
+    requires { lines.number + length lines.text.now < 2 ^ 32 }
+    ensures found { MatchOption result (length (lines_of lines.entry.text.now) < count) (λ p. Takes count lines.entry p.0.now p.1) }
+    ensures within { IfSome result (λ p. length p.0.now ≤ length lines.entry.text.now) }
+    ensures room { IfSome result (λ p. p.1.number + length p.1.text.now ≤ lines.entry.number + length lines.entry.text.now) }
+    ensures shorter { IfSome result (λ p. length p.1.text.now ≤ length lines.entry.text.now) }
+{
+    let mut rest = lines.text;
+    let mut number = lines.number;
+    for _ in 0..count {
+        let Some((_, following)) = split_line(rest) else {
+            return None;
+        };
+        rest = following;
+        number += 1;
+    }
+    let body = &lines.text[..lines.text.len() - rest.len()];
+    Some((body, Lines { text: rest, number }))
+}
+
+/// How many lines a text has.
+pub fn line_count(text: &[u8]) -> u32
+    requires { length text.now < 2 ^ 32 }
+    ensures value { result ≡ length (lines_of text.now) }
+    ensures few { result ≤ length text.now }
+{
+    let mut count = 0;
+    let mut rest = text;
+    while let Some((_, following)) = split_line(rest) {
+        rest = following;
+        count += 1;
+    }
+    count
+}

@@ -1,0 +1,248 @@
+//! Programs in a source: labels, and what stands for them.
+ghost use Rattle.std.specs.Prelude.{◌≡◌, ◌+◌, ◌<◌, ◌≤◌, ◌^◌, ◌++◌, [], length, map, IfOk, IfSome, OnOk, option_map};
+ghost use Rattle.std.specs.List.{list_all};
+ghost use Rattle.pv_model.specs.Answers.Lines.{spaced};
+ghost use Rattle.pv_model.specs.Grammar.Texts.{ended};
+ghost use Rattle.pv_model.specs.Source.Programs.{is_label_byte, is_label, label_of, labelled_words, labelled_lines, or_exit, count_words, onto_labels, labels_from, number_of_label, is_jump, begins_with_letter, target_word, without_labels, instructions_of, program_lines};
+ghost use Rattle.pv_model.specs.Source.Words.{between, words_from, last_word, with_last_word};
+ghost use Rattle.pv_source.specs.Reading.{numbered, spaced_more};
+ghost use Rattle.pv_source.specs.ReadPrograms.{name_value, labelled_value, label_value, then_labelled};
+
+use crate::lines::{Line, Lines, next_line};
+use crate::words::{
+    before_last, has_no_word, is_letter, last_word, next_word, push_more_with_last, push_words,
+};
+use itoa::Buffer;
+use std::alloc::{AllocError, Global};
+
+/// A line of a program: the label that it sets, and its instruction.
+#[derive(Clone, Copy)]
+pub struct Labelled<'a> {
+    /// Its number in the source.
+    pub number: u32,
+    /// The label, if it sets one.
+    pub label: Option<&'a [u8]>,
+    /// What the words of its instruction are read of: it may have none.
+    pub words: &'a [u8],
+}
+
+/// A label, and the number of the instruction that it stands for.
+#[derive(Clone, Copy)]
+pub struct Label<'a> {
+    /// The label.
+    pub name: &'a [u8],
+    /// The number, counted from 1.
+    pub number: u32,
+}
+
+// Whether a byte may stand in a label after its first.
+fn is_label_byte(byte: u8) -> bool
+    ensures { result ≡ is_label_byte byte }
+{
+    is_letter(byte) || byte.is_ascii_digit() || byte == b'_' || byte == b'-'
+}
+
+// Whether all bytes may stand in a label.
+fn are_label_bytes(bytes: &[u8]) -> bool
+    ensures { result ≡ list_all is_label_byte bytes.now }
+{
+    bytes.iter().all(|byte| is_label_byte(*byte))
+}
+
+// Whether a name is that of a label.
+fn is_label(name: &[u8]) -> bool
+    ensures { result ≡ is_label name.now }
+{
+    match name {
+        [first, following @ ..] => is_letter(*first) && are_label_bytes(following),
+        [] => false,
+    }
+}
+
+/// The label that a word sets, if it sets one.
+pub fn label_of(word: &[u8]) -> Option<&[u8]>
+    ensures { option_map (λ name. name.now) result ≡ label_of word.now }
+{
+    let Some(name) = before_last(b':', word) else {
+        return None;
+    };
+    if is_label(name) { Some(name) } else { None }
+}
+
+// A line with its label apart.
+fn with_label_apart<'a>(line: Line<'a>) -> Labelled<'a>
+    ensures { labelled_value result ≡ labelled_words line.entry.number (words_from line.entry.words.now between) }
+{
+    let whole = Labelled {
+        number: line.number,
+        label: None,
+        words: line.words,
+    };
+    let Some((word, words)) = next_word(line.words) else {
+        return whole;
+    };
+    let Some(name) = label_of(word) else {
+        return whole;
+    };
+    Labelled {
+        number: line.number,
+        label: Some(name),
+        words,
+    }
+}
+
+// A line with an `exit 0`.
+fn with_exit<'a>(line: Labelled<'a>) -> Labelled<'a>
+    ensures { labelled_value result ≡ record (labelled_value line.entry) { words = or_exit [] } }
+{
+    Labelled {
+        number: line.number,
+        label: line.label,
+        words: b"exit 0",
+    }
+}
+
+/// The first line of a program that counts, and the lines after it. The last of them has an `exit 0` where it has no
+/// instruction of its own.
+pub fn next_labelled<'a>(lines: Lines<'a>) -> Option<(Labelled<'a>, Lines<'a>)>
+    requires { lines.number + length lines.text.now < 2 ^ 31 }
+    ensures line { labelled_lines (numbered lines.entry) ≡ then_labelled result }
+    ensures room { IfSome result (λ p. p.1.number + length p.1.text.now ≤ lines.entry.number + length lines.entry.text.now) }
+    ensures shorter { IfSome result (λ p. length p.1.text.now < length lines.entry.text.now) }
+{
+    let Some((line, rest)) = next_line(lines) else {
+        return None;
+    };
+    let line = with_label_apart(line);
+    if has_no_word(line.words) {
+        return match next_line(rest) {
+            Some(_) => Some((line, rest)),
+            None => Some((with_exit(line), rest)),
+        };
+    }
+    Some((line, rest))
+}
+
+/// How many instructions the words of a line are: one, or none.
+pub fn instruction_count(words: &[u8]) -> u32
+    ensures value { result ≡ count_words (words_from words.now between) }
+    ensures few { result ≤ 1 }
+{
+    if has_no_word(words) { 0 } else { 1 }
+}
+
+// Puts the label of a line, if it sets one, after those before it.
+fn push_label<'a>(
+    labels: &mut Vec<Label<'a>>,
+    label: Option<&'a [u8]>,
+    number: u32,
+) -> Result<(), AllocError>
+    ensures { OnOk result (map label_value labels.new.items ≡ map label_value labels.old.items ++ onto_labels (name_value label.entry) number []) }
+{
+    if let Some(name) = label {
+        labels.push(Label { name, number })?;
+    }
+    Ok(())
+}
+
+/// The labels of a program, each with the number of the instruction that it stands for, and how many instructions the
+/// program has.
+///
+/// `Err` says that memory was refused.
+pub fn labels_of<'a>(alloc: Global, body: Lines<'a>) -> Result<(Vec<Label<'a>>, u32), AllocError>
+    requires { body.number + length body.text.now < 2 ^ 31 }
+    ensures labels { IfOk result (λ p. map label_value p.0.items ≡ labels_from 1 (labelled_lines (numbered body.entry))) }
+    ensures count { IfOk result (λ p. p.1 ≡ length (instructions_of (program_lines (numbered body.entry)))) }
+{
+    let mut labels = Vec::new(alloc);
+    let mut count: u32 = 0;
+    let mut rest = body;
+    while let Some((line, following)) = next_labelled(rest) {
+        push_label(&mut labels, line.label, count + 1)?;
+        count += instruction_count(line.words);
+        rest = following;
+    }
+    Ok((labels, count))
+}
+
+// The number that a label stands for, if it is set.
+fn number_of(labels: &[Label], name: &[u8]) -> Option<u32>
+    ensures { result ≡ number_of_label name.now (map label_value labels.now) }
+{
+    for label in labels {
+        if label.name == name {
+            return Some(label.number);
+        }
+    }
+    None
+}
+
+/// Whether a word begins with a letter.
+pub fn begins_with_letter(word: &[u8]) -> bool
+    ensures { result ≡ begins_with_letter word.now }
+{
+    match word {
+        [first, ..] => is_letter(*first),
+        [] => false,
+    }
+}
+
+/// Whether a word is the name of a jump.
+pub fn is_jump(word: &[u8]) -> bool
+    ensures { result ≡ is_jump word.now }
+{
+    word == b"jmp".as_slice()
+        || word == b"jz".as_slice()
+        || word == b"jnz".as_slice()
+        || word == b"jneg".as_slice()
+}
+
+// Puts the words of a jump after its name, of which the last says where to: a label is its number.
+fn push_jump(labels: &[Label], words: &[u8], out: &mut Vec<u8>) -> Result<(), AllocError>
+    ensures { OnOk result (let given = words_from words.now between in out.new.items ≡ out.old.items ++ spaced_more (with_last_word (target_word (map label_value labels.now) (last_word given)) given)) }
+{
+    let last = last_word(words);
+    if !begins_with_letter(last) {
+        return push_more_with_last(words, last, out);
+    }
+    let Some(number) = number_of(labels, last) else {
+        return push_more_with_last(words, last, out);
+    };
+    let mut buffer = Buffer::new();
+    push_more_with_last(words, buffer.format(number).as_bytes(), out)
+}
+
+/// Puts an instruction after what is there: its words with one space between, and for a label its number.
+///
+/// `Err` says that memory was refused.
+pub fn push_instruction(labels: &[Label], words: &[u8], out: &mut Vec<u8>) -> Result<(), AllocError>
+    ensures { OnOk result (out.new.items ≡ out.old.items ++ spaced (without_labels (map label_value labels.now) (words_from words.now between))) }
+{
+    let Some((first, rest)) = next_word(words) else {
+        return Ok(());
+    };
+    if !is_jump(first) {
+        return push_words(words, out);
+    }
+    out.extend_from_slice(first)?;
+    push_jump(labels, rest, out)
+}
+
+/// Puts the instructions of a program after what is there, each with its LF.
+///
+/// `Err` says that memory was refused.
+pub fn push_program(labels: &[Label], body: Lines, out: &mut Vec<u8>) -> Result<(), AllocError>
+    requires few { body.number + length body.text.now < 2 ^ 31 }
+    requires labels { map label_value labels.now ≡ labels_from 1 (labelled_lines (numbered body)) }
+    ensures { OnOk result (out.new.items ≡ out.old.items ++ ended (instructions_of (program_lines (numbered body.entry)))) }
+{
+    let mut rest = body;
+    while let Some((line, following)) = next_labelled(rest) {
+        if !has_no_word(line.words) {
+            push_instruction(labels, line.words, out)?;
+            out.push(b'\n')?;
+        }
+        rest = following;
+    }
+    Ok(())
+}

@@ -1,0 +1,120 @@
+//! What is written of a source.
+ghost use Rattle.std.specs.Prelude.{◌≡◌, ◌+◌, ◌<◌, ◌^◌, ◌∷◌, ◌++◌, [], length, map, IfOk, OnOk};
+ghost use Rattle.pv_model.specs.Answers.Lines.{spaced};
+ghost use Rattle.pv_model.specs.Grammar.Lines.{lines_of};
+ghost use Rattle.pv_model.specs.Grammar.Texts.{ended};
+ghost use Rattle.pv_model.specs.Source.Blocks.{blocks_of};
+ghost use Rattle.pv_model.specs.Source.Programs.{program_lines, instructions_of};
+ghost use Rattle.pv_model.specs.Source.Words.{between, words_from, lines_that_count};
+ghost use Rattle.pv_model.specs.Source.Written.{counted_program, written_lines, text_of_blocks};
+ghost use Rattle.pv_source.specs.Reading.{numbered};
+ghost use Rattle.pv_source.specs.ReadBlocks.{block_of};
+
+use crate::blocks::{Block, Kind, next_block};
+use crate::lines::{Lines, next_line};
+use crate::programs::{labels_of, push_program};
+use crate::words::{push_with_last, push_words};
+use itoa::Buffer;
+use pv_text::lines::split_line;
+use std::alloc::{AllocError, Global};
+
+// Puts words as a line after what is there.
+fn push_line(words: &[u8], out: &mut Vec<u8>) -> Result<(), AllocError>
+    ensures { OnOk result (out.new.items ≡ out.old.items ++ ended (spaced (words_from words.now between) ∷ [])) }
+{
+    push_words(words, out)?;
+    out.push(b'\n')?;
+    Ok(())
+}
+
+/// Puts the lines of a text after what is there, each with its LF.
+///
+/// `Err` says that memory was refused.
+pub fn push_lines(text: &[u8], out: &mut Vec<u8>) -> Result<(), AllocError>
+    ensures { OnOk result (out.new.items ≡ out.old.items ++ ended (lines_of text.now)) }
+{
+    let mut rest = text;
+    while let Some((line, following)) = split_line(rest) {
+        out.extend_from_slice(line)?;
+        out.push(b'\n')?;
+        rest = following;
+    }
+    Ok(())
+}
+
+// Puts the lines that count after what is there.
+fn push_turns(lines: Lines, out: &mut Vec<u8>) -> Result<(), AllocError>
+    requires { lines.number + length lines.text.now < 2 ^ 31 }
+    ensures { OnOk result (out.new.items ≡ out.old.items ++ ended (map (λ line. spaced line.1) (lines_that_count (numbered lines.entry)))) }
+{
+    let mut rest = lines;
+    while let Some((line, following)) = next_line(rest) {
+        push_line(line.words, out)?;
+        rest = following;
+    }
+    Ok(())
+}
+
+// Puts the line of a program with the number of its instructions, and these, after what is there.
+fn push_counted(
+    alloc: Global,
+    words: &[u8],
+    body: Lines,
+    out: &mut Vec<u8>,
+) -> Result<(), AllocError>
+    requires { body.number + length body.text.now < 2 ^ 31 }
+    ensures { OnOk result (out.new.items ≡ out.old.items ++ ended (counted_program (words_from words.now between) (instructions_of (program_lines (numbered body.entry))))) }
+{
+    let (labels, count) = labels_of(alloc, body)?;
+    let mut buffer = Buffer::new();
+    push_with_last(words, buffer.format(count).as_bytes(), out)?;
+    out.push(b'\n')?;
+    push_program(&labels, body, out)
+}
+
+// Puts the line of an executable file, and the lines that it takes, after what is there.
+#[tactic(auto, using(crate::proofs::WrittenTexts::ended_both))]
+fn push_taken(words: &[u8], text: &[u8], out: &mut Vec<u8>) -> Result<(), AllocError>
+    ensures { OnOk result (out.new.items ≡ out.old.items ++ ended (spaced (words_from words.now between) ∷ lines_of text.now)) }
+{
+    push_line(words, out)?;
+    push_lines(text, out)?;
+    Ok(())
+}
+
+// Puts what is written of a block after what is there.
+#[tactic(auto, using(crate::proofs::WrittenTexts::bytes_counted))]
+fn push_block(alloc: Global, block: &Block, out: &mut Vec<u8>) -> Result<(), AllocError>
+    requires { block.now.number + 1 + length block.now.body.now < 2 ^ 31 }
+    ensures { OnOk result (out.new.items ≡ out.old.items ++ ended (written_lines (block_of block.now))) }
+{
+    match block.kind {
+        Kind::Single => push_line(block.words, out),
+        Kind::Program => push_counted(alloc, block.words, block.lines(), out),
+        Kind::Taken => push_taken(block.words, block.body, out),
+        Kind::CutOff => Ok(()),
+        Kind::Schedule => {
+            push_line(block.words, out)?;
+            push_turns(block.lines(), out)
+        }
+    }
+}
+
+/// The text that is written of a source: the manifest or bundle that it stands for, where no line is at fault.
+///
+/// `Err` says that memory was refused.
+pub fn text_of(alloc: Global, source: &[u8]) -> Result<Vec<u8>, AllocError>
+    requires { length source.now + 1 < 2 ^ 31 }
+    ensures { IfOk result (λ text. text.items ≡ text_of_blocks (blocks_of source.now)) }
+{
+    let mut out = Vec::new(alloc);
+    let mut rest = Lines {
+        text: source,
+        number: 1,
+    };
+    while let Some((block, following)) = next_block(rest) {
+        push_block(alloc, &block, &mut out)?;
+        rest = following;
+    }
+    Ok(out)
+}

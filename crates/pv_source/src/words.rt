@@ -1,0 +1,230 @@
+//! The words of a source's line.
+ghost use Rattle.std.specs.Prelude.{◌≡◌, ◌≢◌, ◌==◌, ◌<◌, ◌≤◌, ◌∷◌, ◌++◌, [], true, false, length, take, drop, MatchOption, MatchBool, IfSome, OnOk, option_map};
+ghost use Rattle.std.specs.List.{list_all, list_any, position, position_or_len};
+ghost use Rattle.pv_model.specs.Answers.Lines.{spaced};
+ghost use Rattle.pv_model.specs.Source.Blocks.{mark_of};
+ghost use Rattle.pv_model.specs.Source.Words.{is_blank, is_letter, between, in_text, begun, words_from, words_of, before_last, last_word, with_last_word, is_alone};
+ghost use Rattle.pv_source.specs.Reading.{BeginsNoBlank, spaced_more};
+
+use pv_text::lines::first_of;
+use std::alloc::AllocError;
+
+// Whether a byte is a blank or a tab.
+fn is_blank(byte: u8) -> bool
+    ensures { result ≡ is_blank byte }
+{
+    byte == b' ' || byte == b'\t'
+}
+
+/// Whether a byte is a letter, of either case.
+pub fn is_letter(byte: u8) -> bool
+    ensures { result ≡ is_letter byte }
+{
+    matches!(byte, b'A'..=b'Z' | b'a'..=b'z')
+}
+
+/// What stands before a byte that is the last of some.
+#[tactic(auto, using(crate::proofs::SourceWords::last_here, crate::proofs::SourceWords::last_other, crate::proofs::SourceWords::no_last))]
+pub fn before_last(last: u8, bytes: &[u8]) -> Option<&[u8]>
+    ensures { option_map (λ front. front.now) result ≡ before_last last bytes.now }
+{
+    let Some((byte, front)) = bytes.split_last() else {
+        return None;
+    };
+    if *byte == last { Some(front) } else { None }
+}
+
+/// A line without the CR before its LF: its words are those that are left.
+#[tactic(auto, unfolding(pv_model::specs::Source::Words::words_of))]
+pub fn content(line: &[u8]) -> &[u8]
+    ensures { words_from result.now between ≡ words_of line.now }
+{
+    before_last(b'\r', line).unwrap_or(line)
+}
+
+// Where the first blank stands, if there is one.
+fn blank_at(bytes: &[u8]) -> Option<usize>
+    ensures { result ≡ position is_blank bytes.now }
+{
+    bytes.iter().position(|byte| is_blank(*byte))
+}
+
+// Where the first blank stands, or how many bytes there are.
+fn first_blank(bytes: &[u8]) -> usize
+    ensures within { result ≤ length bytes.now }
+    ensures first { result ≡ position_or_len is_blank bytes.now }
+{
+    blank_at(bytes).unwrap_or(bytes.len())
+}
+
+// The bytes from the first on that is no blank.
+fn after_blanks(bytes: &[u8]) -> &[u8]
+    ensures same { words_from result.now between ≡ words_from bytes.now between }
+    ensures begins { BeginsNoBlank result.now }
+    ensures shorter { length result.now ≤ length bytes.now }
+{
+    let mut rest = bytes;
+    while let [first, following @ ..] = rest {
+        if !is_blank(*first) {
+            return rest;
+        }
+        rest = following;
+    }
+    rest
+}
+
+// How many bytes there are of a text, after its first quotation mark, and of what stands right after it: nothing where no
+// quotation mark ends it.
+#[tactic(auto, using(crate::proofs::SourceWords::no_quote, crate::proofs::SourceWords::a_quote))]
+fn text_length(bytes: &[u8]) -> Option<usize>
+    ensures some { MatchOption result (list_any (λ c. c == 34) bytes.now ≡ false) (λ n. list_any (λ c. c == 34) bytes.now ≡ true) }
+    ensures within { IfSome result (λ n. n ≤ length bytes.now) }
+    ensures word { IfSome result (λ n. words_from bytes.now in_text ≡ take n bytes.now ∷ words_from (drop n bytes.now) between) }
+{
+    let quote = first_of(bytes, b'"');
+    if quote == bytes.len() {
+        return None;
+    }
+    let (_, after) = bytes.split_at(quote + 1);
+    Some(quote + 1 + first_blank(after))
+}
+
+// How many bytes a word has after its first. A text goes on to its quotation mark, if there is one.
+fn rest_length(first: u8, bytes: &[u8]) -> usize
+    ensures within { result ≤ length bytes.now }
+    ensures word { words_from bytes.now (begun first bytes.now) ≡ take result bytes.now ∷ words_from (drop result bytes.now) between }
+{
+    if first != b'"' {
+        return first_blank(bytes);
+    }
+    match text_length(bytes) {
+        Some(length) => length,
+        None => first_blank(bytes),
+    }
+}
+
+/// The first of the words that bytes have, and what follows it; nothing where no word stands, but blanks or a comment.
+pub fn next_word(words: &[u8]) -> Option<(&[u8], &[u8])>
+    ensures word { MatchOption result (words_from words.now between ≡ []) (λ p. words_from words.now between ≡ p.0.now ∷ words_from p.1.now between) }
+    ensures shorter { IfSome result (λ p. length p.1.now < length words.now) }
+{
+    let bytes = after_blanks(words);
+    let Some((first, following)) = bytes.split_first() else {
+        return None;
+    };
+    if *first == b'#' {
+        return None;
+    }
+    Some(bytes.split_at(1 + rest_length(*first, following)))
+}
+
+/// Whether no word stands there.
+pub fn has_no_word(words: &[u8]) -> bool
+    ensures { MatchBool result (words_from words.now between ≡ []) (words_from words.now between ≢ []) }
+{
+    next_word(words).is_none()
+}
+
+/// The last of the words, which is empty where there is none.
+pub fn last_word(words: &[u8]) -> &[u8]
+    ensures { result.now ≡ last_word (words_from words.now between) }
+{
+    let Some((first, following)) = next_word(words) else {
+        return &words[..0];
+    };
+    let mut last = first;
+    let mut rest = following;
+    while let Some((word, following)) = next_word(rest) {
+        last = word;
+        rest = following;
+    }
+    last
+}
+
+/// Whether a word stands alone.
+pub fn is_alone(word: &[u8], words: &[u8]) -> bool
+    ensures { result ≡ is_alone word.now (words_from words.now between) }
+{
+    let Some((first, rest)) = next_word(words) else {
+        return false;
+    };
+    has_no_word(rest) && first == word
+}
+
+// Puts further words after what is there, with a space before each.
+fn push_more(words: &[u8], out: &mut Vec<u8>) -> Result<(), AllocError>
+    ensures { OnOk result (out.new.items ≡ out.old.items ++ spaced_more (words_from words.now between)) }
+{
+    let mut rest = words;
+    while let Some((word, following)) = next_word(rest) {
+        out.push(b' ')?;
+        out.extend_from_slice(word)?;
+        rest = following;
+    }
+    Ok(())
+}
+
+/// Puts words after what is there, with one space between.
+///
+/// `Err` says that memory was refused.
+pub fn push_words(words: &[u8], out: &mut Vec<u8>) -> Result<(), AllocError>
+    ensures { OnOk result (out.new.items ≡ out.old.items ++ spaced (words_from words.now between)) }
+{
+    let Some((first, rest)) = next_word(words) else {
+        return Ok(());
+    };
+    out.extend_from_slice(first)?;
+    push_more(rest, out)
+}
+
+/// Puts further words after what is there, with a space before each, and another word for the last.
+///
+/// `Err` says that memory was refused.
+pub fn push_more_with_last(words: &[u8], last: &[u8], out: &mut Vec<u8>) -> Result<(), AllocError>
+    ensures { OnOk result (out.new.items ≡ out.old.items ++ spaced_more (with_last_word last.now (words_from words.now between))) }
+{
+    let mut rest = words;
+    while let Some((word, following)) = next_word(rest) {
+        out.push(b' ')?;
+        if has_no_word(following) {
+            return out.extend_from_slice(last);
+        }
+        out.extend_from_slice(word)?;
+        rest = following;
+    }
+    Ok(())
+}
+
+/// Puts words after what is there, with one space between, and another word for the last.
+///
+/// `Err` says that memory was refused.
+pub fn push_with_last(words: &[u8], last: &[u8], out: &mut Vec<u8>) -> Result<(), AllocError>
+    ensures { OnOk result (out.new.items ≡ out.old.items ++ spaced (with_last_word last.now (words_from words.now between))) }
+{
+    let Some((first, rest)) = next_word(words) else {
+        return Ok(());
+    };
+    if has_no_word(rest) {
+        return out.extend_from_slice(last);
+    }
+    out.extend_from_slice(first)?;
+    push_more_with_last(rest, last, out)
+}
+
+// Whether each byte is a letter.
+fn are_letters(bytes: &[u8]) -> bool
+    ensures { result ≡ list_all is_letter bytes.now }
+{
+    bytes.iter().all(|byte| is_letter(*byte))
+}
+
+/// The END of a word `<<END`, which is one or more letters.
+pub fn mark_of(word: &[u8]) -> Option<&[u8]>
+    ensures { option_map (λ mark. mark.now) result ≡ mark_of word.now }
+{
+    let mark = word.strip_prefix(b"<<")?;
+    if mark.is_empty() || !are_letters(mark) {
+        return None;
+    }
+    Some(mark)
+}
