@@ -1,0 +1,69 @@
+-- The manifest of a bundle, or one that stands alone, and the tree that it makes.
+use Rattle.std.proofs.Common.{◌≡◌, refl, ℕ, List, [], Result, Ok, Err}
+use Rattle.pv_image_manifest.specs.Reading.{GivesManifest, RefusesManifest, manifest_before}
+use Rattle.pv_image_manifest.specs.declared.manifest.Manifest.{Manifest as ParsedManifest}
+use Rattle.pv_model.specs.declared.fault.ManifestFault.{ManifestFault}
+use Rattle.pv_model.specs.declared.fault.ManifestFault.TheVariants.{Form, Size, Parent, Exists, Source, Room, Memory}
+use Rattle.pv_model.specs.Bytes.{Bytes}
+use Rattle.pv_model.specs.Grammar.Manifests.{read_bundle, read_manifest, tree_of}
+use Rattle.pv_model.specs.RunFault.{of_manifest}
+use Rattle.pv_model.specs.Tree.{Tree}
+use Rattle.pv_run.specs.Run.{RefusesStart}
+use Rattle.pv_questions.specs.Trees.{GivesManifestOf, manifest_tree, read_manifest_of}
+
+module _ (bytes : Bytes) where
+  pub of_bundle : (m : ParsedManifest) (following : List Bytes) → read_bundle bytes ≡ Ok (manifest_before m following)
+      → read_manifest_of bytes ≡ Ok (manifest_before m following)
+  unfolding read_manifest_of
+  of_bundle m following is = rw is refl
+
+  -- where no line `schedule` ends a manifest, the bytes are one alone
+  pub given_alone : (n : ℕ) (result : Result ParsedManifest ManifestFault) → RefusesManifest (Form n) (read_bundle bytes) → GivesManifest result (read_manifest bytes)
+      → GivesManifestOf result (read_manifest_of bytes)
+  unfolding read_manifest_of
+  given_alone n (Ok m) none is = ([], rw none is)
+  given_alone n (Err f) none is = rw none is
+
+  -- each other fault of a bundle's manifest
+  pub refused_bundle : (f : ManifestFault) → ((n : ℕ) → f ≡ Form n → ⊥) → RefusesManifest f (read_bundle bytes) → RefusesManifest f (read_manifest_of bytes)
+  unfolding read_manifest_of
+  refused_bundle (Form n) other is = absurd (other n refl)
+  refused_bundle Size other is = rw is refl
+  refused_bundle (Parent n) other is = rw is refl
+  refused_bundle (Exists n) other is = rw is refl
+  refused_bundle (Source n) other is = rw is refl
+  refused_bundle (Room n) other is = rw is refl
+  refused_bundle Memory other is = tt
+
+  refused-no_manifest : (f : ManifestFault) → read_manifest_of bytes ≡ Err f → manifest_tree bytes ≡ Err (of_manifest f)
+  unfolding manifest_tree
+  refused-no_manifest f is = rw is refl
+
+  -- a manifest that is refused
+  pub refuses_manifest : (f : ManifestFault) → RefusesManifest f (read_manifest_of bytes) → RefusesStart (of_manifest f) (manifest_tree bytes)
+  refuses_manifest (Form n) is = refused-no_manifest (Form n) is
+  refuses_manifest Size is = refused-no_manifest Size is
+  refuses_manifest (Parent n) is = refused-no_manifest (Parent n) is
+  refuses_manifest (Exists n) is = refused-no_manifest (Exists n) is
+  refuses_manifest (Source n) is = refused-no_manifest (Source n) is
+  refuses_manifest (Room n) is = refused-no_manifest (Room n) is
+  refuses_manifest Memory is = tt
+
+  module _ (m : ParsedManifest) (following : List Bytes) (read : read_manifest_of bytes ≡ Ok (manifest_before m following)) where
+    pub made : (t : Tree) → tree_of (manifest_before m []) ≡ Ok t → manifest_tree bytes ≡ Ok t
+    unfolding manifest_tree
+    made t is = rw (read, is) refl
+
+    refused-no_tree : (f : ManifestFault) → tree_of (manifest_before m []) ≡ Err f → manifest_tree bytes ≡ Err (of_manifest f)
+    unfolding manifest_tree
+    refused-no_tree f is = rw (read, is) refl
+
+    -- an entry that is refused
+    pub refuses_tree : (f : ManifestFault) → RefusesManifest f (tree_of (manifest_before m [])) → RefusesStart (of_manifest f) (manifest_tree bytes)
+    refuses_tree (Form n) is = refused-no_tree (Form n) is
+    refuses_tree Size is = refused-no_tree Size is
+    refuses_tree (Parent n) is = refused-no_tree (Parent n) is
+    refuses_tree (Exists n) is = refused-no_tree (Exists n) is
+    refuses_tree (Source n) is = refused-no_tree (Source n) is
+    refuses_tree (Room n) is = refused-no_tree (Room n) is
+    refuses_tree Memory is = tt

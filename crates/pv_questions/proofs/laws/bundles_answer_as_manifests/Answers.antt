@@ -1,0 +1,13 @@
+use Rattle.std.proofs.Common.{◌∙◌, ap, sym, Result}
+use Rattle.pv_model.specs.declared.run_fault.RunFault.{RunFault}
+use Rattle.pv_model.specs.Grammar.Texts.{ended}
+use Rattle.pv_model.specs.Start.{and_then}
+use Rattle.pv_model.specs.Tree.{Tree}
+use Rattle.pv_questions.specs.Trees.{tree_answer}
+use Rattle.pv_questions.specs.declared.stop.AskStop.TheVariants.{Machine}
+use Rattle.pv_questions.proofs.Alike.{manifest_tree-bundle, manifest_tree-made}
+use Rattle.pv_questions.proofs.laws.bundles_answer_as_manifests.Goals as goal
+
+pub returns : goal.returns
+returns c question lines turns t are made =
+    ap (λ (asked : Result Tree RunFault). and_then Machine asked (tree_answer question)) (manifest_tree-bundle lines turns t are made ∙ sym (manifest_tree-made (ended lines) t made))

@@ -1,0 +1,57 @@
+-- What is answered to a question: a text, or a refusal.
+use Rattle.std.specs.Prelude.{◌≡◌, List, Option, None, Some, option_map, Result, Ok, Err}
+use Rattle.pv_model.specs.declared.run_fault.RunFault.{RunFault}
+use Rattle.pv_model.specs.declared.verdict.AuditFault.{AuditFault}
+use Rattle.pv_model.specs.Answers.Explain.{explain_lines}
+use Rattle.pv_model.specs.Answers.Lines.{AnswerLine, answer_bytes}
+use Rattle.pv_model.specs.Answers.Needs.{needs_lines}
+use Rattle.pv_model.specs.Answers.ProcessRecord.{state_lines}
+use Rattle.pv_model.specs.Answers.Reach.{reach_lines, reach_of_one}
+use Rattle.pv_model.specs.Bytes.{Bytes}
+use Rattle.pv_model.specs.Grammar.Programs.{program_of}
+use Rattle.pv_model.specs.Start.{Started, and_then, bundle_started, image_started}
+use Rattle.pv_model.specs.State.{State}
+use Rattle.pv_model.specs.Step.{steps_of}
+use Rattle.pv_run.specs.Auditing.{audit_text}
+use Rattle.pv_session.specs.Running.{run_of}
+use Rattle.pv_questions.specs.declared.question.Question.{Question}
+use Rattle.pv_questions.specs.declared.question.Question.TheVariants as asked
+use Rattle.pv_questions.specs.declared.stop.AskStop.{AskStop}
+use Rattle.pv_questions.specs.declared.stop.AskStop.TheVariants.{Machine, NoProcess, Audited}
+
+-- a text, or a refusal
+abbrev pub Answer : Type 0
+Answer = Result Bytes AskStop
+
+abbrev pub of_lines : List AnswerLine → Answer
+of_lines lines = Ok (answer_bytes lines)
+
+-- the lines of a process, if it is live
+abbrev pub of_process : Option (List AnswerLine) → Answer
+of_process None = Err NoProcess
+of_process (Some lines) = of_lines lines
+
+abbrev pub of_audit : Result Bytes AuditFault → Answer
+of_audit (Ok text) = Ok text
+of_audit (Err fault) = Err (Audited fault)
+
+-- the state that a run leaves
+abbrev pub last_state : Started → State
+last_state it = (run_of it.state it.schedule).final
+
+-- what is answered of a run
+abbrev pub run_answer : Question → Started → Answer
+run_answer asked.State it = of_lines (state_lines (last_state it))
+run_answer (asked.Reach None) it = of_lines (reach_lines (last_state it))
+run_answer (asked.Reach (Some pid)) it = of_process (reach_of_one (last_state it) pid)
+run_answer asked.Explain it = of_lines (explain_lines program_of (steps_of it.schedule) it.state)
+run_answer asked.Needs it = of_lines (needs_lines program_of (steps_of it.schedule) it.state)
+run_answer (asked.Audit path) it = of_audit (audit_text (last_state it) (option_map (λ p. p.now) path))
+
+-- of the run of a schedule on an image: its checks first
+abbrev pub image_answer : Question → (image turns : Bytes) → Answer
+image_answer question image turns = and_then Machine (image_started image turns) (run_answer question)
+
+-- of the run of a bundle
+abbrev pub bundle_answer : Question → Bytes → Answer
+bundle_answer question bytes = and_then Machine (bundle_started bytes) (run_answer question)

@@ -1,0 +1,36 @@
+-- What a bundle or a manifest answers is what the image answers that is made of it.
+use Rattle.std.specs.Prelude.{◌≡◌, List, [], ◌∷◌, ◌++◌, codes, Ok}
+use Rattle.std.specs.List.{AllByRecursion}
+use Rattle.pv_model.specs.Bytes.{Bytes}
+use Rattle.pv_model.specs.Grammar.Manifests.{Manifest, read_manifest}
+use Rattle.pv_model.specs.Grammar.Texts.{IsLine, ended}
+use Rattle.pv_model.specs.Image.{IsImageOf}
+use Rattle.pv_model.specs.Tree.{Tree}
+use Rattle.pv_run.specs.Making.{tree_made}
+use Rattle.pv_questions.specs.Answering.{bundle_answer, image_answer}
+use Rattle.pv_questions.specs.Trees.{image_tree_answer, manifest_tree_answer, read_manifest_of}
+use Rattle.pv_questions.specs.declared.question.Question.{Question}
+use Rattle.pv_questions.specs.declared.question.TreeQuestion.{TreeQuestion}
+
+abbrev pub ManifestsStandAlone : Type 0
+ManifestsStandAlone = (bytes : Bytes) (m : Manifest) → read_manifest bytes ≡ Ok m → read_manifest_of bytes ≡ Ok m
+
+-- the lines of a manifest, each with its LF, then the line `schedule`, and then a schedule
+abbrev pub bundle_of : List Bytes → Bytes → Bytes
+bundle_of lines turns = ended (lines ++ codes "schedule" ∷ []) ++ turns
+
+abbrev pub ImagesAnswerAsManifests : Type 0
+ImagesAnswerAsManifests =
+    (question : TreeQuestion) (manifest image : Bytes) (t : Tree) → tree_made manifest ≡ Ok t → IsImageOf image t
+    → image_tree_answer question image ≡ manifest_tree_answer question manifest
+
+abbrev pub ImagesAnswerAsBundles : Type 0
+ImagesAnswerAsBundles =
+    (question : Question) (lines : List Bytes) (turns image : Bytes) (t : Tree) → AllByRecursion IsLine lines → tree_made (ended lines) ≡ Ok t → IsImageOf image t
+    → image_answer question image turns ≡ bundle_answer question (bundle_of lines turns)
+
+-- what stands after the line `schedule` is not read for a question of the tree
+abbrev pub BundlesAnswerAsManifests : Type 0
+BundlesAnswerAsManifests =
+    (question : TreeQuestion) (lines : List Bytes) (turns : Bytes) (t : Tree) → AllByRecursion IsLine lines → tree_made (ended lines) ≡ Ok t
+    → manifest_tree_answer question (bundle_of lines turns) ≡ manifest_tree_answer question (ended lines)

@@ -1,0 +1,5 @@
+pub mod Answering
+pub mod Asking
+pub mod Files
+pub mod Laws
+pub mod Trees

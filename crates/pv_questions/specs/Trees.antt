@@ -1,0 +1,62 @@
+-- What is answered to a question of a tree alone.
+use Rattle.std.specs.Prelude.{◌≡◌, max, List, Result, Ok, Err}
+use Rattle.pv_image_manifest.specs.Reading.{RefusesManifest, manifest_before}
+use Rattle.pv_image_manifest.specs.declared.manifest.Manifest.{Manifest as ParsedManifest}
+use Rattle.pv_model.specs.declared.fault.ManifestFault.{ManifestFault}
+use Rattle.pv_model.specs.declared.fault.ManifestFault.TheVariants.{Form}
+use Rattle.pv_model.specs.declared.run_fault.RunFault.{RunFault}
+use Rattle.pv_model.specs.declared.verdict.AuditFault.{AuditFault}
+use Rattle.pv_model.specs.Answers.Turns.{schedule_text, turns}
+use Rattle.pv_model.specs.Bytes.{Bytes}
+use Rattle.pv_model.specs.Grammar.Manifests.{Manifest, read_bundle, read_manifest, tree_of}
+use Rattle.pv_model.specs.Grammar.Programs.{program_of}
+use Rattle.pv_model.specs.Listing.{listing}
+use Rattle.pv_model.specs.Mount.{mounted}
+use Rattle.pv_model.specs.RunFault.{of_boot, of_image, of_manifest}
+use Rattle.pv_model.specs.Start.{and_then, booted}
+use Rattle.pv_model.specs.Tree.{Tree}
+use Rattle.pv_questions.specs.Answering.{Answer}
+use Rattle.pv_questions.specs.Files.{cat_of}
+use Rattle.pv_questions.specs.declared.question.TreeQuestion.{TreeQuestion}
+use Rattle.pv_questions.specs.declared.question.TreeQuestion.TheVariants.{Listing, File, Turns}
+use Rattle.pv_questions.specs.declared.stop.AskStop.TheVariants.{Machine, File as NoFile}
+
+-- a manifest that stands alone, where no line `schedule` ends one
+abbrev pub or_alone : Result Manifest ManifestFault → Result Manifest ManifestFault → Result Manifest ManifestFault
+or_alone (Err (Form n)) alone = alone
+or_alone read alone = read
+
+-- the manifest of a bundle, or one that stands alone
+unfoldable pub read_manifest_of : Bytes → Result Manifest ManifestFault
+read_manifest_of bytes = or_alone (read_bundle bytes) (read_manifest bytes)
+
+-- a manifest that was read is the one that was to be read, or its fault is
+abbrev pub GivesManifestOf : Result ParsedManifest ManifestFault → Result Manifest ManifestFault → Type 0
+GivesManifestOf (Ok m) read = (following : List Bytes) × (read ≡ Ok (manifest_before m following))
+GivesManifestOf (Err fault) read = RefusesManifest fault read
+
+-- the tree of an image
+abbrev pub image_tree : Bytes → Result Tree RunFault
+image_tree bytes = and_then of_image (mounted bytes) (λ t. Ok t)
+
+-- the tree that the manifest of a bundle makes, or one that stands alone: its form and sizes, and then its entries
+unfoldable pub manifest_tree : Bytes → Result Tree RunFault
+manifest_tree bytes = and_then of_manifest (read_manifest_of bytes) (λ m. and_then of_manifest (tree_of m) (λ t. Ok t))
+
+abbrev pub of_file : Result Bytes AuditFault → Answer
+of_file (Ok bytes) = Ok bytes
+of_file (Err fault) = Err (NoFile fault)
+
+-- what is answered of a tree; a schedule is that of the machine which starts on it, with one step a turn at least
+abbrev pub tree_answer : TreeQuestion → Tree → Answer
+tree_answer Listing t = Ok (listing t)
+tree_answer (File path) t = of_file (cat_of t path.now)
+tree_answer (Turns slice steps) t = and_then (λ fault. Machine (of_boot fault)) (booted t) (λ s. Ok (schedule_text (turns program_of (max 1 slice) steps s)))
+
+-- of the tree of an image
+abbrev pub image_tree_answer : TreeQuestion → Bytes → Answer
+image_tree_answer question bytes = and_then Machine (image_tree bytes) (tree_answer question)
+
+-- of the tree of a manifest
+abbrev pub manifest_tree_answer : TreeQuestion → Bytes → Answer
+manifest_tree_answer question bytes = and_then Machine (manifest_tree bytes) (tree_answer question)

@@ -1,0 +1,75 @@
+//! The file that a path names, and its bytes.
+ghost use Rattle.std.specs.Prelude.{◌≡◌, false, Ok, Err, IsTrue, IfOk, IfErr, OnOk, OnErr};
+ghost use Rattle.pv_dirs.specs.Trees.{bytes_at};
+ghost use Rattle.pv_model.specs.Effect.{node_of};
+ghost use Rattle.pv_model.specs.Stream.{Rose};
+ghost use Rattle.pv_model.specs.Tree.{node_at};
+ghost use Rattle.pv_questions.specs.Files.{IsFileAt, bytes_of_file, bytes_of_node, cat_of};
+ghost use Rattle.pv_streams.specs.Sinks.{and_all, TellsBeginning};
+
+use pv_model::limits::ROOT;
+use pv_model::{AuditFault, Errno, Follow, Kind, Place};
+use pv_namei::{PlainLookup, resolve};
+use pv_streams::{Failed, Sink, write_whole};
+use pv_tree::{PlaceRef, Tree};
+
+// Whether a number is that of a file.
+fn is_file(tree: &Tree, node: u16) -> bool
+    ensures file { IsTrue result → IsFileAt tree.now.tree node }
+    ensures other { result ≡ false → bytes_of_file (node_at tree.now.tree node) ≡ Err AuditFault.NotFile }
+{
+    tree.is_used(node) && matches!(tree.kind(node), Kind::File | Kind::Executable)
+}
+
+// The file at a place.
+fn file_of(tree: &Tree, place: &Place) -> Result<u16, AuditFault>
+    ensures found { IfOk result (λ node. IsFileAt tree.now.tree node × (bytes_of_node tree.now.tree (node_of place.now) ≡ Ok (bytes_at tree.now.tree node))) }
+    ensures refused { IfErr result (λ fault. bytes_of_node tree.now.tree (node_of place.now) ≡ Err fault) }
+{
+    let Some(node) = PlaceRef::of(place).node() else {
+        return Err(AuditFault::Walk(Errno::ENOENT));
+    };
+    if !is_file(tree, node) {
+        return Err(AuditFault::NotFile);
+    }
+    Ok(node)
+}
+
+/// The file that a path names, walked from the root, following links, judged by no table.
+///
+/// # Errors
+///
+/// `Walk` with the error that the walk answers, or `ENOENT` where it ends with no node; `NotFile` where the path names no
+/// file.
+pub(crate) fn file_at(tree: &Tree, path: &[u8]) -> Result<u16, AuditFault>
+    ensures found { IfOk result (λ node. IsFileAt tree.now.tree node × (cat_of tree.now.tree path.now ≡ Ok (bytes_at tree.now.tree node))) }
+    ensures refused { IfErr result (λ fault. cat_of tree.now.tree path.now ≡ Err fault) }
+{
+    let _ = tree.sizes();
+    match resolve(tree, &mut PlainLookup, ROOT, path, Follow::Last) {
+        Ok(place) => file_of(tree, &place),
+        Err(errno) => Err(AuditFault::Walk(errno)),
+    }
+}
+
+/// Writes the bytes of a file.
+///
+/// # Errors
+///
+/// `Failed` where a write failed: the sink was given a beginning of the bytes.
+pub(crate) fn write_file<W: Sink>(out: &mut W, tree: &Tree, node: u16) -> Result<(), Failed>
+    requires { IsFileAt tree.now.tree node }
+    ensures whole { OnOk result (W.written out.new ≡ and_all (W.written out.old) (bytes_at tree.now.tree node)) }
+    ensures beginning { OnErr result (TellsBeginning (bytes_at tree.now.tree node) (W.written out.old) (W.written out.new)) }
+    ensures failed { OnErr result (Rose (W.failures out.old) (W.failures out.new)) }
+    ensures quiet { OnOk result (W.failures out.new ≡ W.failures out.old) }
+{
+    let size = tree.size(node);
+    let mut at = 0;
+    while at < size {
+        let part = tree.lend(node, at);
+        write_whole(out, part)?;
+        at += part.len() as u32;
+    }
+    Ok(())
+}
