@@ -1,13 +1,14 @@
 //! `pvsim`: the program of `pv_cli_line` over the files and the streams of its system.
 //!
 //! `main` hands over the words, the files, the standard input, output and errors; the output is gathered, so that many small
-//! writes are one of the system's. What is proved of the program is the contract of `run`, over any files and streams.
+//! writes are one of the system's. Without words, on a terminal, it says first what is read. What is proved of the program is the contract of `run`, over any files and streams.
 #![tactic(auto)]
 
 use pv_cli_commands::HostSystem;
 use pv_cli_host::{HostFiles, Input, Output};
 use pv_cli_line::{Fault, LineFault, run, tell};
 use pv_streams::Buffered;
+use std::io::IsTerminal;
 use std::process::ExitCode;
 use std::{env, io};
 
@@ -26,6 +27,15 @@ fn words_of(rt: &HostRuntime) -> Result<Vec<String>, Fault> {
     }
 }
 
+// Says that a bundle is read from the terminal, where the standard input is one and there are no words.
+fn greet(rt: &HostRuntime, words: &[String]) {
+    if words.len() <= 1 && rt.stdin().is_terminal() {
+        let _written = eprint!(rt;
+            "pvsim: a bundle is read from the terminal; `pvsim --help` says what else there is\n"
+        );
+    }
+}
+
 fn main(rt: HostRuntime) -> ExitCode {
     let mut system = HostSystem {
         files: HostFiles::new(&rt),
@@ -34,7 +44,10 @@ fn main(rt: HostRuntime) -> ExitCode {
         errors: Output::new(rt.stderr()),
     };
     let status = match words_of(&rt) {
-        Ok(words) => run(rt.alloc(), words.as_slice(), &mut system),
+        Ok(words) => {
+            greet(&rt, words.as_slice());
+            run(rt.alloc(), words.as_slice(), &mut system)
+        }
         Err(fault) => tell(&fault, &mut system),
     };
     ExitCode::from(status)

@@ -8,14 +8,18 @@ use Rattle.pv_model.specs.declared.run_fault.RunFault.TheVariants.{Image, Manife
 use Rattle.pv_model.specs.declared.store_fault.ListFault.{ListFault}
 use Rattle.pv_model.specs.declared.store_fault.ListFault.TheVariants.{Image as ListedImage}
 use Rattle.pv_model.specs.declared.store_fault.MigrateFault.TheVariants.{Image as MigratedImage}
+use Rattle.pv_questions.specs.declared.stop.AskStop.{AskStop}
+use Rattle.pv_questions.specs.declared.stop.AskStop.TheVariants.{Machine as AskedMachine}
 use Rattle.pv_run.specs.declared.auditing.AuditStop.{AuditStop}
 use Rattle.pv_run.specs.declared.auditing.AuditStop.TheVariants.{Machine}
 use Rattle.pv_run.specs.declared.migrating.MigrateStop.{MigrateStop}
 use Rattle.pv_run.specs.declared.migrating.MigrateStop.TheVariants.{Refused}
+use Rattle.pv_source.specs.declared.source.SourceStop.{SourceStop}
+use Rattle.pv_source.specs.declared.source.SourceStop.TheVariants as unwritten
 use Rattle.pv_cli_commands.specs.declared.fault.Fault.{Fault}
-use Rattle.pv_cli_commands.specs.declared.fault.Fault.TheVariants.{Run, Listing, Migrating, Auditing}
+use Rattle.pv_cli_commands.specs.declared.fault.Fault.TheVariants.{Run, Listing, Migrating, Auditing, Asking, Source}
 use Rattle.pv_cli_commands.specs.Faults.{Answer}
-use Rattle.pv_cli_commands.specs.Status.{audit_status_of, list_status_of, migrate_status_of, run_status_of, status_of}
+use Rattle.pv_cli_commands.specs.Status.{ask_status_of, audit_status_of, list_status_of, migrate_status_of, run_status_of, source_status_of, status_of}
 
 run_status-not_zero : (fault : RunFault) → run_status_of fault ≢ 0
 run_status-not_zero (Image ImageMemory) h = cc
@@ -39,11 +43,23 @@ audit_status-not_zero : (stop : AuditStop) → audit_status_of stop ≢ 0
 audit_status-not_zero (Machine fault) = run_status-not_zero fault
 audit_status-not_zero stop = λ h. cc
 
+ask_status-not_zero : (stop : AskStop) → ask_status_of stop ≢ 0
+ask_status-not_zero (AskedMachine fault) = run_status-not_zero fault
+ask_status-not_zero stop = λ h. cc
+
+source_status-not_zero : (stop : SourceStop) → source_status_of stop ≢ 0
+source_status-not_zero unwritten.Read h = cc
+source_status-not_zero unwritten.Memory h = cc
+source_status-not_zero unwritten.Refused h = cc
+source_status-not_zero unwritten.Write h = cc
+
 status-not_zero : (fault : Fault) → status_of fault ≢ 0
 status-not_zero (Run fault) = run_status-not_zero fault
 status-not_zero (Listing fault) = list_status-not_zero fault
 status-not_zero (Migrating stop) = migrate_status-not_zero stop
 status-not_zero (Auditing stop) = audit_status-not_zero stop
+status-not_zero (Asking stop) = ask_status-not_zero stop
+status-not_zero (Source stop) = source_status-not_zero stop
 
 -- whatever a command answers
 pub failed_with_status : (answer : Answer) → IfErr answer (λ fault. status_of fault ≢ 0)

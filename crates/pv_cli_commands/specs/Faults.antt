@@ -2,10 +2,12 @@
 use Rattle.std.specs.Prelude.{Result}
 use Rattle.pv_model.specs.declared.run_fault.RunFault.{RunFault}
 use Rattle.pv_model.specs.declared.store_fault.ListFault.{ListFault}
+use Rattle.pv_questions.specs.declared.stop.AskStop.{AskStop}
 use Rattle.pv_run.specs.declared.auditing.AuditStop.{AuditStop}
 use Rattle.pv_run.specs.declared.migrating.MigrateStop.{MigrateStop}
+use Rattle.pv_source.specs.declared.source.SourceStop.{SourceStop}
 use Rattle.pv_cli_commands.specs.declared.fault.Fault.{Fault}
-use Rattle.pv_cli_commands.specs.declared.fault.Fault.TheVariants.{Run, Listing, Migrating, Auditing}
+use Rattle.pv_cli_commands.specs.declared.fault.Fault.TheVariants.{Run, Listing, Migrating, Auditing, Asking, Source}
 
 -- what a command answers
 abbrev pub Answer : Type 0
@@ -30,3 +32,13 @@ IsOfMigrating holds fault = ⊥
 abbrev pub IsOfAuditing : (AuditStop → Type 0) → Fault → Type 0
 IsOfAuditing holds (Auditing stop) = holds stop
 IsOfAuditing holds fault = ⊥
+
+-- it is why a question was not answered, of which this holds
+abbrev pub IsOfAsking : (AskStop → Type 0) → Fault → Type 0
+IsOfAsking holds (Asking stop) = holds stop
+IsOfAsking holds fault = ⊥
+
+-- it is why what a source stands for was not written, of which this holds
+abbrev pub IsOfSource : (SourceStop → Type 0) → Fault → Type 0
+IsOfSource holds (Source stop) = holds stop
+IsOfSource holds fault = ⊥

@@ -1,3 +1,4 @@
+pub mod Asking
 pub mod Auditing
 pub mod Commands
 pub mod Created
@@ -7,5 +8,6 @@ pub mod Listing
 pub mod Making
 pub mod Migrating
 pub mod Running
+pub mod Sources
 pub mod Status
 pub mod Streams

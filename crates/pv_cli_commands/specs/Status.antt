@@ -1,5 +1,5 @@
 -- The exit status of a command: 0 done, 1 refused input, 3 memory, 4 a failed read or write.
-use Rattle.std.specs.Prelude.{◌≡◌, ◌≢◌, ℕ, Result, Ok, Err}
+use Rattle.std.specs.Prelude.{◌≡◌, ◌≢◌, ℕ, Bool, true, false, Result, Ok, Err}
 use Rattle.pv_model.specs.declared.fault.ImageFault.TheVariants.{Memory as ImageMemory}
 use Rattle.pv_model.specs.declared.fault.ManifestFault.TheVariants.{Memory as ManifestMemory}
 use Rattle.pv_model.specs.declared.run_fault.RunFault.{RunFault}
@@ -8,12 +8,16 @@ use Rattle.pv_model.specs.declared.store_fault.ListFault.{ListFault}
 use Rattle.pv_model.specs.declared.store_fault.ListFault.TheVariants.{Read as ListRead, Image as ListedImage, Memory as ListMemory, Write as ListWrite}
 use Rattle.pv_model.specs.declared.store_fault.MigrateFault.TheVariants.{Image as MigratedImage, Small, Memory as MigrateMemory}
 use Rattle.pv_model.specs.declared.stream.Sink.{Ghosts as Writing}
+use Rattle.pv_questions.specs.declared.stop.AskStop.{AskStop}
+use Rattle.pv_questions.specs.declared.stop.AskStop.TheVariants.{Machine as AskedMachine, NoProcess, Audited, File, Write as AnswerWrite}
 use Rattle.pv_run.specs.declared.auditing.AuditStop.{AuditStop}
 use Rattle.pv_run.specs.declared.auditing.AuditStop.TheVariants.{Machine, Path, Write as AuditWrite}
 use Rattle.pv_run.specs.declared.migrating.MigrateStop.{MigrateStop}
 use Rattle.pv_run.specs.declared.migrating.MigrateStop.TheVariants.{Read as MigrateRead, Refused, Write as MigrateWrite}
+use Rattle.pv_source.specs.declared.source.SourceStop.{SourceStop}
+use Rattle.pv_source.specs.declared.source.SourceStop.TheVariants as unwritten
 use Rattle.pv_cli_commands.specs.declared.fault.Fault.{Fault}
-use Rattle.pv_cli_commands.specs.declared.fault.Fault.TheVariants.{Run, Listing, Migrating, Auditing}
+use Rattle.pv_cli_commands.specs.declared.fault.Fault.TheVariants.{Run, Listing, Migrating, Auditing, Asking, Source}
 use Rattle.pv_cli_commands.specs.Faults.{Answer}
 
 abbrev pub run_status_of : RunFault → ℕ
@@ -48,11 +52,31 @@ audit_status_of (Machine fault) = run_status_of fault
 audit_status_of (Path fault) = 1
 audit_status_of AuditWrite = 4
 
+abbrev pub ask_status_of : AskStop → ℕ
+ask_status_of (AskedMachine fault) = run_status_of fault
+ask_status_of NoProcess = 1
+ask_status_of (Audited fault) = 1
+ask_status_of (File fault) = 1
+ask_status_of AnswerWrite = 4
+
+abbrev pub source_status_of : SourceStop → ℕ
+source_status_of unwritten.Read = 4
+source_status_of unwritten.Memory = 3
+source_status_of unwritten.Refused = 1
+source_status_of unwritten.Write = 4
+
 abbrev pub status_of : Fault → ℕ
 status_of (Run fault) = run_status_of fault
 status_of (Listing fault) = list_status_of fault
 status_of (Migrating stop) = migrate_status_of stop
 status_of (Auditing stop) = audit_status_of stop
+status_of (Asking stop) = ask_status_of stop
+status_of (Source stop) = source_status_of stop
+
+-- it was told already: the lines of a source that are at fault
+abbrev pub is_told : Fault → Bool
+is_told (Source unwritten.Refused) = true
+is_told fault = false
 
 -- what a command ends with
 abbrev pub status_of_answer : Answer → ℕ

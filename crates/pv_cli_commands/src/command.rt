@@ -1,5 +1,30 @@
 //! What may be asked for.
 
+use pv_questions::{Question, TreeQuestion};
+
+/// What is run: an image under a schedule, or a bundle.
+#[derive(Clone, Copy, Debug, PartialEq, Eq)]
+pub enum RunInput<'a> {
+    /// The image in a file, under the schedule in another.
+    Files {
+        /// The file of the image.
+        image: &'a str,
+        /// The file of the schedule.
+        schedule: &'a str,
+    },
+    /// The bundle of a file: `-` is the standard input.
+    Bundle(&'a str),
+}
+
+/// What has a tree: an image, or a manifest.
+#[derive(Clone, Copy, Debug, PartialEq, Eq)]
+pub enum TreeInput<'a> {
+    /// The image in a file.
+    Image(&'a str),
+    /// The manifest of a file, which may be a bundle's: `-` is the standard input.
+    Manifest(&'a str),
+}
+
 /// What a command line asks for.
 #[derive(Clone, Copy, Debug, PartialEq, Eq)]
 pub enum Command<'a> {
@@ -42,5 +67,22 @@ pub enum Command<'a> {
         schedule: &'a str,
         /// The path of a file of the image; without it, all files.
         path: Option<&'a str>,
+    },
+    /// Write the manifest or bundle that the source of a file stands for, or tell its lines at fault: `-` is the standard
+    /// input.
+    WriteSource(&'a str),
+    /// Answer a question of a run.
+    Ask {
+        /// What is asked.
+        question: Question<'a>,
+        /// What is run.
+        run: RunInput<'a>,
+    },
+    /// Answer a question of a tree.
+    AskTree {
+        /// What is asked.
+        question: TreeQuestion<'a>,
+        /// What has the tree.
+        tree: TreeInput<'a>,
     },
 }

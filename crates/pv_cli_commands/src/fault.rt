@@ -1,10 +1,12 @@
 //! What a command tells a person, and the exit status.
 ghost use Rattle.std.specs.Prelude.{◌≡◌};
-ghost use Rattle.pv_cli_commands.specs.Status.{audit_status_of, list_status_of, migrate_status_of, run_status_of, status_of};
-ghost use Rattle.pv_cli_commands.specs.declared.fault.Fault.TheVariants.{Run as RunVariant, Listing as ListingVariant, Migrating as MigratingVariant, Auditing as AuditingVariant};
+ghost use Rattle.pv_cli_commands.specs.Status.{ask_status_of, audit_status_of, is_told, list_status_of, migrate_status_of, run_status_of, source_status_of, status_of};
+ghost use Rattle.pv_cli_commands.specs.declared.fault.Fault.TheVariants.{Run as RunVariant, Listing as ListingVariant, Migrating as MigratingVariant, Auditing as AuditingVariant, Asking as AskingVariant, Source as SourceVariant};
 
 use pv_model::{ImageFault, ListFault, ManifestFault, MigrateFault, RunFault};
+use pv_questions::AskStop;
 use pv_run::{AuditStop, MigrateStop};
+use pv_source::SourceStop;
 use thiserror::Error;
 
 /// Why a command ends without what it was asked for. Its `Display` is the whole text for a person, with the LF at its
@@ -23,6 +25,13 @@ pub enum Fault {
     /// The files of an image were not audited, or not all.
     #[error("pvsim: {0}\n")]
     Auditing(AuditStop),
+    /// A question was not answered, or not whole.
+    #[error("pvsim: {0}\n")]
+    Asking(AskStop),
+    /// What a source stands for was not written, or not whole. The text of `Refused` is empty, since the lines at fault were
+    /// told.
+    #[error("{}", source_text(*.0))]
+    Source(SourceStop),
 }
 
 impl From<RunFault> for Fault {
@@ -54,6 +63,32 @@ impl From<AuditStop> for Fault {
 
     fn from(stop: AuditStop) -> Fault {
         Fault::Auditing(stop)
+    }
+}
+
+impl From<AskStop> for Fault {
+    ghost from_gives = { λ given fault. fault ≡ AskingVariant given };
+
+    fn from(stop: AskStop) -> Fault {
+        Fault::Asking(stop)
+    }
+}
+
+impl From<SourceStop> for Fault {
+    ghost from_gives = { λ given fault. fault ≡ SourceVariant given };
+
+    fn from(stop: SourceStop) -> Fault {
+        Fault::Source(stop)
+    }
+}
+
+// The text of why a source was not written.
+fn source_text(stop: SourceStop) -> &'static str {
+    match stop {
+        SourceStop::Read => "pvsim: read\n",
+        SourceStop::Memory => "pvsim: memory\n",
+        SourceStop::Refused => "",
+        SourceStop::Write => "pvsim: write\n",
     }
 }
 
@@ -103,6 +138,28 @@ fn audit_status(stop: AuditStop) -> u8
     }
 }
 
+// The status of an answer that did not come, or not whole.
+fn ask_status(stop: AskStop) -> u8
+    ensures { result ≡ ask_status_of stop }
+{
+    match stop {
+        AskStop::Machine(fault) => run_status(fault),
+        AskStop::NoProcess | AskStop::Audited(_) | AskStop::File(_) => 1,
+        AskStop::Write => 4,
+    }
+}
+
+// The status of a source that was not written, or not whole.
+fn source_status(stop: SourceStop) -> u8
+    ensures { result ≡ source_status_of stop }
+{
+    match stop {
+        SourceStop::Read | SourceStop::Write => 4,
+        SourceStop::Memory => 3,
+        SourceStop::Refused => 1,
+    }
+}
+
 impl Fault {
     /// The exit status: 1 for refused input, 3 for memory, and 4 for a failed read or write.
     pub fn status(&self) -> u8
@@ -113,6 +170,15 @@ impl Fault {
             Fault::Listing(fault) => list_status(*fault),
             Fault::Migrating(stop) => migrate_status(*stop),
             Fault::Auditing(stop) => audit_status(*stop),
+            Fault::Asking(stop) => ask_status(*stop),
+            Fault::Source(stop) => source_status(*stop),
         }
+    }
+
+    /// Whether it was told already, on the standard error: that of a source whose lines are at fault.
+    pub fn is_told(&self) -> bool
+        ensures { result ≡ is_told self.now }
+    {
+        matches!(self, Fault::Source(SourceStop::Refused))
     }
 }

@@ -2,13 +2,14 @@
 //! status. How a line of words asks for a command stands above.
 //!
 //! `command` has what may be asked for, and `performing` does it: `running` runs bundles, `making` makes images of manifests,
-//! `listing` lists images, `images` runs them, `auditing` audits them, and `migrating` makes those of version 2. `system` has the
-//! files and streams of a command, and `fault` what a person is told, and the exit status.
+//! `sources` writes what sources stand for, `listing` lists images, `images` runs them, `auditing` audits them, `asking` answers questions of runs and trees, and `migrating` makes
+//! images of version 2. `system` has the files and streams of a command, and `fault` what a person is told, and the exit status.
 //!
 //! A clause sees of a source what it will give, of a sink what it was given and what is buffered in it, of both how often they
 //! failed, and of files the bytes that a name has.
 #![tactic(auto)]
 
+pub mod asking;
 pub mod auditing;
 pub mod command;
 pub mod fault;
@@ -18,9 +19,10 @@ pub mod making;
 pub mod migrating;
 pub mod performing;
 pub mod running;
+pub mod sources;
 pub mod system;
 
-pub use command::Command;
+pub use command::{Command, RunInput, TreeInput};
 pub use fault::Fault;
 pub use performing::perform;
 pub use system::{Files, HostSystem};

@@ -1,5 +1,5 @@
 //! What a command reads and writes: files by their names, and three streams.
-ghost use Rattle.std.specs.Prelude.{◌≡◌, ℕ, List, Option, IfOk, IsOk, IsSome};
+ghost use Rattle.std.specs.Prelude.{◌≡◌, ℕ, List, Option, None, IfOk, IsOk, IsSome};
 ghost use Rattle.pv_cli_commands.specs.Created.{IsCreated};
 
 use pv_streams::{Failed, Sink, Source};
@@ -39,6 +39,15 @@ pub trait Files {
     /// `AllocError` where memory was refused for the name.
     fn create(&self, alloc: Global, name: &str) -> Result<Self::Writer, AllocError>
         ensures { IfOk result (IsCreated file_of Self.Writer.written name.now) };
+
+    /// Why the file of a name can't be read, in the system's words: nothing where it can, or they are not known. A file whose
+    /// bytes are known can be read.
+    fn read_reason(&self, alloc: Global, name: &str) -> Option<String>
+        ensures { IsSome (bytes self.now name.now) → result ≡ None };
+
+    /// Why the file of a name can't be opened to be written, in the system's words: nothing where it can, or they are not known.
+    /// It may make an empty file, and leaves one that is there as it is.
+    fn write_reason(&self, alloc: Global, name: &str) -> Option<String>;
 }
 
 /// What a command reads from and writes to.

@@ -52,6 +52,23 @@ impl<'a> Files for HostFiles<'a> {
             failures: 0,
         })
     }
+
+    fn read_reason(&self, alloc: Global, name: &str) -> Option<String> {
+        match fs::open(self.rt, name) {
+            Ok(mut file) => match file.read(&mut [0]) {
+                Ok(_) => None,
+                Err(error) => format!(in alloc; "{error}").ok(),
+            },
+            Err(error) => format!(in alloc; "{error}").ok(),
+        }
+    }
+
+    fn write_reason(&self, alloc: Global, name: &str) -> Option<String> {
+        match File::options().write(true).create(true).open(self.rt, name) {
+            Ok(_) => None,
+            Err(error) => format!(in alloc; "{error}").ok(),
+        }
+    }
 }
 
 /// A sink over a file that is made, or emptied, at the first write. What it was given is not known.

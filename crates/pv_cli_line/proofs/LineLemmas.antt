@@ -1,24 +1,29 @@
 -- What the matches of a line, and a refusal of its parser, say of the command that it asks for.
-use Rattle.std.proofs.Common.{◌≡◌, ◌⊎◌, ◌∙◌, ap, sym, subst, inl, inr, true, if◌then◌else◌, bytes_eq, List, codes, Option, None, Some, option_map, refl}
+use Rattle.std.proofs.Common.{◌≡◌, ◌⊎◌, ◌∙◌, ap, sym, subst, inl, inr, true, false, arith, if◌then◌else◌, bytes_eq, ℕ, List, [], ◌∷◌, length, map, codes, Option, None, Some, option_map, refl}
 use Rattle.std.proofs.lemmas.Bool.{false_from_ne_true}
 use Rattle.std.proofs.lemmas.Slice.Eq.{bytes_eq-Decides}
-use Rattle.std.specs.Prelude.{Box, Result, Ok, Err, IfErr, IfOk, IfSome, IsErrAnd}
-use Rattle.std.specs.Option.{ok_or}
+use Rattle.std.specs.Prelude.{◌≤◌, Box, Result, Ok, Err, IfErr, IfOk, IfSome, IsErrAnd}
 use Rattle.std.specs.Box.{box_value}
 use Rattle.clap.specs.Words.{HasKind, Row, Text, fault_of, first_of, found_of, kind_of, rows_of, subcommand_rows, takes}
 use Rattle.clap.specs.declared.error.Error.{Error}
 use Rattle.clap.specs.declared.error.kind.ErrorKind.{ErrorKind}
-use Rattle.clap.specs.declared.error.kind.ErrorKind.TheVariants.{MissingSubcommand, OutOfMemory}
+use Rattle.clap.specs.declared.error.kind.ErrorKind.TheVariants.{MissingRequiredArgument, OutOfMemory}
 use Rattle.clap.specs.declared.parser.matches.SubCommand.{SubCommand}
 use Rattle.clap.specs.declared.parser.matches.ArgMatches.TheViews.{out-SubCommand}
 use Rattle.clap.proofs.OnLiterals.{clap_on_literals}
 use Rattle.clap.specs.Words.{is_simple, is_simple_and_free, subcommand_of}
 use Rattle.pv_cli_commands.specs.declared.command.Command.{Command}
-use Rattle.pv_cli_commands.specs.declared.command.Command.TheVariants.{RunTree, MakeImage, ListImage, RunImage, MigrateImage, AuditImage}
+use Rattle.pv_cli_commands.specs.declared.command.Command.TheVariants.{RunTree, MakeImage, ListImage, RunImage, MigrateImage, AuditImage, WriteSource, Ask, AskTree}
+use Rattle.pv_cli_commands.specs.declared.command.RunInput.{RunInput}
+use Rattle.pv_cli_commands.specs.declared.command.RunInput.TheVariants.{Files, Bundle}
+use Rattle.pv_cli_commands.specs.declared.command.TreeInput.{TreeInput}
+use Rattle.pv_cli_commands.specs.declared.command.TreeInput.TheVariants.{Image, Manifest}
+use Rattle.pv_questions.specs.declared.question.Question.{Question}
+use Rattle.pv_questions.specs.declared.question.Question.TheVariants.{State, Reach, Explain, Needs, Audit}
+use Rattle.pv_questions.specs.declared.question.TreeQuestion.TheVariants.{Listing, File, Turns}
 use Rattle.pv_cli_line.specs.declared.command.LineFault.{LineFault}
-use Rattle.pv_cli_line.specs.declared.command.LineFault.TheVariants.{Number}
-use Rattle.pv_cli_line.specs.declared.command.Migration.{Migration}
-use Rattle.pv_cli_line.specs.Line.{HasTexts, IsCommandIn, IsMigrationOf, IsRefused, IsWithoutNumbers, LacksNumber, RefusesWords, entered_text, of_kind, of_parser, size_in}
+use Rattle.pv_cli_line.specs.declared.found.Migration.{Migration}
+use Rattle.pv_cli_line.specs.Line.{HasTexts, IsCommandIn, IsMigrationOf, IsPlain, IsPlainQuestion, IsQuestionIn, IsRefused, IsRunIn, IsTreeIn, IsWholeRunIn, IsWholeTreeIn, IsWithoutNumbers, RefusesWords, entered_text, is_given, is_verbose_in, is_verbose_line, of_kind, of_parser}
 use Rattle.pv_cli_line.specs.Parser.{pvsim_app}
 
 module _ {Z : Type 0} where
@@ -49,34 +54,109 @@ module _ {Z : Type 0} where
       ap (λ x. if x then first_of argument (rows_of (found_of (out-SubCommand (box_value b)).matches)) else None)
       (false_from_ne_true (bytes_eq entered name) (λ same. other (ap Some ((bytes_eq-Decides entered name).0 same))))
 
--- where no command has its texts there is none
-pub no_command : (entered : Option (Text × List Row))
-    → entered_text entered (codes "run-tree") (codes "FILE") ≡ None
-    → entered_text entered (codes "ls") (codes "IMAGE") ≡ None
-    → ((manifest image : Text) → entered_text entered (codes "mkimg") (codes "MANIFEST") ≡ Some manifest → entered_text entered (codes "mkimg") (codes "IMAGE") ≡ Some image → ⊥)
-    → ((image schedule out : Text) → entered_text entered (codes "run") (codes "IMAGE") ≡ Some image → entered_text entered (codes "run") (codes "SCHEDULE") ≡ Some schedule
-    → entered_text entered (codes "run") (codes "OUT") ≡ Some out → ⊥)
-    → ((image schedule : Text) → entered_text entered (codes "audit") (codes "IMAGE") ≡ Some image → entered_text entered (codes "audit") (codes "SCHEDULE") ≡ Some schedule → ⊥)
-    → (command : Command) → IsWithoutNumbers command → IsCommandIn entered command → ⊥
-no_command entered tree listed made ran audited (RunTree file) plain is = let both : None ≡ Some file.now = sym tree ∙ is in cc
-no_command entered tree listed made ran audited (ListImage image) plain is = let both : None ≡ Some image.now = sym listed ∙ is in cc
-no_command entered tree listed made ran audited (MakeImage manifest image) plain is = made manifest.now image.now is.0 is.1
-no_command entered tree listed made ran audited (RunImage image schedule out) plain is = ran image.now schedule.now out.now is.0 is.1 is.2
-no_command entered tree listed made ran audited (AuditImage image schedule path) plain is = audited image.now schedule.now is.0 is.1
-no_command entered tree listed made ran audited (MigrateImage image out blocks inodes) plain is = absurd plain
+-- the flag of the command that was entered
+pub verbose-entered : (entered : Option (Text × List Row)) (rows : List Row) → option_map (λ p. p.1) entered ≡ Some rows
+    → is_verbose_in entered ≡ is_given (first_of (codes "verbose") rows)
+verbose-entered None rows r = cc
+verbose-entered (Some p) rows r = let same : p.1 ≡ rows = cc in ap (λ rs. is_given (first_of (codes "verbose") rs)) same
 
--- where neither a migration's texts stand nor another command, none does
-pub no_command_at_all : (entered : Option (Text × List Row))
-    → ((image out blocks inodes : Text) → HasTexts entered image out blocks inodes → ⊥)
-    → ((command : Command) → IsWithoutNumbers command → IsCommandIn entered command → ⊥)
-    → (command : Command) → IsCommandIn entered command → ⊥
-no_command_at_all entered migrates other (RunTree file) is = other (RunTree file) tt is
-no_command_at_all entered migrates other (ListImage image) is = other (ListImage image) tt is
-no_command_at_all entered migrates other (MakeImage manifest image) is = other (MakeImage manifest image) tt is
-no_command_at_all entered migrates other (RunImage image schedule out) is = other (RunImage image schedule out) tt is
-no_command_at_all entered migrates other (AuditImage image schedule path) is = other (AuditImage image schedule path) tt is
-no_command_at_all entered migrates other (MigrateImage image out blocks inodes) is =
-    migrates image.now out.now is.2.word is.3.word (record { has_image = is.0; has_out = is.1; has_blocks = is.2.is_entered; has_inodes = is.3.is_entered })
+-- a line without words has no flag
+pub verbose-wordless : {A : Type 0} (text : A → Text) (words : List A) → length words ≤ 1 → is_verbose_line (map text words) ≡ false
+verbose-wordless text [] few = refl
+verbose-wordless text (program ∷ []) few = refl
+verbose-wordless text (program ∷ word ∷ words) few = absurd (omega (arith, few))
+
+-- ---- where no command has its texts there is none
+
+module _ (entered : Option (Text × List Row)) where
+  pub no_plain_command :
+      entered_text entered (codes "run-tree") (codes "FILE") ≡ None → entered_text entered (codes "source") (codes "FILE") ≡ None
+      → ((manifest image : Text) → entered_text entered (codes "mkimg") (codes "MANIFEST") ≡ Some manifest → entered_text entered (codes "mkimg") (codes "IMAGE") ≡ Some image → ⊥)
+      → ((image schedule out : Text) → entered_text entered (codes "run") (codes "IMAGE") ≡ Some image → entered_text entered (codes "run") (codes "SCHEDULE") ≡ Some schedule
+      → entered_text entered (codes "run") (codes "OUT") ≡ Some out → ⊥)
+      → (command : Command) → IsPlain command → IsCommandIn entered command → ⊥
+  no_plain_command tree source made ran (RunTree file) plain is = let both : None ≡ Some file.now = sym tree ∙ is in cc
+  no_plain_command tree source made ran (WriteSource file) plain is = let both : None ≡ Some file.now = sym source ∙ is in cc
+  no_plain_command tree source made ran (MakeImage manifest image) plain is = made manifest.now image.now is.0 is.1
+  no_plain_command tree source made ran (RunImage image schedule out) plain is = ran image.now schedule.now out.now is.0 is.1 is.2
+  no_plain_command tree source made ran (ListImage image) plain is = absurd plain
+  no_plain_command tree source made ran (MigrateImage image out blocks inodes) plain is = absurd plain
+  no_plain_command tree source made ran (AuditImage image schedule path) plain is = absurd plain
+  no_plain_command tree source made ran (Ask question run) plain is = absurd plain
+  no_plain_command tree source made ran (AskTree question tree-of) plain is = absurd plain
+
+  pub no_plain_question :
+      ((run : RunInput) → IsWholeRunIn entered (codes "state") run → ⊥) → ((run : RunInput) → IsWholeRunIn entered (codes "explain") run → ⊥)
+      → ((run : RunInput) → IsWholeRunIn entered (codes "needs") run → ⊥)
+      → (question : Question) (run : RunInput) → IsPlainQuestion question → IsQuestionIn entered question run → ⊥
+  no_plain_question state explain needs State run plain is = state run is
+  no_plain_question state explain needs Explain run plain is = explain run is
+  no_plain_question state explain needs Needs run plain is = needs run is
+  no_plain_question state explain needs (Reach pid) run plain is = absurd plain
+  no_plain_question state explain needs (Audit path) run plain is = absurd plain
+
+  pub no_command :
+      ((command : Command) → IsPlain command → IsCommandIn entered command → ⊥) → ((tree : TreeInput) → IsWholeTreeIn entered (codes "ls") tree → ⊥)
+      → ((path : Text) (tree : TreeInput) → IsTreeIn entered (codes "cat") (codes "PATH") tree (Some path) → ⊥)
+      → ((run : RunInput) (further : Option Text) → IsRunIn entered (codes "audit") (codes "PATH") run further → ⊥)
+      → ((question : Question) (run : RunInput) → IsPlainQuestion question → IsQuestionIn entered question run → ⊥)
+      → (command : Command) → IsWithoutNumbers command → IsCommandIn entered command → ⊥
+  no_command plain list cat audit asks (RunTree file) without is = plain (RunTree file) tt is
+  no_command plain list cat audit asks (WriteSource file) without is = plain (WriteSource file) tt is
+  no_command plain list cat audit asks (MakeImage manifest image) without is = plain (MakeImage manifest image) tt is
+  no_command plain list cat audit asks (RunImage image schedule out) without is = plain (RunImage image schedule out) tt is
+  no_command plain list cat audit asks (ListImage image) without is = list (Image image) is
+  no_command plain list cat audit asks (MigrateImage image out blocks inodes) without is = absurd without
+  no_command plain list cat audit asks (AuditImage image schedule path) without is = audit (Files image schedule) (option_map (λ text. text.now) path) is
+  no_command plain list cat audit asks (Ask State run) without is = asks State run tt is
+  no_command plain list cat audit asks (Ask Explain run) without is = asks Explain run tt is
+  no_command plain list cat audit asks (Ask Needs run) without is = asks Needs run tt is
+  no_command plain list cat audit asks (Ask (Reach pid) run) without is = absurd without
+  no_command plain list cat audit asks (Ask (Audit path) (Bundle bundle)) without is = audit (Bundle bundle) (option_map (λ bytes. bytes.now) path) is
+  no_command plain list cat audit asks (Ask (Audit path) (Files image schedule)) without is = absurd is
+  no_command plain list cat audit asks (AskTree Listing (Manifest manifest)) without is = list (Manifest manifest) is
+  no_command plain list cat audit asks (AskTree Listing (Image image)) without is = absurd is
+  no_command plain list cat audit asks (AskTree (File path) tree) without is = cat path.now tree is
+  no_command plain list cat audit asks (AskTree (Turns slice steps) tree) without is = absurd without
+
+  pub no_command_at_all :
+      ((command : Command) → IsWithoutNumbers command → IsCommandIn entered command → ⊥)
+      → ((image out blocks inodes : Text) → HasTexts entered image out blocks inodes → ⊥)
+      → ((tree : TreeInput) → IsWholeTreeIn entered (codes "turns") tree → ⊥)
+      → ((pid : Option ℕ) (run : RunInput) → IsQuestionIn entered (Reach pid) run → ⊥)
+      → (command : Command) → IsCommandIn entered command → ⊥
+  no_command_at_all other migrates turns reaches (RunTree file) is = other (RunTree file) tt is
+  no_command_at_all other migrates turns reaches (WriteSource file) is = other (WriteSource file) tt is
+  no_command_at_all other migrates turns reaches (ListImage image) is = other (ListImage image) tt is
+  no_command_at_all other migrates turns reaches (MakeImage manifest image) is = other (MakeImage manifest image) tt is
+  no_command_at_all other migrates turns reaches (RunImage image schedule out) is = other (RunImage image schedule out) tt is
+  no_command_at_all other migrates turns reaches (AuditImage image schedule path) is = other (AuditImage image schedule path) tt is
+  no_command_at_all other migrates turns reaches (MigrateImage image out blocks inodes) is =
+      migrates image.now out.now is.2.word is.3.word (record { has_image = is.0; has_out = is.1; has_blocks = is.2.is_entered; has_inodes = is.3.is_entered })
+  no_command_at_all other migrates turns reaches (Ask State run) is = other (Ask State run) tt is
+  no_command_at_all other migrates turns reaches (Ask Explain run) is = other (Ask Explain run) tt is
+  no_command_at_all other migrates turns reaches (Ask Needs run) is = other (Ask Needs run) tt is
+  no_command_at_all other migrates turns reaches (Ask (Reach pid) run) is = reaches pid run is
+  no_command_at_all other migrates turns reaches (Ask (Audit path) run) is = other (Ask (Audit path) run) tt is
+  no_command_at_all other migrates turns reaches (AskTree Listing tree) is = other (AskTree Listing tree) tt is
+  no_command_at_all other migrates turns reaches (AskTree (File path) tree) is = other (AskTree (File path) tree) tt is
+  no_command_at_all other migrates turns reaches (AskTree (Turns slice steps) tree) is = turns tree is.0
+
+  -- one text stands after what is run, and after what has a tree
+  module _ (command last : Text) where
+    pub run_further : (run other : RunInput) (further another : Option Text) → IsRunIn entered command last run further → IsRunIn entered command last other another
+        → further ≡ another
+    run_further (Files image schedule) (Files image' schedule') further another is at = sym is.3 ∙ at.3
+    run_further (Files image schedule) (Bundle bundle) further another is at = let both : None ≡ Some bundle.now = sym is.0 ∙ at.0 in cc both
+    run_further (Bundle bundle) (Files image schedule) further another is at = let both : None ≡ Some bundle.now = sym at.0 ∙ is.0 in cc both
+    run_further (Bundle bundle) (Bundle bundle') further another is at = sym is.1 ∙ at.1
+
+    pub tree_further : (tree other : TreeInput) (further another : Option Text) → IsTreeIn entered command last tree further → IsTreeIn entered command last other another
+        → further ≡ another
+    tree_further (Image image) (Image image') further another is at = sym is.2 ∙ at.2
+    tree_further (Image image) (Manifest manifest) further another is at = let both : None ≡ Some manifest.now = sym is.0 ∙ at.0 in cc both
+    tree_further (Manifest manifest) (Image image) further another is at = let both : None ≡ Some manifest.now = sym at.0 ∙ is.0 in cc both
+    tree_further (Manifest manifest) (Manifest manifest') further another is at = sym is.1 ∙ at.1
 
 -- the command of a migration's texts is the one that stands there
 pub migration-stands : (entered : Option (Text × List Row)) (texts : Migration) (command : Command)
@@ -88,10 +168,13 @@ migration-stands entered texts (MigrateImage image out blocks inodes) h is = (
   record { word = texts.inodes.now; is_entered = h.has_inodes; is_size = is.3 },
 )
 migration-stands entered texts (RunTree file) h is = absurd is
+migration-stands entered texts (WriteSource file) h is = absurd is
 migration-stands entered texts (ListImage image) h is = absurd is
 migration-stands entered texts (MakeImage manifest image) h is = absurd is
 migration-stands entered texts (RunImage image schedule out) h is = absurd is
 migration-stands entered texts (AuditImage image schedule path) h is = absurd is
+migration-stands entered texts (Ask question run) h is = absurd is
+migration-stands entered texts (AskTree question tree) h is = absurd is
 
 -- what the parser refuses, or want of memory
 pub refused_by_kind : (words : List Text) (error : Error) (kind : ErrorKind) → kind_of error ≡ kind
@@ -136,36 +219,11 @@ pub none_by : {X : Type 0} (o : Option X) → ((x : X) → o ≡ Some x → ⊥)
 none_by None never = refl
 none_by (Some x) never = absurd (never x refl)
 
--- a migration whose numbers are
-pub migration-asked : (entered : Option (Text × List Row)) (texts : Migration) (o : Option Command)
-    → HasTexts entered texts.image.now texts.out.now texts.blocks.now texts.inodes.now → IfSome o (IsMigrationOf texts)
-    → (r : Result Command LineFault) → r ≡ ok_or o Number → IfOk r (IsCommandIn entered)
-migration-asked entered texts None h found r is = rw is tt
-migration-asked entered texts (Some command) h found r is = rw is (migration-stands entered texts command h found)
-
--- and one of which a number is none
-pub migration-refused : (words : List Text) (entered : Option (Text × List Row)) → entered ≡ subcommand_of pvsim_app words → (texts : Migration) (o : Option Command)
-    → HasTexts entered texts.image.now texts.out.now texts.blocks.now texts.inodes.now → (o ≡ None → (size_in texts.blocks.now ≡ None) ⊎ (size_in texts.inodes.now ≡ None))
-    → (r : Result Command LineFault) → r ≡ ok_or o Number → IfErr r (RefusesWords words)
-migration-refused words entered stands texts (Some command) h none r is = rw is tt
-migration-refused words entered stands texts None h none r is =
-    let lacks : LacksNumber entered = record {
-      image = texts.image.now;
-      out = texts.out.now;
-      blocks = texts.blocks.now;
-      inodes = texts.inodes.now;
-      are_entered = h;
-      is_none = none refl;
-    } in
-    let written : LacksNumber (subcommand_of pvsim_app words) = subst LacksNumber stands lacks in rw is written
-
 -- words in which no command stands
-pub nothing-asked : (words : List Text) (entered : Option (Text × List Row)) → entered ≡ subcommand_of pvsim_app words → (error : Error) → kind_of error ≡ MissingSubcommand
-    → ((image out blocks inodes : Text) → HasTexts entered image out blocks inodes → ⊥)
-    → ((command : Command) → IsWithoutNumbers command → IsCommandIn entered command → ⊥)
-    → IsRefused words error
-nothing-asked words entered stands error is migrates other = record {
+pub nothing-asked : (words : List Text) (entered : Option (Text × List Row)) → entered ≡ subcommand_of pvsim_app words → (error : Error) → kind_of error ≡ MissingRequiredArgument
+    → ((command : Command) → IsCommandIn entered command → ⊥) → IsRefused words error
+nothing-asked words entered stands error is none = record {
   kind = λ memory. let both = sym is ∙ memory in cc both;
   is_among = inr is;
-  none = λ taken command there. no_command_at_all entered migrates other command (subst (λ (e : Option (Text × List Row)). IsCommandIn e command) (sym stands) there);
+  none = λ taken command there. none command (subst (λ (e : Option (Text × List Row)). IsCommandIn e command) (sym stands) there);
 }

@@ -1,5 +1,6 @@
 //! What is told to a person, and the exit status.
 ghost use Rattle.std.specs.Prelude.{◌≡◌};
+ghost use Rattle.pv_cli_line.specs.Program.{is_told};
 ghost use Rattle.pv_cli_line.specs.Status.{kind_status, status_of};
 
 use crate::command::LineFault;
@@ -48,6 +49,16 @@ impl Fault {
             Fault::Line(LineFault::Memory) => 3,
             Fault::Line(LineFault::Number) | Fault::Words => 2,
             Fault::Write => 4,
+        }
+    }
+
+    /// Whether it was told already, on the standard error, by the command that ended early.
+    pub fn is_told(&self) -> bool
+        ensures { result ≡ is_told self.now }
+    {
+        match self {
+            Fault::Command(fault) => fault.is_told(),
+            _ => false,
         }
     }
 }

@@ -15,7 +15,7 @@ fn main(rt: HostRuntime) -> ExitCode {
         files: HostFiles::new(&rt),
         input: Input::new(rt.reader()),
         output: Buffered::new(rt.alloc(), Output::new(io::writer(&rt))),
-        errors: (),
+        errors: Output::new(rt.stderr()),
     };
     match perform(rt.alloc(), Command::RunTree("-"), &mut system) {
         Ok(()) => ExitCode::SUCCESS,

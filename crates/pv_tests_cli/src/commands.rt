@@ -5,9 +5,11 @@ ghost use Rattle.std.specs.String.{string_bytes};
 
 use crate::streams::Broken;
 use crate::texts::{BUNDLE, MOTD, MOTD_LISTING, MOTD_TRACE, SMALL, SMALL_TRACE};
-use pv_cli_commands::{Command, Fault, Files, HostSystem, perform};
+use pv_cli_commands::{Command, Fault, Files, HostSystem, RunInput, TreeInput, perform};
 use pv_model::{AuditFault, Errno, ImageFault, ListFault, ManifestFault, MigrateFault, RunFault};
+use pv_questions::{AskStop, Question, TreeQuestion};
 use pv_run::{AuditStop, MigrateStop};
+use pv_source::SourceStop;
 use pv_streams::{Buffered, Bytes, Failed, Gathered, Sink};
 use std::alloc::{AllocError, Global};
 use std::cell::RefCell;
@@ -98,6 +100,14 @@ impl<'a> Files for Disk<'a> {
             failures: 0,
         })
     }
+
+    fn read_reason(&self, _alloc: Global, _name: &str) -> Option<String> {
+        None
+    }
+
+    fn write_reason(&self, _alloc: Global, _name: &str) -> Option<String> {
+        None
+    }
 }
 
 // What a command left.
@@ -124,7 +134,7 @@ fn left_by(
         },
         input: Bytes::new(SMALL),
         output: Gathered::new(rt.alloc()),
-        errors: (),
+        errors: Broken { failures: 0 },
     };
     let answer = perform(rt.alloc(), command, &mut system);
     let HostSystem { output, .. } = system;
@@ -352,6 +362,24 @@ const ON_NO_FILE: &[(Command<'static>, Fault)] = &[
         Fault::Auditing(AuditStop::Machine(RunFault::Read)),
     ),
     (
+        Command::Ask {
+            question: Question::Explain,
+            run: RunInput::Files {
+                image: "motd",
+                schedule: "no",
+            },
+        },
+        Fault::Asking(AskStop::Machine(RunFault::Read)),
+    ),
+    (Command::WriteSource("no"), Fault::Source(SourceStop::Read)),
+    (
+        Command::AskTree {
+            question: TreeQuestion::Listing,
+            tree: TreeInput::Image("no"),
+        },
+        Fault::Asking(AskStop::Machine(RunFault::Read)),
+    ),
+    (
         Command::MigrateImage {
             image: "no",
             out: "out",
@@ -393,6 +421,20 @@ const ON_NO_IMAGE: &[(Command<'static>, Fault)] = &[
         Fault::Run(RunFault::Image(ImageFault::Short)),
     ),
     (
+        Command::Ask {
+            question: Question::State,
+            run: RunInput::Bundle("motd"),
+        },
+        Fault::Asking(AskStop::Machine(RunFault::Manifest(ManifestFault::Form(10)))),
+    ),
+    (
+        Command::AskTree {
+            question: TreeQuestion::Listing,
+            tree: TreeInput::Manifest("none"),
+        },
+        Fault::Asking(AskStop::Machine(RunFault::Manifest(ManifestFault::Form(1)))),
+    ),
+    (
         Command::MigrateImage {
             image: "motd",
             out: "out",
@@ -420,7 +462,7 @@ fn answer_of_broken(rt: &(impl Abort + AllocGlobal), command: Command<'_>) -> Re
         },
         input: Broken { failures: 0 },
         output: Buffered::new(rt.alloc(), Broken { failures: 0 }),
-        errors: (),
+        errors: Broken { failures: 0 },
     };
     perform(rt.alloc(), command, &mut system)
 }
@@ -428,6 +470,23 @@ fn answer_of_broken(rt: &(impl Abort + AllocGlobal), command: Command<'_>) -> Re
 // Commands whose standard input fails, or whose standard output at the end.
 const ON_BROKEN: &[(Command<'static>, Fault)] = &[
     (Command::RunTree("-"), Fault::Run(RunFault::Read)),
+    (
+        Command::AskTree {
+            question: TreeQuestion::Listing,
+            tree: TreeInput::Manifest("-"),
+        },
+        Fault::Asking(AskStop::Machine(RunFault::Read)),
+    ),
+    (
+        Command::Ask {
+            question: Question::Explain,
+            run: RunInput::Files {
+                image: "image",
+                schedule: "turns",
+            },
+        },
+        Fault::Asking(AskStop::Write),
+    ),
     (
         Command::ListImage("image"),
         Fault::Listing(ListFault::Write),
@@ -618,6 +677,31 @@ const TEXTS: &[(Fault, &str, u8)] = &[
         1,
     ),
     (Fault::Auditing(AuditStop::Write), "pvsim: write\n", 4),
+    (
+        Fault::Asking(AskStop::Machine(RunFault::Manifest(ManifestFault::Size))),
+        "pvsim: manifest: size\n",
+        1,
+    ),
+    (
+        Fault::Asking(AskStop::Machine(RunFault::Memory)),
+        "pvsim: memory\n",
+        3,
+    ),
+    (
+        Fault::Asking(AskStop::NoProcess),
+        "pvsim: reach: no such process\n",
+        1,
+    ),
+    (
+        Fault::Asking(AskStop::Audited(AuditFault::NotFile)),
+        "pvsim: audit: not a file\n",
+        1,
+    ),
+    (Fault::Asking(AskStop::Write), "pvsim: write\n", 4),
+    (Fault::Source(SourceStop::Read), "pvsim: read\n", 4),
+    (Fault::Source(SourceStop::Memory), "pvsim: memory\n", 3),
+    (Fault::Source(SourceStop::Write), "pvsim: write\n", 4),
+    (Fault::Source(SourceStop::Refused), "", 1),
 ];
 
 #[test]

@@ -3,10 +3,11 @@ ghost use Rattle.std.specs.Prelude.{[], None, Some, if◌then◌else◌};
 ghost use Rattle.std.specs.Str.{bytes_eq};
 
 use crate::streams::Broken;
-use crate::texts::{BUNDLE, MOTD_TRACE, SMALL, SMALL_TRACE};
-use pv_cli_commands::{Command, Fault as CommandFault, Files, HostSystem};
-use pv_cli_line::{Fault, LineFault, command_of, run};
+use crate::texts::{BUNDLE, MOTD_LISTING, MOTD_TRACE, SMALL, SMALL_STEP, SMALL_TRACE};
+use pv_cli_commands::{Command, Fault as CommandFault, Files, HostSystem, RunInput, TreeInput};
+use pv_cli_line::{Fault, LineFault, command_line_of, run};
 use pv_model::RunFault;
+use pv_questions::{Question, TreeQuestion};
 use pv_streams::{Buffered, Bytes, Failed, Gathered, Sink};
 use std::alloc::{AllocError, Global};
 use std::process::Abort;
@@ -38,6 +39,17 @@ impl Files for OneFile {
 
     fn create(&self, _alloc: Global, _name: &str) -> Result<Broken, AllocError> {
         Err(AllocError)
+    }
+
+    fn read_reason(&self, alloc: Global, name: &str) -> Option<String> {
+        if self.name == name {
+            return None;
+        }
+        String::from_str(alloc, "no such file").ok()
+    }
+
+    fn write_reason(&self, _alloc: Global, _name: &str) -> Option<String> {
+        None
     }
 }
 
@@ -113,14 +125,15 @@ fn expect_failed_write(rt: &(impl Abort + AllocGlobal), words: &[&str]) {
     expect_failed_write_to(rt, words, gathering);
 }
 
-// The words ask for this command.
+// The words ask for this command, and for no more to be told of a fault.
 fn expect_command(
     rt: &(impl Abort + AllocGlobal),
     words: &[&str],
     wanted: Command<'_>,
 ) -> Result<(), Fail> {
-    let command = command_of(rt.alloc(), words)?;
-    assert!(rt; command == wanted);
+    let line = command_line_of(rt.alloc(), words)?;
+    assert!(rt; line.command == wanted);
+    assert!(rt; !line.is_verbose);
     Ok(())
 }
 
@@ -147,6 +160,68 @@ fn a_bundle_is_read_where_its_name_says(rt: HostRuntime) {
 }
 
 #[test]
+fn a_question_is_asked_of_a_bundle(rt: HostRuntime) {
+    expect_run(&rt, &["pvsim", "ls", "-b", "motd"], 0, MOTD_LISTING, b"");
+    expect_run(&rt, &["pvsim", "explain", "-b-"], 0, SMALL_STEP, b"");
+    expect_run(&rt, &["pvsim", "turns", "--bundle=-"], 0, b"1 1\n", b"");
+    let told = b"pvsim: reach: no such process\n";
+    expect_run(&rt, &["pvsim", "reach", "-b", "-", "1"], 1, b"", told);
+    let words = ["pvsim", "audit", "--bundle", "motd", "/etc"];
+    expect_run(&rt, &words, 1, b"", b"pvsim: audit: not a file\n");
+    let words = ["pvsim", "cat", "--bundle=motd", "/etc/motd"];
+    expect_run(&rt, &words, 0, b"hello", b"");
+    let words = ["pvsim", "cat", "-b", "motd", "/etc"];
+    expect_run(&rt, &words, 1, b"", b"pvsim: cat: not a file\n");
+    expect_run(
+        &rt,
+        &["pvsim", "state", "-b", "no"],
+        4,
+        b"",
+        b"pvsim: read\n",
+    );
+}
+
+#[test]
+fn a_source_is_written_or_its_faults_are_told(rt: HostRuntime) {
+    expect_run(&rt, &["pvsim", "source", "motd"], 0, BUNDLE, b"");
+    let mut system = system_with(rt.alloc(), Gathered::new(rt.alloc()));
+    system.input = Bytes::new(b"# only a comment\n");
+    let words = ["pvsim", "source", "-"];
+    assert!(rt; run(rt.alloc(), &words, &mut system) == 1);
+    assert!(rt; system.output.bytes.is_empty());
+    assert!(rt; system.errors.bytes.starts_with(b"pvsim: -:2: "));
+}
+
+// Words, and what is told where more is asked for.
+const VERBOSE: &[(&[&str], &[u8])] = &[
+    (
+        &["pvsim", "ls", "-v", "no"],
+        b"pvsim: read\n  no: no such file\n",
+    ),
+    (
+        &["pvsim", "ls", "--verbose", "motd"],
+        b"pvsim: image: short\n  motd\n",
+    ),
+    (
+        &["pvsim", "mkimg", "-v", "no", "out"],
+        b"pvsim: read\n  no: no such file\n",
+    ),
+    (
+        &["pvsim", "state", "-v", "motd", "no"],
+        b"pvsim: read\n  motd\n  no: no such file\n",
+    ),
+];
+
+#[test]
+fn more_is_told_of_a_fault_in_lines_of_two_blanks(rt: HostRuntime) {
+    for (words, told) in VERBOSE {
+        let mut system = system_with(rt.alloc(), Gathered::new(rt.alloc()));
+        let _status = run(rt.alloc(), *words, &mut system);
+        assert!(rt; system.errors.bytes.as_slice() == *told);
+    }
+}
+
+#[test]
 fn what_was_asked_for_goes_to_the_output(rt: HostRuntime) {
     expect_run(&rt, &["pvsim", "--version"], 0, b"pvsim 0.1.0\n", b"");
     expect_help(&rt, &["pvsim", "--help"]);
@@ -167,6 +242,20 @@ const REFUSED: &[&[&str]] = &[
     &["pvsim", "migrate", "motd", "out", "8"],
     &["pvsim", "audit", "motd"],
     &["pvsim", "audit", "i", "s", "p", "q"],
+    &["pvsim", "audit", "-b", "b", "p", "q"],
+    &["pvsim", "state", "i"],
+    &["pvsim", "state", "i", "s", "1"],
+    &["pvsim", "explain", "-b", "b", "i"],
+    &["pvsim", "needs", "-b"],
+    &["pvsim", "reach", "-b", "b", "-b", "b"],
+    &["pvsim", "ls", "--bundle=b", "i"],
+    &["pvsim", "turns", "--slice", "2"],
+    &["pvsim", "cat", "i"],
+    &["pvsim", "cat", "-b", "b"],
+    &["pvsim", "cat", "-b", "b", "i", "/p"],
+    &["pvsim", "source"],
+    &["pvsim", "source", "-b", "b"],
+    &["pvsim", "-v", "ls", "motd"],
 ];
 
 #[test]
@@ -185,6 +274,67 @@ fn an_output_that_takes_nothing_is_a_failed_write(rt: HostRuntime) {
 
 // Words, and the commands for which they ask.
 const COMMANDS: &[(&[&str], Command<'static>)] = &[
+    (
+        &["pvsim", "state", "i", "s"],
+        Command::Ask {
+            question: Question::State,
+            run: RunInput::Files {
+                image: "i",
+                schedule: "s",
+            },
+        },
+    ),
+    (
+        &["pvsim", "reach", "i", "s", "4294967295"],
+        Command::Ask {
+            question: Question::Reach(Some(4_294_967_295)),
+            run: RunInput::Files {
+                image: "i",
+                schedule: "s",
+            },
+        },
+    ),
+    (
+        &["pvsim", "reach", "0", "--bundle", "b"],
+        Command::Ask {
+            question: Question::Reach(Some(0)),
+            run: RunInput::Bundle("b"),
+        },
+    ),
+    (
+        &["pvsim", "needs", "-bb"],
+        Command::Ask {
+            question: Question::Needs,
+            run: RunInput::Bundle("b"),
+        },
+    ),
+    (
+        &["pvsim", "audit", "-b", "b", "/p"],
+        Command::Ask {
+            question: Question::Audit(Some(b"/p")),
+            run: RunInput::Bundle("b"),
+        },
+    ),
+    (
+        &["pvsim", "turns", "i", "--steps=65536"],
+        Command::AskTree {
+            question: TreeQuestion::Turns {
+                slice: 1,
+                steps: 65_536,
+            },
+            tree: TreeInput::Image("i"),
+        },
+    ),
+    (
+        &["pvsim", "turns", "--slice", "2", "-b", "b"],
+        Command::AskTree {
+            question: TreeQuestion::Turns {
+                slice: 2,
+                steps: 1_000,
+            },
+            tree: TreeInput::Manifest("b"),
+        },
+    ),
     (&["pvsim", "run-tree", "a b"], Command::RunTree("a b")),
     (&["pvsim", "run-tree", "--", "-x"], Command::RunTree("-x")),
     (
@@ -195,6 +345,14 @@ const COMMANDS: &[(&[&str], Command<'static>)] = &[
         },
     ),
     (&["pvsim", "ls", "i"], Command::ListImage("i")),
+    (
+        &["pvsim", "cat", "i", "/p"],
+        Command::AskTree {
+            question: TreeQuestion::File(b"/p"),
+            tree: TreeInput::Image("i"),
+        },
+    ),
+    (&["pvsim", "source", "-"], Command::WriteSource("-")),
     (
         &["pvsim", "run", "i", "s", "o"],
         Command::RunImage {
@@ -244,6 +402,14 @@ fn a_word_that_is_no_number_is_refused_before_the_file_is_read(rt: HostRuntime) 
         let words = ["pvsim", "migrate", "no", "out", size, "16"];
         expect_run(&rt, &words, 2, b"", b"pvsim: number\n");
         let words = ["pvsim", "migrate", "no", "out", "16", size];
+        expect_run(&rt, &words, 2, b"", b"pvsim: number\n");
+        let words = ["pvsim", "reach", "no", "no", size];
+        expect_run(&rt, &words, 2, b"", b"pvsim: number\n");
+    }
+    for count in ["0", "01", "65537"] {
+        let words = ["pvsim", "turns", "no", "--slice", count];
+        expect_run(&rt, &words, 2, b"", b"pvsim: number\n");
+        let words = ["pvsim", "turns", "no", "--steps", count];
         expect_run(&rt, &words, 2, b"", b"pvsim: number\n");
     }
 }

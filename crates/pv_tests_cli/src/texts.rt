@@ -16,3 +16,6 @@ pub(crate) const MOTD_TRACE: &[u8] =
 pub(crate) const SMALL: &[u8] = b"image 2 1\nschedule\n1\n";
 
 pub(crate) const SMALL_TRACE: &[u8] = b"    1 CALL  exit(0)\n";
+
+// The same, with what a reader asks beside it.
+pub(crate) const SMALL_STEP: &[u8] = b"    1 STEP  1, line 1\n    1 CALL  exit(0)\n";

@@ -1,11 +1,11 @@
-use Rattle.std.proofs.Common.{◌≡◌, ◌∙◌, ap, map, refl, true, subst, List, Option, IfOk}
+use Rattle.std.proofs.Common.{◌≡◌, ◌∙◌, ap, map, refl, true, subst, List, Option}
 use Rattle.clap.specs.Words.{App, HasKind, HasMatchesOf, Row, Text, app_of, fault_of, is_simple_and_free, kind_of, subcommand_of, subcommand_rows_of, takes}
 use Rattle.clap.specs.declared.builder.command.Command.{Command as Parser}
 use Rattle.clap.specs.declared.parser.matches.ArgMatches.{ArgMatches}
 use Rattle.clap.specs.declared.error.kind.ErrorKind.TheVariants.{OutOfMemory}
-use Rattle.pv_cli_line.specs.Line.{IsCommandIn, RefusesWords, of_parser}
+use Rattle.pv_cli_line.specs.Line.{IsCommandIn, LacksNumber, RefusesWords, is_verbose_in, of_parser}
 use Rattle.pv_cli_line.specs.Parser.{pvsim_app}
-use Rattle.pv_cli_line.proofs.LineLemmas.{migration-asked, migration-refused, none_by, nothing-asked, refused_by_parser, refused_result, pvsim_has_matches, pvsim_is_simple}
+use Rattle.pv_cli_line.proofs.LineLemmas.{nothing-asked, refused_by_parser, refused_result, pvsim_has_matches, pvsim_is_simple}
 use Rattle.pv_cli_line.proofs.command.parsed.Goals as goal
 
 pub returns-in_err-matches-clause-refused : goal.returns-in_err-matches-clause-refused
@@ -23,26 +23,23 @@ returns-in_err-matches-clause-refused g c =
 stands : (parser : Parser) (words : List Text) (m : ArgMatches) → app_of parser ≡ pvsim_app → HasMatchesOf (app_of parser) words m → subcommand_rows_of m ≡ subcommand_of pvsim_app words
 stands parser words m app_is has = (subst (λ (app : App). HasMatchesOf app words m) app_is has pvsim_has_matches).1
 
-pub returns-in-Some-clause-asked : goal.returns-in-Some-clause-asked
-returns-in-Some-clause-asked g c =
+pub returns-in-Some-Command-clause-asked : goal.returns-in-Some-Command-clause-asked
+returns-in-Some-Command-clause-asked g c =
     let e = stands c.in_ok-parser.parser (map g.S.AsStr.text c.args.words.now) c.in_ok-matches.matches c.in_ok-parser.ensures c.in_ok-matches.ensures.ok.2 in
-    subst (λ (entered : Option (Text × List Row)). IfOk c.ok_or.result (IsCommandIn entered)) e
-    (migration-asked (subcommand_rows_of c.in_ok-matches.matches) c.in-Some.migration c.command.result c.in-Some.ensures.found c.command.ensures.found c.ok_or.result c.ok_or.ensures.value)
+    subst (λ (entered : Option (Text × List Row)). IsCommandIn entered c.in-Some-Command.command) e (rw c.in-Some-Command.field-0-is at c.in-Some-Command.ensures.found)
 
-pub returns-in-Some-clause-refused : goal.returns-in-Some-clause-refused
-returns-in-Some-clause-refused g c =
-    let words = map g.S.AsStr.text c.args.words.now in
-    let e = stands c.in_ok-parser.parser words c.in_ok-matches.matches c.in_ok-parser.ensures c.in_ok-matches.ensures.ok.2 in
-    migration-refused words (subcommand_rows_of c.in_ok-matches.matches) e c.in-Some.migration c.command.result c.in-Some.ensures.found c.command.ensures.none c.ok_or.result c.ok_or.ensures.value
-
-pub returns-in-Some-command_in-clause-asked : goal.returns-in-Some-command_in-clause-asked
-returns-in-Some-command_in-clause-asked g c =
+pub returns-in-Some-Command-clause-verbose : goal.returns-in-Some-Command-clause-verbose
+returns-in-Some-Command-clause-verbose g c =
     let e = stands c.in_ok-parser.parser (map g.S.AsStr.text c.args.words.now) c.in_ok-matches.matches c.in_ok-parser.ensures c.in_ok-matches.ensures.ok.2 in
-    subst (λ (entered : Option (Text × List Row)). IsCommandIn entered c.in-Some-command_in.command) e c.in-Some-command_in.ensures.found
+    c.is_verbose.ensures ∙ ap is_verbose_in e
+
+pub returns-in-Some-Number-clause-refused : goal.returns-in-Some-Number-clause-refused
+returns-in-Some-Number-clause-refused g c =
+    let e = stands c.in_ok-parser.parser (map g.S.AsStr.text c.args.words.now) c.in_ok-matches.matches c.in_ok-parser.ensures c.in_ok-matches.ensures.ok.2 in
+    subst LacksNumber e (rw c.in-Some-Number.field-0-is at c.in-Some-Number.ensures.found)
 
 pub returns-clause-refused : goal.returns-clause-refused
 returns-clause-refused g c =
     let words = map g.S.AsStr.text c.args.words.now in
     let e = stands c.in_ok-parser.parser words c.in_ok-matches.matches c.in_ok-parser.ensures c.in_ok-matches.ensures.ok.2 in
-    nothing-asked words (subcommand_rows_of c.in_ok-matches.matches) e c.in_ok-error-in-None.field-0 c.in_ok-error-in-None.ensures.kind
-    (c.migration_in.ensures.none (none_by c.migration_in.result c.in_default.not-Some)) (c.in-None.ensures.none refl)
+    nothing-asked words (subcommand_rows_of c.in_ok-matches.matches) e c.in_ok-error-in-None.field-0 c.in_ok-error-in-None.ensures.kind (c.in-None.ensures.none refl)

@@ -4,7 +4,7 @@ use Rattle.pv_model.specs.Bytes.{Bytes}
 use Rattle.pv_text.specs.Reading.{held_of}
 use Rattle.pv_cli_line.specs.Line.{size_in}
 use Rattle.pv_cli_line.proofs.Sizes.{size-greatest, size-none, size-less, size-more}
-use Rattle.pv_cli_line.proofs.command.size_of.Goals as goal
+use Rattle.pv_cli_line.proofs.texts.size_of.Goals as goal
 
 pub returns-then-eq : goal.returns-then-eq
 returns-then-eq c =

@@ -1,0 +1,173 @@
+//! Questions of runs and of trees.
+ghost use Rattle.std.specs.Prelude.{◌≡◌};
+ghost use Rattle.pv_cli_commands.specs.Asking.{ReadsRunFiles, ReadsTreeFile, AsksRun, AsksTree, AsksBundle, AsksBundleFile, AsksFiles, AsksImage, AsksImageFile, AsksImageTree, AsksManifest, AsksManifestFile};
+ghost use Rattle.pv_cli_commands.specs.Streams.{disk_of, inputs_of};
+
+use crate::command::{RunInput, TreeInput};
+use crate::fault::Fault;
+use crate::system::Files;
+use pv_model::RunFault;
+use pv_questions::{AskStop, Question, TreeQuestion, ask, ask_bundle, ask_manifest, ask_tree};
+use pv_streams::{Failed, Sink, Source};
+use std::alloc::Global;
+
+// Answers a question of what the schedule of a source makes of the image of another.
+fn ask_image<S: Source, W: Sink>(
+    alloc: Global,
+    question: Question<'_>,
+    image: &mut S,
+    schedule: &mut S,
+    out: &mut W,
+) -> Result<(), Fault>
+    ensures { AsksImage S.Source W.Sink question.entry (inputs_of image.old schedule.old) (inputs_of image.new schedule.new) out.old out.new result }
+{
+    ask(alloc, question, image, schedule, out)?;
+    Ok(())
+}
+
+// Answers a question of what the schedule in a file makes of the image in another.
+fn ask_files<F: Files, W: Sink>(
+    alloc: Global,
+    files: &F,
+    question: Question<'_>,
+    image: &str,
+    schedule: &str,
+    out: &mut W,
+) -> Result<(), Fault>
+    ensures { AsksFiles (disk_of F.Files F.Reader.Source F.Writer.Sink) W.Sink files.now question.entry (inputs_of image.now schedule.now) out.old out.new result }
+{
+    let Ok(mut image) = files.open(image) else {
+        return Err(Fault::Asking(AskStop::Machine(RunFault::Read)));
+    };
+    let Ok(mut schedule) = files.open(schedule) else {
+        return Err(Fault::Asking(AskStop::Machine(RunFault::Read)));
+    };
+    ask_image(alloc, question, &mut image, &mut schedule, out)
+}
+
+// Answers a question of the run of the bundle that a source gives.
+fn ask_from<S: Source, W: Sink>(
+    alloc: Global,
+    question: Question<'_>,
+    bundle: &mut S,
+    out: &mut W,
+) -> Result<(), Fault>
+    ensures { AsksBundle S.Source W.Sink question.entry bundle.old bundle.new out.old out.new result }
+{
+    ask_bundle(alloc, question, bundle, out)?;
+    Ok(())
+}
+
+// Answers a question of the run of the bundle in a file.
+fn ask_file<F: Files, W: Sink>(
+    alloc: Global,
+    files: &F,
+    question: Question<'_>,
+    name: &str,
+    out: &mut W,
+) -> Result<(), Fault>
+    ensures { AsksBundleFile (disk_of F.Files F.Reader.Source F.Writer.Sink) W.Sink files.now question.entry name.now out.old out.new result }
+{
+    match files.open(name) {
+        Ok(mut bundle) => ask_from(alloc, question, &mut bundle, out),
+        Err(Failed) => Err(Fault::Asking(AskStop::Machine(RunFault::Read))),
+    }
+}
+
+// Answers a question of the tree of the image that a source gives.
+fn ask_tree_from<S: Source, W: Sink>(
+    alloc: Global,
+    question: TreeQuestion<'_>,
+    image: &mut S,
+    out: &mut W,
+) -> Result<(), Fault>
+    ensures { AsksImageTree S.Source W.Sink question.entry image.old image.new out.old out.new result }
+{
+    ask_tree(alloc, question, image, out)?;
+    Ok(())
+}
+
+// Answers a question of the tree of the image in a file.
+fn ask_tree_file<F: Files, W: Sink>(
+    alloc: Global,
+    files: &F,
+    question: TreeQuestion<'_>,
+    name: &str,
+    out: &mut W,
+) -> Result<(), Fault>
+    ensures { AsksImageFile (disk_of F.Files F.Reader.Source F.Writer.Sink) W.Sink files.now question.entry name.now out.old out.new result }
+{
+    match files.open(name) {
+        Ok(mut image) => ask_tree_from(alloc, question, &mut image, out),
+        Err(Failed) => Err(Fault::Asking(AskStop::Machine(RunFault::Read))),
+    }
+}
+
+// Answers a question of the tree of the manifest or the bundle that a source gives.
+fn ask_manifest_from<S: Source, W: Sink>(
+    alloc: Global,
+    question: TreeQuestion<'_>,
+    manifest: &mut S,
+    out: &mut W,
+) -> Result<(), Fault>
+    ensures { AsksManifest S.Source W.Sink question.entry manifest.old manifest.new out.old out.new result }
+{
+    ask_manifest(alloc, question, manifest, out)?;
+    Ok(())
+}
+
+// Answers a question of the tree of the manifest or the bundle in a file.
+fn ask_manifest_file<F: Files, W: Sink>(
+    alloc: Global,
+    files: &F,
+    question: TreeQuestion<'_>,
+    name: &str,
+    out: &mut W,
+) -> Result<(), Fault>
+    ensures { AsksManifestFile (disk_of F.Files F.Reader.Source F.Writer.Sink) W.Sink files.now question.entry name.now out.old out.new result }
+{
+    match files.open(name) {
+        Ok(mut manifest) => ask_manifest_from(alloc, question, &mut manifest, out),
+        Err(Failed) => Err(Fault::Asking(AskStop::Machine(RunFault::Read))),
+    }
+}
+
+// Answers a question of what is run: the bundle on the standard input for `-`.
+pub(crate) fn ask_run<F: Files, I: Source, W: Sink>(
+    alloc: Global,
+    files: &F,
+    input: &mut I,
+    question: Question<'_>,
+    run: RunInput<'_>,
+    out: &mut W,
+) -> Result<(), Fault>
+    ensures does { AsksRun (disk_of F.Files F.Reader.Source F.Writer.Sink) I.Source W.Sink files.now question.entry run.entry input.old input.new out.old out.new result }
+    ensures unread { ReadsRunFiles run.entry → input.new ≡ input.old }
+{
+    match run {
+        RunInput::Files { image, schedule } => {
+            ask_files(alloc, files, question, image, schedule, out)
+        }
+        RunInput::Bundle("-") => ask_from(alloc, question, input, out),
+        RunInput::Bundle(name) => ask_file(alloc, files, question, name, out),
+    }
+}
+
+// Answers a question of what has a tree: the manifest on the standard input for `-`.
+pub(crate) fn ask_tree_of<F: Files, I: Source, W: Sink>(
+    alloc: Global,
+    files: &F,
+    input: &mut I,
+    question: TreeQuestion<'_>,
+    tree: TreeInput<'_>,
+    out: &mut W,
+) -> Result<(), Fault>
+    ensures does { AsksTree (disk_of F.Files F.Reader.Source F.Writer.Sink) I.Source W.Sink files.now question.entry tree.entry input.old input.new out.old out.new result }
+    ensures unread { ReadsTreeFile tree.entry → input.new ≡ input.old }
+{
+    match tree {
+        TreeInput::Image(name) => ask_tree_file(alloc, files, question, name, out),
+        TreeInput::Manifest("-") => ask_manifest_from(alloc, question, input, out),
+        TreeInput::Manifest(name) => ask_manifest_file(alloc, files, question, name, out),
+    }
+}

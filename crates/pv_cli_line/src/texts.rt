@@ -1,0 +1,156 @@
+//! The texts and numbers of a command in what the parser matches.
+ghost use Rattle.std.specs.Prelude.{◌≡◌, ℕ, List, Option, None, IfSome, option_map};
+ghost use Rattle.clap.specs.Words.{subcommand_rows_of};
+ghost use Rattle.pv_cli_line.specs.Line.{IsRunIn, IsTreeIn, IsWholeRunIn, IsWholeTreeIn, count_in, entered_text, is_verbose_in, size_in};
+
+use clap::ArgMatches;
+use pv_cli_commands::{RunInput, TreeInput};
+use pv_text::words::decimal;
+
+// The text of an argument of a command, where the matches are those of that command.
+pub(crate) fn text_of<'a>(
+    matches: &ArgMatches<'a>,
+    command: &str,
+    argument: &str,
+) -> Option<&'a str>
+    ensures { option_map (λ text. text.now) result ≡ entered_text (subcommand_rows_of matches.now) command.now argument.now }
+{
+    let inner = matches.subcommand_matches(command)?;
+    inner.get_str(argument)
+}
+
+// Whether more is to be told of a fault of the command of these matches.
+pub(crate) fn is_verbose(matches: &ArgMatches<'_>) -> bool
+    ensures { result ≡ is_verbose_in (subcommand_rows_of matches.now) }
+{
+    let Some((_, inner)) = matches.subcommand() else {
+        return false;
+    };
+    match inner.get_str("verbose") {
+        Some(text) => text == "true",
+        None => false,
+    }
+}
+
+// The number that a word spells, where it is one of 32 bits.
+pub(crate) fn size_of(word: &str) -> Option<u32>
+    ensures { result ≡ size_in word.now }
+{
+    if word == "4294967295" {
+        return Some(u32::MAX);
+    }
+    let size = decimal(word.as_bytes())?;
+    // What is greater is read as the greatest.
+    if size == u32::MAX {
+        return None;
+    }
+    Some(size)
+}
+
+// The number of steps that a word spells, from 1 to 65,536; where there is no word this number.
+pub(crate) fn count_of(word: Option<&str>, default: u32) -> Option<u32>
+    ensures { result ≡ count_in default (option_map (λ text. text.now) word.entry) }
+{
+    let Some(word) = word else {
+        return Some(default);
+    };
+    let count = size_of(word)?;
+    if count < 1 || count > 65_536 {
+        return None;
+    }
+    Some(count)
+}
+
+// What a command runs, and the text after it.
+#[derive(Clone, Copy)]
+pub(crate) struct RunTexts<'a> {
+    pub(crate) run: RunInput<'a>,
+    pub(crate) further: Option<&'a str>,
+}
+
+// What a command runs and the text after it, where the matches are those of that command: `last` is the argument that stands
+// after an image and a schedule.
+pub(crate) fn run_texts_in<'a>(
+    matches: &ArgMatches<'a>,
+    command: &str,
+    last: &str,
+) -> Option<RunTexts<'a>>
+    ensures found { IfSome result (λ texts. IsRunIn (subcommand_rows_of matches.now) command.now last.now texts.run (option_map (λ text. text.now) texts.further)) }
+    ensures none { result ≡ None → (run : RunInput) (further : Option (List ℕ)) → IsRunIn (subcommand_rows_of matches.now) command.now last.now run further → ⊥ }
+{
+    if let Some(bundle) = text_of(matches, command, "bundle") {
+        if text_of(matches, command, "SCHEDULE").is_some() {
+            return None;
+        }
+        return Some(RunTexts {
+            run: RunInput::Bundle(bundle),
+            further: text_of(matches, command, "IMAGE"),
+        });
+    }
+    let image = text_of(matches, command, "IMAGE")?;
+    let schedule = text_of(matches, command, "SCHEDULE")?;
+    Some(RunTexts {
+        run: RunInput::Files { image, schedule },
+        further: text_of(matches, command, last),
+    })
+}
+
+// What a command runs that has no text after it, where the matches are those of that command.
+#[tactic(auto, using(crate::proofs::LineLemmas::run_further))]
+pub(crate) fn run_in<'a>(matches: &ArgMatches<'a>, command: &str) -> Option<RunInput<'a>>
+    ensures found { IfSome result (λ run. IsWholeRunIn (subcommand_rows_of matches.now) command.now run) }
+    ensures none { result ≡ None → (run : RunInput) → IsWholeRunIn (subcommand_rows_of matches.now) command.now run → ⊥ }
+{
+    let texts = run_texts_in(matches, command, "PID")?;
+    if texts.further.is_some() {
+        return None;
+    }
+    Some(texts.run)
+}
+
+// What has a tree, and the text after it.
+#[derive(Clone, Copy)]
+pub(crate) struct TreeTexts<'a> {
+    pub(crate) tree: TreeInput<'a>,
+    pub(crate) further: Option<&'a str>,
+}
+
+// What has a tree and the text after it, where the matches are those of that command: `last` is the argument that stands after
+// an image.
+pub(crate) fn tree_texts_in<'a>(
+    matches: &ArgMatches<'a>,
+    command: &str,
+    last: &str,
+) -> Option<TreeTexts<'a>>
+    ensures found { IfSome result (λ texts. IsTreeIn (subcommand_rows_of matches.now) command.now last.now texts.tree (option_map (λ text. text.now) texts.further)) }
+    ensures none { result ≡ None → (tree : TreeInput) (further : Option (List ℕ)) → IsTreeIn (subcommand_rows_of matches.now) command.now last.now tree further → ⊥ }
+{
+    let further = text_of(matches, command, last);
+    if let Some(bundle) = text_of(matches, command, "bundle") {
+        if further.is_some() {
+            return None;
+        }
+        return Some(TreeTexts {
+            tree: TreeInput::Manifest(bundle),
+            further: text_of(matches, command, "IMAGE"),
+        });
+    }
+    let image = text_of(matches, command, "IMAGE")?;
+    Some(TreeTexts {
+        tree: TreeInput::Image(image),
+        further,
+    })
+}
+
+// What has a tree, where the matches are those of a command that has no text after it.
+#[tactic(auto, using(crate::proofs::LineLemmas::tree_further))]
+pub(crate) fn tree_in<'a>(matches: &ArgMatches<'a>, command: &str) -> Option<TreeInput<'a>>
+    ensures found { IfSome result (λ tree. IsWholeTreeIn (subcommand_rows_of matches.now) command.now tree) }
+    ensures none { result ≡ None → (tree : TreeInput) → IsWholeTreeIn (subcommand_rows_of matches.now) command.now tree → ⊥ }
+{
+    let texts = tree_texts_in(matches, command, "PATH")?;
+    if texts.further.is_some() {
+        return None;
+    }
+    Some(texts.tree)
+}
