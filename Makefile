@@ -2,9 +2,11 @@
 #
 #   make          the proved program at bin/pvsim: proves it and what it stands on, side by side, and nothing else
 #   make demo     the main job at once, before any proof
-#   make try FILE=examples/held.bundle       any bundle, before any proof
-#   make try SOURCE=examples/sources/held    any text that tools/bundle makes a bundle of
+#   make try FILE=examples/held.bundle       a bundle's run explained, before any proof
+#   make try SOURCE=examples/sources/held    the same of a source: with comments and labels, and no lines to count
+#   make try RUN=needs FILE=..               another answer: state, reach, needs, turns, ls, audit; RUN=run the trace alone
 #   make examples every bundle of examples/ and cases/, its trace compared, before any proof
+#   make sources  the proved program on sources: worked ones, mistakes with what is said of each, and some made by chance
 #   make images   the proved program on images byte for byte, and on every change of one byte of an image
 #   make refusals the proved program with each allocation, opening, read and write refused in turn
 #   make test     the gate: every proof from nothing, the tests, the program, the wrong bodies, the examples, images, refusals (docs/GATE.md)
@@ -14,12 +16,13 @@
 #   make bench    proves and runs the benchmark, and prints times
 #   make speed    times the proved program on the workloads of docs/SPEED.md, or make speed OTHER=program beside another
 #   make man      the manual pages, tried by mandoc(1)
-#   make install PREFIX=/usr/local       the program and its manual pages
+#   make install PREFIX=/usr/local       the program, its manual pages, and the sources of the examples
 
 PREFIX ?= /usr/local
 MANDIR ?= $(PREFIX)/share/man
+EXAMPLESDIR ?= $(PREFIX)/share/examples/pvsim
 
-.PHONY: all demo try examples images refusals test wrong check bench speed man install clean
+.PHONY: all demo try examples sources images refusals test wrong check bench speed man install clean
 
 all: bin/pvsim
 
@@ -33,16 +36,23 @@ demo:
 	@echo '--- its trace:'
 	@cd crates/pv_cli_try && rt try < ../../examples/motd.bundle
 
-# The proved program runs it where bin/pvsim is there and as new as the code; else an unproved one is made, without the parser of the command line.
+# The proved program answers where bin/pvsim is there and as new as the code; else an unproved one is made.
+RUN ?= explain
 try:
 	@test -n "$(FILE)$(SOURCE)" || { echo 'usage: make try FILE=bundle, or make try SOURCE=source'; exit 2; }
 	@test -r "$(FILE)$(SOURCE)" || { echo 'no file $(FILE)$(SOURCE)'; exit 2; }
 	@bundle=$$(mktemp); trap 'rm -f $$bundle' EXIT; \
-	if [ -n "$(SOURCE)" ]; then tools/bundle "$(abspath $(SOURCE))"; else cat "$(abspath $(FILE))"; fi > $$bundle || exit 2; \
-	if $(MAKE) -sq bin/pvsim; then bin/pvsim run-tree $$bundle; else cd crates/pv_cli_try && rt try < $$bundle; fi
+	if $(MAKE) -sq bin/pvsim; then pvsim=bin/pvsim; else pvsim=tools/unproved; fi; \
+	case '$(RUN)' in run) words='run-tree -v -' ;; *) words='$(RUN) -v -b -' ;; esac; \
+	if [ -n "$(SOURCE)" ]; then $$pvsim source - < "$(SOURCE)"; else cat "$(FILE)"; fi > $$bundle || exit; \
+	$$pvsim $$words < $$bundle
 
 examples:
 	@tools/examples
+
+sources: bin/pvsim
+	@tools/sources bin/pvsim
+	@tools/mistakes bin/pvsim
 
 images: bin/pvsim
 	@tools/images bin/pvsim
@@ -77,6 +87,8 @@ install: bin/pvsim
 	install -d $(DESTDIR)$(MANDIR)/man1 $(DESTDIR)$(MANDIR)/man5
 	install -m 644 man/pvsim.1 $(DESTDIR)$(MANDIR)/man1/pvsim.1
 	install -m 644 man/pvsim.5 $(DESTDIR)$(MANDIR)/man5/pvsim.5
+	install -d $(DESTDIR)$(EXAMPLESDIR)
+	install -m 644 examples/sources/* $(DESTDIR)$(EXAMPLESDIR)
 
 clean:
 	rm -rf bin
