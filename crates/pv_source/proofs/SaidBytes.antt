@@ -1,7 +1,6 @@
 -- What a fault says.
-use Rattle.std.proofs.Common.{◌≡◌, ◌∙◌, ap, ℕ, ◌<◌, true, List, [], ◌∷◌, ◌++◌, drop, refl, arith}
-use Rattle.std.specs.Prelude.{◌&&◌, map}
-use Rattle.std.specs.List.{list_all, AllByRecursion}
+use Rattle.std.proofs.Common.{◌≡◌, ◌∙◌, ap, ℕ, ◌<◌, true, [], ◌∷◌, ◌++◌, arith}
+use Rattle.std.specs.Prelude.{◌&&◌}
 use Rattle.std.proofs.lemmas.Bool.Decides.{nat_tests}
 use Rattle.std.proofs.lemmas.List.Folds.{list_all-append}
 use Rattle.pv_model.specs.Bytes.{Bytes}

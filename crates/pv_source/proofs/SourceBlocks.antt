@@ -1,5 +1,5 @@
 -- The blocks of a source.
-use Rattle.std.proofs.Common.{◌≡◌, ◌≢◌, ◌∙◌, ap, ℕ, zero, suc, ◌+◌, ◌≤◌, ◌<◌, Bool, true, false, cond, List, [], ◌∷◌, length, take, drop, Option, None, Some, refl, sym, subst, inl, inr, min, arith}
+use Rattle.std.proofs.Common.{◌≡◌, ◌∙◌, ap, ℕ, zero, suc, ◌+◌, ◌<◌, Bool, true, false, List, [], ◌∷◌, length, drop, Option, None, Some, refl, sym, inl, inr, min, arith}
 use Rattle.std.specs.Prelude.{codes, bytes_eq, not, nat_le, option_map}
 use Rattle.std.proofs.lemmas.Bool.{cases_lt, le-leb, lt-leb}
 use Rattle.pv_model.specs.Bytes.{Bytes}
@@ -9,7 +9,7 @@ use Rattle.pv_source.specs.declared.blocks.Block.{Block as ReadBlock}
 use Rattle.pv_source.specs.declared.lines.Lines.{Lines}
 use Rattle.pv_source.specs.Reading.{BeginsWith, numbered_text, numbered, if_words, first_that_counts, Ends, Takes}
 use Rattle.pv_source.specs.ReadBlocks.{block_of, Reads}
-use Rattle.pv_model.specs.Source.Blocks.{Block, single, program, taken, cut_off, schedule, lines_up_to, exec_by, exec_block, or_cut_off, blocks_at, blocks_from}
+use Rattle.pv_model.specs.Source.Blocks.{Block, single, program, taken, schedule, lines_up_to, exec_by, exec_block, or_cut_off, blocks_at, blocks_from}
 use Rattle.pv_model.specs.Source.Words.{NumberedLine, NumberedWords, words_of}
 use Rattle.pv_source.proofs.SourceLines.{length-counted}
 

@@ -1,9 +1,8 @@
 -- The lines of a source: those that count, and those that belong to a block.
-use Rattle.std.proofs.Common.{◌≡◌, ◌≢◌, ◌∙◌, ap, ℕ, zero, suc, ◌+◌, ◌-◌, ◌≤◌, ◌<◌, Bool, true, false, cond, eqb, List, [], ◌∷◌, ◌++◌, length, take, drop, Option, None, Some, refl, sym, subst, inl, inr, ◌⊎◌, arith, append_assoc}
+use Rattle.std.proofs.Common.{◌≡◌, ◌≢◌, ◌∙◌, ap, ℕ, suc, ◌+◌, ◌-◌, ◌<◌, Bool, true, false, cond, eqb, List, [], ◌∷◌, ◌++◌, length, take, drop, Option, None, Some, refl, sym, subst, inl, inr, ◌⊎◌, arith, append_assoc}
 use Rattle.std.specs.Prelude.{option_map}
-use Rattle.std.proofs.Math.Seq.{take-append_seam, drop-append_seam, drop-append-add}
+use Rattle.std.proofs.Math.Seq.{take-append_seam, drop-append-add}
 use Rattle.std.proofs.lemmas.List.{append-nil, length-append, append_cancel_right}
-use Rattle.pv_image_manifest.proofs.ListedEntries.{length-lines}
 use Rattle.pv_model.specs.Answers.Lines.{counted_from}
 use Rattle.pv_model.specs.Bytes.{Bytes, onto_first}
 use Rattle.pv_model.specs.Grammar.Lines.{lines_of}

@@ -1,22 +1,19 @@
 -- Labels and instructions of programs in a source.
-use Rattle.std.proofs.Common.{◌≡◌, ◌≢◌, ◌∙◌, ap, ℕ, zero, suc, ◌+◌, ◌-◌, ◌≤◌, ◌<◌, Bool, true, false, cond, eqb, List, [], ◌∷◌, ◌++◌, length, take, drop, get_or, Option, None, Some, refl, sym, subst, arith, append_assoc}
+use Rattle.std.proofs.Common.{◌≡◌, ◌≢◌, ◌∙◌, ap, ℕ, suc, ◌+◌, Bool, true, false, cond, List, [], ◌∷◌, ◌++◌, length, Option, None, Some, refl, sym, subst, arith, append_assoc}
 use Rattle.std.specs.List.{cons_option}
-use Rattle.std.specs.Prelude.{◌||◌, MatchBool, codes, bytes_eq, not, map, filter, filter_map, option_map}
-use Rattle.std.proofs.lemmas.List.{append-nil, length-append}
+use Rattle.std.specs.Prelude.{◌||◌, MatchBool, bytes_eq, not, map}
+use Rattle.std.proofs.lemmas.List.{append-nil}
 use Rattle.pv_model.specs.Bytes.{Bytes, is_empty}
-use Rattle.pv_model.specs.Grammar.Texts.{ended}
-use Rattle.pv_source.specs.declared.lines.Lines.{Lines}
 use Rattle.pv_source.specs.declared.programs.Label.{Label}
-use Rattle.pv_source.specs.declared.programs.Labelled.{Labelled}
-use Rattle.pv_source.specs.Reading.{numbered, numbered_text, if_words, first_that_counts}
-use Rattle.pv_source.specs.ReadPrograms.{label_value, labelled_value}
-use Rattle.pv_model.specs.Source.Programs.{LabelledLine, ProgramLine, labelled_words, or_exit, with_exit, labelled_lines, count_words, onto_labels, labels_from, number_of_label, without_labels, instruction_text, program_line_of, program_lines, taken_lines, instructions_of, is_set_in, and_label, count_instruction, is_wrong, told_if, wrong_lines, program_faults}
+use Rattle.pv_source.specs.Reading.{numbered_text, if_words, first_that_counts}
+use Rattle.pv_source.specs.ReadPrograms.{label_value}
+use Rattle.pv_model.specs.Source.Programs.{LabelledLine, labelled_words, or_exit, with_exit, labelled_lines, count_words, onto_labels, labels_from, number_of_label, without_labels, instruction_text, program_line_of, taken_lines, instructions_of, is_set_in, and_label, count_instruction, is_wrong, told_if, wrong_lines, program_faults}
 use Rattle.pv_model.specs.Source.Judged.{wrong_turn, wrong_turns}
 use Rattle.pv_source.specs.Telling.{Tells}
 use Rattle.pv_source.proofs.ToldLines.{ToldSoFar, ToldSoFar-start, ToldSoFar-step}
 use Rattle.pv_model.specs.Answers.Lines.{spaced, counted_from}
 use Rattle.pv_model.specs.Grammar.Lines.{lines_of}
-use Rattle.pv_model.specs.Source.Words.{NumberedLine, NumberedWords, words_of, with_words, lines_that_count}
+use Rattle.pv_model.specs.Source.Words.{NumberedLine, NumberedWords, words_of, lines_that_count}
 
 -- ---- words that are there or not
 

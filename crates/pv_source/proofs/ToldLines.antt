@@ -1,7 +1,7 @@
 -- The lines that are told.
-use Rattle.std.proofs.Common.{◌≡◌, ◌≢◌, ◌∙◌, Ok, Err, ap, ℕ, zero, suc, ◌+◌, ◌≤◌, ◌<◌, Bool, true, false, List, [], ◌∷◌, ◌++◌, length, take, refl, sym, arith, append_assoc}
+use Rattle.std.proofs.Common.{◌≡◌, ◌≢◌, ◌∙◌, Ok, Err, ap, ℕ, suc, ◌+◌, ◌≤◌, Bool, true, false, List, [], ◌∷◌, ◌++◌, length, take, refl, sym, arith, append_assoc}
 use Rattle.std.specs.Prelude.{map, IsTrue, ◌↔◌}
-use Rattle.std.proofs.lemmas.List.{append-nil, length-append, length-map, map_push, take_all, take-append-le}
+use Rattle.std.proofs.lemmas.List.{append-nil, length-map, map_push, take_all, take-append-le}
 use Rattle.pv_model.specs.Bytes.{Bytes}
 use Rattle.pv_model.specs.Grammar.Lines.{lines_of}
 use Rattle.pv_source.specs.declared.blocks.Block.{Block as ReadBlock}

@@ -1,7 +1,7 @@
 -- What is found of a line of a manifest.
 use Rattle.std.specs.Prelude.{◌≡◌, Bool, true, false}
 use Rattle.pv_source.specs.declared.standing.Found.{Found}
-use Rattle.pv_source.specs.declared.standing.Found.TheVariants.{Right, Form, Size, Init, Tree, RoomAgain}
+use Rattle.pv_source.specs.declared.standing.Found.TheVariants.{Right, RoomAgain}
 use Rattle.pv_source.specs.declared.standing.Standing.{Standing as HeldStanding}
 use Rattle.pv_model.specs.Source.Judged.{Standing, Judgement}
 

@@ -1,5 +1,5 @@
 -- What is read of a source as its blocks.
-use Rattle.std.specs.Prelude.{◌≡◌, ℕ, suc, ◌+◌, ◌≤◌, List, [], ◌∷◌, length, drop, Option, None, Some}
+use Rattle.std.specs.Prelude.{◌≡◌, ℕ, ◌+◌, ◌≤◌, List, [], ◌∷◌, length, drop, Option, None, Some}
 use Rattle.pv_source.specs.declared.blocks.Block.{Block as ReadBlock}
 use Rattle.pv_source.specs.declared.blocks.Kind.{Kind}
 use Rattle.pv_source.specs.declared.blocks.Kind.TheVariants.{Single, Program, Taken, CutOff, Schedule}

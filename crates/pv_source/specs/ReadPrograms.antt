@@ -1,5 +1,5 @@
 -- What is read of a source as the lines of a program.
-use Rattle.std.specs.Prelude.{ℕ, List, [], ◌∷◌, map, Option, None, Some, option_map}
+use Rattle.std.specs.Prelude.{ℕ, List, [], ◌∷◌, Option, None, Some, option_map}
 use Rattle.std.specs.Borrow.{Bor}
 use Rattle.pv_model.specs.Bytes.{Bytes}
 use Rattle.pv_source.specs.declared.lines.Lines.{Lines}
@@ -7,7 +7,7 @@ use Rattle.pv_source.specs.declared.programs.Label.{Label}
 use Rattle.pv_source.specs.declared.programs.Labelled.{Labelled}
 use Rattle.pv_source.specs.Reading.{numbered}
 use Rattle.pv_model.specs.Source.Programs.{LabelledLine, labelled_lines}
-use Rattle.pv_model.specs.Source.Words.{NumberedLine, between, words_from}
+use Rattle.pv_model.specs.Source.Words.{between, words_from}
 
 abbrev pub bytes_of : Bor Bytes → Bytes
 bytes_of bytes = bytes.now

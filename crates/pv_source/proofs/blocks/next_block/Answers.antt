@@ -1,5 +1,5 @@
-use Rattle.std.proofs.Common.{◌≡◌, ◌∙◌, ap, sym, [], ◌∷◌, ◌+◌, true, false}
-use Rattle.std.specs.Prelude.{codes, bytes_eq, not}
+use Rattle.std.proofs.Common.{◌∙◌, ap, sym, [], ◌∷◌, ◌+◌}
+use Rattle.std.specs.Prelude.{bytes_eq, not}
 use Rattle.pv_source.specs.Reading.{numbered, numbered_text}
 use Rattle.pv_model.specs.Source.Blocks.{schedule, cut_off, or_cut_off, blocks_from}
 use Rattle.pv_model.specs.Source.Words.{between, words_from}

@@ -1,4 +1,4 @@
-use Rattle.std.proofs.Common.{◌≡◌, ◌∙◌, subst, sym}
+use Rattle.std.proofs.Common.{◌≡◌, ◌∙◌, subst}
 use Rattle.std.specs.Prelude.{IfOk, option_map}
 use Rattle.pv_image_manifest.specs.Entries.{entry_of_line}
 use Rattle.pv_model.specs.Source.Words.{between, words_from}

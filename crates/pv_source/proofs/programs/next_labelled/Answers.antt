@@ -1,4 +1,4 @@
-use Rattle.std.proofs.Common.{◌≡◌, ◌∙◌, ap, sym, subst, ◌∷◌, [], ◌≢◌, true, false}
+use Rattle.std.proofs.Common.{◌≡◌, ◌∙◌, ap, sym, subst, ◌∷◌, [], ◌≢◌}
 use Rattle.pv_source.specs.Reading.{numbered, worded}
 use Rattle.pv_source.specs.ReadPrograms.{labelled_value}
 use Rattle.pv_model.specs.Source.Programs.{LabelledLine, labelled_lines, or_exit}

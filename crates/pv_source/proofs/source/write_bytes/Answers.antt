@@ -1,4 +1,4 @@
-use Rattle.std.proofs.Common.{◌∙◌, ap, subst, inl, inr, true, false}
+use Rattle.std.proofs.Common.{◌∙◌, ap, subst, inl, inr}
 use Rattle.std.specs.Prelude.{map}
 use Rattle.pv_streams.specs.Sinks.{and_all, TellsBeginning}
 use Rattle.pv_source.specs.Outcome.{told_of}

@@ -1,4 +1,4 @@
-use Rattle.std.proofs.Common.{◌≡◌, ◌∙◌, ap, sym, subst, [], ◌∷◌, refl, suc, ◌+◌, length, take, arith}
+use Rattle.std.proofs.Common.{◌∙◌, ap, subst, [], refl, suc, ◌+◌, length, take, arith}
 use Rattle.pv_model.specs.Grammar.Lines.{lines_of}
 use Rattle.pv_source.specs.Found.{is_told, standing_of}
 use Rattle.pv_source.specs.Reading.{numbered}

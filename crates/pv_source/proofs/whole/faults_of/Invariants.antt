@@ -1,4 +1,4 @@
-use Rattle.std.proofs.Common.{◌≡◌, ◌≤◌, ◌+◌, ◌++◌, suc, [], length}
+use Rattle.std.proofs.Common.{◌≤◌, ◌+◌, suc, [], length}
 use Rattle.pv_model.specs.Grammar.Lines.{lines_of}
 use Rattle.pv_source.specs.Found.{standing_of}
 use Rattle.pv_source.specs.Reading.{numbered}

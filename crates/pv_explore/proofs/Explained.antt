@@ -1,0 +1,30 @@
+-- The lines of a step of a graph.
+use Rattle.std.proofs.Common.{◌≡◌, ◌∙◌, ap, ap₂, ℕ, bytes_eq, List, [], ◌++◌, codes, Option, refl}
+use Rattle.std.specs.Prelude.{position}
+use Rattle.pv_explain.specs.Made.{IsMade, made_lines}
+use Rattle.pv_explain.specs.Parts.{source_of}
+use Rattle.pv_explain.specs.declared.making.MadeStep.{MadeStep}
+use Rattle.pv_explain.proofs.Made.{left-by}
+use Rattle.pv_explain.proofs.MadeLines.{made-is}
+use Rattle.pv_explore.specs.Plan.{state_key}
+use Rattle.pv_explore.specs.Vertices.{step_of}
+use Rattle.pv_model.specs.Answers.Explain.{explained_step}
+use Rattle.pv_model.specs.Answers.Graph.{leads_to_text, untold}
+use Rattle.pv_model.specs.Answers.Lines.{answer_bytes, answer_line, answer_line_bytes}
+use Rattle.pv_model.specs.Bytes.{Bytes}
+use Rattle.pv_model.specs.Grammar.Programs.{program_of}
+use Rattle.pv_model.specs.State.{State}
+
+-- nothing is said of where an entry was set
+untold-is : (s : State) (pid : ℕ) → explained_step program_of (source_of []) s pid ≡ explained_step program_of untold s pid
+untold-is s pid =
+    let same : (k : ℕ) → source_of [] k ≡ untold k = λ k. refl in
+    let none : source_of [] ≡ untold = λ i k. same k i in
+    ap (λ (source : ℕ → Bytes). explained_step program_of source s pid) none
+
+pub step-bytes : (keys : List Bytes) (s : State) (pid : ℕ) (made : MadeStep) (after : State) (key : Bytes) (found : Option ℕ) → IsMade s pid made after → key ≡ state_key after → found ≡ position (bytes_eq key) keys
+    → answer_line_bytes (answer_line pid (codes "STEP") (leads_to_text found)) ++ answer_bytes (made_lines pid [] made after) ≡ answer_bytes (step_of keys s pid)
+step-bytes keys s pid made after key found is key_is found_is =
+    ap₂ (λ (a b : Bytes). a ++ b)
+    (ap (λ (o : Option ℕ). answer_line_bytes (answer_line pid (codes "STEP") (leads_to_text o))) (found_is ∙ ap (λ (k : Bytes). position (bytes_eq k) keys) (key_is ∙ ap state_key (left-by s pid made after is))))
+    (ap answer_bytes (made-is s pid [] made after is ∙ untold-is s pid))

@@ -1,0 +1,148 @@
+-- What a graph tells, state by state, is how the states hang together.
+use Rattle.std.proofs.Common.{◌≡◌, ◌∙◌, sym, ap, ap₂, subst, ℕ, zero, suc, ◌+◌, ◌<◌, ◌≤◌, Bool, bytes_eq, true, false, List, [], ◌∷◌, ◌++◌, map, flat_map, length, drop, get_or, slice_get, Option, None, Some, refl, add-one, codes, arith}
+use Rattle.std.specs.Prelude.{position}
+use Rattle.std.specs.Fmt.{decimal}
+use Rattle.std.specs.List.{AllByRecursion}
+use Rattle.std.proofs.lemmas.Grind.{flat_map-append}
+use Rattle.std.proofs.lemmas.List.{drop_all, length-map}
+use Rattle.std.proofs.Math.Seq.{drop-cons}
+use Rattle.pv_explore.specs.Plan.{Kept, first_kept, kept_from, state_key, state_at, live_at, told_from}
+use Rattle.pv_explore.specs.Vertices.{listed_bytes, step_of, steps_at, vertex_at, vertices_from}
+use Rattle.pv_explore.proofs.KeyLists.{position-mapped}
+use Rattle.pv_explore.proofs.Planned.{Finds, plan-finds, same-known, state_of_found, way_of_found}
+use Rattle.pv_model.specs.Answers.Explore.{Found, done_line, move, moves_of, states_found, states_line}
+use Rattle.pv_model.specs.Answers.Explain.{explained_step}
+use Rattle.pv_model.specs.Answers.Graph.{graph_lines, leads_to_text, listing_lines, number_found, step_lines, tree_lines, untold, vertex_lines}
+use Rattle.pv_model.specs.Answers.Lines.{AnswerLine, answer_bytes, answer_line, answer_line_bytes, counted_from}
+use Rattle.pv_model.specs.Answers.Numbers.{same_state}
+use Rattle.pv_model.specs.Answers.ProcessRecord.{state_lines}
+use Rattle.pv_model.specs.Answers.Reach.{reach_lines}
+use Rattle.pv_model.specs.Bytes.{Bytes}
+use Rattle.pv_model.specs.Grammar.Lines.{lines_of}
+use Rattle.pv_model.specs.Grammar.Programs.{program_of}
+use Rattle.pv_model.specs.Held.{live_processes}
+use Rattle.pv_model.specs.Listing.{listing}
+use Rattle.pv_model.specs.State.{Process, State}
+use Rattle.pv_session.specs.Running.{stepped}
+
+same-positions : {X : Type 0} (p q : X → Bool) → ((x : X) → p x ≡ q x) → (xs : List X) → position p xs ≡ position q xs
+same-positions {X} p q same xs = let tests : p ≡ q = λ i x. same x i in ap (λ (t : X → Bool). position t xs) tests
+
+number-of : (t : State) (found : List Found) → position (bytes_eq (state_key t)) (map state_of_found found) ≡ number_found t found
+number-of t found = position-mapped state_of_found (bytes_eq (state_key t)) found ∙ same-positions (λ (f : Found). bytes_eq (state_key t) (state_of_found f)) (λ f. same_state f.state t) (same-known t) found
+
+module _ (found : List Found) (keys : List Bytes) (same : keys ≡ map state_of_found found) where
+  step-is : (f : Found) (pid : ℕ) → step_of keys f.state pid ≡ step_lines program_of found f (move program_of f pid)
+  step-is f pid =
+      ap (λ (o : Option ℕ). answer_line pid (codes "STEP") (leads_to_text o) ∷ explained_step program_of untold f.state pid)
+      (ap (position (bytes_eq (state_key (stepped f.state pid).after))) same ∙ number-of (stepped f.state pid).after found)
+
+  steps-are : (f : Found) (ps : List (ℕ × Process)) → flat_map (step_of keys f.state) (map (λ p. p.0) ps) ≡ flat_map (step_lines program_of found f) (map (λ p. move program_of f p.0) ps)
+  steps-are f [] = refl
+  steps-are f (p ∷ ps) = ap₂ (λ (a b : List AnswerLine). a ++ b) (step-is f p.0) (steps-are f ps)
+
+  module _ (s : State) (trees : Bool) where
+    abbrev vertex_in : ℕ → State → List AnswerLine
+    vertex_in number t =
+        answer_line 0 (codes "AT") (decimal number) ∷ state_lines t ++ tree_lines trees t ++ flat_map (step_of keys t) (map (λ p. p.0) (live_processes t.processes))
+
+    vertex-is : (number : ℕ) (f : Found) → f.state ≡ state_at program_of s f.way → vertex_at keys s trees number f.way ≡ vertex_lines program_of trees found (number, f)
+    vertex-is number f sound =
+        ap (vertex_in number) (sym sound)
+        ∙ ap (λ (ls : List AnswerLine). answer_line 0 (codes "AT") (decimal number) ∷ state_lines f.state ++ tree_lines trees f.state ++ ls) (steps-are f (live_processes f.state.processes))
+
+    pub vertices-are : (fs : List Found) (number : ℕ) → AllByRecursion (λ f. f.state ≡ state_at program_of s f.way) fs
+        → vertices_from keys s trees number (map way_of_found fs) ≡ flat_map (vertex_lines program_of trees found) (counted_from number fs)
+    vertices-are [] number sound = refl
+    vertices-are (f ∷ fs) number sound = ap₂ (λ (a b : List AnswerLine). a ++ b) (vertex-is number f sound.0) (vertices-are fs (number + 1) sound.1)
+
+-- ---- one state after the other
+
+drop-get : {X : Type 0} (xs : List X) (i : ℕ) (x : X) → slice_get xs i ≡ Some x → drop i xs ≡ x ∷ drop (suc i) xs
+drop-get [] i x is = cc
+drop-get (y ∷ xs) zero x is = let same : y ≡ x = cc in ap (λ z. z ∷ xs) same
+drop-get (y ∷ xs) (suc i) x is = drop-get xs i x is
+
+drop-none : {X : Type 0} (xs : List X) (i : ℕ) → slice_get xs i ≡ None → drop i xs ≡ []
+drop-none [] zero is = refl
+drop-none [] (suc i) is = refl
+drop-none (y ∷ xs) zero is = cc
+drop-none (y ∷ xs) (suc i) is = drop-none xs i is
+
+module _ (keys : List Bytes) (s : State) (trees : Bool) (ways : List (List ℕ)) where
+  abbrev pub vertices_left : ℕ → Bytes
+  vertices_left number = answer_bytes (vertices_from keys s trees number (drop number ways))
+
+  pub vertices-next : (number : ℕ) (way : List ℕ) → slice_get ways number ≡ Some way → vertices_left number ≡ answer_bytes (vertex_at keys s trees number way) ++ vertices_left (number + 1)
+  vertices-next number way is =
+      ap (λ ws. answer_bytes (vertices_from keys s trees number ws)) (drop-get ways number way is ∙ ap (λ k. way ∷ drop k ways) (sym (add-one number)))
+      ∙ flat_map-append answer_line_bytes (vertex_at keys s trees number way) (vertices_from keys s trees (number + 1) (drop (number + 1) ways))
+
+  pub vertices-none : (number : ℕ) → slice_get ways number ≡ None → vertices_left number ≡ []
+  vertices-none number is = ap (λ ws. answer_bytes (vertices_from keys s trees number ws)) (drop-none ways number is)
+
+  pub vertices-past : (number : ℕ) → length ways ≤ number → vertices_left number ≡ []
+  vertices-past number past = ap (λ ws. answer_bytes (vertices_from keys s trees number ws)) (drop_all number ways past)
+
+-- ---- the whole
+
+module _ (limit : ℕ) (s : State) (trees : Bool) (lines : List AnswerLine) (kept : Kept) (it : Finds program_of limit s lines kept) where
+  pub as-many : length kept.ways ≡ length kept.keys
+  as-many = ap length it.keeps.ways ∙ length-map (states_found program_of limit s) way_of_found ∙ sym (ap length it.keeps.keys ∙ length-map (states_found program_of limit s) state_of_found)
+
+  pub graph-are : vertices_from kept.keys s trees 0 kept.ways ++ states_line (length kept.keys) kept.complete ∷ [] ≡ graph_lines program_of limit trees s
+  unfolding graph_lines
+  graph-are =
+      let found = states_found program_of limit s in
+      ap₂ (λ (a b : List AnswerLine). a ++ b)
+      (ap (vertices_from kept.keys s trees 0) it.keeps.ways ∙ vertices-are found kept.keys it.keeps.keys s trees found 0 it.sound)
+      (ap₂ (λ n b. states_line n b ∷ []) (ap length it.keeps.keys ∙ length-map found state_of_found) it.keeps.complete)
+
+-- ---- parts of a state
+
+pub tree-none : (trees : Bool) (s : State) → trees ≡ false → [] ≡ answer_bytes (tree_lines trees s)
+tree-none trees s is = sym (ap (λ b. answer_bytes (tree_lines b s)) is)
+
+pub tree-told : (trees : Bool) (s : State) → trees ≡ true → listed_bytes (lines_of (listing s.tree)) ++ answer_bytes (reach_lines s) ≡ answer_bytes (tree_lines trees s)
+tree-told trees s is = sym (ap (λ b. answer_bytes (tree_lines b s)) is ∙ flat_map-append answer_line_bytes (listing_lines s.tree) (reach_lines s))
+
+pub listed-next : (text line : Bytes) (following : List Bytes) → lines_of text ≡ line ∷ following → listed_bytes (lines_of text) ≡ answer_line_bytes (answer_line 0 (codes "LS") line) ++ listed_bytes following
+listed-next text line following is = ap listed_bytes is
+
+pub listed-none : (text : Bytes) → lines_of text ≡ [] → listed_bytes (lines_of text) ≡ []
+listed-none text is = ap listed_bytes is
+
+module _ (keys : List Bytes) (s : State) (way : List ℕ) where
+  abbrev pub steps_left_at : List ℕ → Bytes
+  steps_left_at pids = answer_bytes (steps_at keys s way pids)
+
+  pub graph-step : (xs : List ℕ) (i : ℕ) (t : State) → i < length xs → t ≡ state_at program_of s way → steps_left_at (drop i xs) ≡ answer_bytes (step_of keys t (get_or xs i 0)) ++ steps_left_at (drop (i + 1) xs)
+  graph-step xs i t within at =
+      ap steps_left_at (drop-cons xs i 0 within ∙ ap (λ k. get_or xs i 0 ∷ drop k xs) (sym (add-one i)))
+      ∙ flat_map-append answer_line_bytes (step_of keys (state_at program_of s way) (get_or xs i 0)) (steps_at keys s way (drop (i + 1) xs))
+      ∙ ap (λ (u : State). answer_bytes (step_of keys u (get_or xs i 0)) ++ steps_left_at (drop (i + 1) xs)) (sym at)
+
+  pub vertex-bytes : (trees : Bool) (number : ℕ) (t : State) → t ≡ state_at program_of s way
+      → answer_line_bytes (answer_line 0 (codes "AT") (decimal number)) ++ ((answer_bytes (state_lines t) ++ answer_bytes (tree_lines trees t)) ++ steps_left_at (live_at program_of s way))
+      ≡ answer_bytes (vertex_at keys s trees number way)
+  vertex-bytes trees number t at =
+      let u : State = state_at program_of s way in
+      let front : Bytes = answer_line_bytes (answer_line 0 (codes "AT") (decimal number)) in
+      ap (λ (x : State). front ++ ((answer_bytes (state_lines x) ++ answer_bytes (tree_lines trees x)) ++ steps_left_at (live_at program_of s way))) at
+      ∙ ap (λ bs. front ++ bs)
+      (ap (λ bs. bs ++ steps_left_at (live_at program_of s way)) (sym (flat_map-append answer_line_bytes (state_lines u) (tree_lines trees u)))
+      ∙ sym (flat_map-append answer_line_bytes (state_lines u ++ tree_lines trees u) (steps_at keys s way (live_at program_of s way))))
+
+-- ---- all of it, as bytes
+
+module _ (limit : ℕ) (s : State) (trees : Bool) (kept : Kept) (some : 1 ≤ limit) (is : kept ≡ kept_from limit program_of s limit 0 (first_kept limit program_of s)) where
+  found-kept : Finds program_of limit s (told_from limit program_of s limit 0 (first_kept limit program_of s)) kept
+  found-kept = subst (Finds program_of limit s (told_from limit program_of s limit 0 (first_kept limit program_of s))) (sym is) (plan-finds program_of limit s some)
+
+  pub graph-many : length kept.ways ≡ length kept.keys
+  graph-many = as-many limit s trees (told_from limit program_of s limit 0 (first_kept limit program_of s)) kept found-kept
+
+  pub graph-bytes : answer_bytes (vertices_from kept.keys s trees 0 kept.ways) ++ (answer_line_bytes (states_line (length kept.keys) kept.complete) ++ []) ≡ answer_bytes (graph_lines program_of limit trees s)
+  graph-bytes =
+      sym (flat_map-append answer_line_bytes (vertices_from kept.keys s trees 0 kept.ways) (states_line (length kept.keys) kept.complete ∷ []))
+      ∙ ap answer_bytes (graph-are limit s trees (told_from limit program_of s limit 0 (first_kept limit program_of s)) kept found-kept)

@@ -1,0 +1,34 @@
+-- Byte strings among those that are kept.
+use Rattle.std.proofs.Common.{◌≡◌, ◌∙◌, sym, ap, ap₂, ℕ, ◌+◌, Bool, true, false, ◌||◌, cond, if◌then◌else◌, nat_lt, not, bytes_eq, List, [], ◌∷◌, ◌++◌, map, length, Option, None, Some, refl}
+use Rattle.std.specs.Prelude.{position}
+use Rattle.std.specs.List.{list_any, position_or_len}
+use Rattle.std.proofs.lemmas.List.{length-map, map-append}
+use Rattle.pv_model.specs.Bytes.{Bytes}
+
+module _ {X Y : Type 0} (f : X → Y) (p : Y → Bool) where
+  any-mapped : (xs : List X) → list_any p (map f xs) ≡ list_any (λ x. p (f x)) xs
+  any-mapped [] = refl
+  any-mapped (x ∷ xs) = ap (λ b. p (f x) || b) (any-mapped xs)
+
+  prefix-mapped : (xs : List X) → position_or_len p (map f xs) ≡ position_or_len (λ x. p (f x)) xs
+  prefix-mapped [] = refl
+  prefix-mapped (x ∷ xs) = ap (λ n. cond (not (p (f x))) (1 + n) 0) (prefix-mapped xs)
+
+  pub position-mapped : (xs : List X) → position p (map f xs) ≡ position (λ x. p (f x)) xs
+  position-mapped xs = ap₂ (λ n m. cond (nat_lt n m) (Some n) None) (prefix-mapped xs) (length-map xs f)
+
+pub found-among : {X : Type 0} (f : X → Bytes) (key : Bytes) (xs : List X) (now : List Bytes) (r : Option ℕ) → r ≡ position (λ x. bytes_eq key (f x)) xs → map f xs ≡ now → r ≡ position (bytes_eq key) now
+found-among f key xs now r is same = is ∙ sym (position-mapped f (bytes_eq key) xs) ∙ ap (position (bytes_eq key)) same
+
+pub added-among : {X : Type 0} (f : X → Bytes) (x : X) (xs new : List X) (now : List Bytes) → new ≡ (if list_any (λ y. bytes_eq (f x) (f y)) xs then xs else xs ++ x ∷ []) → map f xs ≡ now
+    → map f new ≡ (if list_any (bytes_eq (f x)) now then now else now ++ f x ∷ [])
+added-among f x xs new now is same =
+    ap (map f) is ∙ by (list_any (λ y. bytes_eq (f x) (f y)) xs) ∙ ap (λ b. if b then map f xs else map f xs ++ f x ∷ []) (sym (any-mapped f (bytes_eq (f x)) xs))
+    ∙ ap (λ ks. if list_any (bytes_eq (f x)) ks then ks else ks ++ f x ∷ []) same
+  where
+    by : (b : Bool) → map f (if b then xs else xs ++ x ∷ []) ≡ (if b then map f xs else map f xs ++ f x ∷ [])
+    by true = refl
+    by false = map-append f xs (x ∷ [])
+
+pub there-among : {X : Type 0} (f : X → Bytes) (key : Bytes) (xs : List X) (now : List Bytes) (b : Bool) → b ≡ list_any (λ x. bytes_eq key (f x)) xs → map f xs ≡ now → b ≡ list_any (bytes_eq key) now
+there-among f key xs now b is same = is ∙ sym (any-mapped f (bytes_eq key) xs) ∙ ap (list_any (bytes_eq key)) same

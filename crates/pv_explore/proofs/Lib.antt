@@ -1,0 +1,14 @@
+-- Lemmas of the search: Planned (what it tells and keeps is what can happen), Turns (ways as turns), KeyLists (byte strings that are kept),
+-- LastNumbers (the last number given to a process), LiveOnes (numbers of live processes, and the tree where none is live), Ways (states along a way), Booting (a machine
+-- made anew), Finding (how a search goes, step by step), Graphed (what a
+-- graph tells), Explained (the lines of its steps).
+pub mod Planned
+pub mod Turns
+pub mod KeyLists
+pub mod LastNumbers
+pub mod LiveOnes
+pub mod Ways
+pub mod Booting
+pub mod Finding
+pub mod Graphed
+pub mod Explained

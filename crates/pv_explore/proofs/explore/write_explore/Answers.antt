@@ -1,0 +1,53 @@
+use Rattle.std.proofs.Common.{◌≡◌, ◌∙◌, ℕ, ap, subst, sym, refl}
+use Rattle.std.proofs.lemmas.Result.{err_from_is_err_and}
+use Rattle.pv_explore.specs.Plan.{done_lines, kept_from, told_from}
+use Rattle.pv_explore.specs.Searches.{kept_of}
+use Rattle.pv_explore.proofs.Finding.{explore-bytes}
+use Rattle.pv_model.specs.Answers.Lines.{answer_bytes}
+use Rattle.pv_model.specs.Bytes.{Bytes}
+use Rattle.pv_model.specs.Grammar.Programs.{program_of}
+use Rattle.pv_model.specs.Stream.{Rose}
+use Rattle.pv_session.specs.Running.{FailsBy}
+use Rattle.pv_session.specs.declared.session.Stop.{Stop}
+use Rattle.pv_streams.specs.Sinks.{and_all, TellsBeginning}
+use Rattle.pv_streams.proofs.Telling.{begins_first, begins_then, on_err, written_both}
+use Rattle.pv_explore.proofs.explore.write_explore.Goals as goal
+
+pub returns-in_err-search-2-clause-beginning : goal.returns-in_err-search-2-clause-beginning
+returns-in_err-search-2-clause-beginning g c =
+    let limit = c.args.states in
+    let s = c.args.beginning.now in
+    let first = kept_of c.in_ok-search.search in
+    let kept = kept_from limit program_of s limit 0 first in
+    let is = explore-bytes limit s c.requires first kept c.in_ok-search.ensures refl in
+    on_err c.from_residual-in_err-search-2.result
+    (subst (λ (bs : Bytes). TellsBeginning bs (g.W.Sink.written c.args.out.now) (g.W.Sink.written c.search.new.out)) is
+    (begins_first (answer_bytes (told_from limit program_of s limit 0 first)) (answer_bytes (done_lines kept)) _ _ c.in_err-search-2.ensures.beginning))
+
+pub returns-in_err-write_done-clause-beginning : goal.returns-in_err-write_done-clause-beginning
+returns-in_err-write_done-clause-beginning g c =
+    let limit = c.args.states in
+    let s = c.args.beginning.now in
+    let first = kept_of c.in_ok-search.search in
+    let kept = kept_of c.search.new.self in
+    let is = explore-bytes limit s c.requires first kept c.in_ok-search.ensures c.in_ok-search-2.ensures.kept in
+    on_err c.from_residual-in_err-write_done.result
+    (subst (λ (bs : Bytes). TellsBeginning bs (g.W.Sink.written c.args.out.now) (g.W.Sink.written c.write_done.new.out)) is
+    (begins_then (answer_bytes (told_from limit program_of s limit 0 first)) (answer_bytes (done_lines kept)) _ _ _ c.in_ok-search-2.ensures.whole c.in_err-write_done.ensures.beginning))
+
+pub returns-in_err-write_done-clause-failed : goal.returns-in_err-write_done-clause-failed
+returns-in_err-write_done-clause-failed g c =
+    let before = g.W.Sink.failures c.args.out.now in
+    let after = g.W.Sink.failures c.write_done.new.out in
+    let p = err_from_is_err_and c.from_residual-in_err-write_done.result c.from_residual-in_err-write_done.ensures.1 in
+    rw p.1 (subst (λ (stop : Stop). FailsBy stop before after) (sym p.2) (subst (λ (n : ℕ). Rose n after) c.in_ok-search-2.ensures.quiet c.in_err-write_done.ensures.failed))
+
+pub returns-clause-whole : goal.returns-clause-whole
+returns-clause-whole g c =
+    let limit = c.args.states in
+    let s = c.args.beginning.now in
+    let first = kept_of c.in_ok-search.search in
+    let kept = kept_of c.search.new.self in
+    let is = explore-bytes limit s c.requires first kept c.in_ok-search.ensures c.in_ok-search-2.ensures.kept in
+    written_both (answer_bytes (told_from limit program_of s limit 0 first)) (answer_bytes (done_lines kept)) _ _ _ c.in_ok-search-2.ensures.whole c.in_ok-write_done.ensures.whole
+    ∙ ap (and_all (g.W.Sink.written c.args.out.now)) is

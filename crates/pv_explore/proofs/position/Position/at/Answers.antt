@@ -1,0 +1,5 @@
+use Rattle.pv_explore.proofs.Ways.{state-next}
+use Rattle.pv_explore.proofs.position.Position.at.Goals as goal
+
+pub loop-pid-preserved : goal.loop-pid-preserved
+loop-pid-preserved c = state-next c.args.beginning.now c.args.way.now c.loop-pid.pid-index c.loop-pid.position _ c.loop-pid-test.true c.loop-pid.invariant c.in_ok-step.ensures

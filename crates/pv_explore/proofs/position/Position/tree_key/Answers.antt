@@ -1,0 +1,13 @@
+use Rattle.std.proofs.Common.{◌≡◌, ◌∙◌, ap, subst, sym, true}
+use Rattle.pv_explore.specs.Plan.{tree_key}
+use Rattle.pv_explore.proofs.LiveOnes.{end-key}
+use Rattle.pv_model.specs.Answers.Explore.{has_ended}
+use Rattle.pv_model.specs.Held.{named_tree}
+use Rattle.pv_model.specs.State.{State}
+use Rattle.pv_explore.proofs.position.Position.tree_key.Goals as goal
+
+pub returns : goal.returns
+returns c =
+    let s = c.self.inside.session in
+    subst (λ (t : State). c.push_tree.new.key.items ≡ tree_key (named_tree t.tree)) c.self.view_is
+    (end-key s c.tree.result.now.tree _ _ c.parts.ensures.whole (subst (λ (t : State). has_ended t ≡ true) (sym c.self.view_is) c.requires) (c.tree.ensures ∙ ap (λ (t : State). t.tree) c.parts.ensures.value) c.new-key.ensures.items c.in_ok-push_tree.ensures)

@@ -1,0 +1,4 @@
+pub mod Beginnings
+pub mod Plan
+pub mod Searches
+pub mod Vertices

@@ -1,0 +1,27 @@
+-- What is kept of a search, and the bytes of a step that is told.
+use Rattle.std.specs.Prelude.{ℕ, if◌then◌else◌, List, [], ◌++◌, map, codes, Option, None, Some}
+use Rattle.std.specs.Global.{Vec}
+use Rattle.pv_explore.specs.declared.search.Search.{Search}
+use Rattle.pv_explore.specs.Plan.{Kept, is_told}
+use Rattle.pv_model.specs.Answers.Explore.{Move, way_text}
+use Rattle.pv_model.specs.Bytes.{Bytes}
+use Rattle.pv_model.specs.State.{State}
+use Rattle.pv_model.specs.Trace.{text_line}
+use Rattle.pv_session.specs.Running.{stepped}
+
+abbrev pub kept_of : Search → Kept
+kept_of s = record { keys = s.keys; ways = map (λ w. w.items) s.ways.items; told = s.told; endings = s.endings; complete = s.complete }
+
+-- the step of a process in a state, to which a way leads
+abbrev pub move_of : List ℕ → ℕ → State → Move
+move_of way pid s = record { way = way; pid = pid; stepped = stepped s pid }
+
+abbrev pub move_bytes : ℕ → List ℕ → Bytes → Bytes
+move_bytes pid way text = text_line pid (codes "BY") (way_text way) ++ text
+
+abbrev pub told_bytes : List Bytes → ℕ → List ℕ → Bytes → Bytes
+told_bytes told pid way text = if is_told told text then [] else move_bytes pid way text
+
+abbrev pub way_of : Option (Vec ℕ) → Option (List ℕ)
+way_of None = None
+way_of (Some way) = Some way.items

@@ -1,0 +1,74 @@
+//! Different byte strings, in the order in which they came.
+ghost use Rattle.std.specs.Prelude.{◌≡◌, ◌==◌, ◌++◌, ◌∷◌, [], length, position, bytes_eq, if◌then◌else◌, OnOk, OnErr};
+ghost use Rattle.std.specs.List.{list_any};
+
+use indexmap::IndexSet;
+use std::alloc::{AllocError, Global};
+use std::marker::Model;
+
+/// Different byte strings, in the order in which they came: a contract sees their list.
+#[derive(Drop)]
+pub struct Keys {
+    set: IndexSet<Vec<u8>>,
+}
+
+impl Model for Keys {
+    ghost use Rattle.std.specs.Prelude.{List, map};
+    ghost use Rattle.pv_model.specs.Bytes.{Bytes};
+
+    ghost Value = { List Bytes };
+
+    ghost view = { λ k. map (λ v. v.items) k.set.keys };
+}
+
+impl Keys {
+    /// None.
+    pub fn new(alloc: Global) -> Keys
+        ensures { result ≡ [] }
+    {
+        Keys {
+            set: IndexSet::new(alloc),
+        }
+    }
+
+    /// How many they are.
+    pub fn len(&self) -> usize
+        ensures { result ≡ length self.now }
+    {
+        self.set.len()
+    }
+
+    /// Whether there are none.
+    pub fn is_empty(&self) -> bool
+        ensures { result ≡ (length self.now == 0) }
+    {
+        self.set.is_empty()
+    }
+
+    /// Whether a byte string is one of them.
+    pub fn contains(&self, key: &[u8]) -> bool
+        ensures { result ≡ list_any (bytes_eq key.now) self.now }
+    {
+        self.set.contains(key)
+    }
+
+    /// The number of a byte string, from 0, where it is one of them.
+    pub fn find(&self, key: &[u8]) -> Option<usize>
+        ensures { result ≡ position (bytes_eq key.now) self.now }
+    {
+        self.set.get_index_of(key)
+    }
+
+    /// Adds a byte string, if it is not there: it then comes last.
+    ///
+    /// # Errors
+    ///
+    /// Where memory was refused; nothing has then changed.
+    pub fn add(&mut self, key: Vec<u8>) -> Result<(), AllocError>
+        ensures added { OnOk result (self.new ≡ (if list_any (bytes_eq key.items) self.old then self.old else self.old ++ key.items ∷ [])) }
+        ensures unchanged { OnErr result (self.new ≡ self.old) }
+    {
+        let _ = self.set.insert_full(key)?;
+        Ok(())
+    }
+}

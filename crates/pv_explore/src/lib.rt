@@ -1,0 +1,23 @@
+//! What can happen under any schedule: the search of all states, and how they hang together.
+//!
+//! `beginning` has a machine before its first step, which can be made anew, and `position` a machine at the end of a way, a list
+//! of process numbers. `search` keeps what a search finds: it knows a state by its bytes, which `keys` has in the order of
+//! finding, and has the way to each. `explore` writes what the steps of all states tell, each text once with a way to it, and
+//! `graph` each state with its steps and where they lead. `way` writes a way, and `unheard` is a sink for what nobody reads.
+//!
+//! A clause sees the texts as the definitions have them. `specs/Plan` says how a search goes, and `proofs/Planned` that it finds
+//! and tells what the definitions do.
+#![tactic(auto)]
+
+mod beginning;
+mod explore;
+mod graph;
+mod keys;
+mod position;
+mod search;
+mod unheard;
+mod way;
+
+pub use beginning::Beginning;
+pub use explore::write_explore;
+pub use graph::write_graph;

@@ -1,0 +1,313 @@
+//! A machine at the end of a way.
+ghost use Rattle.std.specs.Prelude.{◌≡◌, ◌+◌, ◌++◌, ◌∷◌, [], true, codes, map, is_some, Some, IfErr, IfOk, OnErr, OnOk};
+ghost use Rattle.pv_explore.specs.Beginnings.{GaveNumber, one_if};
+ghost use Rattle.pv_procs.specs.ProcessTable.{process_in};
+ghost use Rattle.pv_explore.specs.Plan.{state_at, state_key, tree_key};
+ghost use Rattle.pv_explore.specs.Vertices.{step_of};
+ghost use Rattle.pv_model.specs.Answers.Graph.{leads_to_text};
+ghost use Rattle.pv_model.specs.Answers.Lines.{answer_bytes, answer_line, answer_line_bytes};
+ghost use Rattle.pv_model.specs.Stream.{Rose};
+ghost use Rattle.pv_laws_states.specs.States.{IsWhole};
+ghost use Rattle.pv_model.specs.Answers.Explore.{has_ended};
+ghost use Rattle.pv_model.specs.Grammar.Programs.{program_of};
+ghost use Rattle.pv_model.specs.Held.{live_processes, named_tree};
+ghost use Rattle.pv_model.specs.Trace.{trace_bytes};
+ghost use Rattle.pv_session.specs.Running.{FailsBy, stepped};
+ghost use Rattle.pv_streams.specs.Sinks.{and_all, TellsBeginning};
+
+use crate::beginning::Beginning;
+use crate::keys::Keys;
+use crate::way::Count;
+use pv_answers::{Fragment, Line, Plain};
+use pv_calls_state::Parts;
+use pv_explain::{make_step, write_made};
+use pv_model::StepFault;
+use pv_model::limits::LAST_PROCESS;
+use pv_procs::Processes;
+use pv_script::CallTexts;
+use pv_session::{Session, Stop};
+use pv_spelling::{push_state, push_tree};
+use pv_streams::{Failed, Gathered, Sink};
+use pv_trace::LineBuffer;
+use std::alloc::Global;
+use std::marker::Model;
+
+/// A machine at the end of a way, with the last number that it gave to a process: a contract sees its state.
+#[derive(Drop)]
+pub(crate) struct Position {
+    session: Session,
+    last: u32,
+}
+
+impl Model for Position {
+    ghost use Rattle.std.specs.Prelude.{◌≡◌};
+    ghost use Rattle.pv_model.specs.State.{State};
+
+    ghost Value = { State };
+
+    ghost view = { λ p. p.session };
+
+    ghost invariant = { λ p. p.last ≡ p.session.last_process };
+}
+
+// Makes a step of a process, and gathers its lines.
+fn trace_into(
+    alloc: Global,
+    session: &mut Session,
+    pid: u32,
+    text: &mut Gathered,
+) -> Result<(), StepFault>
+    ensures after { OnOk result (session.new ≡ (stepped session.old pid).after) }
+    ensures text { OnOk result (Some text.new.bytes.items ≡ and_all (Some text.old.bytes.items) (trace_bytes (stepped session.old pid).lines)) }
+{
+    match session.trace_step(alloc, pid, text) {
+        Ok(_) => Ok(()),
+        Err(_) => Err(StepFault::NoMemory),
+    }
+}
+
+// The last number that a state gave to a process, where it was one that is known, or a process got the next.
+fn last_number(parts: &Parts, known: u32) -> u32
+    requires gave { GaveNumber parts.now known }
+    requires whole { IsWhole parts.now }
+    ensures { result ≡ parts.now.last_process }
+{
+    parts.invariant();
+    if known >= LAST_PROCESS {
+        return known;
+    }
+    if parts.processes().live(known + 1) {
+        known + 1
+    } else {
+        known
+    }
+}
+
+// Adds the number of a process.
+pub(crate) fn push_number(pids: &mut Vec<u32>, pid: u32) -> Result<(), StepFault>
+    ensures { OnOk result (pids.new.items ≡ pids.old.items ++ pid ∷ []) }
+{
+    match pids.push(pid) {
+        Ok(()) => Ok(()),
+        Err(_) => Err(StepFault::NoMemory),
+    }
+}
+
+// Adds the number of a process, where it is live.
+fn push_live(pids: &mut Vec<u32>, processes: &Processes, pid: u32) -> Result<(), StepFault>
+    ensures { OnOk result (pids.new.items ≡ pids.old.items ++ one_if (is_some (process_in processes.now pid)) pid) }
+{
+    if processes.live(pid) {
+        return push_number(pids, pid);
+    }
+    Ok(())
+}
+
+// The numbers of the processes that are live, ascending.
+fn live_numbers(alloc: Global, processes: &Processes) -> Result<Vec<u32>, StepFault>
+    ensures { IfOk result (λ pids. pids.items ≡ map (λ p. p.0) (live_processes processes.now.processes)) }
+{
+    processes.invariant();
+    let mut pids = Vec::new(alloc);
+    let mut last = 0;
+    while let Some(pid) = processes.next_number(last) {
+        push_live(&mut pids, processes, pid)?;
+        last = pid;
+    }
+    Ok(pids)
+}
+
+// The bytes by which a state is known, where the last number given was one that is known, or a process got the next.
+fn key_of(alloc: Global, parts: &Parts, known: u32) -> Result<Vec<u8>, StepFault>
+    requires gave { GaveNumber parts.now known }
+    requires whole { IsWhole parts.now }
+    ensures { IfOk result (λ key. key.items ≡ state_key parts.now) }
+{
+    let mut key = Vec::new(alloc);
+    push_state(&mut key, parts, last_number(parts, known))?;
+    Ok(key)
+}
+
+// Where a step leads.
+#[derive(Clone, Copy)]
+struct Leads(Option<usize>);
+
+impl Fragment for Leads {
+    ghost use Rattle.pv_model.specs.Answers.Graph.{leads_to_text};
+
+    ghost text = { λ p. leads_to_text p.0 };
+
+    fn write<W: Sink>(&self, out: &mut W) -> Result<(), Failed> {
+        match self.0 {
+            Some(number) => (Plain(b"to "), Count(number)).write(out),
+            None => Plain(b"left out").write(out),
+        }
+    }
+}
+
+// Writes the line of a step: where it leads.
+#[tactic(auto, unfolding(pv_model::specs::Trace::text_line))]
+fn write_leads<W: Sink>(out: &mut W, pid: u32, number: Option<usize>) -> Result<(), Failed>
+    ensures whole { OnOk result (W.written out.new ≡ and_all (W.written out.old) (answer_line_bytes (answer_line pid (codes "STEP") (leads_to_text number)))) }
+    ensures beginning { OnErr result (TellsBeginning (answer_line_bytes (answer_line pid (codes "STEP") (leads_to_text number))) (W.written out.old) (W.written out.new)) }
+    ensures failed { OnErr result (Rose (W.failures out.old) (W.failures out.new)) }
+    ensures quiet { OnOk result (W.failures out.new ≡ W.failures out.old) }
+{
+    let line = Line {
+        pid,
+        word: *b"STEP",
+        text: Leads(number),
+    };
+    line.write(out)
+}
+
+impl Position {
+    /// The machine before its first step.
+    ///
+    /// # Errors
+    ///
+    /// `NoMemory` where memory was refused.
+    pub(crate) fn start(alloc: Global, beginning: &Beginning) -> Result<Position, StepFault>
+        ensures { IfOk result (λ position. position ≡ beginning.now) }
+    {
+        Ok(Position {
+            session: beginning.session(alloc)?,
+            last: 1,
+        })
+    }
+
+    /// Makes a step of a process.
+    ///
+    /// # Errors
+    ///
+    /// `NoMemory` where memory was refused; nothing has then changed.
+    pub(crate) fn step(&mut self, alloc: Global, pid: u32) -> Result<(), StepFault>
+        ensures { OnOk result (self.new ≡ (stepped self.old pid).after) }
+    {
+        let _ = self.session.parts();
+        self.session.step(alloc, pid)?;
+        self.last = last_number(self.session.parts(), self.last);
+        Ok(())
+    }
+
+    /// The machine at the end of a way.
+    ///
+    /// # Errors
+    ///
+    /// `NoMemory` where memory was refused.
+    pub(crate) fn at(
+        alloc: Global,
+        beginning: &Beginning,
+        way: &[u32],
+    ) -> Result<Position, StepFault>
+        ensures { IfOk result (λ position. position ≡ state_at program_of beginning.now way.now) }
+    {
+        let mut position = Position::start(alloc, beginning)?;
+        for pid in way {
+            position.step(alloc, *pid)?;
+        }
+        Ok(position)
+    }
+
+    /// Makes a step of a process: the machine after it, and its lines as a trace has them.
+    ///
+    /// # Errors
+    ///
+    /// `NoMemory` where memory was refused.
+    pub(crate) fn trace(self, alloc: Global, pid: u32) -> Result<(Position, Vec<u8>), StepFault>
+        ensures after { IfOk result (λ made. made.0 ≡ (stepped self pid).after) }
+        ensures text { IfOk result (λ made. made.1.items ≡ trace_bytes (stepped self pid).lines) }
+    {
+        let Position { mut session, last } = self;
+        let _ = session.parts();
+        let mut text = Gathered::new(alloc);
+        trace_into(alloc, &mut session, pid, &mut text)?;
+        let last = last_number(session.parts(), last);
+        Ok((Position { session, last }, text.bytes))
+    }
+
+    /// The parts of the system.
+    pub(crate) fn parts(&self) -> &Parts
+        ensures value { result.now ≡ self.now }
+        ensures whole { IsWhole self.now }
+    {
+        self.session.parts()
+    }
+
+    /// The bytes by which its state is known.
+    ///
+    /// # Errors
+    ///
+    /// `NoMemory` where memory was refused.
+    pub(crate) fn key(&self, alloc: Global) -> Result<Vec<u8>, StepFault>
+        ensures { IfOk result (λ key. key.items ≡ state_key self.now) }
+    {
+        let mut key = Vec::new(alloc);
+        push_state(&mut key, self.session.parts(), self.last)?;
+        Ok(key)
+    }
+
+    /// The bytes by which its tree is known, where no process is live.
+    ///
+    /// # Errors
+    ///
+    /// `NoMemory` where memory was refused.
+    pub(crate) fn tree_key(&self, alloc: Global) -> Result<Vec<u8>, StepFault>
+        requires { has_ended self.now ≡ true }
+        ensures { IfOk result (λ key. key.items ≡ tree_key (named_tree self.now.tree)) }
+    {
+        let mut key = Vec::new(alloc);
+        push_tree(&mut key, self.session.parts().tree())?;
+        Ok(key)
+    }
+
+    /// The numbers of the processes that are live, ascending.
+    ///
+    /// # Errors
+    ///
+    /// `NoMemory` where memory was refused.
+    pub(crate) fn live(&self, alloc: Global) -> Result<Vec<u32>, StepFault>
+        ensures { IfOk result (λ pids. pids.items ≡ map (λ p. p.0) (live_processes self.now.processes)) }
+    {
+        live_numbers(alloc, self.session.parts().processes())
+    }
+
+    /// Whether no process is live.
+    ///
+    /// # Errors
+    ///
+    /// `NoMemory` where memory was refused.
+    pub(crate) fn has_ended(&self, alloc: Global) -> Result<bool, StepFault>
+        ensures { IfOk result (λ ended. ended ≡ has_ended self.now) }
+    {
+        Ok(self.live(alloc)?.is_empty())
+    }
+
+    /// Makes a step of a process, and writes where it leads, by the number that its state has among those that keys know, and its lines
+    /// explained, but for where an entry was set.
+    ///
+    /// # Errors
+    ///
+    /// `Memory` where memory was refused, `Write` where a write failed: the sink was given a beginning of the lines.
+    pub(crate) fn write_step<W: Sink>(
+        self,
+        alloc: Global,
+        keys: &Keys,
+        pid: u32,
+        line_buffer: &mut LineBuffer,
+        out: &mut W,
+    ) -> Result<(), Stop>
+        ensures whole { OnOk result (W.written out.new ≡ and_all (W.written out.old) (answer_bytes (step_of keys.now self pid))) }
+        ensures beginning { OnErr result (TellsBeginning (answer_bytes (step_of keys.now self pid)) (W.written out.old) (W.written out.new)) }
+        ensures failed { IfErr result (λ stop. FailsBy stop (W.failures out.old) (W.failures out.new)) }
+        ensures quiet { OnOk result (W.failures out.new ≡ W.failures out.old) }
+    {
+        let Position { mut session, last } = self;
+        let _ = session.parts();
+        let mut texts = CallTexts::new();
+        let made = make_step(alloc, &mut session, &mut texts, pid)?;
+        let key = key_of(alloc, session.parts(), last)?;
+        write_leads(out, pid, keys.find(&key))?;
+        Ok(write_made(out, line_buffer, &session, pid, &made, &[])?)
+    }
+}

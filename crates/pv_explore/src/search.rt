@@ -1,0 +1,293 @@
+//! What a search keeps, and how it goes.
+ghost use Rattle.std.specs.Prelude.{◌≡◌, ◌++◌, ◌∷◌, [], true, false, bytes_eq, if◌then◌else◌, slice_get, IfErr, IfOk, OnErr, OnOk};
+ghost use Rattle.std.specs.List.{list_any};
+ghost use Rattle.pv_explore.specs.Plan.{endings_after, first_kept, is_known, is_told, kept_after, kept_after_steps, kept_from, lines_at, live_at, state_key, steps_told, told_after, told_from, with_found_at, with_state_at};
+ghost use Rattle.pv_explore.specs.Searches.{kept_of, move_bytes, move_of, told_bytes, way_of};
+ghost use Rattle.pv_model.specs.Answers.Lines.{answer_bytes};
+ghost use Rattle.pv_model.specs.Grammar.Programs.{program_of};
+ghost use Rattle.pv_model.specs.Stream.{Rose};
+ghost use Rattle.pv_session.specs.Running.{FailsBy};
+ghost use Rattle.pv_streams.specs.Sinks.{and_all, TellsBeginning};
+
+use crate::beginning::Beginning;
+use crate::keys::Keys;
+use crate::position::{Position, push_number};
+use crate::way::Way;
+use pv_answers::{Fragment, Line, Plain};
+use pv_model::StepFault;
+use pv_session::Stop;
+use pv_streams::{Failed, Sink};
+use std::alloc::Global;
+
+/// What a search keeps.
+#[derive(Drop)]
+pub(crate) struct Search {
+    /// The bytes of each state found, in the order of finding.
+    pub(crate) keys: Keys,
+    // The way to each.
+    ways: Vec<Vec<u32>>,
+    // The texts that were told.
+    told: Keys,
+    /// The bytes of the trees in which no process is live.
+    pub(crate) endings: Keys,
+    /// Whether no state was left out.
+    pub(crate) complete: bool,
+}
+
+// ---- lists
+
+// The same list.
+fn copy_of(alloc: Global, way: &[u32]) -> Result<Vec<u32>, StepFault>
+    ensures { IfOk result (λ copy. copy.items ≡ way.now) }
+{
+    let mut copy = Vec::new(alloc);
+    copy.extend_from_slice(way)?;
+    Ok(copy)
+}
+
+// The list with one number more.
+fn with_number(alloc: Global, way: &[u32], pid: u32) -> Result<Vec<u32>, StepFault>
+    ensures { IfOk result (λ longer. longer.items ≡ way.now ++ pid ∷ []) }
+{
+    let mut longer = copy_of(alloc, way)?;
+    push_number(&mut longer, pid)?;
+    Ok(longer)
+}
+
+// Adds a byte string, if it is not there.
+fn push_key(keys: &mut Keys, key: Vec<u8>) -> Result<(), StepFault>
+    ensures { OnOk result (keys.new ≡ (if list_any (bytes_eq key.items) keys.old then keys.old else keys.old ++ key.items ∷ [])) }
+{
+    keys.add(key)?;
+    Ok(())
+}
+
+// Adds a way.
+fn push_way(ways: &mut Vec<Vec<u32>>, way: Vec<u32>) -> Result<(), StepFault>
+    ensures { OnOk result (ways.new.items ≡ ways.old.items ++ way ∷ []) }
+{
+    match ways.push(way) {
+        Ok(()) => Ok(()),
+        Err(_) => Err(StepFault::NoMemory),
+    }
+}
+
+// ---- what is told
+
+// Whether a text was told, or there is nothing to tell.
+fn is_told(told: &Keys, text: &[u8]) -> bool
+    ensures { result ≡ is_told told.now text.now }
+{
+    text.is_empty() || told.contains(text)
+}
+
+// Writes the line of a step's way, and its text.
+#[tactic(auto, unfolding(pv_model::specs::Trace::text_line))]
+fn write_move<W: Sink>(out: &mut W, pid: u32, way: &[u32], text: &[u8]) -> Result<(), Failed>
+    ensures whole { OnOk result (W.written out.new ≡ and_all (W.written out.old) (move_bytes pid way.now text.now)) }
+    ensures beginning { OnErr result (TellsBeginning (move_bytes pid way.now text.now) (W.written out.old) (W.written out.new)) }
+    ensures failed { OnErr result (Rose (W.failures out.old) (W.failures out.new)) }
+    ensures quiet { OnOk result (W.failures out.new ≡ W.failures out.old) }
+{
+    let line = Line {
+        pid,
+        word: *b"BY  ",
+        text: Way(way),
+    };
+    (line, Plain(text)).write(out)
+}
+
+// Writes a step with its way, where its text was not told.
+fn tell<W: Sink>(
+    told: &mut Keys,
+    pid: u32,
+    way: &[u32],
+    text: Vec<u8>,
+    out: &mut W,
+) -> Result<(), Stop>
+    ensures told { OnOk result (told.new ≡ told_after told.old text.items) }
+    ensures whole { OnOk result (W.written out.new ≡ and_all (W.written out.old) (told_bytes told.old pid way.now text.items)) }
+    ensures beginning { OnErr result (TellsBeginning (told_bytes told.old pid way.now text.items) (W.written out.old) (W.written out.new)) }
+    ensures failed { IfErr result (λ stop. FailsBy stop (W.failures out.old) (W.failures out.new)) }
+    ensures quiet { OnOk result (W.failures out.new ≡ W.failures out.old) }
+{
+    if is_told(told, &text) {
+        return Ok(());
+    }
+    write_move(out, pid, way, &text)?;
+    push_key(told, text)?;
+    Ok(())
+}
+
+// ---- what is kept
+
+// Keeps the tree of a state in which no process is live.
+fn add_ending(alloc: Global, endings: &mut Keys, position: &Position) -> Result<(), StepFault>
+    ensures { OnOk result (endings.new ≡ endings_after endings.old position.now) }
+{
+    if !position.has_ended(alloc)? {
+        return Ok(());
+    }
+    push_key(endings, position.tree_key(alloc)?)
+}
+
+impl Search {
+    // With nothing.
+    fn empty(alloc: Global) -> Search
+        ensures keys { result.keys ≡ [] }
+        ensures ways { result.ways.items ≡ [] }
+        ensures told { result.told ≡ [] }
+        ensures endings { result.endings ≡ [] }
+        ensures complete { result.complete ≡ true }
+    {
+        Search {
+            keys: Keys::new(alloc),
+            ways: Vec::new(alloc),
+            told: Keys::new(alloc),
+            endings: Keys::new(alloc),
+            complete: true,
+        }
+    }
+
+    /// With the first state alone.
+    ///
+    /// # Errors
+    ///
+    /// `NoMemory` where memory was refused.
+    pub(crate) fn new(alloc: Global, limit: u32, beginning: &Beginning) -> Result<Search, StepFault>
+        ensures { IfOk result (λ search. kept_of search ≡ first_kept limit program_of beginning.now) }
+    {
+        let position = Position::start(alloc, beginning)?;
+        let mut search = Search::empty(alloc);
+        let key = position.key(alloc)?;
+        search.add(alloc, &position, key, Vec::new(alloc))?;
+        Ok(search)
+    }
+
+    // Keeps another state, and the way to it.
+    fn add(
+        &mut self,
+        alloc: Global,
+        position: &Position,
+        key: Vec<u8>,
+        way: Vec<u32>,
+    ) -> Result<(), StepFault>
+        requires key { key.items ≡ state_key position.now }
+        requires other { is_known (kept_of self.old) position.now ≡ false }
+        ensures { OnOk result (kept_of self.new ≡ with_state_at (kept_of self.old) way.items position.now) }
+    {
+        add_ending(alloc, &mut self.endings, position)?;
+        push_way(&mut self.ways, way)?;
+        push_key(&mut self.keys, key)
+    }
+
+    // Keeps a state to which a way leads, where it was not known and is not one too many.
+    fn find(
+        &mut self,
+        alloc: Global,
+        limit: u32,
+        position: &Position,
+        way: Vec<u32>,
+    ) -> Result<(), StepFault>
+        ensures { OnOk result (kept_of self.new ≡ with_found_at limit (kept_of self.old) way.items position.now) }
+    {
+        let key = position.key(alloc)?;
+        if self.keys.contains(&key) {
+            return Ok(());
+        }
+        if self.keys.len() >= limit as usize {
+            self.complete = false;
+            return Ok(());
+        }
+        self.add(alloc, position, key, way)
+    }
+
+    // Makes a step of a process, to which a way leads: it is told where its text was not, and its state is kept.
+    fn make_move<W: Sink>(
+        &mut self,
+        alloc: Global,
+        limit: u32,
+        from: Position,
+        way: Vec<u32>,
+        pid: u32,
+        out: &mut W,
+    ) -> Result<(), Stop>
+        ensures kept { OnOk result (kept_of self.new ≡ kept_after limit (kept_of self.old) (move_of way.items pid from)) }
+        ensures whole { OnOk result (W.written out.new ≡ and_all (W.written out.old) (answer_bytes (lines_at self.old.told (move_of way.items pid from)))) }
+        ensures beginning { OnErr result (TellsBeginning (answer_bytes (lines_at self.old.told (move_of way.items pid from))) (W.written out.old) (W.written out.new)) }
+        ensures failed { IfErr result (λ stop. FailsBy stop (W.failures out.old) (W.failures out.new)) }
+        ensures quiet { OnOk result (W.failures out.new ≡ W.failures out.old) }
+    {
+        let (position, text) = from.trace(alloc, pid)?;
+        tell(&mut self.told, pid, &way, text, out)?;
+        self.find(alloc, limit, &position, way)?;
+        Ok(())
+    }
+
+    // Makes a step of each live process at the end of a way.
+    fn make_moves<W: Sink>(
+        &mut self,
+        alloc: Global,
+        beginning: &Beginning,
+        limit: u32,
+        way: &[u32],
+        out: &mut W,
+    ) -> Result<(), Stop>
+        ensures kept { OnOk result (kept_of self.new ≡ kept_after_steps limit program_of beginning.now way.now (live_at program_of beginning.now way.now) (kept_of self.old)) }
+        ensures whole { OnOk result (W.written out.new ≡ and_all (W.written out.old) (answer_bytes (steps_told limit program_of beginning.now way.now (live_at program_of beginning.now way.now) (kept_of self.old)))) }
+        ensures beginning { OnErr result (TellsBeginning (answer_bytes (steps_told limit program_of beginning.now way.now (live_at program_of beginning.now way.now) (kept_of self.old))) (W.written out.old) (W.written out.new)) }
+        ensures failed { IfErr result (λ stop. FailsBy stop (W.failures out.old) (W.failures out.new)) }
+        ensures quiet { OnOk result (W.failures out.new ≡ W.failures out.old) }
+    {
+        let pids = Position::at(alloc, beginning, way)?.live(alloc)?;
+        let live = pids.as_slice();
+        for pid in live {
+            let from = Position::at(alloc, beginning, way)?;
+            let longer = with_number(alloc, way, *pid)?;
+            self.make_move(alloc, limit, from, longer, *pid, out)?;
+        }
+        Ok(())
+    }
+
+    /// The way to the state of a number, where it was found.
+    ///
+    /// # Errors
+    ///
+    /// `NoMemory` where memory was refused.
+    pub(crate) fn way(&self, alloc: Global, number: usize) -> Result<Option<Vec<u32>>, StepFault>
+        ensures { IfOk result (λ way. way_of way ≡ slice_get (kept_of self.now).ways number) }
+    {
+        match self.ways.get(number) {
+            Some(way) => Ok(Some(copy_of(alloc, way)?)),
+            None => Ok(None),
+        }
+    }
+
+    /// Goes on from the first state, to at most so many: it makes the steps in all states found, in the order of finding, and tells
+    /// those whose text no step before had.
+    ///
+    /// # Errors
+    ///
+    /// `Memory` where memory was refused, `Write` where a write failed: the sink was given a beginning of the lines.
+    pub(crate) fn search<W: Sink>(
+        &mut self,
+        alloc: Global,
+        beginning: &Beginning,
+        limit: u32,
+        out: &mut W,
+    ) -> Result<(), Stop>
+        ensures kept { OnOk result (kept_of self.new ≡ kept_from limit program_of beginning.now limit 0 (kept_of self.old)) }
+        ensures whole { OnOk result (W.written out.new ≡ and_all (W.written out.old) (answer_bytes (told_from limit program_of beginning.now limit 0 (kept_of self.old)))) }
+        ensures beginning { OnErr result (TellsBeginning (answer_bytes (told_from limit program_of beginning.now limit 0 (kept_of self.old))) (W.written out.old) (W.written out.new)) }
+        ensures failed { IfErr result (λ stop. FailsBy stop (W.failures out.old) (W.failures out.new)) }
+        ensures quiet { OnOk result (W.failures out.new ≡ W.failures out.old) }
+    {
+        for number in 0..limit {
+            let Some(way) = self.way(alloc, number as usize)? else {
+                return Ok(());
+            };
+            self.make_moves(alloc, beginning, limit, &way, out)?;
+        }
+        Ok(())
+    }
+}

@@ -1,0 +1,299 @@
+//! Processes.
+ghost use Rattle.std.specs.Prelude.{◌≡◌, ◌<◌, ◌∷◌, ◌++◌, flat_map, length, slice_get, IsSome, Some, OnOk};
+ghost use Rattle.std.specs.FinMap.Entries.{find};
+ghost use Rattle.std.specs.Ordering.{nat_cmp};
+ghost use Rattle.pv_model.specs.declared.limits.TheConstants.{DESCRIPTORS};
+ghost use Rattle.pv_model.specs.Answers.Numbers.{descriptor_numbers, entry_numbers, instruction_numbers, integer_numbers, list_numbers, number_numbers, option_numbers, process_numbers, record_numbers, target_numbers};
+ghost use Rattle.pv_model.specs.Calls.Restraints.{entries_of_table};
+ghost use Rattle.pv_model.specs.Numbered.{at_number};
+ghost use Rattle.pv_procs.specs.ProcessTable.{process_in};
+ghost use Rattle.pv_promises.specs.Pledge.{bits_of};
+ghost use Rattle.pv_spelling.specs.Packed.{IsAdded};
+ghost use Rattle.pv_spelling.specs.Parts.{if_there, held_numbers, numbered_numbers, owned_numbers, promised_numbers, standing_numbers};
+
+use crate::instructions::push_instruction;
+use crate::numbers::{push_bool, push_bytes, push_integer, push_number, push_permissions};
+use bitflags::Flags;
+use pv_files::Descriptors;
+use pv_model::limits::DESCRIPTORS;
+use pv_model::{Promises, Target};
+use pv_procs::{ProcessRecord, Processes};
+use pv_script::Program;
+use pv_unveil::Table;
+use std::alloc::AllocError;
+
+// Adds registers, one after the other.
+fn push_each_register(key: &mut Vec<u8>, registers: &[i32]) -> Result<(), AllocError>
+    ensures { OnOk result (IsAdded (flat_map integer_numbers registers.now) key.old.items key.new.items) }
+{
+    for register in registers {
+        push_integer(key, *register)?;
+    }
+    Ok(())
+}
+
+// Adds registers.
+#[tactic(auto, using(crate::proofs::Adding::added_then))]
+fn push_registers(key: &mut Vec<u8>, registers: &[i32]) -> Result<(), AllocError>
+    ensures { OnOk result (IsAdded (list_numbers integer_numbers registers.now) key.old.items key.new.items) }
+{
+    push_number(key, registers.len() as u64)?;
+    push_each_register(key, registers)
+}
+
+// Adds a set of promises that may be absent.
+#[tactic(auto, using(crate::proofs::Adding::added_then))]
+fn push_promises(key: &mut Vec<u8>, promises: Option<Promises>) -> Result<(), AllocError>
+    ensures { OnOk result (IsAdded (option_numbers number_numbers (bits_of promises)) key.old.items key.new.items) }
+{
+    match promises {
+        None => push_number(key, 0),
+        Some(set) => {
+            push_number(key, 1)?;
+            push_number(key, u64::from(set.bits()))
+        }
+    }
+}
+
+// ---- descriptors
+
+// Adds the descriptor of a number, if there is one.
+#[tactic(auto, using(crate::proofs::Adding::added_then, crate::proofs::Adding::added_both))]
+fn push_descriptor(
+    key: &mut Vec<u8>,
+    descriptors: &Descriptors,
+    number: u8,
+) -> Result<(), AllocError>
+    ensures { OnOk result (IsAdded (option_numbers descriptor_numbers (at_number descriptors.now number)) key.old.items key.new.items) }
+{
+    let Ok(file) = descriptors.at(i32::from(number)) else {
+        return push_number(key, 0);
+    };
+    push_number(key, 1)?;
+    push_number(key, file as u64)?;
+    push_bool(key, descriptors.marked(number))
+}
+
+// Adds descriptors, by their numbers.
+fn push_each_descriptor(key: &mut Vec<u8>, descriptors: &Descriptors) -> Result<(), AllocError>
+    ensures { OnOk result (IsAdded (flat_map (option_numbers descriptor_numbers) descriptors.now) key.old.items key.new.items) }
+{
+    descriptors.invariant();
+    for number in 0..DESCRIPTORS as u8 {
+        push_descriptor(key, descriptors, number)?;
+    }
+    Ok(())
+}
+
+// Adds all descriptors.
+#[tactic(auto, using(crate::proofs::Adding::added_then))]
+fn push_descriptors(key: &mut Vec<u8>, descriptors: &Descriptors) -> Result<(), AllocError>
+    ensures { OnOk result (IsAdded (list_numbers (option_numbers descriptor_numbers) descriptors.now) key.old.items key.new.items) }
+{
+    descriptors.invariant();
+    push_number(key, DESCRIPTORS as u64)?;
+    push_each_descriptor(key, descriptors)
+}
+
+// ---- tables
+
+// Adds what an entry is for.
+#[tactic(auto, using(crate::proofs::Adding::added_then, crate::proofs::Adding::added_both))]
+fn push_target(key: &mut Vec<u8>, target: &Target) -> Result<(), AllocError>
+    ensures { OnOk result (IsAdded (target_numbers target.now) key.old.items key.new.items) }
+{
+    match target {
+        Target::Directory(number) => {
+            push_number(key, 0)?;
+            push_number(key, u64::from(*number))
+        }
+        Target::Name { dir, name } => {
+            push_number(key, 1)?;
+            push_number(key, u64::from(*dir))?;
+            push_bytes(key, name.as_slice())
+        }
+    }
+}
+
+// Adds an entry of a table.
+fn push_entry(key: &mut Vec<u8>, table: &Table, number: u8) -> Result<(), AllocError>
+    requires { number < length (entries_of_table table.now.table) }
+    ensures { OnOk result (IsAdded (if_there entry_numbers (slice_get (entries_of_table table.now.table) number)) key.old.items key.new.items) }
+{
+    push_target(key, table.target(number))?;
+    push_permissions(key, table.permissions(number))
+}
+
+// Adds entries, by their numbers.
+fn push_each_entry(key: &mut Vec<u8>, table: &Table) -> Result<(), AllocError>
+    ensures { OnOk result (IsAdded (flat_map entry_numbers (entries_of_table table.now.table)) key.old.items key.new.items) }
+{
+    for number in 0..table.len() as u8 {
+        push_entry(key, table, number)?;
+    }
+    Ok(())
+}
+
+// Adds a table, if there is one.
+#[tactic(auto, using(crate::proofs::Adding::added_then))]
+fn push_table(key: &mut Vec<u8>, table: &Table) -> Result<(), AllocError>
+    ensures { OnOk result (IsAdded (option_numbers (list_numbers entry_numbers) table.now.table) key.old.items key.new.items) }
+{
+    if table.is_empty() {
+        return push_number(key, 0);
+    }
+    push_number(key, 1)?;
+    push_number(key, table.len() as u64)?;
+    push_each_entry(key, table)
+}
+
+// ---- programs
+
+// Adds instructions, line by line.
+fn push_each_line(key: &mut Vec<u8>, program: &Program) -> Result<(), AllocError>
+    ensures { OnOk result (IsAdded (flat_map instruction_numbers program.now) key.old.items key.new.items) }
+{
+    for number in 0..program.len() as u16 {
+        let Some(instruction) = program.at(number + 1) else {
+            unreachable!()
+        };
+        push_instruction(key, instruction)?;
+    }
+    Ok(())
+}
+
+// Adds a program.
+#[tactic(auto, using(crate::proofs::Adding::added_then))]
+fn push_program(key: &mut Vec<u8>, program: &Program) -> Result<(), AllocError>
+    ensures { OnOk result (IsAdded (list_numbers instruction_numbers program.now) key.old.items key.new.items) }
+{
+    push_number(key, program.len() as u64)?;
+    push_each_line(key, program)
+}
+
+// ---- a process
+
+// Adds where it stands.
+#[tactic(auto, using(crate::proofs::Adding::added_both))]
+fn push_standing(key: &mut Vec<u8>, owned: &ProcessRecord, parent: u32) -> Result<(), AllocError>
+    ensures { OnOk result (IsAdded (standing_numbers owned.now parent) key.old.items key.new.items) }
+{
+    push_number(key, u64::from(owned.context.line()))?;
+    push_registers(key, &owned.context.registers())?;
+    push_number(key, u64::from(parent))?;
+    push_number(key, u64::from(owned.directory))
+}
+
+// And what it has promised.
+#[tactic(auto, using(crate::proofs::Adding::added_both))]
+fn push_promised(key: &mut Vec<u8>, owned: &ProcessRecord, parent: u32) -> Result<(), AllocError>
+    ensures { OnOk result (IsAdded (promised_numbers owned.now parent) key.old.items key.new.items) }
+{
+    push_standing(key, owned, parent)?;
+    push_bool(key, owned.unveiled.is_locked())?;
+    push_promises(key, owned.pledge.promises())?;
+    push_promises(key, owned.pledge.execpromises())
+}
+
+// And what it has.
+#[tactic(auto, using(crate::proofs::Adding::added_both))]
+fn push_held(key: &mut Vec<u8>, owned: &ProcessRecord, parent: u32) -> Result<(), AllocError>
+    ensures { OnOk result (IsAdded (held_numbers owned.now parent) key.old.items key.new.items) }
+{
+    push_promised(key, owned, parent)?;
+    push_descriptors(key, &owned.descriptors)?;
+    push_table(key, &owned.unveiled)
+}
+
+// And its program and its buffer.
+#[tactic(auto, using(crate::proofs::Adding::added_both))]
+fn push_owned(
+    key: &mut Vec<u8>,
+    owned: &ProcessRecord,
+    parent: u32,
+    program: &Program,
+) -> Result<(), AllocError>
+    ensures { OnOk result (IsAdded (owned_numbers owned.now parent program.now) key.old.items key.new.items) }
+{
+    push_held(key, owned, parent)?;
+    push_program(key, program)?;
+    push_bytes(key, owned.context.buffer())
+}
+
+// Adds a live process.
+fn push_live(key: &mut Vec<u8>, processes: &Processes, pid: u32) -> Result<(), AllocError>
+    requires { IsSome (process_in processes.now pid) }
+    ensures { OnOk result (IsAdded (if_there process_numbers (process_in processes.now pid)) key.old.items key.new.items) }
+{
+    let Some(parent) = processes.parent_of(pid) else {
+        unreachable!()
+    };
+    push_owned(key, processes.record(pid), parent, processes.program(pid))
+}
+
+// Adds what is left of a process that has ended.
+#[tactic(auto, using(crate::proofs::Adding::added_then, crate::proofs::Adding::added_both))]
+fn push_ended(key: &mut Vec<u8>, pid: u32, parent: u32, status: u32) -> Result<(), AllocError>
+    ensures { OnOk result (IsAdded (number_numbers pid ++ 1 ∷ number_numbers parent ++ number_numbers status) key.old.items key.new.items) }
+{
+    push_number(key, u64::from(pid))?;
+    push_number(key, 1)?;
+    push_number(key, u64::from(parent))?;
+    push_number(key, u64::from(status))
+}
+
+// Adds a process, with its number.
+#[tactic(auto, using(crate::proofs::Owned::added_live, crate::proofs::Owned::added_ended, crate::proofs::Owned::added_nobody))]
+fn push_process(key: &mut Vec<u8>, processes: &Processes, pid: u32) -> Result<(), AllocError>
+    ensures { OnOk result (IsAdded (numbered_numbers pid (find nat_cmp pid processes.now.processes)) key.old.items key.new.items) }
+{
+    if processes.live(pid) {
+        push_number(key, u64::from(pid))?;
+        push_number(key, 0)?;
+        return push_live(key, processes, pid);
+    }
+    match processes.ended(pid) {
+        Some((parent, status)) => push_ended(key, pid, parent, status),
+        None => Ok(()),
+    }
+}
+
+// How many processes there are, with those that have ended and are not waited for.
+fn count(processes: &Processes) -> u64
+    ensures { result ≡ length processes.now.processes }
+{
+    processes.invariant();
+    let mut count = 0;
+    let mut last = 0;
+    while let Some(pid) = processes.next_number(last) {
+        count += 1;
+        last = pid;
+    }
+    count
+}
+
+// Adds processes, by their numbers.
+fn push_each_process(key: &mut Vec<u8>, processes: &Processes) -> Result<(), AllocError>
+    ensures { OnOk result (IsAdded (flat_map record_numbers processes.now.processes) key.old.items key.new.items) }
+{
+    processes.invariant();
+    let mut last = 0;
+    while let Some(pid) = processes.next_number(last) {
+        push_process(key, processes, pid)?;
+        last = pid;
+    }
+    Ok(())
+}
+
+/// Adds all processes.
+///
+/// # Errors
+///
+/// As `push_number`.
+#[tactic(auto, using(crate::proofs::Adding::added_then))]
+pub(crate) fn push_processes(key: &mut Vec<u8>, processes: &Processes) -> Result<(), AllocError>
+    ensures { OnOk result (IsAdded (list_numbers record_numbers processes.now.processes) key.old.items key.new.items) }
+{
+    push_number(key, count(processes))?;
+    push_each_process(key, processes)
+}
