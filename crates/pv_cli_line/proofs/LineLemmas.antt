@@ -1,8 +1,9 @@
 -- What the matches of a line, and a refusal of its parser, say of the command that it asks for.
 use Rattle.std.proofs.Common.{◌≡◌, ◌⊎◌, ◌∙◌, ap, sym, subst, inl, inr, true, false, arith, if◌then◌else◌, bytes_eq, ℕ, List, [], ◌∷◌, length, map, codes, Option, None, Some, option_map, refl}
 use Rattle.std.proofs.lemmas.Bool.{false_from_ne_true}
+use Rattle.std.proofs.lemmas.List.{length-map}
 use Rattle.std.proofs.lemmas.Slice.Eq.{bytes_eq-Decides}
-use Rattle.std.specs.Prelude.{◌≤◌, Box, Result, Ok, Err, IfErr, IfOk, IfSome, IsErrAnd}
+use Rattle.std.specs.Prelude.{◌<◌, ◌≤◌, Box, Result, Ok, Err, IfErr, IfOk, IfSome, IsErrAnd}
 use Rattle.std.specs.Box.{box_value}
 use Rattle.clap.specs.Words.{HasKind, Row, Text, fault_of, first_of, found_of, kind_of, rows_of, subcommand_rows, takes}
 use Rattle.clap.specs.declared.error.Error.{Error}
@@ -20,10 +21,11 @@ use Rattle.pv_cli_commands.specs.declared.command.TreeInput.{TreeInput}
 use Rattle.pv_cli_commands.specs.declared.command.TreeInput.TheVariants.{Image, Manifest}
 use Rattle.pv_questions.specs.declared.question.Question.{Question}
 use Rattle.pv_questions.specs.declared.question.Question.TheVariants.{State, Reach, Explain, Needs, Audit}
-use Rattle.pv_questions.specs.declared.question.TreeQuestion.TheVariants.{Listing, File, Turns}
+use Rattle.pv_questions.specs.declared.question.TreeQuestion.TheVariants.{Listing, File, Turns, Explore, Graph}
 use Rattle.pv_cli_line.specs.declared.command.LineFault.{LineFault}
+use Rattle.pv_cli_line.specs.declared.command.LineFault.TheVariants as line
 use Rattle.pv_cli_line.specs.declared.found.Migration.{Migration}
-use Rattle.pv_cli_line.specs.Line.{HasTexts, IsCommandIn, IsMigrationOf, IsPlain, IsPlainQuestion, IsQuestionIn, IsRefused, IsRunIn, IsTreeIn, IsWholeRunIn, IsWholeTreeIn, IsWithoutNumbers, RefusesWords, entered_text, is_given, is_verbose_in, is_verbose_line, of_kind, of_parser}
+use Rattle.pv_cli_line.specs.Line.{HasTexts, IsCommandIn, IsMigrationOf, IsPlain, IsPlainQuestion, IsQuestionIn, IsRefused, IsRunIn, IsTreeIn, IsWholeRunIn, IsWholeTreeIn, IsWithoutNumbers, RefusesLine, RefusesWords, entered_text, is_given, is_verbose_in, is_verbose_line, of_kind, of_parser}
 use Rattle.pv_cli_line.specs.Parser.{pvsim_app}
 
 module _ {Z : Type 0} where
@@ -118,29 +120,35 @@ module _ (entered : Option (Text × List Row)) where
   no_command plain list cat audit asks (AskTree Listing (Image image)) without is = absurd is
   no_command plain list cat audit asks (AskTree (File path) tree) without is = cat path.now tree is
   no_command plain list cat audit asks (AskTree (Turns slice steps) tree) without is = absurd without
+  no_command plain list cat audit asks (AskTree (Explore states) tree) without is = absurd without
+  no_command plain list cat audit asks (AskTree (Graph states lists_tree) tree) without is = absurd without
 
   pub no_command_at_all :
       ((command : Command) → IsWithoutNumbers command → IsCommandIn entered command → ⊥)
       → ((image out blocks inodes : Text) → HasTexts entered image out blocks inodes → ⊥)
       → ((tree : TreeInput) → IsWholeTreeIn entered (codes "turns") tree → ⊥)
+      → ((tree : TreeInput) → IsWholeTreeIn entered (codes "explore") tree → ⊥)
+      → ((tree : TreeInput) → IsWholeTreeIn entered (codes "graph") tree → ⊥)
       → ((pid : Option ℕ) (run : RunInput) → IsQuestionIn entered (Reach pid) run → ⊥)
       → (command : Command) → IsCommandIn entered command → ⊥
-  no_command_at_all other migrates turns reaches (RunTree file) is = other (RunTree file) tt is
-  no_command_at_all other migrates turns reaches (WriteSource file) is = other (WriteSource file) tt is
-  no_command_at_all other migrates turns reaches (ListImage image) is = other (ListImage image) tt is
-  no_command_at_all other migrates turns reaches (MakeImage manifest image) is = other (MakeImage manifest image) tt is
-  no_command_at_all other migrates turns reaches (RunImage image schedule out) is = other (RunImage image schedule out) tt is
-  no_command_at_all other migrates turns reaches (AuditImage image schedule path) is = other (AuditImage image schedule path) tt is
-  no_command_at_all other migrates turns reaches (MigrateImage image out blocks inodes) is =
+  no_command_at_all other migrates turns explores graphs reaches (RunTree file) is = other (RunTree file) tt is
+  no_command_at_all other migrates turns explores graphs reaches (WriteSource file) is = other (WriteSource file) tt is
+  no_command_at_all other migrates turns explores graphs reaches (ListImage image) is = other (ListImage image) tt is
+  no_command_at_all other migrates turns explores graphs reaches (MakeImage manifest image) is = other (MakeImage manifest image) tt is
+  no_command_at_all other migrates turns explores graphs reaches (RunImage image schedule out) is = other (RunImage image schedule out) tt is
+  no_command_at_all other migrates turns explores graphs reaches (AuditImage image schedule path) is = other (AuditImage image schedule path) tt is
+  no_command_at_all other migrates turns explores graphs reaches (MigrateImage image out blocks inodes) is =
       migrates image.now out.now is.2.word is.3.word (record { has_image = is.0; has_out = is.1; has_blocks = is.2.is_entered; has_inodes = is.3.is_entered })
-  no_command_at_all other migrates turns reaches (Ask State run) is = other (Ask State run) tt is
-  no_command_at_all other migrates turns reaches (Ask Explain run) is = other (Ask Explain run) tt is
-  no_command_at_all other migrates turns reaches (Ask Needs run) is = other (Ask Needs run) tt is
-  no_command_at_all other migrates turns reaches (Ask (Reach pid) run) is = reaches pid run is
-  no_command_at_all other migrates turns reaches (Ask (Audit path) run) is = other (Ask (Audit path) run) tt is
-  no_command_at_all other migrates turns reaches (AskTree Listing tree) is = other (AskTree Listing tree) tt is
-  no_command_at_all other migrates turns reaches (AskTree (File path) tree) is = other (AskTree (File path) tree) tt is
-  no_command_at_all other migrates turns reaches (AskTree (Turns slice steps) tree) is = turns tree is.0
+  no_command_at_all other migrates turns explores graphs reaches (Ask State run) is = other (Ask State run) tt is
+  no_command_at_all other migrates turns explores graphs reaches (Ask Explain run) is = other (Ask Explain run) tt is
+  no_command_at_all other migrates turns explores graphs reaches (Ask Needs run) is = other (Ask Needs run) tt is
+  no_command_at_all other migrates turns explores graphs reaches (Ask (Reach pid) run) is = reaches pid run is
+  no_command_at_all other migrates turns explores graphs reaches (Ask (Audit path) run) is = other (Ask (Audit path) run) tt is
+  no_command_at_all other migrates turns explores graphs reaches (AskTree Listing tree) is = other (AskTree Listing tree) tt is
+  no_command_at_all other migrates turns explores graphs reaches (AskTree (File path) tree) is = other (AskTree (File path) tree) tt is
+  no_command_at_all other migrates turns explores graphs reaches (AskTree (Turns slice steps) tree) is = turns tree is.0
+  no_command_at_all other migrates turns explores graphs reaches (AskTree (Explore states) tree) is = explores tree is.0
+  no_command_at_all other migrates turns explores graphs reaches (AskTree (Graph states lists_tree) tree) is = graphs tree is.0
 
   -- one text stands after what is run, and after what has a tree
   module _ (command last : Text) where
@@ -202,6 +210,13 @@ pub refused_result : {T : Type 0} (r : Result T LineFault) (fault : LineFault) (
     → IsErrAnd r (λ given. given ≡ fault) → Q fault → IfErr r Q
 refused_result (Ok value) fault Q h q = tt
 refused_result (Err given) fault Q h q = rw h q
+
+-- what is refused of more than one word
+pub refused_line : {S T : Type 0} (text : S → Text) (words : List S) (r : Result T LineFault) → 1 < length words → IfErr r (RefusesWords (map text words)) → IfErr r (RefusesLine (map text words))
+refused_line text words (Ok value) long refuses = tt
+refused_line text words (Err line.Memory) long refuses = tt
+refused_line text words (Err line.Number) long refuses = (subst (λ (n : ℕ). 1 < n) (sym (length-map words text)) long, refuses)
+refused_line text words (Err (line.Parser error)) long refuses = (subst (λ (n : ℕ). 1 < n) (sym (length-map words text)) long, refuses)
 
 -- the parser is one of which clap tells the matches and the faults
 pub pvsim_is_simple : is_simple_and_free pvsim_app ≡ true

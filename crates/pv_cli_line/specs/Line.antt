@@ -15,7 +15,7 @@ use Rattle.pv_cli_commands.specs.declared.command.TreeInput.TheVariants.{Image, 
 use Rattle.pv_questions.specs.declared.question.Question.{Question}
 use Rattle.pv_questions.specs.declared.question.Question.TheVariants.{State, Reach, Explain, Needs, Audit}
 use Rattle.pv_questions.specs.declared.question.TreeQuestion.{TreeQuestion}
-use Rattle.pv_questions.specs.declared.question.TreeQuestion.TheVariants.{Listing, File, Turns}
+use Rattle.pv_questions.specs.declared.question.TreeQuestion.TheVariants.{Listing, File, Turns, Explore, Graph}
 use Rattle.pv_cli_line.specs.declared.found.Found.{Found}
 use Rattle.pv_cli_line.specs.declared.found.Found.TheVariants as found
 use Rattle.pv_cli_line.specs.declared.command.LineFault.{LineFault}
@@ -51,6 +51,16 @@ if_count (Some n) = if nat_le 1 n && nat_le n 65536 then Some n else None
 abbrev pub count_in : ℕ → Option Text → Option ℕ
 count_in default None = Some default
 count_in default (Some word) = if_count (size_in word)
+
+-- the number of states that a word spells: at least 1
+abbrev pub if_positive : Option ℕ → Option ℕ
+if_positive None = None
+if_positive (Some n) = if nat_le 1 n then Some n else None
+
+-- the same, or 1,000,000 where there is no word
+abbrev pub states_in : Option Text → Option ℕ
+states_in None = Some 1000000
+states_in (Some word) = if_positive (size_in word)
 
 -- a text is entered that spells a number
 pub record SpellsSize (entered : Option (Text × List Row)) (command argument : Text) (size : ℕ) : Type 0 where
@@ -92,6 +102,10 @@ slice_entered entered = count_in 1 (entered_text entered (codes "turns") (codes 
 abbrev pub steps_entered : Option (Text × List Row) → Option ℕ
 steps_entered entered = count_in 1000 (entered_text entered (codes "turns") (codes "steps"))
 
+-- the number of states of a search that is entered, or that where none is
+abbrev pub states_entered : Option (Text × List Row) → Text → Option ℕ
+states_entered entered command = states_in (entered_text entered command (codes "states"))
+
 -- a question of a tree stands there, and what has the tree
 abbrev pub IsTreeQuestionIn : Option (Text × List Row) → TreeQuestion → TreeInput → Type 0
 IsTreeQuestionIn entered Listing (Manifest manifest) = IsWholeTreeIn entered (codes "ls") (Manifest manifest)
@@ -99,6 +113,11 @@ IsTreeQuestionIn entered Listing (Image image) = ⊥
 IsTreeQuestionIn entered (File path) tree = IsTreeIn entered (codes "cat") (codes "PATH") tree (Some path.now)
 IsTreeQuestionIn entered (Turns slice steps) tree =
     IsWholeTreeIn entered (codes "turns") tree × (slice_entered entered ≡ Some slice) × (steps_entered entered ≡ Some steps)
+IsTreeQuestionIn entered (Explore states) tree =
+    IsWholeTreeIn entered (codes "explore") tree × (states_entered entered (codes "explore") ≡ Some states)
+IsTreeQuestionIn entered (Graph states lists_tree) tree =
+    IsWholeTreeIn entered (codes "graph") tree × (states_entered entered (codes "graph") ≡ Some states)
+    × (is_given (entered_text entered (codes "graph") (codes "tree")) ≡ lists_tree)
 
 -- a text spells the number, where there is one
 abbrev pub SpellsProcess : Option Text → Option ℕ → Type 0
@@ -163,6 +182,8 @@ abbrev pub IsWithoutNumbers : Command → Type 0
 IsWithoutNumbers (MigrateImage image out blocks inodes) = ⊥
 IsWithoutNumbers (Ask (Reach pid) run) = ⊥
 IsWithoutNumbers (AskTree (Turns slice steps) tree) = ⊥
+IsWithoutNumbers (AskTree (Explore states) tree) = ⊥
+IsWithoutNumbers (AskTree (Graph states lists_tree) tree) = ⊥
 IsWithoutNumbers command = ⊤
 
 -- with no words: the bundle on the standard input
@@ -220,9 +241,16 @@ pub record LacksCount (entered : Option (Text × List Row)) : Type 0 where
   pub are_entered : IsWholeTreeIn entered (codes "turns") tree
   pub is_none : (slice_entered entered ≡ None) ⊎ (steps_entered entered ≡ None)
 
+-- what a search is asked of was entered, and the number of its states is none, or 0
+pub record LacksStates (entered : Option (Text × List Row)) (command : Text) : Type 0 where
+  pub tree : TreeInput
+  pub are_entered : IsWholeTreeIn entered command tree
+  pub is_none : states_entered entered command ≡ None
+
 -- a text that is to be a number is none
 abbrev pub LacksNumber : Option (Text × List Row) → Type 0
-LacksNumber entered = LacksSize entered ⊎ (LacksProcess entered ⊎ LacksCount entered)
+LacksNumber entered =
+    LacksSize entered ⊎ (LacksProcess entered ⊎ (LacksCount entered ⊎ (LacksStates entered (codes "explore") ⊎ LacksStates entered (codes "graph"))))
 
 -- what stands in the matches of a subcommand
 abbrev pub IsFoundIn : Option (Text × List Row) → Found → Type 0

@@ -21,9 +21,13 @@ long_rule name = record (optional_rule name) { long = Some name; value_names = 1
 abbrev pub bundle_rule : Rule
 bundle_rule = record (long_rule (codes "bundle")) { short = Some 98 }
 
--- a flag that asks for more to be told of a fault
+-- a flag
+abbrev pub flag_rule : Text → Rule
+flag_rule name = record (new_rule name) { action = Some SetTrue; long = Some name }
+
+-- the flag that asks for more to be told of a fault
 abbrev pub verbose_rule : Rule
-verbose_rule = record (new_rule (codes "verbose")) { action = Some SetTrue; long = Some (codes "verbose"); short = Some 118 }
+verbose_rule = record (flag_rule (codes "verbose")) { short = Some 118 }
 
 -- a command: each takes that flag
 abbrev pub command_app : Text → App
@@ -52,6 +56,18 @@ cat_app = with_rule (tree_app (codes "cat")) (optional_rule (codes "PATH"))
 -- `turns IMAGE`, or `turns --bundle FILE`, with `--slice K` and `--steps N`
 abbrev pub turns_app : App
 turns_app = with_rule (with_rule (tree_app (codes "turns")) (long_rule (codes "slice"))) (long_rule (codes "steps"))
+
+-- the number of states
+abbrev pub states_rule : Rule
+states_rule = long_rule (codes "states")
+
+-- `explore IMAGE`, or `explore --bundle FILE`, with `--states N`
+abbrev pub explore_app : App
+explore_app = with_rule (tree_app (codes "explore")) states_rule
+
+-- `graph IMAGE`, or `graph --bundle FILE`, with `--states N` and `--tree`
+abbrev pub graph_app : App
+graph_app = with_rule (with_rule (tree_app (codes "graph")) states_rule) (flag_rule (codes "tree"))
 
 -- `run IMAGE SCHEDULE OUT`
 abbrev pub run_app : App
@@ -103,8 +119,12 @@ history_app = with_subcommand (with_subcommand state_app (question_app (codes "e
 abbrev pub tree_question_app : App
 tree_question_app = with_subcommand (with_subcommand history_app cat_app.top) turns_app.top
 
+-- and those of all states
+abbrev pub search_app : App
+search_app = with_subcommand (with_subcommand tree_question_app explore_app.top) graph_app.top
+
 abbrev pub pvsim_app : App
-pvsim_app = with_subcommand tree_question_app migrate_app.top
+pvsim_app = with_subcommand search_app migrate_app.top
 
 -- a parser that reads just this
 pub record IsParserOf (app : App) (parser : Parser) : Type 0 where

@@ -9,6 +9,7 @@ use pv_source::{SourceStop, faults_of};
 use pv_streams::{SOURCE_BYTES, Sink, read_whole, write_through};
 use pv_text::lines::split_line;
 use std::alloc::{AllocError, Global};
+use std::convert::AsStr;
 
 // What a fault lies in.
 #[derive(Clone, Copy)]
@@ -382,4 +383,22 @@ pub(crate) fn explain<F: Files, E: Sink>(
         return;
     };
     let _written = write_through(errors, &text);
+}
+
+// Tells what is wanted of a word that is to be a number. Where a write fails, nothing more is told.
+pub(crate) fn explain_number<E: Sink>(errors: &mut E) {
+    let text =
+        "  want a decimal number without leading zeros: PID, BLOCKS and INODES from 0 to 4294967295, K and N from 1 to 65536\n";
+    let _written = write_through(errors, text.as_bytes());
+}
+
+// Whether more is asked for by a word of its own.
+pub(crate) fn asks_for_more<S: AsStr>(words: &[S]) -> bool {
+    for word in words {
+        let word = word.as_str();
+        if word == "-v" || word == "--verbose" {
+            return true;
+        }
+    }
+    false
 }

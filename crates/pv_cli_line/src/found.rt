@@ -4,7 +4,8 @@ ghost use Rattle.clap.specs.Words.{subcommand_rows_of};
 ghost use Rattle.pv_cli_line.specs.Line.{HasTexts, IsCommandIn, IsFoundIn, IsMigrationOf, IsPlain, IsPlainQuestion, IsQuestionIn, IsRunIn, IsTreeIn, IsWholeTreeIn, IsWithoutNumbers, entered_text, size_in};
 
 use crate::texts::{
-    RunTexts, TreeTexts, count_of, run_in, run_texts_in, size_of, text_of, tree_in, tree_texts_in,
+    RunTexts, TreeTexts, count_of, is_flag_given, run_in, run_texts_in, size_of, states_of,
+    text_of, tree_in, tree_texts_in,
 };
 use clap::ArgMatches;
 use pv_cli_commands::{Command, RunInput, TreeInput};
@@ -202,6 +203,37 @@ fn turns_in<'a>(matches: &ArgMatches<'a>) -> Option<Found<'a>>
     }))
 }
 
+// `explore`, where the matches are those.
+fn explore_in<'a>(matches: &ArgMatches<'a>) -> Option<Found<'a>>
+    ensures found { IfSome result (IsFoundIn (subcommand_rows_of matches.now)) }
+    ensures none { result ≡ None → (tree : TreeInput) → IsWholeTreeIn (subcommand_rows_of matches.now) (codes "explore") tree → ⊥ }
+{
+    let tree = tree_in(matches, "explore")?;
+    let Some(states) = states_of(text_of(matches, "explore", "states")) else {
+        return Some(Found::Number);
+    };
+    Some(Found::Command(Command::AskTree {
+        question: TreeQuestion::Explore { states },
+        tree,
+    }))
+}
+
+// `graph`, where the matches are those.
+fn graph_in<'a>(matches: &ArgMatches<'a>) -> Option<Found<'a>>
+    ensures found { IfSome result (IsFoundIn (subcommand_rows_of matches.now)) }
+    ensures none { result ≡ None → (tree : TreeInput) → IsWholeTreeIn (subcommand_rows_of matches.now) (codes "graph") tree → ⊥ }
+{
+    let input = tree_in(matches, "graph")?;
+    let Some(states) = states_of(text_of(matches, "graph", "states")) else {
+        return Some(Found::Number);
+    };
+    let tree = is_flag_given(matches, "graph", "tree");
+    Some(Found::Command(Command::AskTree {
+        question: TreeQuestion::Graph { states, tree },
+        tree: input,
+    }))
+}
+
 // The plain command that stands in the matches of a line.
 #[tactic(auto, using(crate::proofs::LineLemmas::no_plain_command))]
 fn plain_command_in<'a>(matches: &ArgMatches<'a>) -> Option<Command<'a>>
@@ -266,6 +298,12 @@ pub(crate) fn found_in<'a>(matches: &ArgMatches<'a>) -> Option<Found<'a>>
         return Some(found);
     }
     if let Some(found) = turns_in(matches) {
+        return Some(found);
+    }
+    if let Some(found) = explore_in(matches) {
+        return Some(found);
+    }
+    if let Some(found) = graph_in(matches) {
         return Some(found);
     }
     reach_in(matches)

@@ -1,7 +1,7 @@
 //! The parser of the command line.
 ghost use Rattle.std.specs.Prelude.{◌≡◌, false, IfOk};
-ghost use Rattle.clap.specs.Words.{app_of, rule_of};
-ghost use Rattle.pv_cli_line.specs.Parser.{IsParserOf, audit_app, bundle_app, bundle_rule, cat_app, command_app, image_app, long_rule, make_image_app, migrate_app, optional_rule, pvsim_app, question_app, history_app, reach_app, state_app, run_app, run_image_app, run_tree_app, source_app, text_rule, tree_app, tree_question_app, turns_app, verbose_rule};
+ghost use Rattle.clap.specs.Words.{app_of, rule_of, with_rule};
+ghost use Rattle.pv_cli_line.specs.Parser.{IsParserOf, audit_app, bundle_app, bundle_rule, cat_app, command_app, explore_app, flag_rule, graph_app, image_app, long_rule, make_image_app, migrate_app, optional_rule, pvsim_app, question_app, history_app, reach_app, state_app, run_app, run_image_app, run_tree_app, search_app, source_app, states_rule, text_rule, tree_app, tree_question_app, turns_app, verbose_rule};
 
 use clap::{Arg, ArgAction, Command as Parser};
 use std::alloc::{AllocError, Global};
@@ -46,16 +46,28 @@ fn bundle<'a>(alloc: Global) -> Arg<'a>
     .short('b')
 }
 
+// A flag.
+fn flag<'a>(alloc: Global, name: &'a str, help: &'a str) -> Arg<'a>
+    ensures rule { rule_of result ≡ flag_rule name.entry.now }
+    ensures local { result.global ≡ false }
+{
+    Arg::new(alloc, name)
+        .action(ArgAction::SetTrue)
+        .help(help)
+        .long(name)
+}
+
 // The flag that asks for more to be told of a fault.
 fn verbose<'a>(alloc: Global) -> Arg<'a>
     ensures rule { rule_of result ≡ verbose_rule }
     ensures local { result.global ≡ false }
 {
-    Arg::new(alloc, "verbose")
-        .action(ArgAction::SetTrue)
-        .help("tell more of a fault: the file, the system's reason, the line and what is wanted")
-        .long("verbose")
-        .short('v')
+    flag(
+        alloc,
+        "verbose",
+        "tell more of a fault: the file, the system's reason, the line and what is wanted",
+    )
+    .short('v')
 }
 
 // The parser of a command, with the flag that each takes.
@@ -163,6 +175,45 @@ fn turns_parser<'a>(alloc: Global) -> Result<Parser<'a>, AllocError>
         "steps",
         "N",
         "how many steps all turns have at most, from 1 to 65536; 1000 where it is not given",
+    ))
+}
+
+// The parser of a command that searches the states of an image, with the number of those that it finds.
+fn search_parser<'a>(alloc: Global, name: &'a str, about: &'a str) -> Result<Parser<'a>, AllocError>
+    ensures { IfOk result (IsParserOf (with_rule (tree_app name.entry.now) states_rule)) }
+{
+    tree_parser(alloc, name, about)?.arg(option(
+        alloc,
+        "states",
+        "N",
+        "how many states are found at most, from 1 to 4294967295; 1000000 where it is not given",
+    ))
+}
+
+// The parser of `explore`.
+fn explore_parser<'a>(alloc: Global) -> Result<Parser<'a>, AllocError>
+    ensures { IfOk result (IsParserOf explore_app) }
+{
+    search_parser(
+        alloc,
+        "explore",
+        "Tell what can happen on an image under any schedule, and the shortest way to it",
+    )
+}
+
+// The parser of `graph`.
+fn graph_parser<'a>(alloc: Global) -> Result<Parser<'a>, AllocError>
+    ensures { IfOk result (IsParserOf graph_app) }
+{
+    search_parser(
+        alloc,
+        "graph",
+        "Write the states of an image under any schedule, and the steps between them",
+    )?
+    .arg(flag(
+        alloc,
+        "tree",
+        "write of each state its tree and what may be reached, too",
     ))
 }
 
@@ -306,9 +357,18 @@ fn tree_question_parser<'a>(alloc: Global) -> Result<Parser<'a>, AllocError>
         .subcommand(turns_parser(alloc)?)
 }
 
+// The same, with the questions of all states.
+fn all_states_parser<'a>(alloc: Global) -> Result<Parser<'a>, AllocError>
+    ensures { IfOk result (λ parser. app_of parser ≡ search_app) }
+{
+    tree_question_parser(alloc)?
+        .subcommand(explore_parser(alloc)?)?
+        .subcommand(graph_parser(alloc)?)
+}
+
 // The parser of the command line: the same, with the command that migrates an image.
 pub(crate) fn parser<'a>(alloc: Global) -> Result<Parser<'a>, AllocError>
     ensures { IfOk result (λ parser. app_of parser ≡ pvsim_app) }
 {
-    tree_question_parser(alloc)?.subcommand(migrate_parser(alloc)?)
+    all_states_parser(alloc)?.subcommand(migrate_parser(alloc)?)
 }

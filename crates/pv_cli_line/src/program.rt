@@ -3,11 +3,12 @@ ghost use Rattle.std.specs.Prelude.{◌≡◌, ◌≢◌, true, map, Err, OnOk, 
 ghost use Rattle.pv_cli_commands.specs.Status.{is_told as is_told_by_command, status_of as command_status_of};
 ghost use Rattle.pv_cli_commands.specs.Streams.{disk_of};
 ghost use Rattle.pv_cli_line.specs.declared.fault.Fault.{Fault as Written};
+ghost use Rattle.pv_cli_line.specs.declared.fault.Fault.TheVariants.{Line as LineVariant};
 ghost use Rattle.pv_cli_line.specs.Program.{ComesTo, TellsErrorsAlone, TellsWhatWasAsked, is_told};
-ghost use Rattle.pv_cli_line.specs.Status.{IsStatusOf, status_of};
+ghost use Rattle.pv_cli_line.specs.Status.{IsStatusOf, line_status, status_of};
 
-use crate::command::{CommandLine, command_line_of};
-use crate::explaining::explain;
+use crate::command::{CommandLine, LineFault, command_line_of};
+use crate::explaining::{asks_for_more, explain, explain_number};
 use crate::fault::Fault;
 use pv_cli_commands::{Fault as CommandFault, Files, HostSystem, perform};
 use pv_streams::{Sink, Source, write_whole};
@@ -91,6 +92,25 @@ fn tell_all<F: Files + Drop, I: Drop, O: Sink + Drop, E: Sink + Drop>(
     status
 }
 
+// Tells why words are no command line, and what is wanted of a number where more is asked for, and answers the exit status.
+fn tell_words<S: AsStr, F: Drop, I: Drop, O: Sink + Drop, E: Sink + Drop>(
+    words: &[S],
+    fault: LineFault,
+    system: &mut HostSystem<F, I, O, E>,
+) -> u8
+    ensures status { IsStatusOf (Err (LineVariant fault)) result }
+    ensures errors { line_status fault ≢ 0 → TellsErrorsAlone system.old system.new }
+    ensures output { line_status fault ≡ 0 → TellsWhatWasAsked result system.old system.new }
+    ensures flushed { O.buffered system.old.output ≡ 0 → result ≢ 4 → O.buffered system.new.output ≡ 0 }
+{
+    let is_number = matches!(fault, LineFault::Number);
+    let status = tell(&Fault::Line(fault), system);
+    if is_number && asks_for_more(words) {
+        explain_number(&mut system.errors);
+    }
+    status
+}
+
 /// A whole run of the program: does what its words ask for, of which the first is the program's name, tells
 /// a person what went wrong, and answers the exit status.
 ///
@@ -109,7 +129,7 @@ pub fn run<S: AsStr, F: Files + Drop, I: Source + Drop, O: Sink + Drop, E: Sink 
 {
     let line = match command_line_of(alloc, words) {
         Ok(line) => line,
-        Err(fault) => return tell(&Fault::Line(fault), system),
+        Err(fault) => return tell_words(words, fault, system),
     };
     match perform(alloc, line.command, system) {
         Ok(()) => 0,

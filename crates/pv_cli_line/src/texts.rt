@@ -1,7 +1,7 @@
 //! The texts and numbers of a command in what the parser matches.
 ghost use Rattle.std.specs.Prelude.{◌≡◌, ℕ, List, Option, None, IfSome, option_map};
 ghost use Rattle.clap.specs.Words.{subcommand_rows_of};
-ghost use Rattle.pv_cli_line.specs.Line.{IsRunIn, IsTreeIn, IsWholeRunIn, IsWholeTreeIn, count_in, entered_text, is_verbose_in, size_in};
+ghost use Rattle.pv_cli_line.specs.Line.{IsRunIn, IsTreeIn, IsWholeRunIn, IsWholeTreeIn, count_in, entered_text, is_given, is_verbose_in, size_in, states_in};
 
 use clap::ArgMatches;
 use pv_cli_commands::{RunInput, TreeInput};
@@ -59,6 +59,30 @@ pub(crate) fn count_of(word: Option<&str>, default: u32) -> Option<u32>
         return None;
     }
     Some(count)
+}
+
+// The number of states that a word spells, at least 1; 1,000,000 where there is no word.
+pub(crate) fn states_of(word: Option<&str>) -> Option<u32>
+    ensures { result ≡ states_in (option_map (λ text. text.now) word.entry) }
+{
+    let Some(word) = word else {
+        return Some(1_000_000);
+    };
+    let states = size_of(word)?;
+    if states < 1 {
+        return None;
+    }
+    Some(states)
+}
+
+// Whether a flag of a command was given, where the matches are those of that command.
+pub(crate) fn is_flag_given(matches: &ArgMatches<'_>, command: &str, flag: &str) -> bool
+    ensures { result ≡ is_given (entered_text (subcommand_rows_of matches.now) command.now flag.now) }
+{
+    match text_of(matches, command, flag) {
+        Some(text) => text == "true",
+        None => false,
+    }
 }
 
 // What a command runs, and the text after it.

@@ -6,6 +6,9 @@ use Rattle.pv_model.specs.declared.fault.ManifestFault.{ManifestFault}
 use Rattle.pv_model.specs.declared.fault.ManifestFault.TheVariants.{Form}
 use Rattle.pv_model.specs.declared.run_fault.RunFault.{RunFault}
 use Rattle.pv_model.specs.declared.verdict.AuditFault.{AuditFault}
+use Rattle.pv_model.specs.declared.kernel_fault.BootFault.{BootFault}
+use Rattle.pv_model.specs.Answers.Explore.{explore_lines}
+use Rattle.pv_model.specs.Answers.Graph.{graph_lines}
 use Rattle.pv_model.specs.Answers.Turns.{schedule_text, turns}
 use Rattle.pv_model.specs.Bytes.{Bytes}
 use Rattle.pv_model.specs.Grammar.Manifests.{Manifest, read_bundle, read_manifest, tree_of}
@@ -15,10 +18,11 @@ use Rattle.pv_model.specs.Mount.{mounted}
 use Rattle.pv_model.specs.RunFault.{of_boot, of_image, of_manifest}
 use Rattle.pv_model.specs.Start.{and_then, booted}
 use Rattle.pv_model.specs.Tree.{Tree}
-use Rattle.pv_questions.specs.Answering.{Answer}
+use Rattle.pv_questions.specs.Answering.{Answer, of_lines}
 use Rattle.pv_questions.specs.Files.{cat_of}
 use Rattle.pv_questions.specs.declared.question.TreeQuestion.{TreeQuestion}
-use Rattle.pv_questions.specs.declared.question.TreeQuestion.TheVariants.{Listing, File, Turns}
+use Rattle.pv_questions.specs.declared.question.TreeQuestion.TheVariants.{Listing, File, Turns, Explore, Graph}
+use Rattle.pv_questions.specs.declared.stop.AskStop.{AskStop}
 use Rattle.pv_questions.specs.declared.stop.AskStop.TheVariants.{Machine, File as NoFile}
 
 -- a manifest that stands alone, where no line `schedule` ends one
@@ -47,11 +51,17 @@ abbrev pub of_file : Result Bytes AuditFault → Answer
 of_file (Ok bytes) = Ok bytes
 of_file (Err fault) = Err (NoFile fault)
 
--- what is answered of a tree; a schedule is that of the machine which starts on it, with one step a turn at least
+abbrev pub of_boot_fault : BootFault → AskStop
+of_boot_fault fault = Machine (of_boot fault)
+
+-- what is answered of a tree; a schedule is that of the machine which starts on it, with one step a turn at least, and a search is of one
+-- state at least
 abbrev pub tree_answer : TreeQuestion → Tree → Answer
 tree_answer Listing t = Ok (listing t)
 tree_answer (File path) t = of_file (cat_of t path.now)
-tree_answer (Turns slice steps) t = and_then (λ fault. Machine (of_boot fault)) (booted t) (λ s. Ok (schedule_text (turns program_of (max 1 slice) steps s)))
+tree_answer (Explore states) t = and_then of_boot_fault (booted t) (λ s. of_lines (explore_lines program_of (max 1 states) s))
+tree_answer (Graph states tree) t = and_then of_boot_fault (booted t) (λ s. of_lines (graph_lines program_of (max 1 states) tree s))
+tree_answer (Turns slice steps) t = and_then of_boot_fault (booted t) (λ s. Ok (schedule_text (turns program_of (max 1 slice) steps s)))
 
 -- of the tree of an image
 abbrev pub image_tree_answer : TreeQuestion → Bytes → Answer

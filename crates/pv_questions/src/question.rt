@@ -29,4 +29,16 @@ pub enum TreeQuestion<'a> {
         /// How many steps all turns have together at most.
         steps: u32,
     },
+    /// What can happen under any schedule on the machine that starts on the tree.
+    Explore {
+        /// How many states are found at most: 0 counts as 1.
+        states: u32,
+    },
+    /// The states that any schedule reaches on that machine, and how they hang together.
+    Graph {
+        /// How many states are found at most: 0 counts as 1.
+        states: u32,
+        /// Whether each comes with its tree and with what its processes may do.
+        tree: bool,
+    },
 }

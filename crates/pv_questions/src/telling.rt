@@ -2,6 +2,8 @@
 ghost use Rattle.std.specs.Prelude.{◌≡◌, ◌⊎◌, ◌≤◌, [], Err, IfErr, OnOk, OnErr};
 ghost use Rattle.pv_answers.specs.Reaching.{reached_by};
 ghost use Rattle.pv_model.specs.Answers.Explain.{explain_lines};
+ghost use Rattle.pv_model.specs.Answers.Explore.{explore_lines};
+ghost use Rattle.pv_model.specs.Answers.Graph.{graph_lines};
 ghost use Rattle.pv_model.specs.Answers.Lines.{answer_bytes};
 ghost use Rattle.pv_model.specs.Answers.Needs.{needs_lines};
 ghost use Rattle.pv_model.specs.Answers.ProcessRecord.{state_lines};
@@ -22,6 +24,7 @@ use crate::stop::AskStop;
 use pv_answers::{write_reach, write_reach_of, write_state};
 use pv_calls_state::Parts;
 use pv_explain::{Explainer, explain_schedule};
+use pv_explore::{Beginning, write_explore, write_graph};
 use pv_listing::{ListStop, write_listing};
 use pv_model::{RunFault, Verdict};
 use pv_needs::{write_needs, write_turns};
@@ -221,6 +224,47 @@ pub(crate) fn tell_turns<W: Sink>(
     ensures failed { result ≡ Err AskStop.Write → Rose (W.failures out.old) (W.failures out.new) }
 {
     let end = write_turns(alloc, session, slice, steps, out);
+    hand_on(end, out)
+}
+
+// Writes what can happen under any schedule of a machine.
+#[tactic(auto, using(pv_streams::proofs::Sinks::begins_whole))]
+pub(crate) fn tell_explore<W: Sink>(
+    alloc: Global,
+    beginning: &Beginning,
+    states: u32,
+    out: &mut W,
+) -> Result<(), AskStop>
+    requires { 1 ≤ states }
+    ensures whole { OnOk result (W.written out.new ≡ and_all (W.written out.old) (answer_bytes (explore_lines program_of states beginning.now))) }
+    ensures beginning { OnErr result (TellsBeginning (answer_bytes (explore_lines program_of states beginning.now)) (W.written out.old) (W.written out.new)) }
+    ensures empty { OnOk result (W.buffered out.new ≡ 0) }
+    ensures kind { IfErr result IsWritingStop }
+    ensures stopped { IfErr result (λ stop. BufferedOnlyIfUnwritten stop (W.buffered out.new)) }
+    ensures failed { result ≡ Err AskStop.Write → Rose (W.failures out.old) (W.failures out.new) }
+{
+    let end = write_explore(alloc, beginning, states, out);
+    hand_on(end, out)
+}
+
+// Writes the states that any schedule of a machine reaches, and how they hang together.
+#[tactic(auto, using(pv_streams::proofs::Sinks::begins_whole))]
+pub(crate) fn tell_graph<W: Sink>(
+    alloc: Global,
+    beginning: &Beginning,
+    states: u32,
+    tree: bool,
+    out: &mut W,
+) -> Result<(), AskStop>
+    requires { 1 ≤ states }
+    ensures whole { OnOk result (W.written out.new ≡ and_all (W.written out.old) (answer_bytes (graph_lines program_of states tree beginning.now))) }
+    ensures beginning { OnErr result (TellsBeginning (answer_bytes (graph_lines program_of states tree beginning.now)) (W.written out.old) (W.written out.new)) }
+    ensures empty { OnOk result (W.buffered out.new ≡ 0) }
+    ensures kind { IfErr result IsWritingStop }
+    ensures stopped { IfErr result (λ stop. BufferedOnlyIfUnwritten stop (W.buffered out.new)) }
+    ensures failed { result ≡ Err AskStop.Write → Rose (W.failures out.old) (W.failures out.new) }
+{
+    let end = write_graph(alloc, beginning, states, tree, out);
     hand_on(end, out)
 }
 

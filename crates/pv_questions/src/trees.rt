@@ -10,7 +10,8 @@ ghost use Rattle.pv_streams.specs.Sources.{FailsToGive};
 use crate::file::file_at;
 use crate::question::TreeQuestion;
 use crate::stop::AskStop;
-use crate::telling::{tell_file, tell_listing, tell_turns};
+use crate::telling::{tell_explore, tell_file, tell_graph, tell_listing, tell_turns};
+use pv_explore::Beginning;
 use pv_image_manifest::{Bundle, Manifest, build};
 use pv_image_mount::mount;
 use pv_model::{ManifestFault, RunFault};
@@ -92,6 +93,51 @@ fn answer_turns<W: Sink>(
     tell_turns(alloc, &mut session, slice.max(1), steps, out)
 }
 
+// What can happen under any schedule of the machine that starts on a tree.
+fn answer_explore<W: Sink>(
+    alloc: Global,
+    store: Store,
+    states: u32,
+    out: &mut W,
+) -> Result<(), AskStop>
+    ensures answered { OnOk result (TellsAnswer (tree_answer (TreeQuestion.Explore states) store) (W.written out.old) (W.written out.new)) }
+    ensures empty { OnOk result (W.buffered out.new ≡ 0) }
+    ensures refused { IfErr result (StandsInAnswer (tree_answer (TreeQuestion.Explore states) store) (W.written out.old) (W.written out.new)) }
+    ensures kind { IfErr result IsTreeStop }
+    ensures stopped { IfErr result (λ stop. W.buffered out.old ≡ 0 → BufferedOnlyIfUnwritten stop (W.buffered out.new)) }
+    ensures failed { result ≡ Err AskStop.Write → Rose (W.failures out.old) (W.failures out.new) }
+{
+    store.invariant();
+    let beginning = match Beginning::new(alloc, store) {
+        Ok(beginning) => beginning,
+        Err(fault) => return Err(AskStop::Machine(RunFault::from(fault))),
+    };
+    tell_explore(alloc, &beginning, states.max(1), out)
+}
+
+// The states that any schedule of that machine reaches.
+fn answer_graph<W: Sink>(
+    alloc: Global,
+    store: Store,
+    states: u32,
+    tree: bool,
+    out: &mut W,
+) -> Result<(), AskStop>
+    ensures answered { OnOk result (TellsAnswer (tree_answer (TreeQuestion.Graph states tree) store) (W.written out.old) (W.written out.new)) }
+    ensures empty { OnOk result (W.buffered out.new ≡ 0) }
+    ensures refused { IfErr result (StandsInAnswer (tree_answer (TreeQuestion.Graph states tree) store) (W.written out.old) (W.written out.new)) }
+    ensures kind { IfErr result IsTreeStop }
+    ensures stopped { IfErr result (λ stop. W.buffered out.old ≡ 0 → BufferedOnlyIfUnwritten stop (W.buffered out.new)) }
+    ensures failed { result ≡ Err AskStop.Write → Rose (W.failures out.old) (W.failures out.new) }
+{
+    store.invariant();
+    let beginning = match Beginning::new(alloc, store) {
+        Ok(beginning) => beginning,
+        Err(fault) => return Err(AskStop::Machine(RunFault::from(fault))),
+    };
+    tell_graph(alloc, &beginning, states.max(1), tree, out)
+}
+
 // The bytes of the file that a path names.
 fn answer_file<W: Sink>(tree: &Tree, path: &[u8], out: &mut W) -> Result<(), AskStop>
     ensures answered { OnOk result (TellsAnswer (tree_answer (TreeQuestion.File path.entry) tree.now.tree) (W.written out.old) (W.written out.new)) }
@@ -125,18 +171,20 @@ fn answer<W: Sink>(
         TreeQuestion::Listing => tell_listing(alloc, store.tree(), out),
         TreeQuestion::File(path) => answer_file(store.tree(), path, out),
         TreeQuestion::Turns { slice, steps } => answer_turns(alloc, store, slice, steps, out),
+        TreeQuestion::Explore { states } => answer_explore(alloc, store, states, out),
+        TreeQuestion::Graph { states, tree } => answer_graph(alloc, store, states, tree, out),
     }
 }
 
 /// Answers a question of the tree of an image.
 ///
-/// The image is read whole, and it is judged before anything is written; for `Turns` the program of `init` is judged next.
+/// The image is read whole, and it is judged before anything is written; for `Turns`, `Explore` and `Graph` the program of `init` is judged next.
 /// Where the answer is `Ok`, `out` has grown by just its text, all of which was flushed.
 ///
 /// # Errors
 ///
 /// - `Machine`: a read failed, or the source gave more than 67,108,864 bytes (`Read`); or the first fault of the image, and
-///   for `Turns` of the program of `init`: then nothing was written. Where memory was refused (`Memory`), a beginning of the
+///   for `Turns`, `Explore` and `Graph` of the program of `init`: then nothing was written. Where memory was refused (`Memory`), a beginning of the
 ///   text was written, or nothing.
 /// - `File`: the path of `File` names no file; nothing was written.
 /// - `Write`: a write failed; `out` has grown by a beginning of the text.

@@ -207,6 +207,10 @@ const VERBOSE: &[(&[&str], &[u8])] = &[
         b"pvsim: read\n  no: no such file\n",
     ),
     (
+        &["pvsim", "turns", "-v", "no", "--slice", "0"],
+        b"pvsim: number\n  want a decimal number without leading zeros: PID, BLOCKS and INODES from 0 to 4294967295, K and N from 1 to 65536\n",
+    ),
+    (
         &["pvsim", "state", "-v", "motd", "no"],
         b"pvsim: read\n  motd\n  no: no such file\n",
     ),
@@ -250,6 +254,8 @@ const REFUSED: &[&[&str]] = &[
     &["pvsim", "reach", "-b", "b", "-b", "b"],
     &["pvsim", "ls", "--bundle=b", "i"],
     &["pvsim", "turns", "--slice", "2"],
+    &["pvsim", "explore", "--tree", "i"],
+    &["pvsim", "graph", "i", "s"],
     &["pvsim", "cat", "i"],
     &["pvsim", "cat", "-b", "b"],
     &["pvsim", "cat", "-b", "b", "i", "/p"],
@@ -335,6 +341,40 @@ const COMMANDS: &[(&[&str], Command<'static>)] = &[
             tree: TreeInput::Manifest("b"),
         },
     ),
+    (
+        &["pvsim", "explore", "--states", "7", "i"],
+        Command::AskTree {
+            question: TreeQuestion::Explore { states: 7 },
+            tree: TreeInput::Image("i"),
+        },
+    ),
+    (
+        &["pvsim", "explore", "-b", "b"],
+        Command::AskTree {
+            question: TreeQuestion::Explore { states: 1_000_000 },
+            tree: TreeInput::Manifest("b"),
+        },
+    ),
+    (
+        &["pvsim", "graph", "i", "--states=4294967295", "--tree"],
+        Command::AskTree {
+            question: TreeQuestion::Graph {
+                states: 4_294_967_295,
+                tree: true,
+            },
+            tree: TreeInput::Image("i"),
+        },
+    ),
+    (
+        &["pvsim", "graph", "-b-"],
+        Command::AskTree {
+            question: TreeQuestion::Graph {
+                states: 1_000_000,
+                tree: false,
+            },
+            tree: TreeInput::Manifest("-"),
+        },
+    ),
     (&["pvsim", "run-tree", "a b"], Command::RunTree("a b")),
     (&["pvsim", "run-tree", "--", "-x"], Command::RunTree("-x")),
     (
@@ -404,6 +444,12 @@ fn a_word_that_is_no_number_is_refused_before_the_file_is_read(rt: HostRuntime) 
         let words = ["pvsim", "migrate", "no", "out", "16", size];
         expect_run(&rt, &words, 2, b"", b"pvsim: number\n");
         let words = ["pvsim", "reach", "no", "no", size];
+        expect_run(&rt, &words, 2, b"", b"pvsim: number\n");
+    }
+    for states in ["0", "01", "4294967296"] {
+        let words = ["pvsim", "explore", "no", "--states", states];
+        expect_run(&rt, &words, 2, b"", b"pvsim: number\n");
+        let words = ["pvsim", "graph", "no", "--states", states];
         expect_run(&rt, &words, 2, b"", b"pvsim: number\n");
     }
     for count in ["0", "01", "65537"] {

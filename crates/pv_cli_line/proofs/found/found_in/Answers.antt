@@ -8,4 +8,6 @@ returns-clause-none c is =
     (c.command_in.ensures.none (none_by c.command_in.result c.in_default.not-Some))
     (c.migrate_in.ensures.none (none_by c.migrate_in.result c.in_default-migrate_in.not-Some))
     (c.turns_in.ensures.none (none_by c.turns_in.result c.in_default-turns_in.not-Some))
+    (c.explore_in.ensures.none (none_by c.explore_in.result c.in_default-explore_in.not-Some))
+    (c.graph_in.ensures.none (none_by c.graph_in.result c.in_default-graph_in.not-Some))
     (c.reach_in.ensures.none is)
