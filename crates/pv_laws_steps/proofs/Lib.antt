@@ -1,0 +1,2 @@
+-- Lemmas of what a step depends on.
+pub mod SeenSteps
