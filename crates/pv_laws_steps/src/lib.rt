@@ -4,6 +4,8 @@
 //! file for a subject:
 //!
 //! - `seen`: what of a state a step depends on, and what it leaves in two states that are alike in this.
+//! - `examples`: two states that are alike, and two that are not.
 #![tactic(auto)]
 
+pub mod examples;
 pub mod seen;
