@@ -59,7 +59,7 @@ module _ (program_of : Bytes → Option Program) where
       subst (λ (v : List ℕ). IsBefore v n.way) (sym here.0)
       (subst (λ (v : List ℕ). IsBefore (f.way ++ m.pid ∷ []) v) (sym there.0) (before-one_more m.pid n.pid f.way from.0.way before)))
 
-  steps-split : (way : List ℕ) (pid : ℕ) (s : State) → AreSteps program_of (way ++ pid ∷ []) s → AreSteps program_of way s × (is_some (process_at (run program_of way s).final pid) ≡ true)
+  pub steps-split : (way : List ℕ) (pid : ℕ) (s : State) → AreSteps program_of (way ++ pid ∷ []) s → AreSteps program_of way s × (is_some (process_at (run program_of way s).final pid) ≡ true)
   steps-split [] pid s steps = (tt, steps.0)
   steps-split (other ∷ way) pid s steps = let r = steps-split way pid (step program_of s other).after steps.1 in ((steps.0, r.0), r.1)
 

@@ -1,5 +1,5 @@
 -- The states found are those to which their ways lead, and what the finished search is.
-use Rattle.std.proofs.Common.{◌≡◌, ◌∙◌, sym, ap, subst, ℕ, ◌+◌, ◌≤◌, true, List, [], ◌∷◌, ◌++◌, Option, Some, is_some, inl, refl, arith}
+use Rattle.std.proofs.Common.{◌≡◌, ◌∙◌, sym, ap, subst, ℕ, ◌≤◌, true, List, [], ◌∷◌, ◌++◌, Option, Some, is_some, inl, refl, arith}
 use Rattle.pv_model.specs.Answers.Explore.{Found, Move, move, moves_of, found_by, states_found}
 use Rattle.pv_model.specs.Bytes.{Bytes}
 use Rattle.pv_model.specs.Held.{live_processes}

@@ -1,5 +1,5 @@
 -- The order of ways.
-use Rattle.std.proofs.Common.{◌∙◌, sym, ap, subst, ℕ, ◌+◌, ◌<◌, List, [], ◌∷◌, ◌++◌, inl, inr, refl, length-append, arith}
+use Rattle.std.proofs.Common.{◌∙◌, sym, ap, subst, ℕ, ◌<◌, List, [], ◌∷◌, ◌++◌, inl, inr, refl, length-append, arith}
 use Rattle.pv_laws_explore.specs.Ways.{IsLess, IsBefore, IsNoLater}
 
 less-then : (a b c : List ℕ) → IsLess a b → IsLess b c → IsLess a c

@@ -1,3 +1,4 @@
 pub mod Ways
 pub mod Search
 pub mod Waits
+pub mod Unread

@@ -5,7 +5,9 @@
 //!
 //! - `waits`: no schedule ends in a deadlock.
 //! - `search`: what is found and told, whether the search is complete or not, and that nothing is missing where it is.
+//! - `unread`: what is told does not depend on a file that no step reads.
 #![tactic(auto)]
 
 pub mod search;
+pub mod unread;
 pub mod waits;
