@@ -1,0 +1,5 @@
+use Rattle.pv_laws_explore.proofs.UnreadRun.{unread-happens}
+use Rattle.pv_laws_explore.proofs.examples.unread_happens.Goals as goal
+
+pub returns : goal.returns
+returns c = unread-happens
