@@ -7,7 +7,7 @@
 //! - `search`: what is found and told, whether the search is complete or not, and that nothing is missing where it is.
 //! - `unread`: what is told does not depend on a file that no step reads.
 //! - `graph`: the ways of the graph of states are the runs.
-//! - `examples`: a search in which a file is read by none.
+//! - `examples`: a worked search, in which a file is read by none, and its graph.
 #![tactic(auto)]
 
 pub mod examples;

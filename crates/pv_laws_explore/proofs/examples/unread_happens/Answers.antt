@@ -1,4 +1,4 @@
-use Rattle.pv_laws_explore.proofs.UnreadRun.{unread-happens}
+use Rattle.pv_laws_explore.proofs.ExampleRuns.{unread-happens}
 use Rattle.pv_laws_explore.proofs.examples.unread_happens.Goals as goal
 
 pub returns : goal.returns

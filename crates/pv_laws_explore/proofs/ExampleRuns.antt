@@ -1,11 +1,13 @@
--- Which files the next call of a process may read, and a worked search, by computing.
-use Rattle.std.proofs.Common.{◌≡◌, ◌∙◌, sym, ap, refl, ℕ, ◌<◌, lit<, Bool, true, false, not, ◌==◌, [], ◌∷◌, take, codes, slice_index, Option, None, Some, is_some, inr, ⊎_elim, arith}
+-- Which files the next call of a process may read, and a worked search and its graph, by computing.
+use Rattle.std.proofs.Common.{◌≡◌, ◌∙◌, sym, ap, refl, ℕ, ◌<◌, lit<, Bool, true, false, not, ◌==◌, List, [], ◌∷◌, take, drop, codes, slice_index, Option, None, Some, is_some, inr, ⊎_elim, arith}
 use Rattle.std.specs.List.{list_any, list_all}
 use Rattle.std.proofs.lemmas.Bool.{eq-eqb}
 use Rattle.std.proofs.lemmas.List.Elements.{All-cons, All-nil}
 use Rattle.pv_model.specs.declared.call.Call.{Call}
 use Rattle.pv_model.specs.declared.call.Call.TheVariants as TheCall
 use Rattle.pv_model.specs.Answers.Explore.{Found, states_found}
+use Rattle.pv_model.specs.Answers.Graph.{graph_lines}
+use Rattle.pv_model.specs.Answers.Lines.{AnswerLine, answer_line}
 use Rattle.pv_model.specs.Answers.OnLiterals.{answers_on_literals}
 use Rattle.pv_model.specs.Bytes.{Bytes}
 use Rattle.pv_model.specs.Effect.{open_file}
@@ -17,7 +19,8 @@ use Rattle.pv_model.specs.Touch.{read_file, with_bytes, Touches, Justifies, read
 use Rattle.pv_laws_access.specs.Justice.{reads_bytes}
 use Rattle.pv_laws_access.proofs.JustReads.{near-or_read}
 use Rattle.pv_laws_access.proofs.Near.{as_is, as_is-fine, same-but_file}
-use Rattle.pv_laws_explore.specs.Examples.{no_programs, start, UnreadExamples}
+use Rattle.pv_laws_explore.specs.Examples.{no_programs, start, graph, UnreadExamples, GraphExamples}
+use Rattle.pv_laws_explore.specs.Graphs.{HasStep}
 use Rattle.pv_laws_explore.specs.Unread.{IsReadByNone}
 use Rattle.pv_laws_explore.proofs.Lists.{all-among, none-among, each-from_among}
 use Rattle.pv_laws_explore.proofs.LiveOnes.{live-listed}
@@ -97,3 +100,24 @@ was_read = (
 pub unread-happens : UnreadExamples
 unfolding answers_on_literals
 unread-happens = record { complete = refl; unread = all-spare no_programs 4 start 3 refl; exposed = refl; read = was_read }
+
+-- ---- its graph
+
+abbrev lines_from : ℕ → ℕ → List AnswerLine
+lines_from k n = take n (drop k graph)
+
+opens : HasStep graph (codes "0") 1 (codes "to 1") (lines_from 10 3)
+opens = record { before = []; inside = lines_from 1 8; end_line = answer_line 0 (codes "AT") (codes "1"); rest = drop 14 graph; parts = refl; one_state = refl; one_step = refl; ends = refl }
+
+reads : HasStep graph (codes "1") 1 (codes "to 2") (lines_from 24 4)
+reads = record { before = lines_from 0 13; inside = lines_from 14 9; end_line = answer_line 0 (codes "AT") (codes "2"); rest = drop 29 graph; parts = refl; one_state = refl; one_step = refl; ends = refl }
+
+graph-is : graph_lines no_programs 4 false start ≡ graph
+unfolding answers_on_literals
+graph-is = refl
+
+pub graph-happens : GraphExamples
+graph-happens = record {
+  lines = graph-is;
+  along = (codes "1", lines_from 10 3, lines_from 24 4, opens, (codes "2", lines_from 24 4, [], reads, (refl, refl), refl), refl);
+}
