@@ -7,6 +7,7 @@
 #   make try RUN=needs FILE=..               another answer: state, reach, needs, turns, ls, audit; RUN=run the trace alone
 #   make examples every bundle of examples/ and cases/, its trace compared, before any proof
 #   make sources  the proved program on sources: worked ones, mistakes with what is said of each, and some made by chance
+#   make words    the proved program on words of command lines, and what it writes, tells and makes
 #   make images   the proved program on images byte for byte, and on every change of one byte of an image
 #   make refusals the proved program with each allocation, opening, read and write refused in turn
 #   make test     the gate: every proof from nothing, the tests, the program, the wrong bodies, the examples, images, refusals (docs/GATE.md)
@@ -22,7 +23,7 @@ PREFIX ?= /usr/local
 MANDIR ?= $(PREFIX)/share/man
 EXAMPLESDIR ?= $(PREFIX)/share/examples/pvsim
 
-.PHONY: all demo try examples sources images refusals test wrong check bench speed man install clean
+.PHONY: all demo try examples sources words images refusals test wrong check bench speed man install clean
 
 all: bin/pvsim
 
@@ -53,6 +54,9 @@ examples:
 sources: bin/pvsim
 	@tools/sources bin/pvsim
 	@tools/mistakes bin/pvsim
+
+words: bin/pvsim
+	@tools/words bin/pvsim
 
 images: bin/pvsim
 	@tools/images bin/pvsim
