@@ -8,8 +8,6 @@
 pub mod files;
 pub mod input;
 pub mod output;
-#[cfg(test)]
-mod tests;
 
 pub use files::{HostFiles, OpenedFile, WrittenFile};
 pub use input::Input;

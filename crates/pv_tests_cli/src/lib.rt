@@ -1,14 +1,12 @@
-//! The program tried as a whole over files and streams in memory: its words, its commands, and what its faults tell.
+//! What the program can not be asked for: texts of faults that it does not come to, and streams that give or take little.
 //!
-//! It has tests alone: `program` runs words, and `commands` performs commands. `texts` and `streams` have what they begin
-//! with.
+//! It has tests alone: `faults`, `output` over a sink of its own, and `host` over readers and writers. What the program answers to
+//! its words it is asked for itself: `cases/words.txt`.
 #![tactic(auto)]
 
 #[cfg(test)]
-mod commands;
+mod faults;
 #[cfg(test)]
-mod program;
+mod host;
 #[cfg(test)]
-mod streams;
-#[cfg(test)]
-mod texts;
+mod output;

@@ -1,7 +1,7 @@
-//! Runs tried from bytes to bytes: bundles, and images that are made, migrated, listed, audited and run.
+//! Runs whose sources and sinks fail: bundles, and images that are made, migrated, listed, audited and run.
 //!
-//! It has tests alone: `bundles` runs whole bundles, `images` makes images and runs them, and `failing` breaks off what they
-//! read and write, by the `streams` that fail.
+//! It has tests alone: `bundles` breaks off a bundle and its trace, and `failing` what is made of images, by the `streams` that
+//! fail; `images` has the example that they begin with. What comes of whole ones the program is asked for: `cases/`.
 #![tactic(auto)]
 
 #[cfg(test)]

@@ -1,6 +1,5 @@
-//! Files that every system has, and streams that fail.
-use crate::{HostFiles, Input, Output};
-use pv_cli_commands::Files;
+//! The streams of the system over a reader and a writer that fail.
+use pv_cli_host::{Input, Output};
 use pv_streams::{Failed, Sink, Source};
 use std::io;
 use std::io::{ErrorKind, Read, Write};
@@ -52,24 +51,4 @@ fn an_output_takes_what_its_writer_takes(rt: HostRuntime) {
     assert!(rt; output.write(b"yz") == Ok(0));
     assert!(rt; output.write(b"") == Ok(0));
     assert!(rt; output.flush() == Ok(()));
-}
-
-#[test]
-fn an_empty_file_gives_nothing(rt: HostRuntime) {
-    let files = HostFiles::new(&rt);
-    let mut file = files.open("/dev/null").expect(&rt, "it opens");
-    assert!(rt; file.read(&mut [0; 4]) == Ok(0));
-    assert!(rt; files.open("/dev/null/none").is_err());
-}
-
-#[test]
-fn a_file_takes_what_there_is_room_for(rt: HostRuntime) {
-    let files = HostFiles::new(&rt);
-    let mut file = files.create(rt.alloc(), "/dev/null").expect(&rt, "memory");
-    assert!(rt; file.write(b"xyz") == Ok(3));
-    assert!(rt; file.flush() == Ok(()));
-    for name in ["/dev/full", "/dev/null/none"] {
-        let mut file = files.create(rt.alloc(), name).expect(&rt, "memory");
-        assert!(rt; file.write(b"xyz") == Err(Failed));
-    }
 }

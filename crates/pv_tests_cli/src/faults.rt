@@ -1,0 +1,23 @@
+//! Faults that no command ends with, since each tells its want of memory as its own.
+use pv_cli_commands::Fault;
+use pv_model::{ImageFault, ListFault, ManifestFault, MigrateFault, RunFault};
+use pv_run::MigrateStop;
+use std::test::Fail;
+
+const OF_MEMORY: &[Fault] = &[
+    Fault::Run(RunFault::Image(ImageFault::Memory)),
+    Fault::Run(RunFault::Manifest(ManifestFault::Memory)),
+    Fault::Listing(ListFault::Image(ImageFault::Memory)),
+    Fault::Migrating(MigrateStop::Refused(MigrateFault::Memory)),
+    Fault::Migrating(MigrateStop::Refused(MigrateFault::Image(ImageFault::Memory))),
+];
+
+#[test]
+fn want_of_memory_has_one_text(rt: HostRuntime) -> Result<(), Fail> {
+    for fault in OF_MEMORY {
+        let text = format!(in rt.alloc(); "{fault}")?;
+        assert!(rt; text.as_str() == "pvsim: memory\n");
+        assert!(rt; fault.status() == 3);
+    }
+    Ok(())
+}

@@ -1,0 +1,77 @@
+//! Runs of the whole program over an output that takes nothing, also before it is flushed.
+ghost use Rattle.std.specs.Prelude.{[], None};
+
+use pv_cli_commands::{Files, HostSystem};
+use pv_cli_line::run;
+use pv_streams::{Bytes, Failed, Gathered, Sink};
+use std::alloc::{AllocError, Global};
+
+// A sink that takes nothing.
+#[derive(Drop)]
+struct Broken {
+    failures: u64,
+}
+
+impl Sink for Broken {
+    ghost written = { λ _. None };
+
+    ghost buffered = { λ _. 0 };
+
+    ghost failures = { λ sink. sink.failures };
+
+    fn write(&mut self, _buffer: &[u8]) -> Result<usize, Failed> {
+        self.failures = self.failures.saturating_add(1);
+        Err(Failed)
+    }
+
+    fn flush(&mut self) -> Result<(), Failed> {
+        Ok(())
+    }
+}
+
+// Files of which none is there, and none can be made.
+#[derive(Drop)]
+struct NoFiles;
+
+impl Files for NoFiles {
+    type Reader = Bytes<'static>;
+
+    type Writer = Broken;
+
+    ghost bytes = { λ _ _. None };
+
+    ghost file_of = { λ _. [] };
+
+    fn open(&self, _name: &str) -> Result<Bytes<'static>, Failed> {
+        Err(Failed)
+    }
+
+    fn create(&self, _alloc: Global, _name: &str) -> Result<Broken, AllocError> {
+        Err(AllocError)
+    }
+
+    fn read_reason(&self, _alloc: Global, _name: &str) -> Option<String> {
+        None
+    }
+
+    fn write_reason(&self, _alloc: Global, _name: &str) -> Option<String> {
+        None
+    }
+}
+
+// Words that ask for something that is written: without any, for the trace of the bundle on the standard input.
+const WORDS: &[&[&str]] = &[&["pvsim", "--help"], &["pvsim", "--version"], &["pvsim"]];
+
+#[test]
+fn an_output_that_takes_nothing_is_a_failed_write(rt: HostRuntime) {
+    for words in WORDS {
+        let mut system = HostSystem {
+            files: NoFiles,
+            input: Bytes::new(b"image 2 1\nschedule\n1\n"),
+            output: Broken { failures: 0 },
+            errors: Gathered::new(rt.alloc()),
+        };
+        assert!(rt; run(rt.alloc(), *words, &mut system) == 4);
+        assert!(rt; system.errors.bytes.as_slice() == b"pvsim: write\n".as_slice());
+    }
+}
