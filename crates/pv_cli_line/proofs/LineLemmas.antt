@@ -1,6 +1,6 @@
 -- What the matches of a line, and a refusal of its parser, say of the command that it asks for.
 use Rattle.std.proofs.Common.{◌≡◌, ◌⊎◌, ◌∙◌, ap, sym, subst, inl, inr, true, false, arith, if◌then◌else◌, bytes_eq, ℕ, List, [], ◌∷◌, length, map, codes, Option, None, Some, option_map, refl}
-use Rattle.std.proofs.lemmas.Bool.{false_from_ne_true}
+use Rattle.std.proofs.lemmas.Bool.{and_parts, false_from_ne_true}
 use Rattle.std.proofs.lemmas.List.{length-map}
 use Rattle.std.proofs.lemmas.Slice.Eq.{bytes_eq-Decides}
 use Rattle.std.specs.Prelude.{◌<◌, ◌≤◌, Box, Result, Ok, Err, IfErr, IfOk, IfSome, IsErrAnd}
@@ -225,8 +225,7 @@ pvsim_is_simple = refl
 
 -- so its matches are those of its words
 pub pvsim_has_matches : is_simple pvsim_app ≡ true
-unfolding clap_on_literals
-pvsim_has_matches = refl
+pvsim_has_matches = (and_parts (is_simple pvsim_app) _ pvsim_is_simple).0
 
 -- ---- what is answered where the parser takes the words
 

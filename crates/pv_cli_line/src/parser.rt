@@ -1,6 +1,7 @@
 //! The parser of the command line.
-ghost use Rattle.std.specs.Prelude.{◌≡◌, false, IfOk};
-ghost use Rattle.clap.specs.Words.{app_of, rule_of, with_rule};
+ghost use Rattle.std.specs.Prelude.{◌≡◌, false, IfOk, Some};
+ghost use Rattle.clap.specs.Words.{app_of, new_rule, rule_of, with_rule};
+ghost use Rattle.clap.specs.declared.builder.ArgAction.TheVariants.{SetTrue};
 ghost use Rattle.pv_cli_line.specs.Parser.{IsParserOf, audit_app, bundle_app, bundle_rule, cat_app, command_app, explore_app, flag_rule, graph_app, image_app, long_rule, make_image_app, migrate_app, optional_rule, pvsim_app, question_app, history_app, reach_app, state_app, run_app, run_image_app, run_tree_app, search_app, source_app, states_rule, text_rule, tree_app, tree_question_app, turns_app, verbose_rule};
 
 use clap::{Arg, ArgAction, Command as Parser};
@@ -46,15 +47,20 @@ fn bundle<'a>(alloc: Global) -> Arg<'a>
     .short('b')
 }
 
+// An argument that is there or is not.
+fn mark<'a>(alloc: Global, name: &'a str, help: &'a str) -> Arg<'a>
+    ensures rule { rule_of result ≡ record (new_rule name.entry.now) { action = Some SetTrue } }
+    ensures local { result.global ≡ false }
+{
+    Arg::new(alloc, name).action(ArgAction::SetTrue).help(help)
+}
+
 // A flag.
 fn flag<'a>(alloc: Global, name: &'a str, help: &'a str) -> Arg<'a>
     ensures rule { rule_of result ≡ flag_rule name.entry.now }
     ensures local { result.global ≡ false }
 {
-    Arg::new(alloc, name)
-        .action(ArgAction::SetTrue)
-        .help(help)
-        .long(name)
+    mark(alloc, name, help).long(name)
 }
 
 // The flag that asks for more to be told of a fault.
