@@ -1,7 +1,7 @@
 //! The kernel tried as a whole: machines that start on manifests, and what their calls answer.
 //!
 //! `store_of` makes a tree that a machine may start on. The tests boot kernels on such trees: each call once, as two
-//! lookups answer it, full tables, and an execve whose memory is refused.
+//! lookups answer it, what a process does next, and an execve whose memory is refused.
 #![tactic(auto)]
 
 ghost use Rattle.std.specs.Prelude.{◌≡◌, ◌<◌, ◌+◌, ◌^◌, IfOk, IsTrue, length};

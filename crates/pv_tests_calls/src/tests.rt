@@ -1,4 +1,4 @@
-//! Each call once, as two lookups answer it, full tables, and memory that is refused.
+//! Each call once, as two lookups answer it, what comes next, and memory that is refused.
 use crate::store_of;
 use pv_calls::Kernel;
 use pv_model::{CallRef, Cause, Errno, Outcome, StepFault, Taken, Why};
@@ -53,27 +53,6 @@ const WANTED: &[(u32, Outcome)] = &[
     (1, Outcome::Value(0)),
     (1, Outcome::Exited),
     (1, Outcome::Gone),
-];
-
-// A process that reads what it wrote.
-const READER: &[u8] =
-    b"image 64 32\nexec \"/init\" 13\nopen \"/f\" rw+append+create\nput \"abcdefgh\"\nwrite 0 4\nput \"WXYZ\"\nread 0 8\nlseek 0 2 set\nread 0 8\nlseek 0 1 set\nwrite 0 3\nlseek 0 0 set\nread 0 4096\nlseek 0 100 set\nread 0 1\n";
-
-// What each of its steps answers, and what its buffer then begins with.
-const FRONTS: &[(Outcome, &[u8])] = &[
-    (Outcome::Value(0), b"\0\0\0\0\0\0\0\0\0"),
-    (Outcome::Value(0), b"abcdefgh\0"),
-    (Outcome::Value(4), b"abcdefgh\0"),
-    (Outcome::Value(0), b"WXYZefgh\0"),
-    (Outcome::Text(Taken { value: 0, len: 0 }), b"WXYZefgh\0"),
-    (Outcome::Value(2), b"WXYZefgh\0"),
-    (Outcome::Text(Taken { value: 2, len: 2 }), b"cdYZefgh\0"),
-    (Outcome::Value(1), b"cdYZefgh\0"),
-    (Outcome::Value(3), b"cdYZefgh\0"),
-    (Outcome::Value(0), b"cdYZefgh\0"),
-    (Outcome::Text(Taken { value: 7, len: 7 }), b"abcdcdYh\0"),
-    (Outcome::Value(100), b"abcdcdYh\0"),
-    (Outcome::Text(Taken { value: 0, len: 0 }), b"abcdcdYh\0"),
 ];
 
 // A lookup that asks the tree each time, and counts how often.
@@ -178,10 +157,6 @@ fn value(value: u32) -> Outcome {
     Outcome::Value(value)
 }
 
-fn failed(errno: Errno) -> Outcome {
-    Outcome::Failed(errno, Cause::Plain)
-}
-
 #[test]
 fn each_call_as_two_lookups_answer(rt: HostRuntime) -> Result<(), Fail> {
     let alloc = rt.alloc();
@@ -191,56 +166,6 @@ fn each_call_as_two_lookups_answer(rt: HostRuntime) -> Result<(), Fail> {
         expect_both(&rt, alloc, &mut kernel, &mut other, *pid, *outcome);
     }
     assert!(rt; kernel.tree().sizes().inodes == other.tree().sizes().inodes);
-    Ok(())
-}
-
-#[test]
-fn a_read_leaves_what_stands_after_its_bytes(rt: HostRuntime) -> Result<(), Fail> {
-    let alloc = rt.alloc();
-    let mut kernel = Kernel::boot(alloc, store_of(alloc, READER)?)?;
-    for (outcome, front) in FRONTS {
-        expect(&rt, alloc, &mut kernel, 1, *outcome);
-        assert!(rt; kernel.buffer(1).starts_with(front));
-    }
-    Ok(())
-}
-
-#[test]
-fn processes_end_at_32(rt: HostRuntime) -> Result<(), Fail> {
-    let alloc = rt.alloc();
-    let store = store_of(alloc, b"image 16 16\nexec \"/init\" 2\nfork\njmp 1\n")?;
-    let mut kernel = Kernel::boot(alloc, store)?;
-    for number in 2..33 {
-        expect(&rt, alloc, &mut kernel, 1, value(number));
-        expect(&rt, alloc, &mut kernel, 1, value(0));
-    }
-    expect(&rt, alloc, &mut kernel, 1, failed(Errno::EAGAIN));
-    expect(&rt, alloc, &mut kernel, 33, Outcome::Gone);
-    Ok(())
-}
-
-#[test]
-fn open_files_end(rt: HostRuntime) -> Result<(), Fail> {
-    let alloc = rt.alloc();
-    let store = store_of(
-        alloc,
-        b"image 16 16\nbytes \"/f\" \"\"\nexec \"/init\" 5\nfork\njz r0 4\njmp 1\nopen \"/f\" r\njmp 4\n",
-    )?;
-    let mut kernel = Kernel::boot(alloc, store)?;
-    for child in 2..11 {
-        expect(&rt, alloc, &mut kernel, 1, value(child));
-        expect(&rt, alloc, &mut kernel, 1, value(0));
-        expect(&rt, alloc, &mut kernel, 1, value(0));
-        expect(&rt, alloc, &mut kernel, child, value(0));
-    }
-    for child in 2..10 {
-        for d in 0..16 {
-            expect(&rt, alloc, &mut kernel, child, value(d));
-            expect(&rt, alloc, &mut kernel, child, value(0));
-        }
-        expect(&rt, alloc, &mut kernel, child, failed(Errno::EMFILE));
-    }
-    expect(&rt, alloc, &mut kernel, 10, failed(Errno::ENFILE));
     Ok(())
 }
 
