@@ -1,5 +1,5 @@
 -- The lines of a name of a tree and of all that is in it, entry by entry.
-use Rattle.std.proofs.Common.{◌≡◌, ℕ, zero, suc, ◌-◌, ◌<◌, true, [], ◌∷◌, ◌++◌, ◌∙◌, flat_map, length, codes, List, Option, None, Some, option_map, refl, ap, ap₂, append_assoc, sym, subst, arith}
+use Rattle.std.proofs.Common.{◌≡◌, ℕ, zero, suc, ◌-◌, ◌<◌, true, [], ◌∷◌, ◌++◌, ◌∙◌, flat_map, codes, List, Option, None, Some, option_map, refl, ap, ap₂, append_assoc, sym, subst, arith}
 use Rattle.std.specs.Prelude.{IfSome}
 use Rattle.std.specs.FinMap.Entries.{find, is_sorted}
 use Rattle.std.proofs.lemmas.Grind.{flat_map-append}

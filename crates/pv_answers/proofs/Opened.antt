@@ -1,5 +1,5 @@
 -- The open descriptors of a process, one after the other.
-use Rattle.std.proofs.Common.{◌≡◌, ℕ, zero, suc, ◌+◌, ◌<◌, ◌≤◌, Bool, true, false, cond, ◌==◌, List, [], ◌∷◌, ◌++◌, filter, flat_map, drop, length, Option, None, Some, option_map, refl, ap, ap₂, sym, ◌∙◌, arith, add-one}
+use Rattle.std.proofs.Common.{◌≡◌, ℕ, zero, suc, ◌+◌, ◌<◌, ◌≤◌, true, false, cond, ◌==◌, List, [], ◌∷◌, ◌++◌, filter, flat_map, drop, length, Option, None, Some, option_map, refl, ap, sym, ◌∙◌, arith, add-one}
 use Rattle.std.specs.Prelude.{filter_map, is_none}
 use Rattle.std.specs.Option.{option_and_then}
 use Rattle.std.specs.List.{cons_option}

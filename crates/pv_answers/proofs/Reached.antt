@@ -14,7 +14,7 @@ use Rattle.pv_model.specs.Trace.{text_line}
 use Rattle.pv_procs.specs.declared.record.ProcessRecord.{ProcessRecord as Owned}
 use Rattle.pv_procs.specs.Parts.{record_of}
 use Rattle.pv_answers.specs.declared.reach.reacher.Reacher.{Reacher}
-use Rattle.pv_answers.specs.Reaching.{absent_lines, directory_lines, listed_lines, may_line, may_lines, owner, process_lines, process_of, reached_by, state_of, table_of, unnamed_lines}
+use Rattle.pv_answers.specs.Reaching.{absent_lines, directory_lines, listed_lines, may_line, may_lines, owner, process_lines, process_of, reached_by, state_of, unnamed_lines}
 use Rattle.pv_answers.proofs.Following.{Recorded, IsNextRecord, records_after}
 
 module _ (x : Reacher) where

@@ -9,7 +9,6 @@ use Rattle.pv_model.specs.declared.place.Place.TheVariants.{Node as Unnamed}
 use Rattle.pv_model.specs.declared.target.Target.TheVariants.{Directory}
 use Rattle.pv_model.specs.Answers.Nodes.{node_path, node_words}
 use Rattle.pv_model.specs.Answers.Reach.{removed_text}
-use Rattle.pv_model.specs.Bytes.{Bytes}
 use Rattle.pv_model.specs.Calls.Restraints.{entries_of_table}
 use Rattle.pv_model.specs.Tree.{Tree, root, is_directory_at, is_removed, parent, IsWellFormed}
 use Rattle.pv_model.specs.Unveil.{Table, climb, directory_rights, entry_for, governing_entry, rights_above}

@@ -8,10 +8,9 @@ use Rattle.pv_answers.specs.Texts.{line_front}
 use Rattle.pv_model.specs.declared.open_flags.Mode.{Mode}
 use Rattle.pv_model.specs.declared.perms.Perms.{Perms}
 use Rattle.pv_model.specs.declared.place.Place.{Place}
-use Rattle.pv_model.specs.declared.place.Place.TheVariants.{At, Node as Unnamed}
+use Rattle.pv_model.specs.declared.place.Place.TheVariants.{At}
 use Rattle.pv_model.specs.declared.promise.Promise.TheVariants.{Rpath, Wpath, Cpath, Exec}
-use Rattle.pv_model.specs.declared.target.Target.{Target}
-use Rattle.pv_model.specs.declared.target.Target.TheVariants.{Directory, Name}
+use Rattle.pv_model.specs.declared.target.Target.TheVariants.{Directory}
 use Rattle.pv_model.specs.Answers.Lines.{AnswerLine, counted, permissions_in_places}
 use Rattle.pv_model.specs.Answers.Nodes.{name_words, node_path, node_words, with_name}
 use Rattle.pv_model.specs.Answers.ProcessRecord.{open_descriptors}
@@ -22,7 +21,7 @@ use Rattle.pv_model.specs.Listing.{listed_path}
 use Rattle.pv_model.specs.Numbered.{at_number}
 use Rattle.pv_model.specs.Perms.{no_permissions}
 use Rattle.pv_model.specs.Promises.{Promises, holds}
-use Rattle.pv_model.specs.State.{OpenFile, Process, State, first_process}
+use Rattle.pv_model.specs.State.{Process, State, first_process}
 use Rattle.pv_model.specs.Trace.{mode_text, quote}
 use Rattle.pv_model.specs.Tree.{Entries, Tree, find_entry, is_removed}
 use Rattle.pv_model.specs.Unveil.{Table, entry_for, permissions_at}

@@ -1,7 +1,7 @@
 //! What a state answers: lines in the form of a trace, written straight to a sink.
 //!
 //! `fragments` has what a text is made of, one fragment after the other; `lines` a line, its front, and the small words of its
-//! text; `numbers` numbers and bytes in a row; `nodes` a node, a name and a target in words, with their paths. `state` has what each
+//! text; `short` gathers a short line, and `escaped` has bytes as a text; `numbers` numbers and bytes in a row; `nodes` a node, a name and a target in words, with their paths. `state` has what each
 //! process is and has: `standing` who it is, `calls` the call that comes next in it, `holding` what it has. `reach` has what
 //! that call may do at each place, whatever it is. Nothing here takes memory.
 //!
@@ -9,12 +9,14 @@
 #![tactic(auto)]
 
 mod calls;
+mod escaped;
 mod fragments;
 mod holding;
 mod lines;
 mod nodes;
 mod numbers;
 mod reach;
+mod short;
 mod standing;
 mod state;
 

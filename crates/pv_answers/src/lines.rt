@@ -1,5 +1,5 @@
 //! A line, its front, and the small words of its text.
-ghost use Rattle.std.specs.Prelude.{◌≡◌, ◌++◌, ◌≤◌, [], ◌∷◌, flat_map, length, replicate, decimal, OnOk, OnErr};
+ghost use Rattle.std.specs.Prelude.{◌≡◌, ◌++◌, ◌<◌, ◌≤◌, [], ◌∷◌, flat_map, length, replicate, decimal, OnOk, OnErr};
 ghost use Rattle.pv_answers.specs.Texts.{keyword_after, keywords_in, line_front};
 ghost use Rattle.pv_model.specs.Answers.Lines.{permissions_in_places, promises_text, pledged_text, spaced};
 ghost use Rattle.pv_model.specs.Promise.{all_promises};
@@ -8,9 +8,10 @@ ghost use Rattle.pv_model.specs.Trace.{mode_text, pad_left, quote, quote_byte};
 ghost use Rattle.pv_promises.specs.Pledge.{bits_of};
 ghost use Rattle.pv_streams.specs.Sinks.{and_all, TellsBeginning};
 
+use crate::escaped::write_escaped;
 use crate::fragments::{Fragment, Plain};
+use crate::short::ShortLine;
 use itoa::Buffer;
-use pv_listing::write_bytes;
 use pv_model::{Mode, Perms, Promise, Promises};
 use pv_promises::{ALL, has};
 use pv_streams::{Failed, Sink, write_whole};
@@ -38,7 +39,7 @@ impl<'a> Fragment for Escaped<'a> {
     ghost text = { λ p. flat_map quote_byte p.0.now };
 
     fn write<W: Sink>(&self, out: &mut W) -> Result<(), Failed> {
-        write_bytes(out, self.0)
+        write_escaped(out, self.0)
     }
 }
 
@@ -106,11 +107,29 @@ struct LineFront {
     word: [u8; 4],
 }
 
+// The front of a line of a process whose number is one digit.
+#[inline]
+#[tactic(auto, using(std::proofs::lemmas::Fmt::decimal_digit))]
+fn front_of(pid: u32, word: [u8; 4]) -> [u8; 12]
+    requires { pid < 10 }
+    ensures { result ≡ line_front pid word }
+{
+    let [first, second, third, fourth] = word;
+    let digit = b'0' + pid as u8;
+    [
+        b' ', b' ', b' ', b' ', digit, b' ', first, second, third, fourth, b' ', b' ',
+    ]
+}
+
 impl Fragment for LineFront {
     ghost text = { λ p. line_front p.pid p.word };
 
     fn write<W: Sink>(&self, out: &mut W) -> Result<(), Failed> {
-        write_front(out, self.pid, &self.word)
+        if self.pid < 10 {
+            write_whole(out, &front_of(self.pid, self.word))
+        } else {
+            write_front(out, self.pid, &self.word)
+        }
     }
 }
 
@@ -125,15 +144,30 @@ pub struct Line<P> {
     pub text: P,
 }
 
+// Writes a line, fragment by fragment.
+fn write_fragments<P: Fragment, W: Sink>(out: &mut W, line: &Line<P>) -> Result<(), Failed>
+    ensures whole { OnOk result (W.written out.new ≡ and_all (W.written out.old) (line_front line.now.pid line.now.word ++ P.text line.now.text ++ 10 ∷ [])) }
+    ensures beginning { OnErr result (TellsBeginning (line_front line.now.pid line.now.word ++ P.text line.now.text ++ 10 ∷ []) (W.written out.old) (W.written out.new)) }
+    ensures failed { OnErr result (Rose (W.failures out.old) (W.failures out.new)) }
+    ensures quiet { OnOk result (W.failures out.new ≡ W.failures out.old) }
+{
+    let front = LineFront {
+        pid: line.pid,
+        word: line.word,
+    };
+    (front, &line.text, Plain(b"\n")).write(out)
+}
+
 impl<P: Fragment> Fragment for Line<P> {
     ghost text = { λ l. line_front l.pid l.word ++ P.text l.text ++ 10 ∷ [] };
 
+    // A short line is gathered first, and then written at once.
     fn write<W: Sink>(&self, out: &mut W) -> Result<(), Failed> {
-        let front = LineFront {
-            pid: self.pid,
-            word: self.word,
-        };
-        (front, &self.text, Plain(b"\n")).write(out)
+        let mut short = ShortLine::new();
+        match write_fragments(&mut short, self) {
+            Ok(()) => write_whole(out, short.as_slice()),
+            Err(Failed) => write_fragments(out, self),
+        }
     }
 }
 

@@ -1,4 +1,4 @@
-use Rattle.std.proofs.Common.{◌≡◌, ℕ, ◌-◌, ◌++◌, ◌∙◌, length, Option, None, Some, ap, sym, arith}
+use Rattle.std.proofs.Common.{ℕ, ◌-◌, ◌++◌, ◌∙◌, length, Option, None, Some, ap, sym, arith}
 use Rattle.pv_model.specs.declared.place.Place.TheVariants.{At}
 use Rattle.pv_model.specs.Answers.Nodes.{with_name}
 use Rattle.pv_model.specs.Bytes.{Bytes}
