@@ -1,5 +1,5 @@
 -- Turns as they are made, step by step and process by process.
-use Rattle.std.proofs.Common.{◌≡◌, ◌≢◌, ◌∙◌, ℕ, zero, suc, ◌+◌, ◌-◌, ◌<◌, ◌≤◌, Bool, true, false, cond, if◌then◌else◌, nat_le, List, [], ◌∷◌, length, Option, None, Some, is_some, refl, sym, ap, subst, arith}
+use Rattle.std.proofs.Common.{◌≡◌, ◌∙◌, ℕ, suc, ◌+◌, ◌-◌, ◌<◌, ◌≤◌, Bool, true, false, cond, if◌then◌else◌, nat_le, length, Option, None, Some, is_some, refl, sym, ap, subst, arith}
 use Rattle.std.specs.Prelude.{IsSome}
 use Rattle.std.specs.FinMap.Entries.{is_sorted}
 use Rattle.std.specs.Ordering.{nat_cmp}
@@ -7,15 +7,14 @@ use Rattle.std.proofs.lemmas.Bool.{le-leb, lt-leb}
 use Rattle.pv_model.specs.declared.call.Call.{Call}
 use Rattle.pv_model.specs.declared.limits.TheConstants.{LAST_PROCESS}
 use Rattle.pv_model.specs.declared.outcome.Outcome.{Outcome}
-use Rattle.pv_model.specs.declared.outcome.Outcome.TheVariants.{Value, Text, Failed, Killed, Exited, Blocked, Gone}
+use Rattle.pv_model.specs.declared.outcome.Outcome.TheVariants.{Blocked, Gone}
 use Rattle.pv_model.specs.Answer.{answer}
 use Rattle.pv_model.specs.Answers.Nodes.{first_of}
-use Rattle.pv_model.specs.Answers.Turns.{Turn, goes_on, next_turn, one_step_more, turn}
-use Rattle.pv_model.specs.Bytes.{Bytes}
+use Rattle.pv_model.specs.Answers.Turns.{Turn, goes_on, next_turn, turn}
 use Rattle.pv_model.specs.Grammar.Programs.{program_of}
 use Rattle.pv_model.specs.Program.{Next, calls_for, inside, next}
 use Rattle.pv_model.specs.State.{Process, State, process_at}
-use Rattle.pv_model.specs.Step.{Stepped, step, step_by, step_of}
+use Rattle.pv_model.specs.Step.{step, step_by, step_of}
 use Rattle.pv_procs.specs.ProcessTable.{ProcessTable, number_after}
 use Rattle.pv_answers.proofs.Following.{fewer-after, next-record, records_after}
 use Rattle.pv_laws_states.specs.States.{AreProcesses}

@@ -1,9 +1,9 @@
 -- Schedules whose steps go on, and the process that has the next turn.
-use Rattle.std.specs.Prelude.{◌≡◌, ◌≢◌, ◌&&◌, ℕ, nat_le, nat_lt, List, [], ◌∷◌, ◌++◌, map, Option, None, Some, option_map, IsSome}
+use Rattle.std.specs.Prelude.{◌≡◌, ◌≢◌, ◌&&◌, ℕ, nat_le, nat_lt, List, [], ◌∷◌, ◌++◌, map, Option, None, Some, IsSome}
 use Rattle.std.specs.List.{filter}
 use Rattle.pv_model.specs.declared.outcome.Outcome.TheVariants.{Blocked}
 use Rattle.pv_model.specs.Answers.Nodes.{first_of}
-use Rattle.pv_model.specs.Answers.Turns.{Turn, goes_on, schedule_text, turn}
+use Rattle.pv_model.specs.Answers.Turns.{goes_on, schedule_text, turn}
 use Rattle.pv_model.specs.Bytes.{Bytes}
 use Rattle.pv_model.specs.Grammar.Programs.{program_of as programs}
 use Rattle.pv_model.specs.State.{Program, State, process_at}

@@ -79,24 +79,45 @@ pub(crate) fn begins_program(call: CallRef<'_>, outcome: Outcome) -> bool
     }
 }
 
-// A target in words.
-fn words_of(alloc: Global, tree: &Tree, target: &Target) -> Result<Vec<u8>, AllocError>
-    ensures { IfOk result (λ words. words.items ≡ target_words tree.now.tree target.now) }
+/// Where the targets of a call's walks are put into words: one serves for any number of calls.
+#[derive(Drop)]
+pub(crate) struct TargetTexts {
+    first: Gathered,
+    second: Gathered,
+}
+
+impl TargetTexts {
+    /// With nothing in it.
+    pub(crate) fn new(alloc: Global) -> TargetTexts {
+        TargetTexts {
+            first: Gathered::new(alloc),
+            second: Gathered::new(alloc),
+        }
+    }
+}
+
+// A target in words, which are put in the place of those that were there.
+fn words_of<'a>(
+    words: &'a mut Gathered,
+    tree: &Tree,
+    target: &Target,
+) -> Result<&'a [u8], AllocError>
+    ensures { IfOk result (λ words. words.now ≡ target_words tree.now.tree target.now) }
 {
-    let mut words = Gathered::new(alloc);
-    match write_target(&mut words, tree, target) {
-        Ok(()) => Ok(words.bytes),
+    words.bytes.clear();
+    match write_target(words, tree, target) {
+        Ok(()) => Ok(words.bytes.as_slice()),
         Err(_) => Err(AllocError),
     }
 }
 
 // What a walk asks in the state as it is: nothing where it is not begun, or ends at no place.
-fn judged(
-    alloc: Global,
+fn judged<'a>(
+    words: &'a mut Gathered,
     parts: &Parts,
     pid: u32,
     walk: Walk<'_>,
-) -> Result<Option<JudgedWalk>, AllocError>
+) -> Result<Option<JudgedWalk<'a>>, AllocError>
     requires whole { IsWhole parts.now }
     requires live { IsSome (process_at parts.now pid) }
     ensures { IfOk result (λ found. (me : Process) → process_at parts.now pid ≡ Some me → found ≡ judged_begun parts.now pid me (walk_of walk.entry)) }
@@ -105,7 +126,7 @@ fn judged(
         return Ok(None);
     };
     let target = target_of(parts.tree(), place);
-    let words = words_of(alloc, parts.tree(), &target)?;
+    let words = words_of(words, parts.tree(), &target)?;
     Ok(Some(JudgedWalk::new(target, words, walk.needed)))
 }
 
@@ -119,17 +140,18 @@ fn is_unveil(call: CallRef<'_>) -> bool
     }
 }
 
-/// What the walks of a call that a live process makes would ask, in the state before it. An unveil's walk is not judged.
+/// What the walks of a call that a live process makes would ask, in the state before it. An unveil's walk is not judged. Their
+/// targets are put into words in `texts`.
 ///
 /// # Errors
 ///
 /// Where there is no memory for the words.
-pub(crate) fn judged_walks(
-    alloc: Global,
+pub(crate) fn judged_walks<'a>(
+    texts: &'a mut TargetTexts,
     parts: &Parts,
     pid: u32,
     call: CallRef<'_>,
-) -> Result<JudgedWalks, AllocError>
+) -> Result<JudgedWalks<'a>, AllocError>
     requires whole { IsWhole parts.now }
     requires live { IsSome (process_at parts.now pid) }
     ensures { IfOk result (λ walks. (me : Process) → process_at parts.now pid ≡ Some me → walks ≡ ends_before parts.now pid me (call_of call.entry)) }
@@ -140,12 +162,12 @@ pub(crate) fn judged_walks(
     match call.walks() {
         Walks::Zero => Ok(JudgedWalks::none()),
         Walks::One(walk) => Ok(JudgedWalks {
-            first: judged(alloc, parts, pid, walk)?,
+            first: judged(&mut texts.first, parts, pid, walk)?,
             second: None,
         }),
         Walks::Two(first, second) => Ok(JudgedWalks {
-            first: judged(alloc, parts, pid, first)?,
-            second: judged(alloc, parts, pid, second)?,
+            first: judged(&mut texts.first, parts, pid, first)?,
+            second: judged(&mut texts.second, parts, pid, second)?,
         }),
     }
 }

@@ -15,7 +15,7 @@ ghost use Rattle.pv_session.specs.Running.{FailsBy, run_of, stepped, turn};
 ghost use Rattle.pv_session.specs.declared.session.Stop.TheVariants.{Memory};
 ghost use Rattle.pv_streams.specs.Sinks.{and_all, TellsBeginning};
 
-use crate::asking::{begins_program, judged_walks, promises_needed};
+use crate::asking::{TargetTexts, begins_program, judged_walks, promises_needed};
 use crate::stints::{Asked, Kept};
 use crate::writing::write_kept;
 use pv_model::CallRef;
@@ -30,6 +30,7 @@ fn ask_call(
     alloc: Global,
     session: &mut Session,
     kept: &mut Kept,
+    targets: &mut TargetTexts,
     pid: u32,
     call: CallRef<'_>,
 ) -> Result<(), Stop>
@@ -41,7 +42,7 @@ fn ask_call(
 {
     let parts = session.parts();
     let line = parts.record(pid).context.line();
-    let Ok(walks) = judged_walks(alloc, parts, pid, call) else {
+    let Ok(walks) = judged_walks(targets, parts, pid, call) else {
         return Err(Stop::Memory);
     };
     let answer = session.call(alloc, pid, call)?;
@@ -63,6 +64,7 @@ fn ask_step(
     session: &mut Session,
     kept: &mut Kept,
     texts: &mut CallTexts,
+    targets: &mut TargetTexts,
     pid: u32,
 ) -> Result<(), Stop>
     ensures after { OnOk result (session.new ≡ (stepped session.old pid).after) }
@@ -70,8 +72,12 @@ fn ask_step(
     ensures memory { IfErr result (λ stop. stop ≡ Memory) }
 {
     match session.fetch(pid, texts) {
-        Fetched::Call(call) => ask_call(alloc, session, kept, pid, call),
-        Fetched::Register | Fetched::Gone => {
+        Fetched::Call(call) => ask_call(alloc, session, kept, targets, pid, call),
+        Fetched::Register => {
+            session.register(pid);
+            Ok(())
+        }
+        Fetched::Gone => {
             session.step(alloc, pid)?;
             Ok(())
         }
@@ -84,6 +90,7 @@ fn ask_turn(
     session: &mut Session,
     kept: &mut Kept,
     texts: &mut CallTexts,
+    targets: &mut TargetTexts,
     pid: u32,
     count: u32,
 ) -> Result<(), Stop>
@@ -92,7 +99,7 @@ fn ask_turn(
     ensures memory { IfErr result (λ stop. stop ≡ Memory) }
 {
     for _ in 0..count {
-        ask_step(alloc, session, kept, texts, pid)?;
+        ask_step(alloc, session, kept, texts, targets, pid)?;
     }
     Ok(())
 }
@@ -105,9 +112,19 @@ fn ask_schedule(alloc: Global, session: &mut Session, schedule: &[(u32, u32)]) -
     ensures memory { IfErr result (λ stop. stop ≡ Memory) }
 {
     let mut texts = CallTexts::new();
+    let mut targets = TargetTexts::new(alloc);
     let mut kept = Kept::new(alloc);
     for turn in schedule {
-        ask_turn(alloc, session, &mut kept, &mut texts, turn.0, turn.1)?;
+        let (pid, count) = *turn;
+        ask_turn(
+            alloc,
+            session,
+            &mut kept,
+            &mut texts,
+            &mut targets,
+            pid,
+            count,
+        )?;
     }
     Ok(kept)
 }

@@ -1,5 +1,5 @@
 //! What is kept of what calls asked, process by process and stint by stint.
-ghost use Rattle.std.specs.Prelude.{◌≡◌, ◌≤◌, ◌<◌, if◌then◌else◌, ℕ, None, [], length, OnOk, option_to_list};
+ghost use Rattle.std.specs.Prelude.{◌≡◌, ◌≤◌, ◌<◌, if◌then◌else◌, ℕ, None, [], length, IfOk, OnOk, option_to_list};
 ghost use Rattle.std.specs.List.{list_any};
 ghost use Rattle.pv_model.specs.Answers.Needs.{same_judged as same_by_definition, same_promise};
 ghost use Rattle.pv_model.specs.Promise.{all_promises};
@@ -19,13 +19,42 @@ pub(crate) const PROMISES: usize = 32;
 
 /// A walk that is judged: for what an unveil of its place would be, that in words, and the permissions that are asked.
 #[derive(Drop)]
-pub(crate) struct JudgedWalk {
+pub(crate) struct JudgedWalk<'a> {
+    target: Target,
+    words: &'a [u8],
+    permissions: Perms,
+}
+
+impl<'a> Model for JudgedWalk<'a> {
+    ghost use Rattle.pv_model.specs.Answers.Needs.{Judged};
+
+    ghost Value = { Judged };
+
+    ghost view = { λ j. record { target = j.target; words = j.words.now; permissions = j.permissions } };
+}
+
+impl<'a> JudgedWalk<'a> {
+    /// The walk to a target, which these bytes are in words, and which asks for permissions.
+    pub(crate) fn new(target: Target, words: &'a [u8], permissions: Perms) -> JudgedWalk<'a>
+        ensures { result ≡ record { target = target; words = words.now; permissions = permissions } }
+    {
+        JudgedWalk {
+            target,
+            words,
+            permissions,
+        }
+    }
+}
+
+/// What is kept of walks to a target: it, in words too, and the permissions of all.
+#[derive(Drop)]
+pub(crate) struct KeptWalks {
     target: Target,
     words: Vec<u8>,
     permissions: Perms,
 }
 
-impl Model for JudgedWalk {
+impl Model for KeptWalks {
     ghost use Rattle.pv_model.specs.Answers.Needs.{Judged};
 
     ghost Value = { Judged };
@@ -33,16 +62,21 @@ impl Model for JudgedWalk {
     ghost view = { λ j. record { target = j.target; words = j.words.items; permissions = j.permissions } };
 }
 
-impl JudgedWalk {
-    /// The walk to a target, which these bytes are in words, and which asks for permissions.
-    pub(crate) fn new(target: Target, words: Vec<u8>, permissions: Perms) -> JudgedWalk
-        ensures { result ≡ record { target = target; words = words.items; permissions = permissions } }
+impl KeptWalks {
+    // What is kept of a first walk.
+    fn new(alloc: Global, walk: JudgedWalk<'_>) -> Result<KeptWalks, AllocError>
+        ensures { IfOk result (λ kept. kept ≡ walk.entry) }
     {
-        JudgedWalk {
+        let JudgedWalk {
             target,
             words,
             permissions,
-        }
+        } = walk;
+        Ok(KeptWalks {
+            target,
+            words: words.to_vec(alloc)?,
+            permissions,
+        })
     }
 
     /// The target in words.
@@ -52,7 +86,7 @@ impl JudgedWalk {
         &self.words
     }
 
-    /// The permissions that are asked.
+    /// The permissions of all walks.
     pub(crate) fn permissions(&self) -> Perms
         ensures { result ≡ self.now.permissions }
     {
@@ -62,11 +96,11 @@ impl JudgedWalk {
 
 /// The walks of a call that are judged: at most two, in their order.
 #[derive(Drop)]
-pub(crate) struct JudgedWalks {
+pub(crate) struct JudgedWalks<'a> {
     /// The first walk, where it is judged and ends at a place.
-    pub(crate) first: Option<JudgedWalk>,
+    pub(crate) first: Option<JudgedWalk<'a>>,
     /// The second, likewise.
-    pub(crate) second: Option<JudgedWalk>,
+    pub(crate) second: Option<JudgedWalk<'a>>,
 }
 
 /// What a call asked.
@@ -77,7 +111,7 @@ pub(crate) struct Asked<'a> {
     /// The promises that it needed: of two of which one would do, the first.
     pub(crate) promises: &'a [Promise],
     /// The walks that were judged.
-    pub(crate) walks: JudgedWalks,
+    pub(crate) walks: JudgedWalks<'a>,
     /// Whether it ended its stint: a new program was begun.
     pub(crate) ends_stint: bool,
 }
@@ -114,7 +148,7 @@ impl Times {
 #[derive(Drop)]
 pub(crate) struct KeptTarget {
     /// The target, and the permissions of all walks there.
-    pub(crate) judged: JudgedWalk,
+    pub(crate) judged: KeptWalks,
     /// How many walks they were.
     pub(crate) times: Times,
 }
@@ -173,15 +207,15 @@ impl Model for Kept {
 }
 
 // A walk, where it is begun.
-fn if_begun(is_begun: bool, walk: Option<JudgedWalk>) -> Option<JudgedWalk>
-    ensures { result ≡ (if is_begun then walk else None) }
+fn if_begun<'a>(is_begun: bool, walk: Option<JudgedWalk<'a>>) -> Option<JudgedWalk<'a>>
+    ensures { result ≡ (if is_begun then walk.entry else None) }
 {
     if is_begun { walk } else { None }
 }
 
-impl JudgedWalks {
+impl<'a> JudgedWalks<'a> {
     /// No walk.
-    pub(crate) fn none() -> JudgedWalks
+    pub(crate) fn none() -> JudgedWalks<'a>
         ensures first { result.first ≡ None }
         ensures second { result.second ≡ None }
     {
@@ -192,8 +226,8 @@ impl JudgedWalks {
     }
 
     /// The first so many walks alone.
-    pub(crate) fn first_ones(self, count: u8) -> JudgedWalks
-        ensures { result ≡ first_walks self count }
+    pub(crate) fn first_ones(self, count: u8) -> JudgedWalks<'a>
+        ensures { result ≡ first_walks self.entry count }
     {
         let JudgedWalks { first, second } = self;
         JudgedWalks {
@@ -221,10 +255,10 @@ fn same_target(a: &Target, b: &Target) -> bool
 }
 
 // Whether two walks lead to one target, in the same words.
-fn same_judged(a: &JudgedWalk, b: &JudgedWalk) -> bool
+fn same_judged(a: &KeptWalks, b: &JudgedWalk<'_>) -> bool
     ensures { result ≡ same_by_definition a.now b.now }
 {
-    same_target(&a.target, &b.target) && a.words.as_slice() == b.words.as_slice()
+    same_target(&a.target, &b.target) && a.words.as_slice() == b.words
 }
 
 // Whether a promise is one of those that a call needed.
@@ -248,16 +282,16 @@ fn count_promises(all: &[Promise], promises: &mut [Times], needed: &[Promise], l
 
 impl KeptTarget {
     // What is kept of the first walk to a target.
-    fn new(walk: JudgedWalk, line: u16) -> KeptTarget
-        ensures { result ≡ first_walk line walk }
+    fn new(alloc: Global, walk: JudgedWalk<'_>, line: u16) -> Result<KeptTarget, AllocError>
+        ensures { IfOk result (λ target. target ≡ first_walk line walk.entry) }
     {
-        KeptTarget {
-            judged: walk,
+        Ok(KeptTarget {
+            judged: KeptWalks::new(alloc, walk)?,
             times: Times {
                 count: 1,
                 last: line,
             },
-        }
+        })
     }
 
     // Adds another walk to the target.
@@ -270,7 +304,7 @@ impl KeptTarget {
 }
 
 // The index of the target to which a walk leads.
-fn index_of(targets: &[KeptTarget], walk: &JudgedWalk) -> Option<usize>
+fn index_of(targets: &[KeptTarget], walk: &JudgedWalk<'_>) -> Option<usize>
     ensures { result ≡ index_of_target targets.now walk.now }
 {
     targets
@@ -279,26 +313,35 @@ fn index_of(targets: &[KeptTarget], walk: &JudgedWalk) -> Option<usize>
 }
 
 // Keeps a walk, of a target that is there or of another.
-fn keep_walk(targets: &mut Vec<KeptTarget>, line: u16, walk: JudgedWalk) -> Result<(), AllocError>
-    ensures { OnOk result (targets.new.items ≡ walk_more targets.old.items line walk) }
+fn keep_walk(
+    alloc: Global,
+    targets: &mut Vec<KeptTarget>,
+    line: u16,
+    walk: JudgedWalk<'_>,
+) -> Result<(), AllocError>
+    ensures { OnOk result (targets.new.items ≡ walk_more targets.old.items line walk.entry) }
 {
     match index_of(targets, &walk) {
         Some(k) => targets[k].add(walk.permissions, line),
-        None => targets.push(KeptTarget::new(walk, line))?,
+        None => {
+            let target = KeptTarget::new(alloc, walk, line)?;
+            targets.push(target)?;
+        }
     }
     Ok(())
 }
 
 // Keeps a walk, where there is one.
 fn keep_some(
+    alloc: Global,
     targets: &mut Vec<KeptTarget>,
     line: u16,
-    walk: Option<JudgedWalk>,
+    walk: Option<JudgedWalk<'_>>,
 ) -> Result<(), AllocError>
-    ensures { OnOk result (targets.new.items ≡ walks_more targets.old.items line (option_to_list walk)) }
+    ensures { OnOk result (targets.new.items ≡ walks_more targets.old.items line (option_to_list walk.entry)) }
 {
     match walk {
-        Some(walk) => keep_walk(targets, line, walk),
+        Some(walk) => keep_walk(alloc, targets, line, walk),
         None => Ok(()),
     }
 }
@@ -338,7 +381,7 @@ impl Stint {
     }
 
     // Keeps what a call asked.
-    fn keep(&mut self, asked: Asked<'_>) -> Result<(), AllocError>
+    fn keep(&mut self, alloc: Global, asked: Asked<'_>) -> Result<(), AllocError>
         ensures { OnOk result (self.new ≡ call_more self.old asked.entry) }
     {
         let Asked {
@@ -350,8 +393,8 @@ impl Stint {
         let JudgedWalks { first, second } = walks;
         count_promises(&ALL, &mut self.promises, promises, line);
         self.ended = ends_stint;
-        keep_some(&mut self.targets, line, first)?;
-        keep_some(&mut self.targets, line, second)
+        keep_some(alloc, &mut self.targets, line, first)?;
+        keep_some(alloc, &mut self.targets, line, second)
     }
 }
 
@@ -363,6 +406,16 @@ fn index_of_open(stints: &[Stint]) -> Option<usize>
         Some(stint) if !stint.has_ended() => Some(stints.len() - 1),
         _ => None,
     }
+}
+
+// Makes room for a first stint, and for no other: most processes have one alone.
+fn make_room(stints: &mut Vec<Stint>) -> Result<(), AllocError>
+    ensures { stints.new.items ≡ stints.old.items }
+{
+    if stints.is_empty() {
+        stints.reserve_exact(1)?;
+    }
+    Ok(())
 }
 
 impl Stints {
@@ -387,10 +440,11 @@ impl Stints {
         ensures { OnOk result (self.new ≡ process_more self.old asked.entry) }
     {
         if let Some(k) = index_of_open(&self.stints) {
-            return self.stints[k].keep(asked);
+            return self.stints[k].keep(alloc, asked);
         }
+        make_room(&mut self.stints)?;
         let mut stint = Stint::new(alloc);
-        stint.keep(asked)?;
+        stint.keep(alloc, asked)?;
         self.stints.push(stint)?;
         Ok(())
     }

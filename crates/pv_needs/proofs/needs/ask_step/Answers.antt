@@ -1,13 +1,29 @@
-use Rattle.std.proofs.Common.{sym, subst, refl}
+use Rattle.std.proofs.Common.{◌∙◌, ap, inl, inr, sym, subst, refl}
+use Rattle.pv_laws_access.proofs.Ends.{step-is}
+use Rattle.pv_model.specs.Grammar.Programs.{program_of}
+use Rattle.pv_model.specs.Step.{Stepped, step_by}
 use Rattle.pv_needs.specs.Asking.{IsMoreBy}
 use Rattle.pv_needs.proofs.Asked.{asks-nothing}
 use Rattle.pv_needs.proofs.needs.ask_step.Goals as goal
 
-pub returns-in_ok-step-in-Register : goal.returns-in_ok-step-in-Register
-returns-in_ok-step-in-Register c = record {
-  after = c.in_ok-step-in-Register.ensures.after;
+pub returns-in-Register : goal.returns-in-Register
+returns-in-Register c =
+    let s = c.args.session.now in
+    let pid = c.args.pid in
+    let made = c.register.ensures in
+    record {
+      after = made.only ∙ sym (ap (λ (w : Stepped). w.after) (step-is program_of s pid made.me made.lives ∙ ap (step_by program_of s pid made.me) made.step));
+      kept =
+          subst (λ o. IsMoreBy c.args.kept.now pid o c.args.kept.now)
+          (sym (asks-nothing s pid c.fetch.result (inl c.in-Register.is) c.fetch.ensures.next)) refl;
+      memory = tt;
+    }
+
+pub returns-in_ok-step-in-Gone : goal.returns-in_ok-step-in-Gone
+returns-in_ok-step-in-Gone c = record {
+  after = c.in_ok-step-in-Gone.ensures.after;
   kept =
       subst (λ o. IsMoreBy c.args.kept.now c.args.pid o c.args.kept.now)
-      (sym (asks-nothing c.args.session.now c.args.pid c.fetch.result c.in-Register.is c.fetch.ensures.next)) refl;
+      (sym (asks-nothing c.args.session.now c.args.pid c.fetch.result (inr c.in-Gone.is) c.fetch.ensures.next)) refl;
   memory = tt;
 }

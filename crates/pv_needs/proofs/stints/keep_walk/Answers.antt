@@ -16,4 +16,4 @@ pub returns-in_ok-push-in-None : goal.returns-in_ok-push-in-None
 returns-in_ok-push-in-None c =
     let ts = c.args.targets.now.items in
     let none : index_of ts c.args.walk ≡ None = ap (λ xs. index_of xs c.args.walk) (sym c.deref.ensures.value) ∙ sym c.index_of.ensures ∙ c.in-None.is in
-    c.in_ok-push-in-None.ensures.items ∙ ap (λ x. ts ++ x ∷ []) (c.new.ensures) ∙ sym (walk-new c.args.line c.args.walk ts none)
+    c.in_ok-push-in-None.ensures.items ∙ ap (λ x. ts ++ x ∷ []) c.in_ok-target-in-None.ensures ∙ sym (walk-new c.args.line c.args.walk ts none)

@@ -1,8 +1,5 @@
-use Rattle.std.proofs.Common.{◌≡◌, ◌∙◌, ◌-◌, ◌<◌, arith, refl, subst}
-use Rattle.std.specs.Prelude.{OnErr}
+use Rattle.std.proofs.Common.{◌∙◌, arith, refl}
 use Rattle.pv_streams.proofs.Telling.{on_err}
-use Rattle.std.proofs.lemmas.Result.{on_err_weaker}
-use Rattle.pv_needs.specs.Turning.{IsTaken}
 use Rattle.pv_needs.proofs.TurnsLines.{all-idle, all-over, begun-next, begun-so-far, count-fits, count-some, lines-so-far, written-next, written-none}
 use Rattle.pv_needs.proofs.TurnsTaken.{taken-as}
 use Rattle.pv_needs.proofs.turns.write_turns.Goals as goal

@@ -23,5 +23,5 @@ pub returns : goal.returns
 returns c =
     let s = c.self.inside.stints.items in
     let none : open_at s ≡ None = ap open_at (sym c.deref.ensures.value) ∙ sym c.index_of_open.ensures ∙ c.in_default.is in
-    c.in_ok-push.ensures.items ∙ ap (λ x. s ++ x ∷ []) (c.in_ok-keep.ensures ∙ ap (λ x. call_more x c.args.asked) c.new-stint.ensures)
+    c.in_ok-push.ensures.items ∙ ap (λ xs. xs ++ c.keep-2.new.self ∷ []) c.make_room.ensures ∙ ap (λ x. s ++ x ∷ []) (c.in_ok-keep.ensures ∙ ap (λ x. call_more x c.args.asked) c.new-stint.ensures)
     ∙ sym (process-new c.args.asked s none) ∙ ap (λ v. process_more v c.args.asked) c.self.view_is
