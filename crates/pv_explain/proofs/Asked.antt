@@ -1,5 +1,5 @@
 -- Which of the two values of a pledge is refused first.
-use Rattle.std.proofs.Common.{◌≡◌, ◌∙◌, ap, sym, refl, ℕ, Bool, true, cond, codes, Option, None, Some, Result, Ok, Err}
+use Rattle.std.proofs.Common.{◌≡◌, ◌∙◌, ap, sym, refl, ℕ, Bool, true, cond, codes, Option, None, Result, Ok, Err}
 use Rattle.std.specs.Prelude.{OnOk, IfErr}
 use Rattle.std.specs.Result.{is_err}
 use Rattle.pv_model.specs.declared.promise.Promise.{Promise}

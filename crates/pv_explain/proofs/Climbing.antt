@@ -1,5 +1,5 @@
 -- The lines of a directory and of those above it, level by level.
-use Rattle.std.proofs.Common.{◌≡◌, ◌<◌, ◌≤◌, ◌+◌, ◌-◌, ◌∙◌, ℕ, zero, suc, Bool, true, false, cond, ◌==◌, List, [], ◌∷◌, ◌++◌, map, length, Option, None, Some, refl, ap, ap₂, sym, subst, append_assoc, arith}
+use Rattle.std.proofs.Common.{◌≡◌, ◌<◌, ◌≤◌, ◌+◌, ◌-◌, ◌∙◌, ℕ, suc, true, false, cond, ◌==◌, List, [], ◌∷◌, ◌++◌, length, Option, None, Some, refl, ap, sym, subst, append_assoc, arith}
 use Rattle.std.specs.Prelude.{flat_map, is_some, option_to_list}
 use Rattle.std.proofs.lemmas.Bool.{false≢true}
 use Rattle.std.proofs.lemmas.Grind.{flat_map-append}
@@ -9,11 +9,11 @@ use Rattle.pv_model.specs.declared.place.Place.{Place}
 use Rattle.pv_model.specs.declared.place.Place.TheVariants.{At}
 use Rattle.pv_model.specs.declared.target.Target.{Target}
 use Rattle.pv_model.specs.declared.target.Target.TheVariants.{Directory, Name}
-use Rattle.pv_model.specs.Answers.Levels.{Level, level, unless_found, and_above, levels_within, directory_levels, name_levels, levels}
+use Rattle.pv_model.specs.Answers.Levels.{Level, level, unless_found, levels_within, directory_levels, name_levels, levels}
 use Rattle.pv_model.specs.Answers.Lines.{AnswerLine, answer_bytes, answer_line_bytes}
 use Rattle.pv_model.specs.Bytes.{Bytes}
 use Rattle.pv_model.specs.Tree.{Tree, root, is_directory_at, above_or_none, parent, IsWellFormed}
-use Rattle.pv_model.specs.Unveil.{Table, entry_for}
+use Rattle.pv_model.specs.Unveil.{entry_for}
 use Rattle.pv_streams.specs.Sinks.{and_all, TellsBeginning}
 use Rattle.pv_streams.proofs.Telling.{written_both, written_none, begins_first, begins_then}
 use Rattle.pv_unveil.specs.Up.{up}

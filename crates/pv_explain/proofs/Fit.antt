@@ -1,5 +1,5 @@
 -- What was made can be told: the place of a refused walk is one of a directory, and bytes have their size.
-use Rattle.std.proofs.Common.{◌≡◌, ◌⊎◌, inl, inr, ◌∙◌, ℕ, zero, suc, ℤ, Bool, true, false, cond, List, [], ◌∷◌, length, take, Option, None, Some, Result, Ok, Err, refl, ap, sym, subst, arith}
+use Rattle.std.proofs.Common.{◌≡◌, ◌⊎◌, inl, inr, ◌∙◌, ℕ, zero, suc, true, [], length, take, Option, None, Some, Result, Ok, Err, refl, ap, sym, subst, arith}
 use Rattle.std.proofs.lemmas.List.{length-take-le}
 use Rattle.pv_model.specs.declared.call.Call.{Call}
 use Rattle.pv_model.specs.declared.call.Call.TheVariants.{Wait, Stat, Lstat, Fstat, Write}
@@ -35,9 +35,9 @@ use Rattle.pv_unveil.proofs.Climbing.{resolve-directory}
 use Rattle.pv_explain.specs.declared.making.MadeCall.{MadeCall}
 use Rattle.pv_explain.specs.declared.making.MadeStep.{MadeStep}
 use Rattle.pv_explain.specs.declared.making.MadeStep.TheVariants.{Gone as GoneStep, Register, Call as CallMade}
-use Rattle.pv_explain.specs.Before.{IsBefore, place_of}
+use Rattle.pv_explain.specs.Before.{place_of}
 use Rattle.pv_explain.specs.Made.{IsMadeCall, IsMade, IsInDirectory, AreMoved, IsFitCall, IsFit}
-use Rattle.pv_explain.specs.Moved.{HasSize, IsMoved}
+use Rattle.pv_explain.specs.Moved.{IsMoved}
 use Rattle.pv_explain.proofs.Sizes.{wait-takes, stat-takes, lstat-takes, fstat-takes}
 
 -- ---- bytes

@@ -1,24 +1,23 @@
 -- What a call leaves of where entries were set.
-use Rattle.std.proofs.Common.{◌≡◌, ◌≢◌, ◌∙◌, ◌⊎◌, inl, inr, ⊎_elim, ℕ, zero, suc, Bool, true, false, cond, ◌==◌, List, [], ◌∷◌, Option, None, Some, option_map, refl, ap, sym, subst}
+use Rattle.std.proofs.Common.{◌≡◌, ◌≢◌, ◌∙◌, ⊎_elim, ℕ, Bool, true, false, cond, ◌==◌, List, [], Option, None, Some, option_map, refl, ap, sym, subst}
 use Rattle.std.specs.Prelude.{unwrap_or}
 use Rattle.std.specs.Cmp.{unsigned_ties}
 use Rattle.std.specs.FinMap.Entries.{find, put, find-put}
 use Rattle.std.specs.Ordering.{nat_cmp, eq_by_cmp}
-use Rattle.std.proofs.lemmas.Bool.{eqb-true, eqb-false, eq-eqb, ne_eqb, cases_eq}
+use Rattle.std.proofs.lemmas.Bool.{eqb-false}
 use Rattle.std.proofs.lemmas.Cmp.{nat_cmp_total}
 use Rattle.pv_model.specs.declared.call.Call.{Call}
 use Rattle.pv_model.specs.declared.call.Call.TheVariants.{Fork, Unveil, Execve}
 use Rattle.pv_model.specs.declared.outcome.Outcome.{Outcome}
 use Rattle.pv_model.specs.declared.outcome.Outcome.TheVariants.{Value}
 use Rattle.pv_model.specs.declared.place.Place.{Place}
-use Rattle.pv_model.specs.declared.target.Target.{Target}
 use Rattle.pv_model.specs.Answer.{answer}
 use Rattle.pv_model.specs.Answers.Explain.{settings_by, settings_of_step, settings_next}
 use Rattle.pv_model.specs.Answers.Settings.{Setting, Settings, settings_of, settings_after, table_entry, entry_given, after_unveil, after_execve}
 use Rattle.pv_model.specs.Grammar.Programs.{program_of}
 use Rattle.pv_model.specs.Program.{Next, inside, calls_for, next}
 use Rattle.pv_model.specs.State.{Process, State, process_at}
-use Rattle.pv_model.specs.Step.{Stepped, step, step_by, step_of}
+use Rattle.pv_model.specs.Step.{Stepped, step, step_by}
 use Rattle.pv_model.specs.Unveil.{target_of}
 use Rattle.pv_laws_access.specs.Growth.{IsInOrder}
 use Rattle.pv_laws_access.proofs.Ends.{step-is, step-gone}

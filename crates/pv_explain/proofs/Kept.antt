@@ -1,8 +1,8 @@
 -- What is kept of processes: what is found of one, what comes, and how many there are.
-use Rattle.std.proofs.Common.{◌≡◌, ◌≢◌, ◌<◌, ◌≤◌, ◌+◌, ◌∙◌, ℕ, zero, suc, Bool, true, false, cond, not, ◌&&◌, ◌==◌, List, [], ◌∷◌, ◌++◌, map, filter, length, Option, None, Some, is_some, is_none, option_map, if◌then◌else◌, get_or, refl, ap, ap₂, sym, subst, arith}
+use Rattle.std.proofs.Common.{◌≡◌, ◌≢◌, ◌<◌, ◌≤◌, ◌∙◌, ℕ, zero, suc, Bool, true, false, cond, not, ◌&&◌, ◌==◌, List, [], ◌∷◌, ◌++◌, map, filter, length, Option, None, Some, is_some, is_none, option_map, if◌then◌else◌, get_or, refl, ap, ap₂, sym, arith}
 use Rattle.std.specs.Prelude.{find as first_where, unwrap_or, slice_set, T}
 use Rattle.std.specs.declared.cmp.Ordering.TheVariants.{Equal}
-use Rattle.std.specs.Cmp.{unsigned_ties, unsigned_tied}
+use Rattle.std.specs.Cmp.{unsigned_ties}
 use Rattle.std.specs.FinMap.Entries.{find, put, where_key, is_sorted, find-append, find-put, find-where_key, is_sorted-where_key, length_without}
 use Rattle.std.specs.Ordering.{nat_cmp, eq_by_cmp}
 use Rattle.std.proofs.lemmas.Bool.{and_parts, and_from, eqb-true, eq-eqb, ne_eqb}

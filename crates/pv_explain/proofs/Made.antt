@@ -1,15 +1,15 @@
 -- A step that was made, as the definition has it: its number and line, and what it leaves of where entries were set.
-use Rattle.std.proofs.Common.{◌≡◌, ◌∙◌, ℕ, List, [], ◌∷◌, ◌++◌, Option, None, Some, refl, ap, sym, subst}
+use Rattle.std.proofs.Common.{◌≡◌, ◌∙◌, ℕ, List, ◌++◌, Some, ap, sym, subst}
 use Rattle.std.specs.Prelude.{codes}
 use Rattle.std.specs.Fmt.{decimal}
-use Rattle.pv_model.specs.Answer.{Answered, answer}
+use Rattle.pv_model.specs.Answer.{Answered}
 use Rattle.pv_model.specs.Answers.Explain.{settings_next, standing_at, step_line}
 use Rattle.pv_model.specs.Answers.Lines.{AnswerLine, answer_line, answer_bytes, answer_line_bytes}
 use Rattle.pv_model.specs.Answers.Settings.{Setting, Settings, settings_of, settings_after}
 use Rattle.pv_model.specs.Bytes.{Bytes}
 use Rattle.pv_model.specs.CallRef.{call_of}
 use Rattle.pv_model.specs.Grammar.Programs.{program_of}
-use Rattle.pv_model.specs.State.{Process, State, process_at}
+use Rattle.pv_model.specs.State.{State, process_at}
 use Rattle.pv_model.specs.Step.{Stepped, step, step_by}
 use Rattle.pv_laws_states.specs.States.{IsWhole}
 use Rattle.pv_laws_states.proofs.BySteps.{step-keeps_whole}

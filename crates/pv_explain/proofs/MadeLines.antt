@@ -1,8 +1,7 @@
 -- The lines of a step that was made are the definition's.
-use Rattle.std.proofs.Common.{◌≡◌, ◌≤◌, ◌⊎◌, inl, inr, ⊎_elim, ◌∙◌, ℕ, zero, suc, ℤ, Bool, true, false, not, cond, List, [], ◌∷◌, ◌++◌, map, length, take, Option, None, Some, option_map, Result, Ok, Err, refl, ap, ap₂, sym, subst, arith}
-use Rattle.std.specs.Prelude.{flat_map, codes, IsTrue}
+use Rattle.std.proofs.Common.{◌≡◌, ◌≤◌, ◌∙◌, ℕ, List, [], ◌∷◌, ◌++◌, map, take, Option, None, Some, option_map, refl, ap, ap₂, sym, subst, arith}
+use Rattle.std.specs.Prelude.{flat_map, codes}
 use Rattle.std.proofs.lemmas.Grind.{flat_map-append}
-use Rattle.std.proofs.lemmas.List.{length-take-le}
 use Rattle.pv_model.specs.declared.call.Call.{Call}
 use Rattle.pv_model.specs.declared.call.Call.TheVariants.{Pledge, Unveil, Wait, Stat, Lstat, Fstat, Read, Write}
 use Rattle.pv_model.specs.declared.errno.Errno.{Errno}
@@ -11,7 +10,6 @@ use Rattle.pv_model.specs.declared.outcome.Cause.{Cause}
 use Rattle.pv_model.specs.declared.outcome.Cause.TheVariants.{Plain, Promise as ByPromise, Unveil as ByUnveil, Locked}
 use Rattle.pv_model.specs.declared.outcome.Outcome.{Outcome}
 use Rattle.pv_model.specs.declared.outcome.Outcome.TheVariants.{Value, Text, Failed, Killed, Exited, Blocked, Gone}
-use Rattle.pv_model.specs.declared.outcome.Taken.{Taken}
 use Rattle.pv_model.specs.declared.perms.Perms.{Perms}
 use Rattle.pv_model.specs.declared.place.Place.{Place}
 use Rattle.pv_model.specs.declared.target.Target.{Target}
@@ -25,28 +23,26 @@ use Rattle.pv_model.specs.Answers.Settings.{Setting}
 use Rattle.pv_model.specs.Bytes.{Bytes}
 use Rattle.pv_model.specs.Calls.Restraints.{entries_of_table}
 use Rattle.pv_model.specs.CallRef.{call_of}
-use Rattle.pv_model.specs.Effect.{descriptor_at, end_of, open_file, open_file_of}
+use Rattle.pv_model.specs.Effect.{descriptor_at, open_file_of}
 use Rattle.pv_model.specs.Grammar.Programs.{program_of}
 use Rattle.pv_model.specs.Numbered.{at_number}
-use Rattle.pv_model.specs.Program.{inside, calls_for, next}
 use Rattle.pv_model.specs.State.{Descriptor, OpenFile, Process, State, process_at}
-use Rattle.pv_model.specs.Touch.{place_found}
 use Rattle.pv_model.specs.Trace.{Line, line, Word, call_word, nami_word, pldg_word, unvl_word, gio_word, for_kill, for_refusal, for_increase, UnveilVerdict, no_entry, entry_lacks, table_locked, Way, promise_words, unveil_words, end_words, asked_permissions, buffer_of, call_lines, gone_lines}
 use Rattle.pv_model.specs.Tree.{Tree}
 use Rattle.pv_model.specs.Unveil.{Table}
 use Rattle.pv_model.specs.Walks.{Walk, walk_number, walks_of}
 use Rattle.pv_laws_states.specs.Calls.{IsUnharmed}
 use Rattle.pv_laws_states.proofs.Outcomes.{refused-unharmed}
-use Rattle.pv_calls_path.specs.Ends.{end_begun, end_of_some}
+use Rattle.pv_calls_path.specs.Ends.{end_of_some}
 use Rattle.pv_calls_path.proofs.Begun.{begun-ends}
 use Rattle.pv_session.proofs.Stepping.{called-lines_by}
 use Rattle.pv_trace.specs.Steps.{call_lines_of, path_line, path_lines_of, first_lines_of, promise_lines_of, unveil_lines_of, moved_lines_of, end_lines_of, lines_by, moved_by}
 use Rattle.pv_explain.specs.declared.making.MadeCall.{MadeCall}
 use Rattle.pv_explain.specs.declared.making.MadeStep.{MadeStep}
 use Rattle.pv_explain.specs.declared.making.MadeStep.TheVariants.{Gone as GoneStep, Register, Call as CallMade}
-use Rattle.pv_explain.specs.Before.{IsBefore, place_of, pledged_of}
-use Rattle.pv_explain.specs.Made.{first_part_lines, promise_lines, table_lines_of, table_lines, moved_lines, last_lines, call_made_lines, made_lines, IsMadeCall, IsMade}
-use Rattle.pv_explain.specs.Parts.{why, increase_reason, promise_reason_by, promise_part, source_of, found_by, directory_words_by, level_words_of, level_text_by, level_lines, judgement_lines, table_reasons, table_part, file_number, node_text, file_at, moved_by_call, moved_part}
+use Rattle.pv_explain.specs.Before.{place_of, pledged_of}
+use Rattle.pv_explain.specs.Made.{table_lines_of, table_lines, call_made_lines, made_lines, IsMadeCall, IsMade}
+use Rattle.pv_explain.specs.Parts.{why, increase_reason, promise_part, source_of, found_by, directory_words_by, level_words_of, level_text_by, judgement_lines, table_reasons, table_part, file_number, node_text, file_at, moved_by_call, moved_part}
 
 map-map : {X Y Z : Type 0} (f : X → Y) (g : Y → Z) (xs : List X) → map g (map f xs) ≡ map (λ x. g (f x)) xs
 map-map f g [] = refl

@@ -1,5 +1,5 @@
 -- Who is live after a step was live before it, or is the child of a fork.
-use Rattle.std.proofs.Common.{◌≡◌, ◌≢◌, ◌⊎◌, inl, inr, ℕ, suc, true, false, pos, negsuc, Option, None, Some, refl, ap, sym, subst, ◌∙◌, ⊎_elim}
+use Rattle.std.proofs.Common.{◌≡◌, ◌⊎◌, inl, inr, ℕ, suc, true, pos, negsuc, Option, None, Some, refl, ap, sym, subst, ◌∙◌, ⊎_elim}
 use Rattle.std.specs.FinMap.Entries.{find, where_key, is_sorted}
 use Rattle.std.specs.Ordering.{nat_cmp}
 use Rattle.std.proofs.lemmas.Bool.{cases_eq}
@@ -16,9 +16,7 @@ use Rattle.pv_model.specs.Calls.Processes.{with_program, with_result, child, end
 use Rattle.pv_model.specs.Effect.{Effect, Reply, returns, returns_bytes, ends, waits}
 use Rattle.pv_model.specs.Errno.{errno_number}
 use Rattle.pv_model.specs.Held.{trim}
-use Rattle.pv_model.specs.Program.{Next, inside, calls_for, next}
-use Rattle.pv_model.specs.State.{Program, Process, ProcessRecord, live, ended_record, State, process_at, with_process}
-use Rattle.pv_model.specs.Step.{Stepped, step, step_by}
+use Rattle.pv_model.specs.State.{Program, Process, live, ended_record, State, process_at, with_process}
 use Rattle.pv_laws_states.proofs.Attempts.{Leads}
 use Rattle.pv_laws_states.proofs.Ending.{adopted, mapped, map-adopt, sorted-mapped, found-filtered, found-mapped, live-adopted}
 use Rattle.pv_laws_states.proofs.Members.{live-found, found-live}
@@ -28,7 +26,7 @@ use Rattle.pv_laws_states.proofs.Whole.{sorted-put_number}
 use Rattle.pv_laws_access.specs.Growth.{IsInOrder}
 use Rattle.pv_laws_access.proofs.HasEffect.{HasEffect, stays, restrains, begins, closes, copies, forks, reaps, moves, cuts, writes_bytes, makes, links, unlinks, renames, opens, creates, Did}
 use Rattle.pv_laws_access.proofs.EffectByCall.{does-effect}
-use Rattle.pv_laws_access.proofs.Ends.{process_at-trim, in_order-call, ended-not_live, put_away, heir, claimed, step-is, step-gone}
+use Rattle.pv_laws_access.proofs.Ends.{process_at-trim, in_order-call, ended-not_live, put_away, heir, claimed}
 use Rattle.pv_explain.specs.Keeping.{IsLive}
 
 -- ---- one process put into a state

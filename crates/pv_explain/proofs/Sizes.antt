@@ -1,12 +1,11 @@
 -- How many bytes a call gives, where what they say is of one size.
-use Rattle.std.proofs.Common.{◌≡◌, ◌≤◌, ◌⊎◌, inl, inr, ◌∙◌, ℕ, zero, suc, ℤ, Bool, true, false, List, [], ◌∷◌, ◌++◌, length, take, Option, None, Some, refl, ap, sym, subst, arith}
+use Rattle.std.proofs.Common.{◌≡◌, ◌⊎◌, inl, inr, ℕ, ℤ, List, [], ◌∷◌, length, Option, None, Some, refl, ap, subst}
 use Rattle.pv_model.specs.declared.call.Call.{Call}
 use Rattle.pv_model.specs.declared.call.Call.TheVariants.{Wait, Fstat, Stat, Lstat}
 use Rattle.pv_model.specs.declared.errno.Errno.TheVariants.{EBADF, ECHILD, ENOENT}
 use Rattle.pv_model.specs.declared.follow.Follow.{Follow}
 use Rattle.pv_model.specs.declared.follow.Follow.TheVariants.{Last, Keep}
-use Rattle.pv_model.specs.declared.outcome.Outcome.{Outcome}
-use Rattle.pv_model.specs.declared.outcome.Outcome.TheVariants.{Value, Text, Failed, Killed, Exited, Blocked, Gone}
+use Rattle.pv_model.specs.declared.outcome.Outcome.TheVariants.{Text}
 use Rattle.pv_model.specs.declared.outcome.Taken.{Taken}
 use Rattle.pv_model.specs.Answer.{Answered, answer, answer_by_attempt, effect}
 use Rattle.pv_model.specs.Attempt.{Attempt, done, refused, refuse_if}
@@ -14,9 +13,9 @@ use Rattle.pv_model.specs.Bytes.{Bytes, is_empty}
 use Rattle.pv_model.specs.Calls.Paths.{stat_at}
 use Rattle.pv_model.specs.Calls.Descriptors.{fstat}
 use Rattle.pv_model.specs.Calls.Processes.{children, reap, statuses, wait}
-use Rattle.pv_model.specs.Effect.{Effect, Reply, returns, returns_bytes, ends, waits, answers_bytes, node_of, open_file, status, status_of}
+use Rattle.pv_model.specs.Effect.{Effect, returns, returns_bytes, ends, waits, answers_bytes, node_of, open_file, status, status_of}
 use Rattle.pv_model.specs.Perms.{permission_r}
-use Rattle.pv_model.specs.State.{Program, Process, State, process_at}
+use Rattle.pv_model.specs.State.{Program, Process, State}
 use Rattle.pv_model.specs.Tree.{Node, node_at}
 use Rattle.pv_model.specs.Walks.{from_here}
 use Rattle.pv_laws_states.proofs.Attempts.{Leads, leads-demand, leads-place, leads-then}

@@ -23,7 +23,7 @@ use Rattle.pv_session.proofs.Turns.{replicate_more, steps_more}
 use Rattle.pv_streams.specs.Sinks.{and_all, TellsBeginning}
 use Rattle.pv_streams.proofs.Telling.{written_both, written_none, begins_first, begins_then}
 use Rattle.pv_explain.specs.Keeping.{Agree}
-use Rattle.pv_explain.specs.Steps.{step_lines, steps_lines, settings_through, StopsAtLoad, StopsExplained}
+use Rattle.pv_explain.specs.Steps.{step_lines, steps_lines, settings_through, StopsExplained}
 use Rattle.pv_explain.proofs.Following.{next-same}
 
 -- ---- what is the same of live processes gives the same lines

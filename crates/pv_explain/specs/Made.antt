@@ -110,7 +110,10 @@ IsFit pid made after = ⊤
 
 -- ---- what it leaves of where entries were set
 
-abbrev pub settings_made : ℕ → MadeStep → State → Settings → Settings
-settings_made pid (CallMade m) after all =
+abbrev pub settings_called : ℕ → MadeCall → State → Settings → Settings
+settings_called pid m after all =
     settings_told pid m.before.line (process_at after pid) (entry_at m.before.target (process_at after pid)) all (call_of m.call) m.answer.outcome
+
+abbrev pub settings_made : ℕ → MadeStep → State → Settings → Settings
+settings_made pid (CallMade m) after all = settings_called pid m after all
 settings_made pid made after all = all

@@ -10,7 +10,7 @@ use Rattle.pv_model.specs.Step.{run, step}
 use Rattle.pv_session.specs.declared.session.Stop.{Stop}
 use Rattle.pv_session.specs.declared.session.Stop.TheVariants.{Memory, Write}
 use Rattle.pv_session.specs.Stopping.{NextLoads}
-use Rattle.pv_streams.specs.Sinks.{and_all, TellsBeginning}
+use Rattle.pv_streams.specs.Sinks.{and_all}
 
 -- the lines of a step
 abbrev pub step_lines : ℕ → Settings → State → ℕ → List AnswerLine

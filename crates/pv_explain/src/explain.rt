@@ -1,27 +1,31 @@
 //! Schedules, step by step, with what is said of their lines.
-ghost use Rattle.std.specs.Prelude.{◌≡◌, ◌+◌, ◌≤◌, ◌<◌, ◌^◌, [], ◌∷◌, length, replicate, IfErr, IfOk, IfSome, OnErr, OnOk, option_copied};
+ghost use Rattle.std.specs.Prelude.{◌≡◌, ◌+◌, ◌≤◌, ◌<◌, ◌^◌, [], ◌∷◌, length, replicate, IfErr, IfOk, IfSome, IsTrue, OnErr, OnOk, option_copied};
 ghost use Rattle.pv_explain.specs.Keeping.{Agree, entry_at};
-ghost use Rattle.pv_explain.specs.Made.{settings_made};
+ghost use Rattle.pv_explain.specs.Made.{settings_called};
 ghost use Rattle.pv_explain.specs.Steps.{StopsExplained, settings_through, step_lines, steps_lines};
 ghost use Rattle.pv_model.specs.declared.limits.TheConstants.{SCHEDULE_LINES, UNVEILS};
+ghost use Rattle.pv_laws_states.specs.States.{is_call};
 ghost use Rattle.pv_model.specs.Answers.Explain.{explain_lines, settings_next};
 ghost use Rattle.pv_model.specs.Answers.Lines.{answer_bytes};
+ghost use Rattle.pv_model.specs.CallRef.{call_of};
 ghost use Rattle.pv_model.specs.Grammar.Programs.{program_of};
 ghost use Rattle.pv_model.specs.State.{process_at};
 ghost use Rattle.pv_model.specs.Step.{steps_of};
+ghost use Rattle.pv_procs.specs.Turns.{CallsNext};
 ghost use Rattle.pv_session.specs.Running.{FailsBy, run_of, stepped, turn};
 ghost use Rattle.pv_streams.specs.Sinks.{and_all, TellsBeginning};
 
-use crate::explained::{write_made, write_step_line};
-use crate::making::{MadeStep, make_step};
+use crate::explained::{write_call, write_step_line};
+use crate::making::{MadeCall, make_call, make_register};
 use crate::origins::Origins;
 use pv_answers::write_standings;
 use pv_calls_state::Parts;
-use pv_model::Target;
+use pv_model::{CallRef, Target};
+use pv_procs::Fetched;
 use pv_script::CallTexts;
 use pv_session::{Session, Stop};
 use pv_streams::Sink;
-use pv_trace::LineBuffer;
+use pv_trace::{LineBuffer, write_gone_line};
 use std::alloc::{AllocError, Global};
 use std::marker::Model;
 
@@ -39,13 +43,10 @@ fn entry_for(parts: &Parts, pid: u32, target: Option<&Target>) -> Option<u8>
     }
 }
 
-// What a step that was made leaves of where entries were set.
-fn follow(origins: &mut Origins, parts: &Parts, pid: u32, made: &MadeStep<'_>)
-    ensures { Agree parts.now origins.new (settings_made pid made.now parts.now origins.old) }
+// What a call that was made leaves of where entries were set.
+fn follow(origins: &mut Origins, parts: &Parts, pid: u32, made: &MadeCall<'_>)
+    ensures { Agree parts.now origins.new (settings_called pid made.now parts.now origins.old) }
 {
-    let MadeStep::Call(made) = made else {
-        return;
-    };
     let given = entry_for(parts, pid, made.before.target.as_ref());
     origins.follow(
         parts,
@@ -55,6 +56,42 @@ fn follow(origins: &mut Origins, parts: &Parts, pid: u32, made: &MadeStep<'_>)
         made.answer.outcome,
         given,
     );
+}
+
+// A step to explain: whose it is, and its number.
+#[derive(Clone, Copy)]
+struct NumberedStep {
+    pid: u32,
+    number: u64,
+}
+
+// Makes a call that comes next in a process, and writes the line of the step's number and the lines of the call, with what is
+// said of them.
+fn explain_call<W: Sink>(
+    alloc: Global,
+    session: &mut Session,
+    line_buffer: &mut LineBuffer,
+    origins: &mut Origins,
+    step: NumberedStep,
+    call: CallRef<'_>,
+    out: &mut W,
+) -> Result<(), Stop>
+    requires next { CallsNext call (process_at session.old step.pid) }
+    requires callable { IsTrue (is_call (call_of call)) }
+    ensures after { OnOk result (session.new ≡ (stepped session.old step.pid).after) }
+    ensures whole { OnOk result (W.written out.new ≡ and_all (W.written out.old) (answer_bytes (step_lines step.number origins.old session.old step.pid))) }
+    ensures beginning { OnErr result (TellsBeginning (answer_bytes (step_lines step.number origins.old session.old step.pid)) (W.written out.old) (W.written out.new)) }
+    ensures failed { IfErr result (λ stop. FailsBy stop (W.failures out.old) (W.failures out.new)) }
+    ensures quiet { OnOk result (W.failures out.new ≡ W.failures out.old) }
+    ensures stopped { IfErr result (λ stop. StopsExplained stop step.number origins.old (step.pid ∷ []) session.old session.new (W.written out.old) (W.written out.new)) }
+    ensures keeps { OnOk result (Agree session.new origins.new (settings_next program_of session.old step.pid origins.old)) }
+{
+    let NumberedStep { pid, number } = step;
+    let made = make_call(alloc, session, pid, call)?;
+    write_step_line(out, pid, number, Some(made.before.line))?;
+    write_call(out, line_buffer, session, pid, &made, origins.of(pid))?;
+    follow(origins, session.parts(), pid, &made);
+    Ok(())
 }
 
 /// Explains steps, one after another: it keeps at which line each entry of each table was set.
@@ -115,18 +152,27 @@ impl Explainer {
         // Of the processes that are live, it knows where entries were set.
         ensures keeps { OnOk result (Agree session.new self.new (settings_next program_of session.old pid self.old)) }
     {
-        let made = make_step(alloc, session, &mut self.texts, pid)?;
-        write_step_line(out, pid, number, made.line())?;
-        write_made(
-            out,
-            &mut *self.line_buffer,
-            session,
-            pid,
-            &made,
-            self.origins.of(pid),
-        )?;
-        follow(&mut self.origins, session.parts(), pid, &made);
-        Ok(())
+        match session.fetch(pid, &mut self.texts) {
+            Fetched::Gone => {
+                write_step_line(out, pid, number, None)?;
+                write_gone_line(out, &mut *self.line_buffer, pid)?;
+                Ok(())
+            }
+            Fetched::Register => {
+                let line = make_register(session, pid);
+                write_step_line(out, pid, number, Some(line))?;
+                Ok(())
+            }
+            Fetched::Call(call) => explain_call(
+                alloc,
+                session,
+                &mut *self.line_buffer,
+                &mut self.origins,
+                NumberedStep { pid, number },
+                call,
+                out,
+            ),
+        }
     }
 }
 

@@ -55,8 +55,12 @@ fn write_table_lines<W: Sink>(
     write_table_part(out, line_buffer, &basis, made.call, place, verdict)
 }
 
-// Writes the lines of a call that was made.
-fn write_call<W: Sink>(
+/// Writes the lines of a call that was just made, with what is said of them, as `write_made` does.
+///
+/// # Errors
+///
+/// `Failed` where a write failed: the sink was given a beginning of the lines.
+pub(crate) fn write_call<W: Sink>(
     out: &mut W,
     line_buffer: &mut LineBuffer,
     session: &Session,

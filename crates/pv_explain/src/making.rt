@@ -1,10 +1,10 @@
 //! A step that is made, with what its lines tell of the state before it.
 ghost use Rattle.std.specs.Prelude.{◌≡◌, IfOk, IsTrue, OnErr};
-ghost use Rattle.pv_explain.specs.Made.{IsFit, IsMade, line_of};
+ghost use Rattle.pv_explain.specs.Made.{IsFit, IsFitCall, IsMade, IsMadeCall, IsMadeInside, line_of};
 ghost use Rattle.pv_laws_states.specs.States.{is_call};
 ghost use Rattle.pv_model.specs.CallRef.{call_of};
 ghost use Rattle.pv_model.specs.State.{process_at};
-ghost use Rattle.pv_procs.specs.Turns.{CallsNext};
+ghost use Rattle.pv_procs.specs.Turns.{CallsNext, RegisterNext};
 ghost use Rattle.pv_session.specs.Stopping.{NextLoads};
 
 use crate::before::Before;
@@ -50,27 +50,41 @@ impl<'a> MadeStep<'a> {
     }
 }
 
-// Makes a call that comes next in a process.
-fn make_call<'a>(
+/// Makes the instruction on registers or the jump that comes next in a process: answers the line at which that stood.
+pub(crate) fn make_register(session: &mut Session, pid: u32) -> u16
+    requires { RegisterNext (process_at session.old pid) }
+    ensures { IsMadeInside session.old pid result session.new }
+{
+    let line = session.parts().record(pid).context.line();
+    session.register(pid);
+    line
+}
+
+/// Makes a call that comes next in a process, and keeps what its lines tell of the state before it.
+///
+/// # Errors
+///
+/// `NoMemory` as in `make_step`; nothing has then changed.
+pub(crate) fn make_call<'a>(
     alloc: Global,
     session: &mut Session,
     pid: u32,
     call: CallRef<'a>,
-) -> Result<MadeStep<'a>, StepFault>
+) -> Result<MadeCall<'a>, StepFault>
     requires next { CallsNext call (process_at session.old pid) }
     requires callable { IsTrue (is_call (call_of call)) }
-    ensures made { IfOk result (λ made. IsMade session.old pid made session.new) }
-    ensures fit { IfOk result (λ made. IsFit pid made session.new) }
+    ensures made { IfOk result (λ made. IsMadeCall session.old pid made session.new) }
+    ensures fit { IfOk result (λ made. IsFitCall pid made session.new) }
     ensures unchanged { OnErr result (session.new ≡ session.old) }
     ensures memory { OnErr result (NextLoads session.old pid) }
 {
     let before = Before::of(session.parts(), pid, call);
     let answer = session.call(alloc, pid, call)?;
-    Ok(MadeStep::Call(MadeCall {
+    Ok(MadeCall {
         call,
         answer,
         before,
-    }))
+    })
 }
 
 /// Makes a step of a process, and keeps what its lines tell of the state before it. The texts of a call are kept in `texts`.
@@ -91,11 +105,7 @@ pub fn make_step<'a>(
 {
     match session.fetch(pid, texts) {
         Fetched::Gone => Ok(MadeStep::Gone),
-        Fetched::Register => {
-            let line = session.parts().record(pid).context.line();
-            session.register(pid);
-            Ok(MadeStep::Register(line))
-        }
-        Fetched::Call(call) => make_call(alloc, session, pid, call),
+        Fetched::Register => Ok(MadeStep::Register(make_register(session, pid))),
+        Fetched::Call(call) => Ok(MadeStep::Call(make_call(alloc, session, pid, call)?)),
     }
 }

@@ -1,4 +1,4 @@
-use Rattle.std.proofs.Common.{◌≡◌, ◌+◌, ◌<◌, ◌∙◌, ℕ, ap, sym, subst, refl, length, get_or, take, arith}
+use Rattle.std.proofs.Common.{◌+◌, ◌∙◌, ℕ, ap, sym, subst, length, get_or, take, arith}
 use Rattle.std.specs.Prelude.{replicate}
 use Rattle.std.proofs.lemmas.Result.{err_from_is_err_and}
 use Rattle.pv_model.specs.Answers.Lines.{answer_bytes}
@@ -7,7 +7,7 @@ use Rattle.pv_session.specs.declared.session.Stop.{Stop}
 use Rattle.pv_streams.specs.Sinks.{and_all, TellsBeginning}
 use Rattle.pv_streams.proofs.Telling.{on_err}
 use Rattle.pv_explain.specs.Steps.{StopsExplained, steps_lines}
-use Rattle.pv_explain.proofs.Steps.{none-made, schedule-on, schedule-begun, schedule-stopped, schedule-number}
+use Rattle.pv_explain.proofs.Steps.{schedule-on, schedule-begun, schedule-stopped, schedule-number}
 use Rattle.pv_explain.proofs.explain.explain_steps.Goals as goal
 
 pub loop-turn-preserved : goal.loop-turn-preserved

@@ -1,4 +1,4 @@
-use Rattle.std.proofs.Common.{◌≡◌, ◌+◌, ◌∙◌, ℕ, ap, sym, subst, refl, [], ◌∷◌}
+use Rattle.std.proofs.Common.{◌+◌, ◌∙◌, ℕ, ap, sym, subst, refl, [], ◌∷◌}
 use Rattle.std.proofs.lemmas.Result.{err_from_is_err_and}
 use Rattle.pv_model.specs.Answers.Lines.{answer_bytes}
 use Rattle.pv_session.specs.declared.session.Stop.{Stop}

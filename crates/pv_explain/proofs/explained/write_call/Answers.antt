@@ -1,4 +1,4 @@
-use Rattle.std.proofs.Common.{◌≡◌, ◌∙◌, ap, refl, subst, OnErr}
+use Rattle.std.proofs.Common.{◌∙◌, ap, refl, subst}
 use Rattle.std.proofs.lemmas.Result.{on_err_weaker, on_ok_weaker}
 use Rattle.pv_model.specs.Bytes.{Bytes}
 use Rattle.pv_model.specs.CallRef.{call_of}

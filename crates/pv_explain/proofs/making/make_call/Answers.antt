@@ -1,7 +1,6 @@
-use Rattle.std.proofs.Common.{ap, subst, sym, ◌∙◌}
+use Rattle.std.proofs.Common.{ap, subst, ◌∙◌}
 use Rattle.pv_model.specs.CallRef.{call_of}
 use Rattle.pv_model.specs.State.{State, process_at}
-use Rattle.pv_laws_states.specs.States.{IsWhole}
 use Rattle.pv_explain.specs.Before.{IsBefore}
 use Rattle.pv_explain.specs.Made.{IsMadeCall}
 use Rattle.pv_explain.proofs.Fit.{call-fits}

@@ -1,4 +1,4 @@
-use Rattle.std.proofs.Common.{◌≡◌, ◌<◌, ◌∙◌, ap, length, get_or, false, arith}
+use Rattle.std.proofs.Common.{◌<◌, ◌∙◌, ap, length, get_or, false, arith}
 use Rattle.pv_explain.specs.declared.origins.Origin.{Origin}
 use Rattle.pv_explain.specs.Keeping.{aged}
 use Rattle.pv_explain.proofs.Kept.{got-own}

@@ -1,8 +1,7 @@
-use Rattle.std.proofs.Common.{◌≡◌, ◌∙◌, ap, sym, subst, is_some, refl, arith}
+use Rattle.std.proofs.Common.{◌∙◌, ap, sym, is_some, refl, arith}
 use Rattle.std.specs.FinMap.Entries.{put}
 use Rattle.std.specs.Ordering.{nat_cmp}
 use Rattle.pv_model.specs.Answers.Settings.{settings_of}
-use Rattle.pv_calls_state.specs.Counts.{processes_of}
 use Rattle.pv_explain.specs.Keeping.{all_of, settings_in}
 use Rattle.pv_explain.proofs.Kept.{put-room, put-once, put-agrees, put-absent}
 use Rattle.pv_procs.specs.ProcessTable.{process_in}

@@ -1,11 +1,11 @@
-use Rattle.std.proofs.Common.{◌≡◌, ◌∙◌, ap, sym, Option, Some, option_map}
-use Rattle.pv_model.specs.State.{Process, process_at}
+use Rattle.std.proofs.Common.{◌≡◌, ◌∙◌, ap, sym, Some, option_map}
+use Rattle.pv_model.specs.State.{process_at}
 use Rattle.pv_procs.specs.declared.record.ProcessRecord.{ProcessRecord}
 use Rattle.pv_procs.specs.Parts.{record_of}
-use Rattle.pv_explain.proofs.making.make_step.Goals as goal
+use Rattle.pv_explain.proofs.making.make_register.Goals as goal
 
-pub returns-in-Register-clause-made : goal.returns-in-Register-clause-made
-returns-in-Register-clause-made c =
+pub returns : goal.returns
+returns c =
     let made = c.register.ensures in
     let there : Some (record_of made.me) ≡ Some c.record.result.now =
     sym (ap (option_map record_of) made.lives) ∙ ap (λ s. option_map record_of (process_at s c.args.pid)) (sym c.parts.ensures.value) ∙ c.record.ensures in

@@ -1,0 +1,51 @@
+use Rattle.std.proofs.Common.{◌∙◌, ap, subst, refl}
+use Rattle.std.proofs.lemmas.Result.{err_from_is_err_and}
+use Rattle.pv_model.specs.Answers.Settings.{settings_of}
+use Rattle.pv_model.specs.Bytes.{Bytes}
+use Rattle.pv_model.specs.State.{process_at}
+use Rattle.pv_streams.specs.Sinks.{and_all, TellsBeginning}
+use Rattle.pv_streams.proofs.Telling.{begins_first, begins_then, on_err, written_both}
+use Rattle.pv_explain.specs.declared.making.MadeStep.TheVariants.{Call as CallMade}
+use Rattle.pv_explain.specs.Keeping.{settings_in}
+use Rattle.pv_explain.specs.Made.{settings_made}
+use Rattle.pv_explain.proofs.Made.{left-by, settings-made, step-text}
+use Rattle.pv_explain.proofs.Steps.{stops-here}
+use Rattle.pv_explain.proofs.explain.explain_call.Goals as goal
+
+pub returns-in_err-made-clause-stopped : goal.returns-in_err-made-clause-stopped
+returns-in_err-made-clause-stopped g c =
+    let p = err_from_is_err_and c.from_residual.result c.from_residual.ensures.1 in
+    rw p.1 (stops-here c.args.step.number c.args.origins.now c.args.session.now c.make_call.new.session c.args.step.pid (g.W.Sink.written c.args.out.now)
+    c.in_err-made.ensures.unchanged c.in_err-made.ensures.memory p.0 p.2)
+
+pub returns-in_err-write_step_line-clause-beginning : goal.returns-in_err-write_step_line-clause-beginning
+returns-in_err-write_step_line-clause-beginning g c =
+    on_err c.from_residual-in_err-write_step_line.result
+    (subst (λ (bs : Bytes). TellsBeginning bs (g.W.Sink.written c.args.out.now) (g.W.Sink.written c.write_step_line.new.out))
+    (step-text c.args.session.now c.args.step.pid (CallMade c.in_ok-made.made) c.make_call.new.session c.in_ok-made.ensures.made c.args.step.number c.args.origins.now _ refl)
+    (begins_first _ _ _ _ c.in_err-write_step_line.ensures.beginning))
+
+pub returns-in_err-write_call-clause-beginning : goal.returns-in_err-write_call-clause-beginning
+returns-in_err-write_call-clause-beginning g c =
+    on_err c.from_residual-in_err-write_call.result
+    (subst (λ (bs : Bytes). TellsBeginning bs (g.W.Sink.written c.args.out.now) (g.W.Sink.written c.write_call.new.out))
+    (step-text c.args.session.now c.args.step.pid (CallMade c.in_ok-made.made) c.make_call.new.session c.in_ok-made.ensures.made c.args.step.number c.args.origins.now (settings_in c.of.result.now) c.of.ensures.value)
+    (begins_then _ _ _ _ _ c.in_ok-write_step_line.ensures.whole c.in_err-write_call.ensures.beginning))
+
+pub returns-clause-after : goal.returns-clause-after
+returns-clause-after g c = left-by c.args.session.now c.args.step.pid (CallMade c.in_ok-made.made) c.make_call.new.session c.in_ok-made.ensures.made
+
+pub returns-clause-whole : goal.returns-clause-whole
+returns-clause-whole g c =
+    written_both _ _ _ _ _ c.in_ok-write_step_line.ensures.whole c.in_ok-write_call.ensures.whole
+    ∙ ap (and_all (g.W.Sink.written c.args.out.now))
+    (step-text c.args.session.now c.args.step.pid (CallMade c.in_ok-made.made) c.make_call.new.session c.in_ok-made.ensures.made c.args.step.number c.args.origins.now (settings_in c.of.result.now) c.of.ensures.value)
+
+pub returns-clause-keeps : goal.returns-clause-keeps
+returns-clause-keeps g c q lives =
+    let pid = c.args.step.pid in
+    let made = CallMade c.in_ok-made.made in
+    let now = c.make_call.new.session in
+    c.follow.ensures q (lives.0, ap (λ t. process_at t q) c.parts.ensures.value ∙ lives.1)
+    ∙ ap (λ t. settings_of (settings_made pid made t c.args.origins.now) q) c.parts.ensures.value
+    ∙ ap (λ all. settings_of all q) (settings-made c.args.session.now pid made now c.args.origins.now c.in_ok-made.ensures.made)
