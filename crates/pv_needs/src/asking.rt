@@ -14,7 +14,8 @@ use pv_answers::write_target;
 use pv_calls_path::ends::end_of;
 use pv_calls_path::unveil::target_of;
 use pv_calls_state::Parts;
-use pv_model::{CallRef, Mode, OpenFlags, Outcome, Promise, Target, Walk, Walks};
+use pv_model::limits::ROOT;
+use pv_model::{CallRef, Mode, OpenFlags, Outcome, Perms, Promise, Target, Walk, Walks};
 use pv_streams::Gathered;
 use pv_tree::Tree;
 use std::alloc::{AllocError, Global};
@@ -79,41 +80,61 @@ pub(crate) fn begins_program(call: CallRef<'_>, outcome: Outcome) -> bool
     }
 }
 
-/// Where the targets of a call's walks are put into words: one serves for any number of calls.
+// The target of a walk, and where it is put into words.
+#[derive(Drop)]
+struct TargetText {
+    target: Target,
+    words: Gathered,
+}
+
+impl TargetText {
+    // The root, with nothing in words.
+    fn new(alloc: Global) -> TargetText {
+        TargetText {
+            target: Target::Directory(ROOT),
+            words: Gathered::new(alloc),
+        }
+    }
+
+    // The walk to the target, which asks for permissions.
+    fn walk(&self, permissions: Perms) -> JudgedWalk<'_>
+        ensures { result ≡ record { target = self.now.target; words = self.now.words.bytes.items; permissions = permissions } }
+    {
+        JudgedWalk::new(&self.target, self.words.bytes.as_slice(), permissions)
+    }
+}
+
+/// The targets of a call's walks, in words: one serves for any number of calls.
 #[derive(Drop)]
 pub(crate) struct TargetTexts {
-    first: Gathered,
-    second: Gathered,
+    first: TargetText,
+    second: TargetText,
 }
 
 impl TargetTexts {
-    /// With nothing in it.
+    /// Before the first call.
     pub(crate) fn new(alloc: Global) -> TargetTexts {
         TargetTexts {
-            first: Gathered::new(alloc),
-            second: Gathered::new(alloc),
+            first: TargetText::new(alloc),
+            second: TargetText::new(alloc),
         }
     }
 }
 
-// A target in words, which are put in the place of those that were there.
-fn words_of<'a>(
-    words: &'a mut Gathered,
-    tree: &Tree,
-    target: &Target,
-) -> Result<&'a [u8], AllocError>
-    ensures { IfOk result (λ words. words.now ≡ target_words tree.now.tree target.now) }
+// Puts a target into words, in the place of those that were there.
+fn put_words(words: &mut Gathered, tree: &Tree, target: &Target) -> Result<(), AllocError>
+    ensures { OnOk result (words.new.bytes.items ≡ target_words tree.now.tree target.now) }
 {
     words.bytes.clear();
     match write_target(words, tree, target) {
-        Ok(()) => Ok(words.bytes.as_slice()),
+        Ok(()) => Ok(()),
         Err(_) => Err(AllocError),
     }
 }
 
 // What a walk asks in the state as it is: nothing where it is not begun, or ends at no place.
 fn judged<'a>(
-    words: &'a mut Gathered,
+    text: &'a mut TargetText,
     parts: &Parts,
     pid: u32,
     walk: Walk<'_>,
@@ -125,9 +146,9 @@ fn judged<'a>(
     let Some(place) = end_of(parts, pid, walk) else {
         return Ok(None);
     };
-    let target = target_of(parts.tree(), place);
-    let words = words_of(words, parts.tree(), &target)?;
-    Ok(Some(JudgedWalk::new(target, words, walk.needed)))
+    text.target = target_of(parts.tree(), place);
+    put_words(&mut text.words, parts.tree(), &text.target)?;
+    Ok(Some(text.walk(walk.needed)))
 }
 
 // Whether a call is an unveil: its walk is not judged.

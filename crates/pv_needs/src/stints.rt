@@ -20,7 +20,7 @@ pub(crate) const PROMISES: usize = 32;
 /// A walk that is judged: for what an unveil of its place would be, that in words, and the permissions that are asked.
 #[derive(Drop)]
 pub(crate) struct JudgedWalk<'a> {
-    target: Target,
+    target: &'a Target,
     words: &'a [u8],
     permissions: Perms,
 }
@@ -30,13 +30,13 @@ impl<'a> Model for JudgedWalk<'a> {
 
     ghost Value = { Judged };
 
-    ghost view = { λ j. record { target = j.target; words = j.words.now; permissions = j.permissions } };
+    ghost view = { λ j. record { target = j.target.now; words = j.words.now; permissions = j.permissions } };
 }
 
 impl<'a> JudgedWalk<'a> {
     /// The walk to a target, which these bytes are in words, and which asks for permissions.
-    pub(crate) fn new(target: Target, words: &'a [u8], permissions: Perms) -> JudgedWalk<'a>
-        ensures { result ≡ record { target = target; words = words.now; permissions = permissions } }
+    pub(crate) fn new(target: &'a Target, words: &'a [u8], permissions: Perms) -> JudgedWalk<'a>
+        ensures { result ≡ record { target = target.now; words = words.now; permissions = permissions } }
     {
         JudgedWalk {
             target,
@@ -73,7 +73,7 @@ impl KeptWalks {
             permissions,
         } = walk;
         Ok(KeptWalks {
-            target,
+            target: target.copy(),
             words: words.to_vec(alloc)?,
             permissions,
         })
@@ -258,7 +258,7 @@ fn same_target(a: &Target, b: &Target) -> bool
 fn same_judged(a: &KeptWalks, b: &JudgedWalk<'_>) -> bool
     ensures { result ≡ same_by_definition a.now b.now }
 {
-    same_target(&a.target, &b.target) && a.words.as_slice() == b.words
+    same_target(&a.target, b.target) && a.words.as_slice() == b.words
 }
 
 // Whether a promise is one of those that a call needed.
