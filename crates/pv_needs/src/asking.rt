@@ -4,21 +4,18 @@ ghost use Rattle.pv_needs.specs.Asking.{ends_before, judged_begun};
 ghost use Rattle.pv_laws_states.specs.Courses.{is_unveil};
 ghost use Rattle.pv_laws_states.specs.States.{IsWhole};
 ghost use Rattle.pv_model.specs.Answers.Needs.{begins_program as begins_by_definition, promises_needed as needed_by_definition};
-ghost use Rattle.pv_model.specs.Answers.Nodes.{first_of, target_words};
+ghost use Rattle.pv_model.specs.Answers.Nodes.{first_of};
 ghost use Rattle.pv_model.specs.CallRef.{call_of, walk_of};
 ghost use Rattle.pv_model.specs.Needs.{needs_of_open};
 ghost use Rattle.pv_model.specs.State.{Process, process_at};
 
 use crate::stints::{JudgedWalk, JudgedWalks};
-use pv_answers::write_target;
+use crate::wording::{TargetText, TargetTexts};
 use pv_calls_path::ends::end_of;
 use pv_calls_path::unveil::target_of;
 use pv_calls_state::Parts;
-use pv_model::limits::ROOT;
-use pv_model::{CallRef, Mode, OpenFlags, Outcome, Perms, Promise, Target, Walk, Walks};
-use pv_streams::Gathered;
-use pv_tree::Tree;
-use std::alloc::{AllocError, Global};
+use pv_model::{CallRef, Mode, OpenFlags, Outcome, Promise, Walk, Walks};
+use std::alloc::AllocError;
 
 // The promises that an open needs.
 fn needed_to_open(flags: OpenFlags) -> &'static [Promise]
@@ -80,58 +77,6 @@ pub(crate) fn begins_program(call: CallRef<'_>, outcome: Outcome) -> bool
     }
 }
 
-// The target of a walk, and where it is put into words.
-#[derive(Drop)]
-struct TargetText {
-    target: Target,
-    words: Gathered,
-}
-
-impl TargetText {
-    // The root, with nothing in words.
-    fn new(alloc: Global) -> TargetText {
-        TargetText {
-            target: Target::Directory(ROOT),
-            words: Gathered::new(alloc),
-        }
-    }
-
-    // The walk to the target, which asks for permissions.
-    fn walk(&self, permissions: Perms) -> JudgedWalk<'_>
-        ensures { result ≡ record { target = self.now.target; words = self.now.words.bytes.items; permissions = permissions } }
-    {
-        JudgedWalk::new(&self.target, self.words.bytes.as_slice(), permissions)
-    }
-}
-
-/// The targets of a call's walks, in words: one serves for any number of calls.
-#[derive(Drop)]
-pub(crate) struct TargetTexts {
-    first: TargetText,
-    second: TargetText,
-}
-
-impl TargetTexts {
-    /// Before the first call.
-    pub(crate) fn new(alloc: Global) -> TargetTexts {
-        TargetTexts {
-            first: TargetText::new(alloc),
-            second: TargetText::new(alloc),
-        }
-    }
-}
-
-// Puts a target into words, in the place of those that were there.
-fn put_words(words: &mut Gathered, tree: &Tree, target: &Target) -> Result<(), AllocError>
-    ensures { OnOk result (words.new.bytes.items ≡ target_words tree.now.tree target.now) }
-{
-    words.bytes.clear();
-    match write_target(words, tree, target) {
-        Ok(()) => Ok(()),
-        Err(_) => Err(AllocError),
-    }
-}
-
 // What a walk asks in the state as it is: nothing where it is not begun, or ends at no place.
 fn judged<'a>(
     text: &'a mut TargetText,
@@ -146,8 +91,7 @@ fn judged<'a>(
     let Some(place) = end_of(parts, pid, walk) else {
         return Ok(None);
     };
-    text.target = target_of(parts.tree(), place);
-    put_words(&mut text.words, parts.tree(), &text.target)?;
+    text.put(parts.tree(), target_of(parts.tree(), place))?;
     Ok(Some(text.walk(walk.needed)))
 }
 

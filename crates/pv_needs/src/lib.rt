@@ -3,8 +3,10 @@
 
 mod asking;
 mod needs;
+mod paths;
 mod stints;
 mod turns;
+mod wording;
 mod writing;
 
 pub use needs::write_needs;

@@ -15,8 +15,9 @@ ghost use Rattle.pv_session.specs.Running.{FailsBy, run_of, stepped, turn};
 ghost use Rattle.pv_session.specs.declared.session.Stop.TheVariants.{Memory};
 ghost use Rattle.pv_streams.specs.Sinks.{and_all, TellsBeginning};
 
-use crate::asking::{TargetTexts, begins_program, judged_walks, promises_needed};
+use crate::asking::{begins_program, judged_walks, promises_needed};
 use crate::stints::{Asked, Kept};
+use crate::wording::TargetTexts;
 use crate::writing::write_kept;
 use pv_model::CallRef;
 use pv_procs::Fetched;

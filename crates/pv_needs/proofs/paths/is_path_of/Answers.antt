@@ -1,0 +1,39 @@
+use Rattle.std.proofs.Common.{◌≡◌, ◌∙◌, ◌∷◌, ◌<◌, [], Some, ap, append_assoc, arith, length, refl, rules, sym, subst}
+use Rattle.std.proofs.lemmas.Bool.{eqb-true}
+use Rattle.pv_model.specs.Answers.Nodes.{node_path}
+use Rattle.pv_model.specs.Bytes.{Bytes}
+use Rattle.pv_model.specs.Tree.{find_entry}
+use Rattle.pv_tree.proofs.Parents.{above-directory}
+use Rattle.pv_needs.proofs.KnownPaths.{found-path, root-known}
+use Rattle.pv_needs.proofs.paths.is_path_of.Goals as goal
+
+pub find-requires : goal.find-requires
+find-requires c =
+    above-directory c.args.tree.now.tree c.sizes.ensures.standing.well_formed c.loop-before.reached c.if-reached-eq-ROOT.false c.in-Some-parent.above (sym c.in-Some-parent.ensures)
+
+pub loop-before-preserved : goal.loop-before-preserved
+loop-before-preserved c =
+    let t = c.args.tree.now.tree in
+    let w = c.sizes.ensures.standing.well_formed in
+    let reached = c.loop-before.reached in
+    let above = c.in-Some-parent.above in
+    let found : find_entry t above c.in-Some.name.now ≡ Some reached = search rules in
+    record {
+      directory = above-directory t w reached c.if-reached-eq-ROOT.false above (sym c.in-Some-parent.ensures);
+      path = λ is.
+          c.loop-before.invariant.path
+          (found-path t w reached above c.in-Some.name.now c.in-Some.before.now c.if-reached-eq-ROOT.false c.loop-before.invariant.directory found is
+          ∙ ap Some (append_assoc c.in-Some.before.now (47 ∷ []) c.in-Some.name.now ∙ sym c.in-Some.ensures));
+    }
+
+empty-below : (bytes : Bytes) → length bytes < 1 → [] ≡ bytes
+empty-below [] few = refl
+empty-below (b ∷ bytes) few = absurd (omega arith)
+
+pub returns-in-empty : goal.returns-in-empty
+returns-in-empty c at-root =
+    let t = c.args.tree.now.tree in
+    let rest = c.loop-before.rest.now in
+    c.loop-before.invariant.path
+    (subst (λ n. node_path t n ≡ Some rest) (sym (eqb-true c.loop-before.reached 1 at-root))
+    (root-known t c.sizes.ensures.standing.well_formed ∙ ap Some (empty-below rest c.in-empty.len_below)))

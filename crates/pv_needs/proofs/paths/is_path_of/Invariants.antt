@@ -1,0 +1,15 @@
+use Rattle.std.proofs.Common.{◌≡◌, Some, length}
+use Rattle.std.specs.Prelude.{IsTrue}
+use Rattle.pv_model.specs.Answers.Nodes.{node_path}
+use Rattle.pv_model.specs.Tree.{is_directory_at}
+use Rattle.pv_needs.proofs.paths.is_path_of.Given as goal
+
+abbrev pub decreases-loop-before : goal.decreases-loop-before
+decreases-loop-before l = length l.rest
+
+-- where the rest is the path of the directory that was reached, the path is that of the directory
+abbrev pub invariant-loop-before : goal.invariant-loop-before
+invariant-loop-before l = record {
+  directory : IsTrue (is_directory_at l.tree.tree l.reached);
+  path : node_path l.tree.tree l.reached ≡ Some l.rest → node_path l.tree.tree l.fn.directory ≡ Some l.fn.path;
+}

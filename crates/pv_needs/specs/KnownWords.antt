@@ -1,0 +1,23 @@
+-- Words for a target whose directory has a path that is known.
+use Rattle.std.specs.Prelude.{◌≡◌, ℕ, ◌<◌, ◌++◌, codes, length, Some}
+use Rattle.std.specs.Fmt.{decimal}
+use Rattle.pv_model.specs.declared.target.Target.{Target}
+use Rattle.pv_model.specs.declared.target.Target.TheVariants.{Directory, Name}
+use Rattle.pv_model.specs.Answers.Nodes.{node_path}
+use Rattle.pv_model.specs.Bytes.{Bytes}
+use Rattle.pv_model.specs.Trace.{quote}
+use Rattle.pv_model.specs.Tree.{Tree}
+
+-- the directory that a target is, or in which it is a name
+abbrev pub directory_in : Target → ℕ
+directory_in (Directory n) = n
+directory_in (Name d name) = d
+
+-- this is the path of its directory, which is not the root
+pub record IsKnown (t : Tree) (target : Target) (path : Bytes) : Type 0 where
+  pub some : 0 < length path
+  pub is_path : node_path t (directory_in target) ≡ Some path
+
+abbrev pub known_words : Target → Bytes → Bytes
+known_words (Directory n) path = codes "node " ++ decimal n ++ codes " " ++ quote path
+known_words (Name d name) path = quote (path ++ codes "/" ++ name)

@@ -1,0 +1,175 @@
+//! Targets of walks in words.
+//!
+//! The path of a directory costs a step for each directory above it. Where the last target in this place had the same directory,
+//! that was its path: whether it still is costs less.
+ghost use Rattle.std.specs.Prelude.{◌≡◌, ◌<◌, ◌++◌, [], codes, length, IsTrue, OnOk};
+ghost use Rattle.std.specs.Fmt.{decimal};
+ghost use Rattle.pv_model.specs.Answers.Nodes.{target_words};
+ghost use Rattle.pv_model.specs.Trace.{quote};
+ghost use Rattle.pv_needs.specs.KnownWords.{IsKnown, directory_in, known_words};
+
+use crate::paths::{around_last, is_path_of};
+use crate::stints::JudgedWalk;
+use pv_answers::{Decimal, Fragment, Plain, Quoted, write_target};
+use pv_model::limits::ROOT;
+use pv_model::{Perms, Target};
+use pv_streams::Gathered;
+use pv_tree::Tree;
+use std::alloc::{AllocError, Global};
+
+// The directory that a target is, or in which it is a name.
+fn directory_of(target: &Target) -> u16
+    ensures { result ≡ directory_in target.now }
+{
+    match target {
+        Target::Directory(node) => *node,
+        Target::Name { dir, .. } => *dir,
+    }
+}
+
+// Whether this is the path of a target's directory, and that is not the root: no other path is.
+fn is_known(tree: &Tree, target: &Target, path: &[u8]) -> bool
+    ensures { IsTrue result → IsKnown tree.now.tree target.now path.now }
+{
+    let directory = directory_of(target);
+    if path.is_empty() || !tree.is_directory(directory) {
+        return false;
+    }
+    is_path_of(tree, directory, path)
+}
+
+// Writes a directory of this path in words.
+fn write_directory(words: &mut Gathered, node: u16, path: &[u8]) -> Result<(), AllocError>
+    requires { words.old.bytes.items ≡ [] }
+    ensures { OnOk result (words.new.bytes.items ≡ codes "node " ++ decimal node ++ codes " " ++ quote path.now) }
+{
+    let number = Decimal(u32::from(node));
+    match (Plain(b"node "), number, Plain(b" "), Quoted(path)).write(words) {
+        Ok(()) => Ok(()),
+        Err(_) => Err(AllocError),
+    }
+}
+
+// Writes a name in a directory of this path in words.
+fn write_name(words: &mut Gathered, path: &mut Vec<u8>, name: &[u8]) -> Result<(), AllocError>
+    requires { words.old.bytes.items ≡ [] }
+    ensures { OnOk result (words.new.bytes.items ≡ quote (path.old.items ++ codes "/" ++ name.now)) }
+{
+    let length = path.len();
+    path.push(b'/')?;
+    path.extend_from_slice(name)?;
+    let written = Quoted(path.as_slice()).write(words);
+    path.truncate(length);
+    match written {
+        Ok(()) => Ok(()),
+        Err(_) => Err(AllocError),
+    }
+}
+
+// Writes a target in words, whose directory has this path.
+fn write_known(words: &mut Gathered, target: &Target, path: &mut Vec<u8>) -> Result<(), AllocError>
+    requires { words.old.bytes.items ≡ [] }
+    ensures { OnOk result (words.new.bytes.items ≡ known_words target.now path.old.items) }
+{
+    match target {
+        Target::Directory(node) => write_directory(words, *node, path.as_slice()),
+        Target::Name { name, .. } => write_name(words, path, name.as_slice()),
+    }
+}
+
+// What stands in the words of a target where the path of its directory stands, if it has one.
+fn path_in<'a>(target: &Target, words: &'a [u8]) -> &'a [u8] {
+    let end = match target {
+        Target::Directory(_) => b'"',
+        Target::Name { .. } => b'/',
+    };
+    let Some((before, _)) = around_last(words, end) else {
+        return b"";
+    };
+    match around_last(before, b'"') {
+        Some((_, path)) => path,
+        None => b"",
+    }
+}
+
+// Writes a target in words, and guesses that the path of its directory will be the same.
+fn write_and_guess(
+    words: &mut Gathered,
+    tree: &Tree,
+    target: &Target,
+    path: &mut Vec<u8>,
+) -> Result<(), AllocError>
+    requires { words.old.bytes.items ≡ [] }
+    ensures { OnOk result (words.new.bytes.items ≡ target_words tree.now.tree target.now) }
+{
+    path.clear();
+    match write_target(words, tree, target) {
+        Ok(()) => path.extend_from_slice(path_in(target, words.bytes.as_slice())),
+        Err(_) => Err(AllocError),
+    }
+}
+
+/// The target of a walk, and where it is put into words.
+#[derive(Drop)]
+pub(crate) struct TargetText {
+    target: Target,
+    words: Gathered,
+    // The path of its directory, as it was when it was last found: a guess.
+    path: Vec<u8>,
+}
+
+impl TargetText {
+    // The root, with nothing in words.
+    fn new(alloc: Global) -> TargetText {
+        TargetText {
+            target: Target::Directory(ROOT),
+            words: Gathered::new(alloc),
+            path: Vec::new(alloc),
+        }
+    }
+
+    /// Has this target from then on, and puts it into words.
+    ///
+    /// # Errors
+    ///
+    /// Where there is no memory for the words.
+    #[tactic(auto, using(crate::proofs::KnownPaths::known_is))]
+    pub(crate) fn put(&mut self, tree: &Tree, target: Target) -> Result<(), AllocError>
+        ensures target { self.new.target ≡ target }
+        ensures words { OnOk result (self.new.words.bytes.items ≡ target_words tree.now.tree target) }
+    {
+        self.target = target;
+        self.words.bytes.clear();
+        if is_known(tree, &self.target, self.path.as_slice()) {
+            write_known(&mut self.words, &self.target, &mut self.path)
+        } else {
+            write_and_guess(&mut self.words, tree, &self.target, &mut self.path)
+        }
+    }
+
+    /// The walk to the target, which asks for permissions.
+    pub(crate) fn walk(&self, permissions: Perms) -> JudgedWalk<'_>
+        ensures { result ≡ record { target = self.now.target; words = self.now.words.bytes.items; permissions = permissions } }
+    {
+        JudgedWalk::new(&self.target, self.words.bytes.as_slice(), permissions)
+    }
+}
+
+/// The targets of a call's walks, in words: one serves for any number of calls.
+#[derive(Drop)]
+pub(crate) struct TargetTexts {
+    /// That of the first walk.
+    pub(crate) first: TargetText,
+    /// That of the second.
+    pub(crate) second: TargetText,
+}
+
+impl TargetTexts {
+    /// Before the first call.
+    pub(crate) fn new(alloc: Global) -> TargetTexts {
+        TargetTexts {
+            first: TargetText::new(alloc),
+            second: TargetText::new(alloc),
+        }
+    }
+}
