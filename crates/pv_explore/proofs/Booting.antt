@@ -1,5 +1,5 @@
 -- A machine that is made anew.
-use Rattle.std.proofs.Common.{◌≡◌, ◌∙◌, sym, ap, subst, ℕ, List, [], ◌++◌, Option, Some}
+use Rattle.std.proofs.Common.{◌≡◌, ◌∙◌, sym, ap, subst, [], ◌++◌, Some}
 use Rattle.std.specs.Prelude.{IfOk, Result, Ok, Err}
 use Rattle.pv_explore.specs.Beginnings.{first_of, first_on, state_or}
 use Rattle.pv_image.proofs.Named.{named_tree-all}

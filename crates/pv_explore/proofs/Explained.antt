@@ -14,6 +14,8 @@ use Rattle.pv_model.specs.Answers.Lines.{answer_bytes, answer_line, answer_line_
 use Rattle.pv_model.specs.Bytes.{Bytes}
 use Rattle.pv_model.specs.Grammar.Programs.{program_of}
 use Rattle.pv_model.specs.State.{State}
+use Rattle.pv_spelling.specs.Groups.{joined, state_groups}
+use Rattle.pv_spelling.proofs.Grouping.{state-joined}
 
 -- nothing is said of where an entry was set
 untold-is : (s : State) (pid : ℕ) → explained_step program_of (source_of []) s pid ≡ explained_step program_of untold s pid
@@ -22,9 +24,9 @@ untold-is s pid =
     let none : source_of [] ≡ untold = λ i k. same k i in
     ap (λ (source : ℕ → Bytes). explained_step program_of source s pid) none
 
-pub step-bytes : (keys : List Bytes) (s : State) (pid : ℕ) (made : MadeStep) (after : State) (key : Bytes) (found : Option ℕ) → IsMade s pid made after → key ≡ state_key after → found ≡ position (bytes_eq key) keys
+pub step-bytes : (keys : List Bytes) (s : State) (pid : ℕ) (made : MadeStep) (after : State) (groups : List (List Bytes)) (found : Option ℕ) → IsMade s pid made after → groups ≡ state_groups after → found ≡ position (bytes_eq (joined groups)) keys
     → answer_line_bytes (answer_line pid (codes "STEP") (leads_to_text found)) ++ answer_bytes (made_lines pid [] made after) ≡ answer_bytes (step_of keys s pid)
-step-bytes keys s pid made after key found is key_is found_is =
+step-bytes keys s pid made after groups found is groups_is found_is =
     ap₂ (λ (a b : Bytes). a ++ b)
-    (ap (λ (o : Option ℕ). answer_line_bytes (answer_line pid (codes "STEP") (leads_to_text o))) (found_is ∙ ap (λ (k : Bytes). position (bytes_eq k) keys) (key_is ∙ ap state_key (left-by s pid made after is))))
+    (ap (λ (o : Option ℕ). answer_line_bytes (answer_line pid (codes "STEP") (leads_to_text o))) (found_is ∙ ap (λ (k : Bytes). position (bytes_eq k) keys) (ap joined groups_is ∙ state-joined after ∙ ap state_key (left-by s pid made after is))))
     (ap answer_bytes (made-is s pid [] made after is ∙ untold-is s pid))

@@ -1,5 +1,5 @@
 -- How a search goes, step by step.
-use Rattle.std.proofs.Common.{◌≡◌, ◌∙◌, sym, ap, ap₂, subst, ℕ, zero, suc, ◌+◌, ◌-◌, ◌<◌, ◌≤◌, Bool, true, false, if◌then◌else◌, nat_le, bytes_eq, List, [], ◌∷◌, ◌++◌, map, flat_map, length, drop, get_or, slice_get, Option, None, Some, refl, add-one, codes, arith}
+use Rattle.std.proofs.Common.{◌≡◌, ◌∙◌, sym, ap, ap₂, ℕ, suc, ◌+◌, ◌-◌, ◌<◌, ◌≤◌, Bool, true, false, if◌then◌else◌, nat_le, bytes_eq, List, [], ◌∷◌, ◌++◌, map, length, drop, get_or, slice_get, None, Some, refl, add-one, codes, arith}
 use Rattle.std.specs.Global.{Vec}
 use Rattle.std.specs.List.{list_any}
 use Rattle.std.proofs.lemmas.Bool.{le-leb, lt-leb}
@@ -16,6 +16,8 @@ use Rattle.pv_model.specs.Grammar.Programs.{program_of}
 use Rattle.pv_model.specs.State.{State}
 use Rattle.pv_model.specs.Trace.{Line, text_line, trace_bytes}
 use Rattle.pv_session.specs.Running.{stepped}
+use Rattle.pv_spelling.specs.Groups.{joined, state_groups}
+use Rattle.pv_spelling.proofs.Grouping.{state-joined}
 
 -- ---- a state that is found
 
@@ -45,15 +47,17 @@ module _ (limit : ℕ) (kept : Kept) (way : List ℕ) (t : State) where
       by false true = refl
       by false false = refl
 
-pub known-is : (b : Bool) (key : Bytes) (t : State) (keys : List Bytes) → b ≡ list_any (bytes_eq key) keys → key ≡ state_key t → b ≡ list_any (bytes_eq (state_key t)) keys
-known-is b key t keys is same = is ∙ ap (λ k. list_any (bytes_eq k) keys) same
+-- the bytes of groups are those by which the state is known
+pub key-is : (groups : List (List Bytes)) (t : State) → groups ≡ state_groups t → joined groups ≡ state_key t
+key-is groups t is = ap joined is ∙ state-joined t
 
-pub added-kept : (kept : Kept) (way : List ℕ) (t : State) (key : Bytes) (keys endings : List Bytes) (ways : List (List ℕ)) → key ≡ state_key t → is_known kept t ≡ false → endings ≡ endings_after kept.endings t
-    → ways ≡ kept.ways ++ way ∷ [] → keys ≡ (if list_any (bytes_eq key) kept.keys then kept.keys else kept.keys ++ key ∷ [])
-    → record { keys = keys; ways = ways; told = kept.told; endings = endings; complete = kept.complete } ≡ with_state_at kept way t
-added-kept kept way t key keys endings ways same new ending longer added =
-    let keys_are : keys ≡ kept.keys ++ state_key t ∷ [] =
-    added ∙ ap (λ k. if list_any (bytes_eq k) kept.keys then kept.keys else kept.keys ++ k ∷ []) same ∙ ap (λ b. if b then kept.keys else kept.keys ++ state_key t ∷ []) new in
+pub known-is : (b : Bool) (groups : List (List Bytes)) (t : State) (keys : List Bytes) → b ≡ list_any (bytes_eq (joined groups)) keys → groups ≡ state_groups t → b ≡ list_any (bytes_eq (state_key t)) keys
+known-is b groups t keys is same = is ∙ ap (λ k. list_any (bytes_eq k) keys) (key-is groups t same)
+
+pub added-kept : (kept : Kept) (way : List ℕ) (t : State) (groups : List (List Bytes)) (keys endings : List Bytes) (ways : List (List ℕ)) → groups ≡ state_groups t → endings ≡ endings_after kept.endings t
+    → ways ≡ kept.ways ++ way ∷ [] → keys ≡ kept.keys ++ joined groups ∷ [] → record { keys = keys; ways = ways; told = kept.told; endings = endings; complete = kept.complete } ≡ with_state_at kept way t
+added-kept kept way t groups keys endings ways same ending longer added =
+    let keys_are : keys ≡ kept.keys ++ state_key t ∷ [] = added ∙ ap (λ k. kept.keys ++ k ∷ []) (key-is groups t same) in
     λ i. record { keys = keys_are i; ways = longer i; told = kept.told; endings = ending i; complete = kept.complete }
 
 pub ways-more : (ways new : List (Vec ℕ)) (way : Vec ℕ) → new ≡ ways ++ way ∷ [] → map (λ (w : Vec ℕ). w.items) new ≡ map (λ (w : Vec ℕ). w.items) ways ++ way.items ∷ []

@@ -1,5 +1,5 @@
 -- What a graph tells, state by state, is how the states hang together.
-use Rattle.std.proofs.Common.{◌≡◌, ◌∙◌, sym, ap, ap₂, subst, ℕ, zero, suc, ◌+◌, ◌<◌, ◌≤◌, Bool, bytes_eq, true, false, List, [], ◌∷◌, ◌++◌, map, flat_map, length, drop, get_or, slice_get, Option, None, Some, refl, add-one, codes, arith}
+use Rattle.std.proofs.Common.{◌≡◌, ◌∙◌, sym, ap, ap₂, subst, ℕ, zero, suc, ◌+◌, ◌<◌, ◌≤◌, Bool, bytes_eq, true, false, List, [], ◌∷◌, ◌++◌, map, flat_map, length, drop, get_or, slice_get, Option, None, Some, refl, add-one, codes}
 use Rattle.std.specs.Prelude.{position}
 use Rattle.std.specs.Fmt.{decimal}
 use Rattle.std.specs.List.{AllByRecursion}
@@ -10,7 +10,7 @@ use Rattle.pv_explore.specs.Plan.{Kept, first_kept, kept_from, state_key, state_
 use Rattle.pv_explore.specs.Vertices.{listed_bytes, step_of, steps_at, vertex_at, vertices_from}
 use Rattle.pv_explore.proofs.KeyLists.{position-mapped}
 use Rattle.pv_explore.proofs.Planned.{Finds, plan-finds, same-known, state_of_found, way_of_found}
-use Rattle.pv_model.specs.Answers.Explore.{Found, done_line, move, moves_of, states_found, states_line}
+use Rattle.pv_model.specs.Answers.Explore.{Found, move, states_found, states_line}
 use Rattle.pv_model.specs.Answers.Explain.{explained_step}
 use Rattle.pv_model.specs.Answers.Graph.{graph_lines, leads_to_text, listing_lines, number_found, step_lines, tree_lines, untold, vertex_lines}
 use Rattle.pv_model.specs.Answers.Lines.{AnswerLine, answer_bytes, answer_line, answer_line_bytes, counted_from}

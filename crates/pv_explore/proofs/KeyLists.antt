@@ -1,7 +1,8 @@
 -- Byte strings among those that are kept.
-use Rattle.std.proofs.Common.{◌≡◌, ◌∙◌, sym, ap, ap₂, ℕ, ◌+◌, Bool, true, false, ◌||◌, cond, if◌then◌else◌, nat_lt, not, bytes_eq, List, [], ◌∷◌, ◌++◌, map, length, Option, None, Some, refl}
+use Rattle.std.proofs.Common.{◌≡◌, ◌∙◌, sym, ap, ap₂, ℕ, ◌+◌, ◌≤◌, Bool, true, false, ◌||◌, cond, if◌then◌else◌, nat_lt, not, bytes_eq, List, [], ◌∷◌, ◌++◌, map, length, Option, None, Some, refl, arith}
 use Rattle.std.specs.Prelude.{position}
 use Rattle.std.specs.List.{list_any, position_or_len}
+use Rattle.std.proofs.lemmas.Bool.Decides.{nat_tests}
 use Rattle.std.proofs.lemmas.List.{length-map, map-append}
 use Rattle.pv_model.specs.Bytes.{Bytes}
 
@@ -32,3 +33,27 @@ added-among f x xs new now is same =
 
 pub there-among : {X : Type 0} (f : X → Bytes) (key : Bytes) (xs : List X) (now : List Bytes) (b : Bool) → b ≡ list_any (λ x. bytes_eq key (f x)) xs → map f xs ≡ now → b ≡ list_any (bytes_eq key) now
 there-among f key xs now b is same = is ∙ sym (any-mapped f (bytes_eq key) xs) ∙ ap (list_any (bytes_eq key)) same
+
+-- the number of a byte string, or how many there are where it is none of them
+module _ {X : Type 0} (p : X → Bool) where
+  at-most : (xs : List X) → position_or_len p xs ≤ length xs
+  at-most [] = omega arith
+  at-most (x ∷ xs) = by (p x) (at-most xs)
+    where
+      by : (b : Bool) → position_or_len p xs ≤ length xs → cond (not b) (1 + position_or_len p xs) 0 ≤ length (x ∷ xs)
+      by true few = omega arith
+      by false few = omega (arith, few)
+
+  pub number-some : (xs : List X) (n : ℕ) → Some n ≡ position p xs → n ≡ position_or_len p xs
+  number-some xs n is = by (nat_lt (position_or_len p xs) (length xs)) is
+    where
+      by : (b : Bool) → Some n ≡ cond b (Some (position_or_len p xs)) None → n ≡ position_or_len p xs
+      by true is = cc
+      by false is = cc
+
+  pub number-none : (xs : List X) (n : ℕ) → None ≡ position p xs → n ≡ length xs → n ≡ position_or_len p xs
+  number-none xs n is many = by (nat_lt (position_or_len p xs) (length xs)) refl is
+    where
+      by : (b : Bool) → nat_lt (position_or_len p xs) (length xs) ≡ b → None ≡ cond b (Some (position_or_len p xs)) None → n ≡ position_or_len p xs
+      by true less is = cc
+      by false past is = let few = at-most xs in let above : length xs ≤ position_or_len p xs = grind (arith, nat_tests, past) in omega (arith, few, above, many)

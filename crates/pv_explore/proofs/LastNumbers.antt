@@ -1,12 +1,12 @@
 -- The last number given to a process, and who is live.
-use Rattle.std.proofs.Common.{◌≡◌, ◌≢◌, ◌⊎◌, inl, inr, ⊎_elim, ◌∙◌, sym, ap, subst, ℕ, suc, ◌+◌, ◌≤◌, true, false, pos, negsuc, Option, None, Some, is_some, IsSome, refl, add-one, arith}
+use Rattle.std.proofs.Common.{◌≡◌, inl, inr, ⊎_elim, ◌∙◌, sym, ap, subst, ℕ, suc, ◌+◌, ◌≤◌, true, false, pos, negsuc, Option, None, Some, is_some, IsSome, refl, add-one, arith}
 use Rattle.std.specs.FinMap.Entries.{find}
 use Rattle.std.specs.Ordering.{nat_cmp}
 use Rattle.std.proofs.lemmas.Bool.{cases_eq}
 use Rattle.pv_model.specs.declared.call.Call.{Call}
 use Rattle.pv_model.specs.declared.errno.Errno.TheVariants.{ENOSYS}
 use Rattle.pv_model.specs.declared.outcome.Cause.TheVariants.{Promise as ByPromise}
-use Rattle.pv_model.specs.Answer.{Answered, answer, answer_by_attempt, at_next_line, effect, update, with_front}
+use Rattle.pv_model.specs.Answer.{answer, answer_by_attempt, at_next_line, effect, update, with_front}
 use Rattle.pv_model.specs.Attempt.{Attempt, done, refused}
 use Rattle.pv_model.specs.Calls.Processes.{child, end_process, with_result}
 use Rattle.pv_model.specs.Effect.{Effect, Reply, returns, returns_bytes, ends, waits}

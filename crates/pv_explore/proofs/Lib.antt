@@ -1,7 +1,8 @@
 -- Lemmas of the search: Planned (what it tells and keeps is what can happen), Turns (ways as turns), KeyLists (byte strings that are kept),
 -- LastNumbers (the last number given to a process), LiveOnes (numbers of live processes, and the tree where none is live), Ways (states along a way), Booting (a machine
 -- made anew), Finding (how a search goes, step by step), Graphed (what a
--- graph tells), Explained (the lines of its steps).
+-- graph tells), Explained (the lines of its steps), Rows (states as rows of
+-- small numbers).
 pub mod Planned
 pub mod Turns
 pub mod KeyLists
@@ -12,3 +13,4 @@ pub mod Booting
 pub mod Finding
 pub mod Graphed
 pub mod Explained
+pub mod Rows

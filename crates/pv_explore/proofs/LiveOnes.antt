@@ -1,12 +1,12 @@
 -- The numbers of live processes, and the tree where none is live.
-use Rattle.std.proofs.Common.{◌≡◌, ◌∙◌, sym, ap, subst, ℕ, suc, Bool, true, false, if◌then◌else◌, List, [], ◌∷◌, ◌++◌, map, flat_map, length, append_assoc, append-nil, Option, None, Some, is_some, refl, arith}
+use Rattle.std.proofs.Common.{◌≡◌, ◌∙◌, sym, ap, ℕ, suc, true, List, [], ◌∷◌, ◌++◌, map, flat_map, append_assoc, append-nil, None, Some, is_some, refl}
 use Rattle.std.specs.FinMap.Entries.{find}
 use Rattle.std.specs.Ordering.{nat_cmp}
 use Rattle.pv_answers.proofs.Following.{Recorded, IsNextRecord, all-after, none-after, records_after}
 use Rattle.pv_model.specs.Answers.Explore.{has_ended}
 use Rattle.pv_model.specs.Answers.Numbers.{tree_numbers}
 use Rattle.pv_model.specs.Bytes.{Bytes, is_empty}
-use Rattle.pv_model.specs.Held.{among, held_by_process, held_nodes, live_processes, named_tree, only_nodes, trim, trim_files, trim_nodes, used_files}
+use Rattle.pv_model.specs.Held.{among, held_by_process, held_nodes, live_processes, named_tree, only_nodes, trim, trim_files, used_files}
 use Rattle.pv_model.specs.Numbered.{Numbered, keep, keep_from, present}
 use Rattle.pv_model.specs.State.{OpenFile, Process, ProcessRecord, live, ended_record, State, live_process}
 use Rattle.pv_model.specs.Tree.{named_numbers, root, Tree}

@@ -1,5 +1,5 @@
 -- What a search writes, as it goes, is what can happen.
-use Rattle.std.proofs.Common.{◌≡◌, ◌≢◌, ◌∙◌, sym, ap, ap₂, subst, ℕ, zero, suc, ◌+◌, ◌<◌, ◌≤◌, Bool, true, false, ◌&&◌, ◌||◌, cond, if◌then◌else◌, nat_le, bytes_eq, List, [], ◌∷◌, ◌++◌, length, map, filter, flat_map, fold, take, append_assoc, append-nil, length-append, slice_get, Option, None, Some, option_map, ◌⊎◌, inl, inr, ⊎_elim, refl, arith}
+use Rattle.std.proofs.Common.{◌≡◌, ◌∙◌, sym, ap, ap₂, subst, ℕ, zero, suc, ◌+◌, ◌<◌, ◌≤◌, Bool, true, false, ◌&&◌, ◌||◌, cond, if◌then◌else◌, nat_le, bytes_eq, List, [], ◌∷◌, ◌++◌, length, map, filter, flat_map, fold, take, append_assoc, append-nil, length-append, slice_get, Option, None, Some, option_map, ◌⊎◌, inl, inr, ⊎_elim, refl, arith}
 use Rattle.std.specs.List.{AllByRecursion, list_any, list_all}
 use Rattle.std.proofs.lemmas.Bool.{and_parts, and_from}
 use Rattle.std.proofs.lemmas.Bool.Decides.{nat_tests}
@@ -8,13 +8,13 @@ use Rattle.std.proofs.lemmas.List.{length-map, map-append, take_all}
 use Rattle.std.proofs.lemmas.List.Elements.{filter-append}
 use Rattle.std.proofs.lemmas.List.Folds.{list_any-append}
 use Rattle.std.proofs.lemmas.Option.{slice_get-map, slice_get_cases}
-use Rattle.pv_model.specs.Answers.Explore.{Found, Move, is_found, found_by, move, moves_of, with_move, found_after, found_from, states_found, moves, is_complete, new_ones, move_text, told_moves, move_lines, has_ended, endings, done_line, explore_lines, states_line, endings_line}
+use Rattle.pv_model.specs.Answers.Explore.{Found, Move, is_found, found_by, move, moves_of, with_move, found_after, found_from, states_found, moves, new_ones, move_text, told_moves, move_lines, has_ended, endings, done_line, explore_lines, states_line, endings_line}
 use Rattle.pv_model.specs.Answers.Lines.{AnswerLine}
 use Rattle.pv_model.specs.Answers.Numbers.{Numbers, same_state, state_numbers, tree_numbers}
 use Rattle.pv_model.specs.Bytes.{Bytes}
 use Rattle.pv_model.specs.Held.{live_processes, named_tree}
 use Rattle.pv_model.specs.State.{Program, Process, State}
-use Rattle.pv_model.specs.Step.{Run, step, run}
+use Rattle.pv_model.specs.Step.{Run}
 use Rattle.pv_model.specs.Tree.{Tree}
 use Rattle.pv_model.proofs.Runs.{run-append}
 use Rattle.pv_laws_trees.proofs.Entries.{bytes_eq-same, bytes_eq-itself}
@@ -22,11 +22,11 @@ use Rattle.pv_laws_explore.proofs.Complete.{there-found}
 use Rattle.pv_laws_explore.proofs.Lists.{among-right, each-append}
 use Rattle.pv_spelling.specs.Packed.{packed_all}
 use Rattle.pv_spelling.proofs.Apart.{packed-apart}
-use Rattle.pv_explore.specs.Plan.{state_key, tree_key, Kept, added_to, is_told, told_after, lines_at, endings_after, with_state, is_known, with_found, kept_after, state_at, move_at, steps_told, kept_after_steps, live_at, done_lines, and_tell, told_from, and_keep, kept_from, first_kept}
+use Rattle.pv_explore.specs.Plan.{state_key, tree_key, Kept, added_to, is_told, told_after, lines_at, endings_after, with_state, is_known, kept_after, state_at, move_at, steps_told, kept_after_steps, live_at, done_lines, and_tell, told_from, and_keep, kept_from, first_kept}
 
 -- ---- tests of bytes
 
-same-tests : (a b : Bool) → (a ≡ true → b ≡ true) → (b ≡ true → a ≡ true) → a ≡ b
+pub same-tests : (a b : Bool) → (a ≡ true → b ≡ true) → (b ≡ true → a ≡ true) → a ≡ b
 same-tests true true f g = refl
 same-tests true false f g = sym (f refl)
 same-tests false true f g = g refl

@@ -1,10 +1,10 @@
 -- States along a way.
-use Rattle.std.proofs.Common.{◌≡◌, ◌∙◌, sym, ap, ℕ, ◌+◌, ◌<◌, List, [], ◌∷◌, ◌++◌, get_or, length, take}
+use Rattle.std.proofs.Common.{◌≡◌, ◌∙◌, sym, ap, ℕ, ◌+◌, ◌<◌, List, [], ◌∷◌, get_or, length, take}
 use Rattle.std.proofs.lemmas.List.{take_more}
 use Rattle.pv_explore.specs.Plan.{state_at}
 use Rattle.pv_model.specs.Grammar.Programs.{program_of}
 use Rattle.pv_model.specs.State.{State}
-use Rattle.pv_model.specs.Step.{Run, run, step}
+use Rattle.pv_model.specs.Step.{Run, step}
 use Rattle.pv_model.proofs.Runs.{run-append}
 
 -- after one step more

@@ -1,4 +1,5 @@
 pub mod Beginnings
 pub mod Plan
+pub mod Rows
 pub mod Searches
 pub mod Vertices

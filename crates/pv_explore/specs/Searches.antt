@@ -10,7 +10,7 @@ use Rattle.pv_model.specs.Trace.{text_line}
 use Rattle.pv_session.specs.Running.{stepped}
 
 abbrev pub kept_of : Search → Kept
-kept_of s = record { keys = s.keys; ways = map (λ w. w.items) s.ways.items; told = s.told; endings = s.endings; complete = s.complete }
+kept_of s = record { keys = s.states; ways = map (λ w. w.items) s.ways.items; told = s.told; endings = s.endings; complete = s.complete }
 
 -- the step of a process in a state, to which a way leads
 abbrev pub move_of : List ℕ → ℕ → State → Move

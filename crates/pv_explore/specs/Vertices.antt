@@ -1,5 +1,5 @@
 -- A state of a search with its steps, by what is kept of it.
-use Rattle.std.specs.Prelude.{ℕ, ◌+◌, Bool, List, [], ◌∷◌, ◌++◌, map, flat_map, codes, bytes_eq, position}
+use Rattle.std.specs.Prelude.{ℕ, Bool, List, ◌∷◌, ◌++◌, map, flat_map, codes, bytes_eq, position}
 use Rattle.std.specs.Fmt.{decimal}
 use Rattle.pv_explore.specs.Plan.{state_key, state_at, live_at}
 use Rattle.pv_model.specs.Answers.Explain.{explained_step}

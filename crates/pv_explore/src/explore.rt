@@ -68,7 +68,7 @@ fn write_done<W: Sink>(out: &mut W, search: &Search) -> Result<(), Failed>
     ensures failed { OnErr result (Rose (W.failures out.old) (W.failures out.new)) }
     ensures quiet { OnOk result (W.failures out.new ≡ W.failures out.old) }
 {
-    write_states(out, search.keys.len(), search.complete)?;
+    write_states(out, search.states.len(), search.complete)?;
     write_endings(out, search.endings.len())
 }
 

@@ -15,9 +15,9 @@ ghost use Rattle.pv_streams.specs.Sinks.{and_all, TellsBeginning};
 
 use crate::beginning::Beginning;
 use crate::explore::write_states;
-use crate::keys::Keys;
 use crate::position::Position;
 use crate::search::Search;
+use crate::states::States;
 use crate::unheard::Unheard;
 use crate::way::Count;
 use pv_answers::{Fragment, Line, Plain, write_reach, write_state};
@@ -96,13 +96,13 @@ fn write_tree<W: Sink>(alloc: Global, parts: &Parts, tree: bool, out: &mut W) ->
 fn write_steps<W: Sink>(
     alloc: Global,
     beginning: &Beginning,
-    keys: &Keys,
+    states: &States,
     way: &[u32],
     line_buffer: &mut LineBuffer,
     out: &mut W,
 ) -> Result<(), Stop>
-    ensures whole { OnOk result (W.written out.new ≡ and_all (W.written out.old) (answer_bytes (steps_at keys.now beginning.now way.now (live_at program_of beginning.now way.now)))) }
-    ensures beginning { OnErr result (TellsBeginning (answer_bytes (steps_at keys.now beginning.now way.now (live_at program_of beginning.now way.now))) (W.written out.old) (W.written out.new)) }
+    ensures whole { OnOk result (W.written out.new ≡ and_all (W.written out.old) (answer_bytes (steps_at states.now beginning.now way.now (live_at program_of beginning.now way.now)))) }
+    ensures beginning { OnErr result (TellsBeginning (answer_bytes (steps_at states.now beginning.now way.now (live_at program_of beginning.now way.now))) (W.written out.old) (W.written out.new)) }
     ensures failed { IfErr result (λ stop. FailsBy stop (W.failures out.old) (W.failures out.new)) }
     ensures quiet { OnOk result (W.failures out.new ≡ W.failures out.old) }
 {
@@ -110,7 +110,7 @@ fn write_steps<W: Sink>(
     let live = pids.as_slice();
     for pid in live {
         let from = Position::at(alloc, beginning, way)?;
-        from.write_step(alloc, keys, *pid, line_buffer, out)?;
+        from.write_step(alloc, states, *pid, line_buffer, out)?;
     }
     Ok(())
 }
@@ -135,15 +135,15 @@ fn write_number<W: Sink>(out: &mut W, number: usize) -> Result<(), Failed>
 fn write_vertex<W: Sink>(
     alloc: Global,
     beginning: &Beginning,
-    keys: &Keys,
+    states: &States,
     tree: bool,
     number: usize,
     way: &[u32],
     line_buffer: &mut LineBuffer,
     out: &mut W,
 ) -> Result<(), Stop>
-    ensures whole { OnOk result (W.written out.new ≡ and_all (W.written out.old) (answer_bytes (vertex_at keys.now beginning.now tree number way.now))) }
-    ensures beginning { OnErr result (TellsBeginning (answer_bytes (vertex_at keys.now beginning.now tree number way.now)) (W.written out.old) (W.written out.new)) }
+    ensures whole { OnOk result (W.written out.new ≡ and_all (W.written out.old) (answer_bytes (vertex_at states.now beginning.now tree number way.now))) }
+    ensures beginning { OnErr result (TellsBeginning (answer_bytes (vertex_at states.now beginning.now tree number way.now)) (W.written out.old) (W.written out.new)) }
     ensures failed { IfErr result (λ stop. FailsBy stop (W.failures out.old) (W.failures out.new)) }
     ensures quiet { OnOk result (W.failures out.new ≡ W.failures out.old) }
 {
@@ -151,7 +151,7 @@ fn write_vertex<W: Sink>(
     write_number(out, number)?;
     write_state(out, position.parts())?;
     write_tree(alloc, position.parts(), tree, out)?;
-    write_steps(alloc, beginning, keys, way, line_buffer, out)
+    write_steps(alloc, beginning, states, way, line_buffer, out)
 }
 
 // Writes the states of a search.
@@ -162,21 +162,21 @@ fn write_vertices<W: Sink>(
     tree: bool,
     out: &mut W,
 ) -> Result<(), Stop>
-    requires { length (kept_of search.now).ways ≡ length search.now.keys }
-    ensures whole { OnOk result (W.written out.new ≡ and_all (W.written out.old) (answer_bytes (vertices_from search.now.keys beginning.now tree 0 (kept_of search.now).ways))) }
-    ensures beginning { OnErr result (TellsBeginning (answer_bytes (vertices_from search.now.keys beginning.now tree 0 (kept_of search.now).ways)) (W.written out.old) (W.written out.new)) }
+    requires { length (kept_of search.now).ways ≡ length search.now.states }
+    ensures whole { OnOk result (W.written out.new ≡ and_all (W.written out.old) (answer_bytes (vertices_from search.now.states beginning.now tree 0 (kept_of search.now).ways))) }
+    ensures beginning { OnErr result (TellsBeginning (answer_bytes (vertices_from search.now.states beginning.now tree 0 (kept_of search.now).ways)) (W.written out.old) (W.written out.new)) }
     ensures failed { IfErr result (λ stop. FailsBy stop (W.failures out.old) (W.failures out.new)) }
     ensures quiet { OnOk result (W.failures out.new ≡ W.failures out.old) }
 {
     let mut line_buffer = new_line_buffer(alloc)?;
-    for number in 0..search.keys.len() {
+    for number in 0..search.states.len() {
         let Some(way) = search.way(alloc, number)? else {
             return Ok(());
         };
         write_vertex(
             alloc,
             beginning,
-            &search.keys,
+            &search.states,
             tree,
             number,
             &way,
@@ -229,5 +229,5 @@ pub fn write_graph<W: Sink>(
 {
     let search = search_all(alloc, beginning, states)?;
     write_vertices(alloc, beginning, &search, tree, out)?;
-    Ok(write_states(out, search.keys.len(), search.complete)?)
+    Ok(write_states(out, search.states.len(), search.complete)?)
 }

@@ -1,6 +1,6 @@
 //! Different byte strings, in the order in which they came.
-ghost use Rattle.std.specs.Prelude.{◌≡◌, ◌==◌, ◌++◌, ◌∷◌, [], length, position, bytes_eq, if◌then◌else◌, OnOk, OnErr};
-ghost use Rattle.std.specs.List.{list_any};
+ghost use Rattle.std.specs.Prelude.{◌≡◌, ◌==◌, ◌++◌, ◌∷◌, [], length, position, bytes_eq, if◌then◌else◌, IfOk, OnOk, OnErr};
+ghost use Rattle.std.specs.List.{list_any, position_or_len};
 
 use indexmap::IndexSet;
 use std::alloc::{AllocError, Global};
@@ -19,6 +19,15 @@ impl Model for Keys {
     ghost Value = { List Bytes };
 
     ghost view = { λ k. map (λ v. v.items) k.set.keys };
+}
+
+// The same bytes, in no more room than they take.
+fn copy_of(alloc: Global, bytes: &[u8]) -> Result<Vec<u8>, AllocError>
+    ensures { IfOk result (λ copy. copy.items ≡ bytes.now) }
+{
+    let mut copy = Vec::new(alloc);
+    copy.extend_from_slice(bytes)?;
+    Ok(copy)
 }
 
 impl Keys {
@@ -70,5 +79,31 @@ impl Keys {
     {
         let _ = self.set.insert_full(key)?;
         Ok(())
+    }
+
+    /// The number of a byte string, from 0, or how many they are where it is none of them.
+    pub fn find_or_len(&self, key: &[u8]) -> usize
+        ensures { result ≡ position_or_len (bytes_eq key.now) self.now }
+    {
+        match self.find(key) {
+            Some(number) => number,
+            None => self.len(),
+        }
+    }
+
+    /// Adds a copy of a byte string, if it is not there: it then comes last.
+    ///
+    /// # Errors
+    ///
+    /// Where memory was refused; nothing has then changed.
+    pub fn learn(&mut self, alloc: Global, key: &[u8]) -> Result<(), AllocError>
+        ensures added { OnOk result (self.new ≡ (if list_any (bytes_eq key.now) self.old then self.old else self.old ++ key.now ∷ [])) }
+        ensures unchanged { OnErr result (self.new ≡ self.old) }
+    {
+        if self.contains(key) {
+            return Ok(());
+        }
+        let copy = copy_of(alloc, key)?;
+        self.add(copy)
     }
 }

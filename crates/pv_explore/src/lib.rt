@@ -1,9 +1,10 @@
 //! What can happen under any schedule: the search of all states, and how they hang together.
 //!
 //! `beginning` has a machine before its first step, which can be made anew, and `position` a machine at the end of a way, a list
-//! of process numbers. `search` keeps what a search finds: it knows a state by its bytes, which `keys` has in the order of
-//! finding, and has the way to each. `explore` writes what the steps of all states tell, each text once with a way to it, and
-//! `graph` each state with its steps and where they lead. `way` writes a way, and `unheard` is a sink for what nobody reads.
+//! of process numbers. `search` keeps what a search finds: `states`, each as a row of the numbers that its parts have in tables, and
+//! the way to each. `keys` has different byte strings in the order in which they came. `explore` writes what the steps of all states
+//! tell, each text once with a way to it, and `graph` each state with its steps and where they lead. `way` writes a way, and
+//! `unheard` is a sink for what nobody reads.
 //!
 //! A clause sees the texts as the definitions have them. `specs/Plan` says how a search goes, and `proofs/Planned` that it finds
 //! and tells what the definitions do.
@@ -15,6 +16,7 @@ mod graph;
 mod keys;
 mod position;
 mod search;
+mod states;
 mod unheard;
 mod way;
 

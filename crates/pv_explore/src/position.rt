@@ -2,7 +2,7 @@
 ghost use Rattle.std.specs.Prelude.{◌≡◌, ◌+◌, ◌++◌, ◌∷◌, [], true, codes, map, is_some, Some, IfErr, IfOk, OnErr, OnOk};
 ghost use Rattle.pv_explore.specs.Beginnings.{GaveNumber, one_if};
 ghost use Rattle.pv_procs.specs.ProcessTable.{process_in};
-ghost use Rattle.pv_explore.specs.Plan.{state_at, state_key, tree_key};
+ghost use Rattle.pv_explore.specs.Plan.{state_at, tree_key};
 ghost use Rattle.pv_explore.specs.Vertices.{step_of};
 ghost use Rattle.pv_model.specs.Answers.Graph.{leads_to_text};
 ghost use Rattle.pv_model.specs.Answers.Lines.{answer_bytes, answer_line, answer_line_bytes};
@@ -13,10 +13,11 @@ ghost use Rattle.pv_model.specs.Grammar.Programs.{program_of};
 ghost use Rattle.pv_model.specs.Held.{live_processes, named_tree};
 ghost use Rattle.pv_model.specs.Trace.{trace_bytes};
 ghost use Rattle.pv_session.specs.Running.{FailsBy, stepped};
+ghost use Rattle.pv_spelling.specs.Groups.{groups_of, state_groups};
 ghost use Rattle.pv_streams.specs.Sinks.{and_all, TellsBeginning};
 
 use crate::beginning::Beginning;
-use crate::keys::Keys;
+use crate::states::States;
 use crate::way::Count;
 use pv_answers::{Fragment, Line, Plain};
 use pv_calls_state::Parts;
@@ -26,7 +27,7 @@ use pv_model::limits::LAST_PROCESS;
 use pv_procs::Processes;
 use pv_script::CallTexts;
 use pv_session::{Session, Stop};
-use pv_spelling::{push_state, push_tree};
+use pv_spelling::{push_tree, state_groups};
 use pv_streams::{Failed, Gathered, Sink};
 use pv_trace::LineBuffer;
 use std::alloc::Global;
@@ -117,15 +118,13 @@ fn live_numbers(alloc: Global, processes: &Processes) -> Result<Vec<u32>, StepFa
     Ok(pids)
 }
 
-// The bytes by which a state is known, where the last number given was one that is known, or a process got the next.
-fn key_of(alloc: Global, parts: &Parts, known: u32) -> Result<Vec<u8>, StepFault>
+// The groups of the parts of a state, where the last number given was one that is known, or a process got the next.
+fn groups_after(alloc: Global, parts: &Parts, known: u32) -> Result<Vec<Vec<Vec<u8>>>, StepFault>
     requires gave { GaveNumber parts.now known }
     requires whole { IsWhole parts.now }
-    ensures { IfOk result (λ key. key.items ≡ state_key parts.now) }
+    ensures { IfOk result (λ groups. groups_of groups.items ≡ state_groups parts.now) }
 {
-    let mut key = Vec::new(alloc);
-    push_state(&mut key, parts, last_number(parts, known))?;
-    Ok(key)
+    Ok(state_groups(alloc, parts, last_number(parts, known))?)
 }
 
 // Where a step leads.
@@ -234,17 +233,15 @@ impl Position {
         self.session.parts()
     }
 
-    /// The bytes by which its state is known.
+    /// The groups of parts by which its state is known.
     ///
     /// # Errors
     ///
     /// `NoMemory` where memory was refused.
-    pub(crate) fn key(&self, alloc: Global) -> Result<Vec<u8>, StepFault>
-        ensures { IfOk result (λ key. key.items ≡ state_key self.now) }
+    pub(crate) fn groups(&self, alloc: Global) -> Result<Vec<Vec<Vec<u8>>>, StepFault>
+        ensures { IfOk result (λ groups. groups_of groups.items ≡ state_groups self.now) }
     {
-        let mut key = Vec::new(alloc);
-        push_state(&mut key, self.session.parts(), self.last)?;
-        Ok(key)
+        Ok(state_groups(alloc, self.session.parts(), self.last)?)
     }
 
     /// The bytes by which its tree is known, where no process is live.
@@ -283,7 +280,7 @@ impl Position {
         Ok(self.live(alloc)?.is_empty())
     }
 
-    /// Makes a step of a process, and writes where it leads, by the number that its state has among those that keys know, and its lines
+    /// Makes a step of a process, and writes where it leads, by the number that its state has among those that were found, and its lines
     /// explained, but for where an entry was set.
     ///
     /// # Errors
@@ -292,13 +289,13 @@ impl Position {
     pub(crate) fn write_step<W: Sink>(
         self,
         alloc: Global,
-        keys: &Keys,
+        states: &States,
         pid: u32,
         line_buffer: &mut LineBuffer,
         out: &mut W,
     ) -> Result<(), Stop>
-        ensures whole { OnOk result (W.written out.new ≡ and_all (W.written out.old) (answer_bytes (step_of keys.now self pid))) }
-        ensures beginning { OnErr result (TellsBeginning (answer_bytes (step_of keys.now self pid)) (W.written out.old) (W.written out.new)) }
+        ensures whole { OnOk result (W.written out.new ≡ and_all (W.written out.old) (answer_bytes (step_of states.now self pid))) }
+        ensures beginning { OnErr result (TellsBeginning (answer_bytes (step_of states.now self pid)) (W.written out.old) (W.written out.new)) }
         ensures failed { IfErr result (λ stop. FailsBy stop (W.failures out.old) (W.failures out.new)) }
         ensures quiet { OnOk result (W.failures out.new ≡ W.failures out.old) }
     {
@@ -306,8 +303,9 @@ impl Position {
         let _ = session.parts();
         let mut texts = CallTexts::new();
         let made = make_step(alloc, &mut session, &mut texts, pid)?;
-        let key = key_of(alloc, session.parts(), last)?;
-        write_leads(out, pid, keys.find(&key))?;
+        let groups = groups_after(alloc, session.parts(), last)?;
+        let number = states.find(alloc, &groups)?;
+        write_leads(out, pid, number)?;
         Ok(write_made(out, line_buffer, &session, pid, &made, &[])?)
     }
 }

@@ -1,17 +1,19 @@
 //! What a search keeps, and how it goes.
 ghost use Rattle.std.specs.Prelude.{◌≡◌, ◌++◌, ◌∷◌, [], true, false, bytes_eq, if◌then◌else◌, slice_get, IfErr, IfOk, OnErr, OnOk};
 ghost use Rattle.std.specs.List.{list_any};
-ghost use Rattle.pv_explore.specs.Plan.{endings_after, first_kept, is_known, is_told, kept_after, kept_after_steps, kept_from, lines_at, live_at, state_key, steps_told, told_after, told_from, with_found_at, with_state_at};
+ghost use Rattle.pv_explore.specs.Plan.{endings_after, first_kept, is_known, is_told, kept_after, kept_after_steps, kept_from, lines_at, live_at, steps_told, told_after, told_from, with_found_at, with_state_at};
 ghost use Rattle.pv_explore.specs.Searches.{kept_of, move_bytes, move_of, told_bytes, way_of};
 ghost use Rattle.pv_model.specs.Answers.Lines.{answer_bytes};
 ghost use Rattle.pv_model.specs.Grammar.Programs.{program_of};
 ghost use Rattle.pv_model.specs.Stream.{Rose};
 ghost use Rattle.pv_session.specs.Running.{FailsBy};
+ghost use Rattle.pv_spelling.specs.Groups.{groups_of, state_groups};
 ghost use Rattle.pv_streams.specs.Sinks.{and_all, TellsBeginning};
 
 use crate::beginning::Beginning;
 use crate::keys::Keys;
 use crate::position::{Position, push_number};
+use crate::states::States;
 use crate::way::Way;
 use pv_answers::{Fragment, Line, Plain};
 use pv_model::StepFault;
@@ -22,8 +24,8 @@ use std::alloc::Global;
 /// What a search keeps.
 #[derive(Drop)]
 pub(crate) struct Search {
-    /// The bytes of each state found, in the order of finding.
-    pub(crate) keys: Keys,
+    /// The states found, in the order of finding.
+    pub(crate) states: States,
     // The way to each.
     ways: Vec<Vec<u32>>,
     // The texts that were told.
@@ -134,14 +136,14 @@ fn add_ending(alloc: Global, endings: &mut Keys, position: &Position) -> Result<
 impl Search {
     // With nothing.
     fn empty(alloc: Global) -> Search
-        ensures keys { result.keys ≡ [] }
+        ensures states { result.states ≡ [] }
         ensures ways { result.ways.items ≡ [] }
         ensures told { result.told ≡ [] }
         ensures endings { result.endings ≡ [] }
         ensures complete { result.complete ≡ true }
     {
         Search {
-            keys: Keys::new(alloc),
+            states: States::new(alloc),
             ways: Vec::new(alloc),
             told: Keys::new(alloc),
             endings: Keys::new(alloc),
@@ -159,8 +161,8 @@ impl Search {
     {
         let position = Position::start(alloc, beginning)?;
         let mut search = Search::empty(alloc);
-        let key = position.key(alloc)?;
-        search.add(alloc, &position, key, Vec::new(alloc))?;
+        let groups = position.groups(alloc)?;
+        search.add(alloc, &position, &groups, Vec::new(alloc))?;
         Ok(search)
     }
 
@@ -169,16 +171,16 @@ impl Search {
         &mut self,
         alloc: Global,
         position: &Position,
-        key: Vec<u8>,
+        groups: &[Vec<Vec<u8>>],
         way: Vec<u32>,
     ) -> Result<(), StepFault>
-        requires key { key.items ≡ state_key position.now }
+        requires groups { groups_of groups.now ≡ state_groups position.now }
         requires other { is_known (kept_of self.old) position.now ≡ false }
         ensures { OnOk result (kept_of self.new ≡ with_state_at (kept_of self.old) way.items position.now) }
     {
         add_ending(alloc, &mut self.endings, position)?;
         push_way(&mut self.ways, way)?;
-        push_key(&mut self.keys, key)
+        self.states.add(alloc, groups)
     }
 
     // Keeps a state to which a way leads, where it was not known and is not one too many.
@@ -191,15 +193,16 @@ impl Search {
     ) -> Result<(), StepFault>
         ensures { OnOk result (kept_of self.new ≡ with_found_at limit (kept_of self.old) way.items position.now) }
     {
-        let key = position.key(alloc)?;
-        if self.keys.contains(&key) {
+        let groups = position.groups(alloc)?;
+        let known = self.states.contains(alloc, &groups)?;
+        if known {
             return Ok(());
         }
-        if self.keys.len() >= limit as usize {
+        if self.states.len() >= limit as usize {
             self.complete = false;
             return Ok(());
         }
-        self.add(alloc, position, key, way)
+        self.add(alloc, position, &groups, way)
     }
 
     // Makes a step of a process, to which a way leads: it is told where its text was not, and its state is kept.

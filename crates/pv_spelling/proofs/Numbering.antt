@@ -12,7 +12,7 @@ use Rattle.pv_spelling.proofs.Adding.{added_both, added_then}
 
 -- ---- what stands under numbers, as far as a loop has come
 
-take-at : {X : Type 0} (xs : Numbered X) (i : ℕ) → i < length xs → take (suc i) xs ≡ take i xs ++ at_number xs i ∷ []
+pub take-at : {X : Type 0} (xs : Numbered X) (i : ℕ) → i < length xs → take (suc i) xs ≡ take i xs ++ at_number xs i ∷ []
 take-at [] i within = absurd (omega arith)
 take-at (x ∷ xs) zero within = refl
 take-at (x ∷ xs) (suc i) within = ap (λ ys. x ∷ ys) (take-at xs i (omega arith))

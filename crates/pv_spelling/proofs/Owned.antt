@@ -3,7 +3,7 @@ use Rattle.std.proofs.Common.{◌≡◌, ◌≢◌, ◌∙◌, sym, ap, subst, �
 use Rattle.std.proofs.lemmas.Grind.{flat_map-append}
 use Rattle.pv_model.specs.declared.perms.Perms.{Perms}
 use Rattle.pv_model.specs.declared.target.Target.{Target}
-use Rattle.pv_model.specs.Answers.Numbers.{Numbers, entry_numbers, list_numbers, number_numbers, option_numbers, process_numbers}
+use Rattle.pv_model.specs.Answers.Numbers.{Numbers, bytes_numbers, entry_numbers, instruction_numbers, list_numbers, option_numbers, process_numbers}
 use Rattle.pv_model.specs.Bytes.{Bytes}
 use Rattle.pv_model.specs.Calls.Processes.{parent_of}
 use Rattle.pv_model.specs.Calls.Restraints.{entries_of_table}
@@ -14,8 +14,9 @@ use Rattle.pv_procs.specs.Parts.{record_of}
 use Rattle.pv_procs.specs.ProcessTable.{ended_process}
 use Rattle.pv_procs.specs.declared.record.ProcessRecord.{ProcessRecord as Owned}
 use Rattle.pv_spelling.specs.Packed.{IsAdded}
-use Rattle.pv_spelling.specs.Parts.{if_there, owned_numbers, numbered_numbers}
-use Rattle.pv_spelling.proofs.Adding.{added_both, added_none, added_then}
+use Rattle.pv_spelling.specs.Groups.{ended_parts, live_parts, numbered_parts, owned_parts}
+use Rattle.pv_spelling.specs.Parts.{held_numbers, if_there}
+use Rattle.pv_spelling.proofs.Adding.{added_both, added_then}
 
 -- each of a list, as far as a loop has come
 pub added_got : {X : Type 0} (f : X → Numbers) (xs : List X) (i : ℕ) (x : X) (old middle new : Bytes) → slice_get xs i ≡ Some x → IsAdded (flat_map f (take i xs)) old middle → IsAdded (f x) middle new
@@ -39,45 +40,41 @@ added_table (Some table) n a b c d some long first second third = added_then fir
 
 -- ---- a process
 
-process-is : (p : Process) → process_numbers p ≡ owned_numbers (record_of p) p.parent p.program
+pub process-is : (p : Process) → process_numbers p ≡ held_numbers (record_of p) p.parent ++ list_numbers instruction_numbers p.program ++ bytes_numbers p.buffer
 unfolding process_numbers
 process-is p = refl
 
-pub added_process : (o : Option ProcessRecord) (owned : Owned) (parent : ℕ) (program : Program) (old new : Bytes) → option_map record_of (live_process o) ≡ Some owned → option_map parent_of o ≡ Some parent
-    → option_map (λ me. me.program) (live_process o) ≡ Some program → IsAdded (owned_numbers owned parent program) old new → IsAdded (if_there process_numbers (live_process o)) old new
-added_process None owned parent program old new is above runs added = cc
-added_process (Some (ended_record p status)) owned parent program old new is above runs added = cc
-added_process (Some (live p)) owned parent program old new is above runs added =
-    let owned_is : record_of p ≡ owned = cc in
-    let parent_is : p.parent ≡ parent = cc in
-    let program_is : p.program ≡ program = cc in
-    subst (λ (ns : Numbers). IsAdded ns old new) (sym (process-is p ∙ ap (λ r. owned_numbers r p.parent p.program) owned_is ∙ ap (λ q. owned_numbers owned q p.program) parent_is ∙ ap (owned_numbers owned parent) program_is)) added
+pub group_there : (o : Option ProcessRecord) (pid : ℕ) (owned : Owned) (parent : ℕ) (program : Program) (group : List Bytes) → option_map record_of (live_process o) ≡ Some owned → option_map parent_of o ≡ Some parent
+    → option_map (λ me. me.program) (live_process o) ≡ Some program → group ≡ owned_parts pid owned parent program owned.context.buffer → group ≡ live_parts pid (live_process o)
+group_there None pid owned parent program group is above runs group_is = cc
+group_there (Some (ended_record p status)) pid owned parent program group is above runs group_is = cc
+group_there (Some (live p)) pid owned parent program group is above runs group_is =
+    let owned_is : owned ≡ record_of p = cc in
+    let parent_is : parent ≡ p.parent = cc in
+    let program_is : program ≡ p.program = cc in
+    group_is ∙ ap (λ (r : Owned). owned_parts pid r parent program r.context.buffer) owned_is ∙ ap (λ (q : ℕ). owned_parts pid (record_of p) q program p.buffer) parent_is
+    ∙ ap (λ (x : Program). owned_parts pid (record_of p) p.parent x p.buffer) program_is
 
 pub parent-there : (o : Option ProcessRecord) → is_some (live_process o) ≡ true → (parent : ℕ) × (option_map parent_of o ≡ Some parent)
 parent-there None is = cc
 parent-there (Some (ended_record p status)) is = cc
 parent-there (Some (live p)) is = (p.parent, refl)
 
-pub added_live : (o : Option ProcessRecord) (pid : ℕ) (a b c d : Bytes) → is_some (live_process o) ≡ true → IsAdded (pid ∷ []) a b → IsAdded (0 ∷ []) b c → IsAdded (if_there process_numbers (live_process o)) c d
-    → IsAdded (numbered_numbers pid o) a d
-added_live None pid a b c d is first second third = cc
-added_live (Some (ended_record p status)) pid a b c d is first second third = cc
-added_live (Some (live p)) pid a b c d is first second third = added_both first (added_then second third)
+pub group_of_live : (o : Option ProcessRecord) (pid : ℕ) (group : List Bytes) → is_some (live_process o) ≡ true → group ≡ live_parts pid (live_process o) → group ≡ numbered_parts pid o
+group_of_live None pid group there is = cc
+group_of_live (Some (ended_record p status)) pid group there is = cc
+group_of_live (Some (live p)) pid group there is = is
 
 some-is : (a b : ℕ × ℕ) → Some a ≡ Some b → a ≡ b
 some-is a b is = cc
 
-pub added_ended : (o : Option ProcessRecord) (pid parent status : ℕ) (old new : Bytes) → Some (parent, status) ≡ ended_process o → IsAdded (number_numbers pid ++ 1 ∷ number_numbers parent ++ number_numbers status) old new
-    → IsAdded (numbered_numbers pid o) old new
-added_ended None pid parent status old new is added = cc
-added_ended (Some (live p)) pid parent status old new is added = cc
-added_ended (Some (ended_record q code)) pid parent status old new is added =
-    let both = some-is (parent, status) (q, code) is in
-    let parent_is : parent ≡ q = ap (λ (p : ℕ × ℕ). p.0) both in
-    let status_is : status ≡ code = ap (λ (p : ℕ × ℕ). p.1) both in
-    subst (λ (ns : Numbers). IsAdded ns old new) (ap (λ n. number_numbers pid ++ 1 ∷ number_numbers n ++ number_numbers status) parent_is ∙ ap (λ n. number_numbers pid ++ 1 ∷ number_numbers q ++ number_numbers n) status_is) added
+pub group_of_ended : (o : Option ProcessRecord) (pid parent status : ℕ) (group : List Bytes) → Some (parent, status) ≡ ended_process o → group ≡ ended_parts pid parent status → group ≡ numbered_parts pid o
+group_of_ended None pid parent status group there is = cc
+group_of_ended (Some (live p)) pid parent status group there is = cc
+group_of_ended (Some (ended_record q code)) pid parent status group there is =
+    let both = some-is (parent, status) (q, code) there in is ∙ ap (λ (p : ℕ × ℕ). ended_parts pid p.0 p.1) both
 
-pub added_nobody : (o : Option ProcessRecord) (pid : ℕ) (old : Bytes) → is_some (live_process o) ≡ false → None ≡ ended_process o → IsAdded (numbered_numbers pid o) old old
-added_nobody None pid old is none = added_none old
-added_nobody (Some (live p)) pid old is none = cc
-added_nobody (Some (ended_record q code)) pid old is none = cc
+pub group_of_nobody : (o : Option ProcessRecord) (pid : ℕ) → is_some (live_process o) ≡ false → None ≡ ended_process o → [] ≡ numbered_parts pid o
+group_of_nobody None pid is none = refl
+group_of_nobody (Some (live p)) pid is none = cc
+group_of_nobody (Some (ended_record q code)) pid is none = cc

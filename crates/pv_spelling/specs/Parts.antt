@@ -1,7 +1,6 @@
 -- The numbers of what a process owns.
 use Rattle.std.specs.Prelude.{ℕ, ◌++◌, Option, None, Some, []}
-use Rattle.pv_model.specs.Answers.Numbers.{Numbers, bool_numbers, bytes_numbers, descriptor_numbers, entry_numbers, instruction_numbers, integer_numbers, list_numbers, number_numbers, option_numbers, record_numbers}
-use Rattle.pv_model.specs.State.{Program, ProcessRecord as Record}
+use Rattle.pv_model.specs.Answers.Numbers.{Numbers, bool_numbers, descriptor_numbers, entry_numbers, integer_numbers, list_numbers, number_numbers, option_numbers}
 use Rattle.pv_procs.specs.declared.record.ProcessRecord.{ProcessRecord}
 
 -- the numbers of something that is there
@@ -22,11 +21,3 @@ promised_numbers r parent =
 abbrev pub held_numbers : ProcessRecord → ℕ → Numbers
 held_numbers r parent =
     promised_numbers r parent ++ list_numbers (option_numbers descriptor_numbers) r.descriptors ++ option_numbers (list_numbers entry_numbers) r.unveiled.table
-
--- all of a process: what it owns, its parent and its program
-abbrev pub owned_numbers : ProcessRecord → ℕ → Program → Numbers
-owned_numbers r parent program = held_numbers r parent ++ list_numbers instruction_numbers program ++ bytes_numbers r.context.buffer
-
--- those of the process of a number, if it has a record
-abbrev pub numbered_numbers : ℕ → Option Record → Numbers
-numbered_numbers pid r = if_there (λ x. record_numbers (pid, x)) r

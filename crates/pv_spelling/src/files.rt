@@ -1,8 +1,9 @@
 //! Open files.
-ghost use Rattle.std.specs.Prelude.{◌≡◌, ◌<◌, ◌++◌, flat_map, IsSome, Some, OnOk};
+ghost use Rattle.std.specs.Prelude.{◌≡◌, ◌<◌, ◌++◌, flat_map, IsSome, Some, IfOk, OnOk};
 ghost use Rattle.pv_model.specs.declared.limits.TheConstants.{OPEN_FILES};
 ghost use Rattle.pv_model.specs.Answers.Numbers.{bytes_numbers, file_numbers, list_numbers, option_numbers};
 ghost use Rattle.pv_model.specs.Numbered.{at_number};
+ghost use Rattle.pv_spelling.specs.Groups.{files_part};
 ghost use Rattle.pv_spelling.specs.Packed.{IsAdded};
 ghost use Rattle.pv_spelling.specs.Parts.{if_there};
 ghost use Rattle.std.specs.Option.{option_copied};
@@ -11,7 +12,7 @@ use crate::numbers::{push_bool, push_bytes, push_mode, push_number};
 use pv_files::OpenFiles;
 use pv_model::Name;
 use pv_model::limits::OPEN_FILES;
-use std::alloc::AllocError;
+use std::alloc::{AllocError, Global};
 
 // Adds a name that may be absent.
 #[tactic(auto, using(crate::proofs::Adding::added_then))]
@@ -63,16 +64,26 @@ fn push_each_file(key: &mut Vec<u8>, files: &OpenFiles) -> Result<(), AllocError
     Ok(())
 }
 
-/// Adds all open files.
-///
-/// # Errors
-///
-/// As `push_number`.
+// Adds all open files.
 #[tactic(auto, using(crate::proofs::Adding::added_then))]
-pub(crate) fn push_files(key: &mut Vec<u8>, files: &OpenFiles) -> Result<(), AllocError>
+fn push_files(key: &mut Vec<u8>, files: &OpenFiles) -> Result<(), AllocError>
     ensures { OnOk result (IsAdded (list_numbers (option_numbers file_numbers) files.now.files) key.old.items key.new.items) }
 {
     files.invariant();
     push_number(key, OPEN_FILES as u64)?;
     push_each_file(key, files)
+}
+
+/// The part of all open files.
+///
+/// # Errors
+///
+/// Where memory was refused.
+#[tactic(auto, using(crate::proofs::Grouping::added_whole))]
+pub(crate) fn part_of_files(alloc: Global, files: &OpenFiles) -> Result<Vec<u8>, AllocError>
+    ensures { IfOk result (λ part. part.items ≡ files_part files.now.files) }
+{
+    let mut part = Vec::new(alloc);
+    push_files(&mut part, files)?;
+    Ok(part)
 }

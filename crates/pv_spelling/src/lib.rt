@@ -1,15 +1,18 @@
 //! The numbers that a state is, as bytes: so states are told apart by comparing bytes.
 //!
-//! `states` adds a whole state to bytes; below it `processes`, `instructions`, `files` and `trees` add its parts, and `numbers`
-//! what everything is made of. A number is small where it can be: one below 128 is a byte.
+//! `states` has a whole state as groups of `parts`, so that what is alike in many states can be kept once. Below it `processes`,
+//! `instructions`, `files` and `trees` spell parts, and `numbers` what everything is made of. A number is small where it can be: one
+//! below 128 is a byte.
 #![tactic(auto)]
 
 mod files;
 mod instructions;
 mod numbers;
+mod parts;
 mod processes;
 mod states;
 mod trees;
 
-pub use states::push_state;
+pub use numbers::push_number;
+pub use states::state_groups;
 pub use trees::push_tree;

@@ -1,18 +1,20 @@
 //! Processes.
-ghost use Rattle.std.specs.Prelude.{◌≡◌, ◌<◌, ◌∷◌, ◌++◌, flat_map, length, slice_get, IsSome, Some, OnOk};
+ghost use Rattle.std.specs.Prelude.{◌≡◌, ◌<◌, ◌∷◌, ◌++◌, [], map, flat_map, length, slice_get, IsSome, Some, IfOk, OnOk};
 ghost use Rattle.std.specs.FinMap.Entries.{find};
 ghost use Rattle.std.specs.Ordering.{nat_cmp};
 ghost use Rattle.pv_model.specs.declared.limits.TheConstants.{DESCRIPTORS};
-ghost use Rattle.pv_model.specs.Answers.Numbers.{descriptor_numbers, entry_numbers, instruction_numbers, integer_numbers, list_numbers, number_numbers, option_numbers, process_numbers, record_numbers, target_numbers};
+ghost use Rattle.pv_model.specs.Answers.Numbers.{bytes_numbers, descriptor_numbers, entry_numbers, instruction_numbers, integer_numbers, list_numbers, number_numbers, option_numbers, target_numbers};
 ghost use Rattle.pv_model.specs.Calls.Restraints.{entries_of_table};
 ghost use Rattle.pv_model.specs.Numbered.{at_number};
 ghost use Rattle.pv_procs.specs.ProcessTable.{process_in};
 ghost use Rattle.pv_promises.specs.Pledge.{bits_of};
-ghost use Rattle.pv_spelling.specs.Packed.{IsAdded};
-ghost use Rattle.pv_spelling.specs.Parts.{if_there, held_numbers, numbered_numbers, owned_numbers, promised_numbers, standing_numbers};
+ghost use Rattle.pv_spelling.specs.Groups.{ended_parts, groups_of, live_parts, numbered_parts, owned_parts, parts_of, record_parts};
+ghost use Rattle.pv_spelling.specs.Packed.{IsAdded, packed_all};
+ghost use Rattle.pv_spelling.specs.Parts.{if_there, held_numbers, promised_numbers, standing_numbers};
 
 use crate::instructions::push_instruction;
 use crate::numbers::{push_bool, push_bytes, push_integer, push_number, push_permissions};
+use crate::parts::{push_group, push_part};
 use bitflags::Flags;
 use pv_files::Descriptors;
 use pv_model::limits::DESCRIPTORS;
@@ -20,7 +22,7 @@ use pv_model::{Promises, Target};
 use pv_procs::{ProcessRecord, Processes};
 use pv_script::Program;
 use pv_unveil::Table;
-use std::alloc::AllocError;
+use std::alloc::{AllocError, Global};
 
 // Adds registers, one after the other.
 fn push_each_register(key: &mut Vec<u8>, registers: &[i32]) -> Result<(), AllocError>
@@ -205,32 +207,6 @@ fn push_held(key: &mut Vec<u8>, owned: &ProcessRecord, parent: u32) -> Result<()
     push_table(key, &owned.unveiled)
 }
 
-// And its program and its buffer.
-#[tactic(auto, using(crate::proofs::Adding::added_both))]
-fn push_owned(
-    key: &mut Vec<u8>,
-    owned: &ProcessRecord,
-    parent: u32,
-    program: &Program,
-) -> Result<(), AllocError>
-    ensures { OnOk result (IsAdded (owned_numbers owned.now parent program.now) key.old.items key.new.items) }
-{
-    push_held(key, owned, parent)?;
-    push_program(key, program)?;
-    push_bytes(key, owned.context.buffer())
-}
-
-// Adds a live process.
-fn push_live(key: &mut Vec<u8>, processes: &Processes, pid: u32) -> Result<(), AllocError>
-    requires { IsSome (process_in processes.now pid) }
-    ensures { OnOk result (IsAdded (if_there process_numbers (process_in processes.now pid)) key.old.items key.new.items) }
-{
-    let Some(parent) = processes.parent_of(pid) else {
-        unreachable!()
-    };
-    push_owned(key, processes.record(pid), parent, processes.program(pid))
-}
-
 // Adds what is left of a process that has ended.
 #[tactic(auto, using(crate::proofs::Adding::added_then, crate::proofs::Adding::added_both))]
 fn push_ended(key: &mut Vec<u8>, pid: u32, parent: u32, status: u32) -> Result<(), AllocError>
@@ -242,24 +218,116 @@ fn push_ended(key: &mut Vec<u8>, pid: u32, parent: u32, status: u32) -> Result<(
     push_number(key, u64::from(status))
 }
 
-// Adds a process, with its number.
-#[tactic(auto, using(crate::proofs::Owned::added_live, crate::proofs::Owned::added_ended, crate::proofs::Owned::added_nobody))]
-fn push_process(key: &mut Vec<u8>, processes: &Processes, pid: u32) -> Result<(), AllocError>
-    ensures { OnOk result (IsAdded (numbered_numbers pid (find nat_cmp pid processes.now.processes)) key.old.items key.new.items) }
+// ---- groups
+
+// The part of where a live process stands and what it has.
+#[tactic(auto, using(crate::proofs::Adding::added_then, crate::proofs::Grouping::added_whole))]
+fn part_held(
+    alloc: Global,
+    pid: u32,
+    owned: &ProcessRecord,
+    parent: u32,
+) -> Result<Vec<u8>, AllocError>
+    ensures { IfOk result (λ part. part.items ≡ packed_all (pid ∷ 0 ∷ held_numbers owned.now parent)) }
+{
+    let mut part = Vec::new(alloc);
+    push_number(&mut part, u64::from(pid))?;
+    push_number(&mut part, 0)?;
+    push_held(&mut part, owned, parent)?;
+    Ok(part)
+}
+
+// The part of a program.
+#[tactic(auto, using(crate::proofs::Grouping::added_whole))]
+fn part_of_program(alloc: Global, program: &Program) -> Result<Vec<u8>, AllocError>
+    ensures { IfOk result (λ part. part.items ≡ packed_all (list_numbers instruction_numbers program.now)) }
+{
+    let mut part = Vec::new(alloc);
+    push_program(&mut part, program)?;
+    Ok(part)
+}
+
+// The part of a buffer.
+#[tactic(auto, using(crate::proofs::Grouping::added_whole))]
+fn part_of_buffer(alloc: Global, buffer: &[u8]) -> Result<Vec<u8>, AllocError>
+    ensures { IfOk result (λ part. part.items ≡ packed_all (bytes_numbers buffer.now)) }
+{
+    let mut part = Vec::new(alloc);
+    push_bytes(&mut part, buffer)?;
+    Ok(part)
+}
+
+// The group of what a live process owns, its parent and its program.
+fn group_owned(
+    alloc: Global,
+    pid: u32,
+    owned: &ProcessRecord,
+    parent: u32,
+    program: &Program,
+) -> Result<Vec<Vec<u8>>, AllocError>
+    ensures { IfOk result (λ group. parts_of group ≡ owned_parts pid owned.now parent program.now owned.now.context.buffer) }
+{
+    let mut group = Vec::new(alloc);
+    push_part(&mut group, part_held(alloc, pid, owned, parent)?)?;
+    push_part(&mut group, part_of_program(alloc, program)?)?;
+    push_part(&mut group, part_of_buffer(alloc, owned.context.buffer())?)?;
+    Ok(group)
+}
+
+// The group of a live process.
+fn group_live(alloc: Global, processes: &Processes, pid: u32) -> Result<Vec<Vec<u8>>, AllocError>
+    requires { IsSome (process_in processes.now pid) }
+    ensures { IfOk result (λ group. parts_of group ≡ live_parts pid (process_in processes.now pid)) }
+{
+    let Some(parent) = processes.parent_of(pid) else {
+        unreachable!()
+    };
+    group_owned(
+        alloc,
+        pid,
+        processes.record(pid),
+        parent,
+        processes.program(pid),
+    )
+}
+
+// The group of what is left of a process that has ended.
+#[tactic(auto, using(crate::proofs::Grouping::added_whole))]
+fn group_ended(
+    alloc: Global,
+    pid: u32,
+    parent: u32,
+    status: u32,
+) -> Result<Vec<Vec<u8>>, AllocError>
+    ensures { IfOk result (λ group. parts_of group ≡ ended_parts pid parent status) }
+{
+    let mut part = Vec::new(alloc);
+    push_ended(&mut part, pid, parent, status)?;
+    let mut group = Vec::new(alloc);
+    push_part(&mut group, part)?;
+    Ok(group)
+}
+
+// The group of a process; of a number that nobody has it is empty.
+#[tactic(auto, using(crate::proofs::Owned::group_of_live, crate::proofs::Owned::group_of_ended, crate::proofs::Owned::group_of_nobody))]
+fn group_of_process(
+    alloc: Global,
+    processes: &Processes,
+    pid: u32,
+) -> Result<Vec<Vec<u8>>, AllocError>
+    ensures { IfOk result (λ group. parts_of group ≡ numbered_parts pid (find nat_cmp pid processes.now.processes)) }
 {
     if processes.live(pid) {
-        push_number(key, u64::from(pid))?;
-        push_number(key, 0)?;
-        return push_live(key, processes, pid);
+        return group_live(alloc, processes, pid);
     }
     match processes.ended(pid) {
-        Some((parent, status)) => push_ended(key, pid, parent, status),
-        None => Ok(()),
+        Some((parent, status)) => group_ended(alloc, pid, parent, status),
+        None => Ok(Vec::new(alloc)),
     }
 }
 
-// How many processes there are, with those that have ended and are not waited for.
-fn count(processes: &Processes) -> u64
+/// How many processes there are, with those that have ended and are not waited for.
+pub(crate) fn count(processes: &Processes) -> u64
     ensures { result ≡ length processes.now.processes }
 {
     processes.invariant();
@@ -272,28 +340,23 @@ fn count(processes: &Processes) -> u64
     count
 }
 
-// Adds processes, by their numbers.
-fn push_each_process(key: &mut Vec<u8>, processes: &Processes) -> Result<(), AllocError>
-    ensures { OnOk result (IsAdded (flat_map record_numbers processes.now.processes) key.old.items key.new.items) }
+/// Adds the groups of all processes, by their numbers.
+///
+/// # Errors
+///
+/// Where memory was refused.
+pub(crate) fn push_process_groups(
+    alloc: Global,
+    groups: &mut Vec<Vec<Vec<u8>>>,
+    processes: &Processes,
+) -> Result<(), AllocError>
+    ensures { OnOk result (groups_of groups.new.items ≡ groups_of groups.old.items ++ map record_parts processes.now.processes) }
 {
     processes.invariant();
     let mut last = 0;
     while let Some(pid) = processes.next_number(last) {
-        push_process(key, processes, pid)?;
+        push_group(groups, group_of_process(alloc, processes, pid)?)?;
         last = pid;
     }
     Ok(())
-}
-
-/// Adds all processes.
-///
-/// # Errors
-///
-/// As `push_number`.
-#[tactic(auto, using(crate::proofs::Adding::added_then))]
-pub(crate) fn push_processes(key: &mut Vec<u8>, processes: &Processes) -> Result<(), AllocError>
-    ensures { OnOk result (IsAdded (list_numbers record_numbers processes.now.processes) key.old.items key.new.items) }
-{
-    push_number(key, count(processes))?;
-    push_each_process(key, processes)
 }

@@ -1,16 +1,21 @@
 //! Trees.
-ghost use Rattle.std.specs.Prelude.{◌≡◌, ◌<◌, ◌∷◌, ◌++◌, [], false, take, flat_map, length, option_map, IsSome, IsTrue, IfSome, Some, OnOk};
+ghost use Rattle.std.specs.Prelude.{◌≡◌, ◌<◌, ◌≤◌, ◌+◌, ◌-◌, ◌⊎◌, ◌∷◌, ◌++◌, [], false, take, drop, map, flat_map, length, option_map, IsSome, IsTrue, IfSome, IfOk, Some, OnOk};
 ghost use Rattle.pv_dirs.specs.Trees.{bytes_at};
 ghost use Rattle.pv_model.specs.Answers.Numbers.{bytes_numbers, list_numbers, name_numbers, node_numbers, number_numbers, option_numbers, tree_numbers, version_numbers};
 ghost use Rattle.pv_model.specs.Calls.Descriptors.{next_name};
 ghost use Rattle.pv_model.specs.Tree.{node_at, entries_at, find_entry, is_directory_at};
+ghost use Rattle.pv_spelling.specs.Groups.{groups_of, node_groups, node_part, parts_of, tree_part};
 ghost use Rattle.pv_spelling.specs.Packed.{IsAdded};
 ghost use Rattle.pv_spelling.specs.Parts.{if_there};
 
 use crate::numbers::{push_bool, push_bytes, push_items, push_number};
+use crate::parts::{push_group, push_part};
 use pv_model::{Kind, Name, Version};
 use pv_tree::Tree;
-use std::alloc::AllocError;
+use std::alloc::{AllocError, Global};
+
+/// How many nodes each group of a state has, but for the last, which has the rest: nodes of low numbers change most.
+pub(crate) const GROUP_SIZES: [u16; 9] = [16, 16, 32, 64, 128, 256, 512, 1024, 2048];
 
 // The name of a directory that comes after the last one, with its node. `before` is a guess of how many come before it.
 fn next(tree: &Tree, directory: u16, last: &Option<Name>, before: u32) -> Option<(Name, u16)>
@@ -139,6 +144,18 @@ fn push_version(key: &mut Vec<u8>, version: Version) -> Result<(), AllocError>
     }
 }
 
+// Adds the sizes of a tree: all of it but its nodes.
+#[tactic(auto, using(crate::proofs::Adding::added_then, crate::proofs::Adding::added_both))]
+fn push_sizes(key: &mut Vec<u8>, tree: &Tree) -> Result<(), AllocError>
+    ensures { OnOk result (IsAdded (version_numbers tree.now.tree.version ++ number_numbers tree.now.tree.blocks ++ number_numbers tree.now.tree.inodes ++ length tree.now.tree.nodes ∷ []) key.old.items key.new.items) }
+{
+    let sizes = tree.sizes();
+    push_version(key, sizes.version)?;
+    push_number(key, u64::from(sizes.blocks))?;
+    push_number(key, u64::from(sizes.inodes))?;
+    push_number(key, u64::from(sizes.inodes) + 1)
+}
+
 /// Adds a tree.
 ///
 /// # Errors
@@ -148,10 +165,86 @@ fn push_version(key: &mut Vec<u8>, version: Version) -> Result<(), AllocError>
 pub fn push_tree(key: &mut Vec<u8>, tree: &Tree) -> Result<(), AllocError>
     ensures { OnOk result (IsAdded (tree_numbers tree.now.tree) key.old.items key.new.items) }
 {
-    let sizes = tree.sizes();
-    push_version(key, sizes.version)?;
-    push_number(key, u64::from(sizes.blocks))?;
-    push_number(key, u64::from(sizes.inodes))?;
-    push_number(key, u64::from(sizes.inodes) + 1)?;
+    push_sizes(key, tree)?;
     push_each_node(key, tree)
+}
+
+// ---- parts
+
+/// The part of a tree's sizes.
+///
+/// # Errors
+///
+/// Where memory was refused.
+#[tactic(auto, using(crate::proofs::Grouping::added_whole))]
+pub(crate) fn part_of_sizes(alloc: Global, tree: &Tree) -> Result<Vec<u8>, AllocError>
+    ensures { IfOk result (λ part. part.items ≡ tree_part tree.now.tree) }
+{
+    let mut part = Vec::new(alloc);
+    push_sizes(&mut part, tree)?;
+    Ok(part)
+}
+
+// The part of the node of a number, if there is one.
+#[tactic(auto, using(crate::proofs::Grouping::added_whole))]
+fn part_of_node(alloc: Global, tree: &Tree, node: u16) -> Result<Vec<u8>, AllocError>
+    ensures { IfOk result (λ part. part.items ≡ node_part (node_at tree.now.tree node)) }
+{
+    let mut part = Vec::new(alloc);
+    push_numbered(&mut part, tree, node)?;
+    Ok(part)
+}
+
+// The group of the nodes from one number to before another.
+fn group_of_nodes(
+    alloc: Global,
+    tree: &Tree,
+    from: u16,
+    end: u16,
+) -> Result<Vec<Vec<u8>>, AllocError>
+    requires first { from ≤ end }
+    requires within { end ≤ length tree.now.tree.nodes }
+    ensures { IfOk result (λ group. parts_of group ≡ map node_part (take (end - from) (drop from tree.now.tree.nodes))) }
+{
+    let mut group = Vec::new(alloc);
+    for node in from..end {
+        push_part(&mut group, part_of_node(alloc, tree, node)?)?;
+    }
+    Ok(group)
+}
+
+// Where a group of so many nodes ends.
+fn end_of(from: u16, size: u16, count: u16) -> u16
+    requires { from ≤ count }
+    ensures first { from ≤ result }
+    ensures within { result ≤ count }
+    ensures end { (result ≡ from + size) ⊎ ((result ≡ count) × (count ≤ from + size)) }
+{
+    if size < count - from {
+        from + size
+    } else {
+        count
+    }
+}
+
+/// Adds the groups of a tree's nodes.
+///
+/// # Errors
+///
+/// Where memory was refused.
+pub(crate) fn push_node_groups(
+    alloc: Global,
+    groups: &mut Vec<Vec<Vec<u8>>>,
+    tree: &Tree,
+) -> Result<(), AllocError>
+    ensures { OnOk result (groups_of groups.new.items ≡ groups_of groups.old.items ++ node_groups GROUP_SIZES tree.now.tree.nodes) }
+{
+    let count = tree.sizes().inodes + 1;
+    let mut from = 0;
+    for size in GROUP_SIZES {
+        let end = end_of(from, size, count);
+        push_group(groups, group_of_nodes(alloc, tree, from, end)?)?;
+        from = end;
+    }
+    push_group(groups, group_of_nodes(alloc, tree, from, count)?)
 }

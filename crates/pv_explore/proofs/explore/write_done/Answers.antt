@@ -9,12 +9,12 @@ pub returns-in_err-write_states-clause-beginning : goal.returns-in_err-write_sta
 returns-in_err-write_states-clause-beginning g c =
     let s = c.args.search.now in
     on_err c.from_residual.result
-    (begins_first (answer_line_bytes (states_line (length s.keys) s.complete)) (answer_line_bytes (endings_line (length s.endings)) ++ []) _ _ (rw c.len.ensures at c.in_err-write_states.ensures.beginning))
+    (begins_first (answer_line_bytes (states_line (length s.states) s.complete)) (answer_line_bytes (endings_line (length s.endings)) ++ []) _ _ (rw c.len.ensures at c.in_err-write_states.ensures.beginning))
 
 pub returns-clause-beginning : goal.returns-clause-beginning
 returns-clause-beginning g c =
     let s = c.args.search.now in
     on_err_weaker c.write_endings.result
-    (λ begun. begins_then (answer_line_bytes (states_line (length s.keys) s.complete)) (answer_line_bytes (endings_line (length s.endings)) ++ []) _ _ _ (rw c.len.ensures at c.in_ok-write_states.ensures.whole)
+    (λ begun. begins_then (answer_line_bytes (states_line (length s.states) s.complete)) (answer_line_bytes (endings_line (length s.endings)) ++ []) _ _ _ (rw c.len.ensures at c.in_ok-write_states.ensures.whole)
     (begins_first (answer_line_bytes (endings_line (length s.endings))) [] _ _ begun))
     (rw c.len-2.ensures at c.write_endings.ensures.beginning)

@@ -1,4 +1,4 @@
-use Rattle.std.proofs.Common.{◌≡◌, ◌∙◌, ℕ, ap, subst, sym, refl}
+use Rattle.std.proofs.Common.{◌∙◌, ℕ, ap, subst, sym, refl}
 use Rattle.std.proofs.lemmas.Result.{err_from_is_err_and}
 use Rattle.pv_explore.specs.Plan.{done_lines, kept_from, told_from}
 use Rattle.pv_explore.specs.Searches.{kept_of}
@@ -51,3 +51,10 @@ returns-clause-whole g c =
     let is = explore-bytes limit s c.requires first kept c.in_ok-search.ensures c.in_ok-search-2.ensures.kept in
     written_both (answer_bytes (told_from limit program_of s limit 0 first)) (answer_bytes (done_lines kept)) _ _ _ c.in_ok-search-2.ensures.whole c.in_ok-write_done.ensures.whole
     ∙ ap (and_all (g.W.Sink.written c.args.out.now)) is
+
+pub returns-in_err-search-2-clause-failed : goal.returns-in_err-search-2-clause-failed
+returns-in_err-search-2-clause-failed g c =
+    let before = g.W.Sink.failures c.args.out.now in
+    let after = g.W.Sink.failures c.search.new.out in
+    let p = err_from_is_err_and c.from_residual-in_err-search-2.result c.from_residual-in_err-search-2.ensures.1 in
+    rw p.1 (subst (λ (stop : Stop). FailsBy stop before after) (sym p.2) c.in_err-search-2.ensures.failed)

@@ -1,4 +1,4 @@
-use Rattle.std.proofs.Common.{◌≡◌, ◌∙◌, ◌++◌, [], ℕ, length, append-nil, ap, subst, sym}
+use Rattle.std.proofs.Common.{◌∙◌, ◌++◌, [], ℕ, length, append-nil, ap, subst, sym}
 use Rattle.std.proofs.lemmas.Result.{err_from_is_err_and}
 use Rattle.pv_explore.specs.Searches.{kept_of}
 use Rattle.pv_explore.specs.Vertices.{vertices_from}
@@ -50,3 +50,10 @@ returns-clause-whole g c =
     written_both vertices (last ++ []) _ _ _ c.in_ok-write_vertices.ensures.whole
     ((rw c.len.ensures at c.in_ok-write_states.ensures.whole) ∙ ap (and_all (g.W.Sink.written c.write_vertices.new.out)) (sym (append-nil last)))
     ∙ ap (and_all (g.W.Sink.written c.args.out.now)) (graph-bytes c.args.states c.args.beginning.now c.args.tree kept c.requires c.in_ok-search.ensures)
+
+pub returns-in_err-write_vertices-clause-failed : goal.returns-in_err-write_vertices-clause-failed
+returns-in_err-write_vertices-clause-failed g c =
+    let before = g.W.Sink.failures c.args.out.now in
+    let after = g.W.Sink.failures c.write_vertices.new.out in
+    let p = err_from_is_err_and c.from_residual-in_err-write_vertices.result c.from_residual-in_err-write_vertices.ensures.1 in
+    rw p.1 (subst (λ (stop : Stop). FailsBy stop before after) (sym p.2) c.in_err-write_vertices.ensures.failed)

@@ -1,4 +1,4 @@
-use Rattle.std.proofs.Common.{◌≡◌, ◌∙◌, ap, refl, subst}
+use Rattle.std.proofs.Common.{◌∙◌, ap, refl, subst}
 use Rattle.pv_explore.specs.Searches.{kept_of}
 use Rattle.pv_explore.proofs.Finding.{kept-is, lines-bytes}
 use Rattle.pv_model.specs.Bytes.{Bytes}

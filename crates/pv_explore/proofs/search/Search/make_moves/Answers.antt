@@ -1,9 +1,8 @@
-use Rattle.std.proofs.Common.{◌≡◌, ◌∙◌, ℕ, List, ap, get_or, map, refl, subst}
-use Rattle.pv_explore.specs.Plan.{kept_after, live_at}
+use Rattle.std.proofs.Common.{◌∙◌, ℕ, List, ap, get_or, map, refl, subst}
+use Rattle.pv_explore.specs.Plan.{kept_after}
 use Rattle.pv_explore.specs.Searches.{kept_of, move_of}
 use Rattle.pv_explore.proofs.Finding.{kept-next, move-is, steps-next, steps_left}
 use Rattle.pv_listing.proofs.Rests.{rest_after, rest_begins, written_begins}
-use Rattle.pv_model.specs.Grammar.Programs.{program_of}
 use Rattle.pv_model.specs.Held.{live_processes}
 use Rattle.pv_model.specs.State.{State}
 use Rattle.pv_streams.specs.Sinks.{TellsBeginning}

@@ -10,7 +10,7 @@ returns c =
     let none : Kept = record { keys = []; ways = []; told = []; endings = []; complete = true } in
     let is = c.empty-search.ensures in
     let empty : kept_of c.empty-search.result ≡ none = λ i. record {
-      keys = is.keys i;
+      keys = is.states i;
       ways = map (λ (w : Vec ℕ). w.items) (is.ways i);
       told = is.told i;
       endings = is.endings i;

@@ -1,4 +1,4 @@
-use Rattle.std.proofs.Common.{◌≡◌, ◌∙◌, Some, ap, refl, subst, sym}
+use Rattle.std.proofs.Common.{◌∙◌, Some, ap, refl, subst, sym}
 use Rattle.pv_explore.specs.Plan.{kept_after_steps, live_at}
 use Rattle.pv_explore.specs.Searches.{kept_of, way_of}
 use Rattle.pv_explore.proofs.Finding.{left-next, told-next, told-start}
