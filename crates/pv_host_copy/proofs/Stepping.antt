@@ -1,0 +1,264 @@
+-- How what is imported goes on.
+use Rattle.std.proofs.Common.{◌≡◌, ◌≢◌, ◌∙◌, ap, arith, ℕ, ◌+◌, ◌≤◌, ◌<◌, Bool, true, false, List, [], ◌∷◌, ◌++◌, length, Option, None, Some, Result, Ok, Err, refl, sym, subst}
+use Rattle.std.specs.Global.{Vec}
+use Rattle.std.specs.Prelude.{map, nat_le, IfSome, IsSome, IsErrAnd, if◌then◌else◌}
+use Rattle.std.proofs.lemmas.Bool.{le-leb, leb-true}
+use Rattle.std.proofs.lemmas.List.{map_push}
+use Rattle.pv_model.specs.declared.fault.ManifestFault.{ManifestFault}
+use Rattle.pv_model.specs.declared.version.Version.{Version}
+use Rattle.pv_model.specs.Bytes.{Bytes}
+use Rattle.pv_model.specs.Grammar.Manifests.{add_entry, and_entries, add_entries, path_of}
+use Rattle.pv_model.specs.Manifest.{Entry, make, further_name}
+use Rattle.pv_model.specs.Room.{greatest_length}
+use Rattle.pv_model.specs.Tree.{Node, Tree, file_node, link_node, is_link_text, directory_node}
+use Rattle.pv_tree.specs.Holding.{HeldTree}
+use Rattle.pv_host_copy.specs.declared.entry.Identity.{Identity}
+use Rattle.pv_host_copy.specs.declared.fault.CopyStop.{CopyStop}
+use Rattle.pv_host_copy.specs.declared.fault.CopyStop.TheVariants as stop
+use Rattle.pv_host_copy.specs.declared.fault.HostFault.{HostFault}
+use Rattle.pv_host_copy.specs.declared.fault.HostFault.TheVariants as host
+use Rattle.pv_host_copy.specs.declared.fault.Why.{Why}
+use Rattle.pv_host_copy.specs.declared.fault.Why.TheVariants.{Name, Size, Text}
+use Rattle.pv_host_copy.specs.declared.first.First.{First}
+use Rattle.pv_host_copy.specs.declared.importing.Importing.{Importing}
+use Rattle.pv_host_copy.specs.declared.told.Told.{Told}
+use Rattle.pv_host_copy.specs.Adding.{Adds, IsUnadded}
+use Rattle.pv_host_copy.specs.Firsts.{first_pair, told_pair}
+use Rattle.pv_host_copy.specs.Gathered.{Gathered, and_entry, and_told, and_first_entry, and_node, and_linked, and_file, and_link, first_of}
+use Rattle.pv_host_copy.specs.Importing.{Holds, Steps, Refuses, Stops, StopsIf, Goes, GoesIf, Settles}
+use Rattle.pv_host_copy.specs.Paths.{is_path}
+use Rattle.pv_host_copy.specs.Reading.{IsWhole}
+use Rattle.pv_host_copy.specs.Stopped.{IsRefused, refused_pair, stop_of}
+
+-- ---- a change that stands in another
+
+-- what is held now, and the rest of a change, come to the whole of it after what was held before
+abbrev pub Continues : (Gathered → Gathered) → Importing → (Gathered → Gathered) → Importing → Type 0
+Continues all before rest now = (start : Tree) (g : Gathered) → Holds start g before → (so_far : Gathered) × Holds start so_far now × (rest so_far ≡ all g)
+
+pub steps-on : (all rest : Gathered → Gathered) (before now after : Importing) → Continues all before rest now → Steps rest now after → Steps all before after
+steps-on all rest before now after on steps = λ start g h. let held = on start g h in subst (λ k. Holds start k after) held.2 (steps start held.0 held.1)
+
+pub stops-on : (all rest : Gathered → Gathered) (before now : Importing) (s : CopyStop) → Continues all before rest now → Stops rest now s → Stops all before s
+stops-on all rest before now stop.Read on stops = stops
+stops-on all rest before now stop.Memory on stops = tt
+stops-on all rest before now (stop.Entry refused) on stops = λ start g h.
+    let held = on start g h in subst (λ (k : Gathered). IsRefused k.entries start (refused_pair refused)) held.2 (stops start held.0 held.1)
+
+pub goes-on : {X : Type 0} (all rest : Gathered → Gathered) (before now after : Importing) (r : Result X CopyStop) → Continues all before rest now → Goes rest now r after
+    → Goes all before r after
+goes-on all rest before now after (Ok x) on goes = steps-on all rest before now after on goes
+goes-on all rest before now after (Err s) on goes = stops-on all rest before now s on goes
+
+-- ---- what is known
+
+pub steps-if : {A : Type 0} (known : Option A) (change : A → Gathered → Gathered) (before after : Importing) → ((a : A) → known ≡ Some a → Steps (change a) before after)
+    → IfSome known (λ a. Steps (change a) before after)
+steps-if None change before after h = tt
+steps-if (Some a) change before after h = h a refl
+
+pub stops-if : {A : Type 0} (known : Option A) (change : A → Gathered → Gathered) (before : Importing) (s : CopyStop) → ((a : A) → known ≡ Some a → Stops (change a) before s)
+    → StopsIf known change before s
+stops-if None change before stop.Read h = refl
+stops-if None change before stop.Memory h = tt
+stops-if None change before (stop.Entry refused) h = tt
+stops-if (Some a) change before stop.Read h = absurd (h a refl)
+stops-if (Some a) change before stop.Memory h = tt
+stops-if (Some a) change before (stop.Entry refused) h = h a refl
+
+pub goes-if : {A X : Type 0} (known : Option A) (change : A → Gathered → Gathered) (before : Importing) (r : Result X CopyStop) (after : Importing)
+    → ((a : A) → known ≡ Some a → Goes (change a) before r after) → GoesIf known change before r after
+goes-if known change before (Ok x) after h = steps-if known change before after h
+goes-if known change before (Err s) after h = stops-if known change before s h
+
+pub stops-known : {A : Type 0} (known : Option A) (a : A) (change : A → Gathered → Gathered) (before : Importing) (s : CopyStop) → known ≡ Some a → StopsIf known change before s
+    → Stops (change a) before s
+stops-known known a change before stop.Read is stops = let none : None ≡ Some a = sym stops ∙ is in cc none
+stops-known known a change before stop.Memory is stops = tt
+stops-known known a change before (stop.Entry refused) is stops = subst (λ o. IfSome o (λ b. Refuses (change b) before (refused_pair refused))) is stops
+
+pub goes-known : {A X : Type 0} (known : Option A) (a : A) (change : A → Gathered → Gathered) (before : Importing) (r : Result X CopyStop) (after : Importing)
+    → known ≡ Some a → GoesIf known change before r after → Goes (change a) before r after
+goes-known known a change before (Ok x) after is goes = subst (λ o. IfSome o (λ b. Steps (change b) before after)) is goes
+goes-known known a change before (Err s) after is goes = stops-known known a change before s is goes
+
+-- what stopped is answered as it is
+pub goes-residual : {X : Type 0} (change : Gathered → Gathered) (before : Importing) (r : Result X CopyStop) (after : Importing) (s : CopyStop) → IsErrAnd r (λ given. given ≡ s)
+    → Stops change before s → Goes change before r after
+goes-residual change before (Ok x) after s is stops = absurd is
+goes-residual change before (Err given) after s is stops = subst (Stops change before) (sym is) stops
+
+pub goes_if-residual : {A X : Type 0} (known : Option A) (change : A → Gathered → Gathered) (before : Importing) (r : Result X CopyStop) (after : Importing) (s : CopyStop)
+    → IsErrAnd r (λ given. given ≡ s) → StopsIf known change before s → GoesIf known change before r after
+goes_if-residual known change before (Ok x) after s is stops = absurd is
+goes_if-residual known change before (Err given) after s is stops = subst (StopsIf known change before) (sym is) stops
+
+-- what is not known, since it can't be
+pub unknown : {A : Type 0} (known : Option A) → (IsSome known → ⊥) → known ≡ None
+unknown None never = refl
+unknown (Some a) never = absurd (never refl)
+
+-- ---- one step
+
+and_last : (es : List (ℕ × Entry)) (e : ℕ × Entry) (t u v : Tree) → add_entries es t ≡ Ok u → add_entry e.0 u e.1 ≡ Ok v → add_entries (es ++ e ∷ []) t ≡ Ok v
+and_last [] e t u v is last =
+    let same : t ≡ u = cc in
+    ap (λ w. and_entries (add_entry e.0 w e.1) (add_entries [])) same ∙ ap (λ r. and_entries r (add_entries [])) last
+and_last (x ∷ es) e t u v is last = by (add_entry x.0 t x.1) is (λ next. and_last es e next u v)
+  where
+    by : (added : Result Tree ManifestFault) → and_entries added (add_entries es) ≡ Ok u
+        → ((next : Tree) → add_entries es next ≡ Ok u → add_entry e.0 u e.1 ≡ Ok v → add_entries (es ++ e ∷ []) next ≡ Ok v) → and_entries added (add_entries (es ++ e ∷ [])) ≡ Ok v
+    by (Err fault) is h = cc
+    by (Ok next) is h = h next is last
+
+-- an entry more
+pub entry-steps : (before after : Importing) (e : Entry) (t : Tree) → t ≡ before.tree.value.tree → ((line : ℕ) → add_entry line t e ≡ Ok after.tree.value.tree)
+    → after.firsts.items ≡ before.firsts.items → after.told.items ≡ before.told.items → Steps (and_entry e) before after
+entry-steps before after e t is adds firsts told = λ start g h. record {
+  tree = and_last g.entries (length g.entries + 1, e) start t after.tree.value.tree (h.tree ∙ ap (λ u. Ok u) (sym is)) (adds (length g.entries + 1));
+  firsts = ap (map first_pair) firsts ∙ h.firsts;
+  told = ap (map told_pair) told ∙ h.told;
+}
+
+-- one that could not be added
+pub entry-stops : (before : Importing) (e : Entry) (path : Bytes) (t : Tree) (s : CopyStop) → t ≡ before.tree.value.tree → path_of e ≡ path → IsUnadded e path t s
+    → Stops (and_entry e) before s
+entry-stops before e path t stop.Read is at adds = adds
+entry-stops before e path t stop.Memory is at adds = tt
+entry-stops before e path t (stop.Entry refused) is at adds = λ start g h. record {
+  earlier = g.entries;
+  line = length g.entries + 1;
+  entry = e;
+  later = [];
+  stands = refl;
+  so_far = t;
+  added = h.tree ∙ ap (λ u. Ok u) (sym is);
+  is_fault = adds.1 (length g.entries + 1);
+  is_path = at ∙ sym adds.0;
+}
+
+pub entry-goes : {X : Type 0} (before after : Importing) (e : Entry) (path : Bytes) (t : Tree) (r : Result X CopyStop) → t ≡ before.tree.value.tree → path_of e ≡ path
+    → Adds e path t r after.tree.value.tree → after.firsts.items ≡ before.firsts.items → after.told.items ≡ before.told.items → Goes (and_entry e) before r after
+entry-goes before after e path t (Ok x) is at adds firsts told = entry-steps before after e t is adds firsts told
+entry-goes before after e path t (Err s) is at adds firsts told = entry-stops before e path t s is at adds
+
+-- a path more that is left out
+pub told-steps : (before after : Importing) (path : Bytes) (why : Why) (t : Told) → after.tree.value ≡ before.tree.value → after.firsts.items ≡ before.firsts.items
+    → after.told.items ≡ before.told.items ++ t ∷ [] → told_pair t ≡ (path, why) → Steps (and_told path why) before after
+told-steps before after path why t tree firsts told is = λ start g h. record {
+  tree = h.tree ∙ ap (λ (u : HeldTree). Ok u.tree) (sym tree);
+  firsts = ap (map first_pair) firsts ∙ h.firsts;
+  told = ap (map told_pair) told ∙ map_push told_pair before.told.items t ∙ ap (λ ts. ts ++ told_pair t ∷ []) h.told ∙ ap (λ p. g.told ++ p ∷ []) is;
+}
+
+-- an entry that was added is under a first path
+pub first-steps : (before mid after : Importing) (path : Bytes) (identity : Identity) (e : Entry) (f : First) → Steps (and_entry e) before mid → after.tree.value ≡ mid.tree.value
+    → after.firsts.items ≡ mid.firsts.items ++ f ∷ [] → first_pair f ≡ (identity, path) → after.told.items ≡ mid.told.items → Steps (and_first_entry path identity e) before after
+first-steps before mid after path identity e f added tree firsts is told = λ start g h.
+    let m = added start g h in
+    record {
+      tree = m.tree ∙ ap (λ (u : HeldTree). Ok u.tree) (sym tree);
+      firsts = ap (map first_pair) firsts ∙ map_push first_pair mid.firsts.items f ∙ ap (λ fs. fs ++ first_pair f ∷ []) m.firsts ∙ ap (λ p. g.firsts ++ p ∷ []) is;
+      told = ap (map told_pair) told ∙ m.told;
+    }
+
+-- one that could not be added
+pub first-stops : (before : Importing) (path : Bytes) (identity : Identity) (e : Entry) (s : CopyStop) → Stops (and_entry e) before s → Stops (and_first_entry path identity e) before s
+first-stops before path identity e stop.Read stops = stops
+first-stops before path identity e stop.Memory stops = tt
+first-stops before path identity e (stop.Entry refused) stops = stops
+
+-- ---- files and links
+
+module _ (before : Importing) (path : Bytes) (identity : Identity) where
+  pub settled-unnamed : (after : Importing) → is_path before.version path ≡ false → Steps (and_told path Name) before after → Settles path identity before (Ok true) after
+  settled-unnamed after unnamed steps = λ node has_place why start g h. rw unnamed (steps start g h)
+
+  module _ (first : Bytes) (named : is_path before.version path ≡ true) (found : first_of identity (map first_pair before.firsts.items) ≡ Some first) where
+    further : (node : Node) (has_place : Bool) (why : Why)
+        → Continues (and_linked before.version path identity node has_place why) before (and_entry (further_name path first)) before
+    further node has_place why = λ start g h.
+        let there : first_of identity g.firsts ≡ Some first = ap (first_of identity) (sym h.firsts) ∙ found in
+        (g, h, rw (named, there) refl)
+
+    pub settled-further : (after : Importing) → Steps (and_entry (further_name path first)) before after → Settles path identity before (Ok true) after
+    settled-further after steps = λ node has_place why.
+        steps-on (and_linked before.version path identity node has_place why) (and_entry (further_name path first)) before before after (further node has_place why) steps
+
+    pub settled-stops : (s : CopyStop) → Stops (and_entry (further_name path first)) before s
+        → (node : Node) (has_place : Bool) (why : Why) → Stops (and_linked before.version path identity node has_place why) before s
+    settled-stops s stops = λ node has_place why.
+        stops-on (and_linked before.version path identity node has_place why) (and_entry (further_name path first)) before before s (further node has_place why) stops
+
+module _ (v : Version) (before now : Importing) (path : Bytes) (identity : Identity) (same : v ≡ before.version) (settled : Settles path identity before (Ok false) now) where
+  -- a new one that has a place
+  pub new-placed : (node : Node) (has_place : Bool) (why : Why) → has_place ≡ true
+      → Continues (and_linked v path identity node has_place why) before (and_first_entry path identity (make path node)) now
+  new-placed node has_place why has = λ start g h.
+      let named : is_path v path ≡ true = ap (λ w. is_path w path) same ∙ settled.0 in
+      let none : first_of identity g.firsts ≡ None = ap (first_of identity) (sym h.firsts) ∙ settled.1 in
+      (g, subst (Holds start g) (sym settled.2) h, rw (named, none, has) refl)
+
+  -- a new one that has none
+  pub new-told : (node : Node) (has_place : Bool) (why : Why) → has_place ≡ false → Continues (and_linked v path identity node has_place why) before (and_told path why) now
+  new-told node has_place why hasnt = λ start g h.
+      let named : is_path v path ≡ true = ap (λ w. is_path w path) same ∙ settled.0 in
+      let none : first_of identity g.firsts ≡ None = ap (first_of identity) (sym h.firsts) ∙ settled.1 in
+      (g, subst (Holds start g) (sym settled.2) h, rw (named, none, hasnt) refl)
+
+-- ---- files
+
+not_le : (a b : ℕ) → b < a → nat_le a b ≡ false
+not_le a b above = by (nat_le a b) refl
+  where
+    by : (t : Bool) → nat_le a b ≡ t → t ≡ false
+    by true is = absurd (omega (arith, leb-true a b is))
+    by false is = refl
+
+module _ (v : Version) (before now : Importing) (path : Bytes) (identity : Identity) (executable : Bool) (known : Option Bytes) (same : v ≡ before.version) where
+  -- one that was settled, whatever its bytes
+  pub file-settled : (after : Importing) → Settles path identity before (Ok true) after → IfSome known (λ bytes. Steps (and_file v path identity executable bytes) before after)
+  file-settled after settled = steps-if known (and_file v path identity executable) before after (λ bytes is.
+      subst (λ w. Steps (and_linked w path identity (file_node executable bytes) (nat_le (length bytes) (greatest_length v)) Size) before after) (sym same)
+      (settled (file_node executable bytes) (nat_le (length bytes) (greatest_length v)) Size))
+
+  -- one that stopped before its bytes were looked at
+  pub file-stops : (s : CopyStop) → ((node : Node) (has_place : Bool) (why : Why) → Stops (and_linked before.version path identity node has_place why) before s)
+      → StopsIf known (and_file v path identity executable) before s
+  file-stops s settles = stops-if known (and_file v path identity executable) before s (λ bytes is.
+      subst (λ w. Stops (and_linked w path identity (file_node executable bytes) (nat_le (length bytes) (greatest_length v)) Size) before s) (sym same)
+      (settles (file_node executable bytes) (nat_le (length bytes) (greatest_length v)) Size))
+
+  -- one that could not be read
+  pub file-unread : {Y : Type 0} (fault : HostFault) (read : Result Y HostFault) → read ≡ Err fault → (IsSome known → read ≢ Err host.Read)
+      → StopsIf known (and_file v path identity executable) before (stop_of fault)
+  file-unread host.Memory read is never = tt
+  file-unread host.Read read is never = unknown known (λ some. never some is)
+
+  module _ (settled : Settles path identity before (Ok false) now) (limit : ℕ) (is_limit : limit ≡ greatest_length v) where
+    -- one that is too long
+    pub file-told : (after : Importing) → IfSome known (λ all. IsWhole limit all None) → Steps (and_told path Size) now after
+        → IfSome known (λ bytes. Steps (and_file v path identity executable bytes) before after)
+    file-told after read steps = steps-if known (and_file v path identity executable) before after (λ all is.
+        let over : limit < length all = subst (λ o. IfSome o (λ all. IsWhole limit all None)) is read in
+        let long : greatest_length v < length all = subst (λ n. n < length all) is_limit over in
+        steps-on (and_file v path identity executable all) (and_told path Size) before now after
+        (new-told v before now path identity same settled (file_node executable all) (nat_le (length all) (greatest_length v)) Size (not_le (length all) (greatest_length v) long)) steps)
+
+    -- one that has a place
+    pub file-placed : {X : Type 0} (after : Importing) (r : Result X CopyStop) (bytes : Vec ℕ) (content : Bytes) → content ≡ bytes.items
+        → IfSome known (λ all. IsWhole limit all (Some bytes))
+        → Goes (and_first_entry path identity (make path (file_node executable content))) now r after → GoesIf known (and_file v path identity executable) before r after
+    file-placed after r bytes content lent read goes = goes-if known (and_file v path identity executable) before r after (λ all is.
+        let whole : (bytes.items ≡ all) × (length all ≤ limit) = subst (λ o. IfSome o (λ all. IsWhole limit all (Some bytes))) is read in
+        let short : length all ≤ greatest_length v = subst (λ n. length all ≤ n) is_limit whole.1 in
+        goes-on (and_file v path identity executable all) (and_first_entry path identity (make path (file_node executable all))) before now after r
+        (new-placed v before now path identity same settled (file_node executable all) (nat_le (length all) (greatest_length v)) Size (le-leb (length all) (greatest_length v) short))
+        (subst (λ bs. Goes (and_first_entry path identity (make path (file_node executable bs))) now r after) (lent ∙ whole.0) goes))
+
+-- ---- directories
+
+-- one that could not be added
+pub keeps-stops : (before : Importing) (path : Bytes) (s : CopyStop) → is_path before.version path ≡ true → Stops (and_entry (make path (directory_node []))) before s
+    → Stops (λ g. if is_path before.version path then and_entry (make path (directory_node [])) g else g) before s
+keeps-stops before path s named stops = rw named stops

@@ -1,0 +1,7 @@
+use Rattle.std.proofs.Common.{refl}
+use Rattle.pv_host_copy.proofs.Imports.{imports-stop}
+use Rattle.pv_host_copy.proofs.image.import_image.Goals as goal
+
+pub returns-in-Err-clause-imports : goal.returns-in-Err-clause-imports
+returns-in-Err-clause-imports g c =
+    imports-stop c.args.version c.args.skips _ _ _ _ (g.D.HostDirectory.rest c.args.directory) c.in-Err.stop c.tell_stop.result c.in-Err.ensures.stopped c.tell_stop.ensures.tells refl

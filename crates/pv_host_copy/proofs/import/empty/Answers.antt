@@ -1,0 +1,7 @@
+use Rattle.std.proofs.Common.{◌∙◌}
+use Rattle.pv_host_copy.proofs.Imports.{start-holds}
+use Rattle.pv_host_copy.proofs.import.empty.Goals as goal
+
+pub returns-clause-holds : goal.returns-clause-holds
+returns-clause-holds c =
+    start-holds c.args.version c.greatest_blocks-blocks.result _ (c.into_tree.ensures.tree ∙ c.in_ok-store.ensures) c.greatest_blocks-blocks.ensures c.new.ensures.items c.new-2.ensures.items

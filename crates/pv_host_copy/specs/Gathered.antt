@@ -1,0 +1,77 @@
+-- The manifest of a host's directory: its entries, in the order of the names, each directory before what is in it. What has
+-- no place in an image is left out, and told.
+use Rattle.std.specs.Prelude.{ℕ, ◌+◌, Bool, List, [], ◌∷◌, ◌++◌, length, if◌then◌else◌, nat_le, Option, None, Some}
+use Rattle.pv_model.specs.declared.version.Version.{Version}
+use Rattle.pv_model.specs.Bytes.{Bytes}
+use Rattle.pv_model.specs.Manifest.{Entry, make, further_name}
+use Rattle.pv_model.specs.Room.{greatest_length}
+use Rattle.pv_model.specs.Tree.{Node, directory_node, file_node, link_node, is_link_text}
+use Rattle.pv_host_copy.specs.declared.entry.Identity.{Identity}
+use Rattle.pv_host_copy.specs.declared.fault.Why.{Why}
+use Rattle.pv_host_copy.specs.declared.fault.Why.TheVariants.{Name, Size, Text, Kind}
+use Rattle.pv_host_copy.specs.Hosts.{HostEntries, no_more, a_directory, a_file, a_link, an_other, is_same}
+use Rattle.pv_host_copy.specs.Paths.{is_path, below}
+
+-- the entries so far, counted from 1, the first path of each file and link among them, and what was left out
+pub record Gathered : Type 0 where
+  pub entries : List (ℕ × Entry)
+  pub firsts : List (Identity × Bytes)
+  pub told : List (Bytes × Why)
+
+abbrev pub nothing_gathered : Gathered
+nothing_gathered = record { entries = []; firsts = []; told = [] }
+
+-- with one entry more
+abbrev pub and_entry : Entry → Gathered → Gathered
+and_entry entry g = record g { entries = g.entries ++ (length g.entries + 1, entry) ∷ [] }
+
+-- with one path more that is left out
+abbrev pub and_told : Bytes → Why → Gathered → Gathered
+and_told path why g = record g { told = g.told ++ (path, why) ∷ [] }
+
+-- with the entry of a file or link under its first path
+abbrev pub and_first_entry : Bytes → Identity → Entry → Gathered → Gathered
+and_first_entry path identity entry g = record (and_entry entry g) { firsts = g.firsts ++ (identity, path) ∷ [] }
+
+-- the first path of a file or link, if one was gathered
+abbrev pub first_of : Identity → List (Identity × Bytes) → Option Bytes
+first_of identity [] = None
+first_of identity (first ∷ firsts) = if is_same first.0 identity then Some first.1 else first_of identity firsts
+
+-- a file or link that was gathered under another path has a further name here; else it is made, or told where it has no place
+abbrev pub and_node : Bytes → Identity → Node → Bool → Why → Gathered → Option Bytes → Gathered
+and_node path identity node has_place why g (Some first) = and_entry (further_name path first) g
+and_node path identity node has_place why g None = if has_place then and_first_entry path identity (make path node) g else and_told path why g
+
+module _ (v : Version) where
+  -- with a file or link under a path, if it is one
+  abbrev pub and_linked : Bytes → Identity → Node → Bool → Why → Gathered → Gathered
+  and_linked path identity node has_place why g =
+      if is_path v path then and_node path identity node has_place why g (first_of identity g.firsts) else and_told path Name g
+
+  abbrev pub and_file : Bytes → Identity → Bool → Bytes → Gathered → Gathered
+  and_file path identity executable bytes g =
+      and_linked path identity (file_node executable bytes) (nat_le (length bytes) (greatest_length v)) Size g
+
+  abbrev pub and_link : Bytes → Identity → Bytes → Gathered → Gathered
+  and_link path identity text g = and_linked path identity (link_node text) (is_link_text text) Text g
+
+  -- a directory, and then what is in it
+  abbrev pub and_directory : Bytes → (Gathered → Gathered) → Gathered → Gathered
+  and_directory path inside g = if is_path v path then inside (and_entry (make path (directory_node [])) g) else and_told path Name g
+
+  -- with what a directory under a path has
+  abbrev pub gather : Bytes → HostEntries → Gathered → Gathered
+  gather path no_more g = g
+  gather path (a_directory name inside rest) g = gather path rest (and_directory (below path name) (gather (below path name) inside) g)
+  gather path (a_file name identity executable bytes rest) g = gather path rest (and_file (below path name) identity executable bytes g)
+  gather path (a_link name identity text rest) g = gather path rest (and_link (below path name) identity text g)
+  gather path (an_other name rest) g = gather path rest (and_told (below path name) Kind g)
+
+  -- the entries of a host's directory
+  abbrev pub entries_of : HostEntries → List (ℕ × Entry)
+  entries_of host = (gather [] host nothing_gathered).entries
+
+  -- what is left out of it
+  abbrev pub left_out : HostEntries → List (Bytes × Why)
+  left_out host = (gather [] host nothing_gathered).told

@@ -1,0 +1,16 @@
+-- What a host's directory has: its names in the order of their bytes, with what stands under each.
+use Rattle.std.specs.Prelude.{ℕ, Bool, ◌&&◌, ◌==◌}
+use Rattle.pv_model.specs.Bytes.{Bytes}
+use Rattle.pv_host_copy.specs.declared.entry.Identity.{Identity}
+
+-- the entries of a directory: a directory with its own entries, a file, a symbolic link, or something else
+pub data HostEntries : Type 0 where
+  no_more : HostEntries
+  a_directory : (name : Bytes) (inside rest : HostEntries) → HostEntries
+  a_file : (name : Bytes) (identity : Identity) (executable : Bool) (bytes : Bytes) (rest : HostEntries) → HostEntries
+  a_link : (name : Bytes) (identity : Identity) (text : Bytes) (rest : HostEntries) → HostEntries
+  an_other : (name : Bytes) (rest : HostEntries) → HostEntries
+
+-- whether two names are of one file or link
+abbrev pub is_same : Identity → Identity → Bool
+is_same a b = (a.device == b.device) && (a.inode == b.inode)

@@ -1,0 +1,18 @@
+-- The tree of a host's directory.
+use Rattle.std.specs.Prelude.{◌≡◌, ◌+◌, ◌-◌, Ok}
+use Rattle.pv_model.specs.declared.limits.TheConstants.{INODES}
+use Rattle.pv_model.specs.declared.version.Version.{Version}
+use Rattle.pv_model.specs.Grammar.Manifests.{add_entries}
+use Rattle.pv_model.specs.Image.{inode_blocks, greatest_blocks}
+use Rattle.pv_model.specs.Tree.{Tree}
+use Rattle.pv_tree.specs.Changes.{root_alone}
+use Rattle.pv_host_copy.specs.Gathered.{entries_of}
+use Rattle.pv_host_copy.specs.Hosts.{HostEntries}
+
+-- the root alone, in an image of the greatest size of a version
+abbrev pub greatest_tree : Version → Tree
+greatest_tree v = root_alone v (greatest_blocks v - (inode_blocks v INODES + 1)) INODES
+
+-- a tree is that of the manifest of a host's directory
+abbrev pub IsTreeOf : Version → HostEntries → Tree → Type 0
+IsTreeOf v host t = add_entries (entries_of v host) (greatest_tree v) ≡ Ok t

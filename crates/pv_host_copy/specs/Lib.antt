@@ -1,0 +1,14 @@
+pub mod Adding
+pub mod Entries
+pub mod Firsts
+pub mod Gathered
+pub mod Hosts
+pub mod Imported
+pub mod Importing
+pub mod Lines
+pub mod Paths
+pub mod Reading
+pub mod Stopped
+pub mod Telling
+pub mod Walking
+pub mod Written

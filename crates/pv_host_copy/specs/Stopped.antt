@@ -1,0 +1,47 @@
+-- What stops a copy.
+use Rattle.std.specs.Prelude.{◌≡◌, ⊤, ℕ, List, ◌∷◌, ◌++◌, Option, None, IfSome, Ok, Err}
+use Rattle.pv_model.specs.declared.version.Version.{Version}
+use Rattle.pv_model.specs.Bytes.{Bytes}
+use Rattle.pv_model.specs.Grammar.Manifests.{add_entry, add_entries, path_of}
+use Rattle.pv_model.specs.Manifest.{Entry}
+use Rattle.pv_model.specs.Tree.{Tree}
+use Rattle.pv_host_copy.specs.declared.fault.CopyStop.{CopyStop}
+use Rattle.pv_host_copy.specs.declared.fault.CopyStop.TheVariants as stop
+use Rattle.pv_host_copy.specs.declared.fault.EntryFault.{EntryFault}
+use Rattle.pv_host_copy.specs.declared.fault.HostFault.{HostFault}
+use Rattle.pv_host_copy.specs.declared.fault.HostFault.TheVariants.{Read, Memory}
+use Rattle.pv_host_copy.specs.declared.fault.Refused.{Refused}
+use Rattle.pv_host_copy.specs.Adding.{fault_at}
+use Rattle.pv_host_copy.specs.Gathered.{entries_of}
+use Rattle.pv_host_copy.specs.Hosts.{HostEntries}
+use Rattle.pv_host_copy.specs.Imported.{greatest_tree}
+
+-- what a host does not answer stops a copy
+abbrev pub stop_of : HostFault → CopyStop
+stop_of Read = stop.Read
+stop_of Memory = stop.Memory
+
+abbrev pub refused_pair : Refused → Bytes × EntryFault
+refused_pair refused = (refused.path.items, refused.fault)
+
+-- an entry could not be added to the tree of those before it: its path, and why
+pub record IsRefused (entries : List (ℕ × Entry)) (start : Tree) (refused : Bytes × EntryFault) : Type 0 where
+  pub earlier : List (ℕ × Entry)
+  pub line : ℕ
+  pub entry : Entry
+  pub later : List (ℕ × Entry)
+  pub stands : entries ≡ earlier ++ (line, entry) ∷ later
+  pub so_far : Tree
+  pub added : add_entries earlier start ≡ Ok so_far
+  pub is_fault : add_entry line so_far entry ≡ Err (fault_at line refused.1)
+  pub is_path : path_of entry ≡ refused.0
+
+-- an entry of a host's directory could not be added
+abbrev pub IsRefusedOf : Version → HostEntries → Bytes × EntryFault → Type 0
+IsRefusedOf v host refused = IsRefused (entries_of v host) (greatest_tree v) refused
+
+-- why a directory was not copied: one of which the entries are known can be read
+abbrev pub StopsCopy : Version → Option HostEntries → CopyStop → Type 0
+StopsCopy v known stop.Read = known ≡ None
+StopsCopy v known stop.Memory = ⊤
+StopsCopy v known (stop.Entry refused) = IfSome known (λ host. IsRefusedOf v host (refused_pair refused))

@@ -1,0 +1,40 @@
+//! The first paths of files and links.
+ghost use Rattle.std.specs.Prelude.{◌≡◌, ◌&&◌, ◌==◌, map, IsTrue, IfSome};
+ghost use Rattle.std.specs.List.{list_all};
+ghost use Rattle.std.specs.Option.{option_copied};
+ghost use Rattle.pv_host_copy.specs.Firsts.{first_pair, has_path};
+ghost use Rattle.pv_host_copy.specs.Gathered.{first_of};
+ghost use Rattle.pv_host_copy.specs.Hosts.{is_same};
+ghost use Rattle.pv_host_copy.specs.Paths.{is_path};
+
+use crate::entry::Identity;
+use pv_model::Version;
+
+/// A file or link of a host, and the first path under which it was kept.
+#[derive(Drop)]
+pub(crate) struct First {
+    pub(crate) identity: Identity,
+    pub(crate) path: Vec<u8>,
+}
+
+// Whether two names are of one file or link.
+fn is_same(a: Identity, b: Identity) -> bool
+    ensures { result ≡ is_same a b }
+{
+    a.device == b.device && a.inode == b.inode
+}
+
+/// The first path of a file or link, if it was kept.
+pub(crate) fn first_of(firsts: &[First], version: Version, identity: Identity) -> Option<&[u8]>
+    requires { IsTrue (list_all (has_path version) firsts.now) }
+    ensures first { option_copied result ≡ first_of identity (map first_pair firsts.now) }
+    ensures named { IfSome result (λ path. IsTrue (is_path version path.now)) }
+{
+    let _ = version;
+    for first in firsts {
+        if is_same(first.identity, identity) {
+            return Some(first.path.as_slice());
+        }
+    }
+    None
+}

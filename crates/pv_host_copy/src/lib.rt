@@ -1,0 +1,33 @@
+//! A host's directory as the image of a tree.
+//!
+//! `entry` has what a host tells of one name, `file` the trait of a file that it gives, and `directory` that of a directory;
+//! `fault` says what stops a copy. `adding` adds an entry of a manifest to a tree, by its path, which `paths` judges.
+//! `importing` has the tree so far, with the first paths of its files and links (`first`) and what was left out (`told`, and
+//! its lines in `lines`); `reading` reads the bytes of a file, `walking` goes down the directories, and `import` has the whole,
+//! of which `image` writes the image.
+#![tactic(auto)]
+
+mod adding;
+mod content;
+mod directory;
+mod entry;
+mod fault;
+mod file;
+mod first;
+mod image;
+mod import;
+mod importing;
+mod lines;
+mod paths;
+mod reading;
+mod told;
+mod walking;
+
+pub use directory::HostDirectory;
+pub use entry::{HostEntry, HostNode, Identity};
+pub use fault::{CopyStop, EntryFault, HostFault, Refused, Why};
+pub use file::HostFile;
+pub use image::{ImportStop, import_image};
+pub use import::{Imported, import_tree};
+pub use lines::{write_refused, write_told};
+pub use told::Told;

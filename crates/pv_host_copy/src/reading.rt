@@ -1,0 +1,38 @@
+//! Files that are read whole, up to a greatest length.
+ghost use Rattle.std.specs.Prelude.{◌≢◌, Err, IfOk, IfSome, IsSome};
+ghost use Rattle.pv_host_copy.specs.Reading.{IsWhole};
+
+use crate::fault::HostFault;
+use crate::file::HostFile;
+use std::alloc::Global;
+
+// How many bytes a file is asked for at a time.
+const CHUNK: usize = 4_096;
+
+/// All that a file gives; none where these are more than `limit` bytes.
+///
+/// # Errors
+///
+/// `Read` where a read failed; `Memory` where memory was refused.
+#[tactic(auto, using(pv_streams::proofs::Sources::read_more, crate::proofs::WholeReads::stays_known, crate::proofs::WholeReads::whole_read, crate::proofs::WholeReads::more_read))]
+pub(crate) fn read_within<F: HostFile>(
+    alloc: Global,
+    file: &mut F,
+    limit: u32,
+) -> Result<Option<Vec<u8>>, HostFault>
+    ensures whole { IfOk result (λ read. IfSome (F.bytes file.old) (λ all. IsWhole limit all read)) }
+    ensures known { IsSome (F.bytes file.old) → result ≢ Err HostFault.Read }
+{
+    let mut bytes = Vec::new(alloc);
+    let mut chunk = [0; CHUNK];
+    while bytes.len() <= limit as usize {
+        let Ok(count) = file.read(&mut chunk) else {
+            return Err(HostFault::Read);
+        };
+        if count == 0 {
+            return Ok(Some(bytes));
+        }
+        bytes.extend_from_slice(&chunk[..count])?;
+    }
+    Ok(None)
+}
