@@ -8,7 +8,7 @@
 #   make examples every bundle of examples/ and cases/, its trace compared, before any proof
 #   make sources  the proved program on sources: worked ones, mistakes with what is said of each, and some made by chance
 #   make words    the proved program on words of command lines, and what it writes, tells and makes
-#   make images   the proved program on images byte for byte, and on every change of one byte of an image
+#   make images   the proved program on images byte for byte, on directories of which it makes images, and on every change of one byte of an image
 #   make refusals the proved program with each allocation, opening, read and write refused in turn
 #   make test     the gate: every proof from nothing, the tests, the program, the wrong bodies, the examples, images, refusals (docs/GATE.md)
 #   make wrong    the wrong bodies alone, with further ones that the gate leaves out, of every crate, or make wrong CRATE=pv_tree of one; then
@@ -60,6 +60,7 @@ words: bin/pvsim
 
 images: bin/pvsim
 	@tools/images bin/pvsim
+	@tools/host-copy bin/pvsim
 	@tools/changes bin/pvsim
 
 refusals: bin/pvsim

@@ -1,5 +1,6 @@
 -- Which command a fault is of.
 use Rattle.std.specs.Prelude.{Result}
+use Rattle.pv_host_copy.specs.declared.image.ImportStop.{ImportStop}
 use Rattle.pv_model.specs.declared.run_fault.RunFault.{RunFault}
 use Rattle.pv_model.specs.declared.store_fault.ListFault.{ListFault}
 use Rattle.pv_questions.specs.declared.stop.AskStop.{AskStop}
@@ -7,7 +8,7 @@ use Rattle.pv_run.specs.declared.auditing.AuditStop.{AuditStop}
 use Rattle.pv_run.specs.declared.migrating.MigrateStop.{MigrateStop}
 use Rattle.pv_source.specs.declared.source.SourceStop.{SourceStop}
 use Rattle.pv_cli_commands.specs.declared.fault.Fault.{Fault}
-use Rattle.pv_cli_commands.specs.declared.fault.Fault.TheVariants.{Run, Listing, Migrating, Auditing, Asking, Source}
+use Rattle.pv_cli_commands.specs.declared.fault.Fault.TheVariants.{Run, Listing, Migrating, Auditing, Asking, Source, Importing}
 
 -- what a command answers
 abbrev pub Answer : Type 0
@@ -42,3 +43,8 @@ IsOfAsking holds fault = ⊥
 abbrev pub IsOfSource : (SourceStop → Type 0) → Fault → Type 0
 IsOfSource holds (Source stop) = holds stop
 IsOfSource holds fault = ⊥
+
+-- it is why a directory was not imported, of which this holds
+abbrev pub IsOfImporting : (ImportStop → Type 0) → Fault → Type 0
+IsOfImporting holds (Importing stop) = holds stop
+IsOfImporting holds fault = ⊥

@@ -4,6 +4,7 @@ pub mod Commands
 pub mod Created
 pub mod Faults
 pub mod Images
+pub mod Importing
 pub mod Listing
 pub mod Making
 pub mod Migrating

@@ -1,5 +1,7 @@
 -- The exit status of a command: 0 done, 1 refused input, 3 memory, 4 a failed read or write.
 use Rattle.std.specs.Prelude.{◌≡◌, ◌≢◌, ℕ, Bool, true, false, Result, Ok, Err}
+use Rattle.pv_host_copy.specs.declared.image.ImportStop.{ImportStop}
+use Rattle.pv_host_copy.specs.declared.image.ImportStop.TheVariants as unimported
 use Rattle.pv_model.specs.declared.fault.ImageFault.TheVariants.{Memory as ImageMemory}
 use Rattle.pv_model.specs.declared.fault.ManifestFault.TheVariants.{Memory as ManifestMemory}
 use Rattle.pv_model.specs.declared.run_fault.RunFault.{RunFault}
@@ -17,7 +19,7 @@ use Rattle.pv_run.specs.declared.migrating.MigrateStop.TheVariants.{Read as Migr
 use Rattle.pv_source.specs.declared.source.SourceStop.{SourceStop}
 use Rattle.pv_source.specs.declared.source.SourceStop.TheVariants as unwritten
 use Rattle.pv_cli_commands.specs.declared.fault.Fault.{Fault}
-use Rattle.pv_cli_commands.specs.declared.fault.Fault.TheVariants.{Run, Listing, Migrating, Auditing, Asking, Source}
+use Rattle.pv_cli_commands.specs.declared.fault.Fault.TheVariants.{Run, Listing, Migrating, Auditing, Asking, Source, Importing}
 use Rattle.pv_cli_commands.specs.Faults.{Answer}
 
 abbrev pub run_status_of : RunFault → ℕ
@@ -65,6 +67,13 @@ source_status_of unwritten.Memory = 3
 source_status_of unwritten.Refused = 1
 source_status_of unwritten.Write = 4
 
+abbrev pub import_status_of : ImportStop → ℕ
+import_status_of unimported.Read = 4
+import_status_of unimported.Memory = 3
+import_status_of unimported.Refused = 1
+import_status_of unimported.WriteLines = 4
+import_status_of unimported.WriteImage = 4
+
 abbrev pub status_of : Fault → ℕ
 status_of (Run fault) = run_status_of fault
 status_of (Listing fault) = list_status_of fault
@@ -72,10 +81,12 @@ status_of (Migrating stop) = migrate_status_of stop
 status_of (Auditing stop) = audit_status_of stop
 status_of (Asking stop) = ask_status_of stop
 status_of (Source stop) = source_status_of stop
+status_of (Importing stop) = import_status_of stop
 
--- it was told already: the lines of a source that are at fault
+-- it was told already: the lines of a source that are at fault, and what has no room in an image
 abbrev pub is_told : Fault → Bool
 is_told (Source unwritten.Refused) = true
+is_told (Importing unimported.Refused) = true
 is_told fault = false
 
 -- what a command ends with

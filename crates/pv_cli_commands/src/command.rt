@@ -1,5 +1,6 @@
 //! What may be asked for.
 
+use pv_model::Version;
 use pv_questions::{Question, TreeQuestion};
 
 /// What is run: an image under a schedule, or a bundle.
@@ -58,6 +59,17 @@ pub enum Command<'a> {
         blocks: u32,
         /// Its inodes.
         inodes: u32,
+    },
+    /// Make the image of a directory.
+    ImportDirectory {
+        /// The directory.
+        directory: &'a str,
+        /// The file that gets the image.
+        image: &'a str,
+        /// The version of the image.
+        version: Version,
+        /// Whether what an image can't have is left out.
+        skips: bool,
     },
     /// Run an image under a schedule, and tell which files of what is left are sealed.
     AuditImage {

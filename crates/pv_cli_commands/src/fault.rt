@@ -1,8 +1,9 @@
 //! What a command tells a person, and the exit status.
 ghost use Rattle.std.specs.Prelude.{◌≡◌};
-ghost use Rattle.pv_cli_commands.specs.Status.{ask_status_of, audit_status_of, is_told, list_status_of, migrate_status_of, run_status_of, source_status_of, status_of};
-ghost use Rattle.pv_cli_commands.specs.declared.fault.Fault.TheVariants.{Run as RunVariant, Listing as ListingVariant, Migrating as MigratingVariant, Auditing as AuditingVariant, Asking as AskingVariant, Source as SourceVariant};
+ghost use Rattle.pv_cli_commands.specs.Status.{ask_status_of, audit_status_of, import_status_of, is_told, list_status_of, migrate_status_of, run_status_of, source_status_of, status_of};
+ghost use Rattle.pv_cli_commands.specs.declared.fault.Fault.TheVariants.{Run as RunVariant, Listing as ListingVariant, Migrating as MigratingVariant, Auditing as AuditingVariant, Asking as AskingVariant, Source as SourceVariant, Importing as ImportingVariant};
 
+use pv_host_copy::ImportStop;
 use pv_model::{ImageFault, ListFault, ManifestFault, MigrateFault, RunFault};
 use pv_questions::AskStop;
 use pv_run::{AuditStop, MigrateStop};
@@ -32,6 +33,9 @@ pub enum Fault {
     /// told.
     #[error("{}", source_text(*.0))]
     Source(SourceStop),
+    /// No image was made of a directory, or not whole. The text of `Refused` is empty, since it was told.
+    #[error("{}", import_text(*.0))]
+    Importing(ImportStop),
 }
 
 impl From<RunFault> for Fault {
@@ -82,6 +86,14 @@ impl From<SourceStop> for Fault {
     }
 }
 
+impl From<ImportStop> for Fault {
+    ghost from_gives = { λ given fault. fault ≡ ImportingVariant given };
+
+    fn from(stop: ImportStop) -> Fault {
+        Fault::Importing(stop)
+    }
+}
+
 // The text of why a source was not written.
 fn source_text(stop: SourceStop) -> &'static str {
     match stop {
@@ -89,6 +101,16 @@ fn source_text(stop: SourceStop) -> &'static str {
         SourceStop::Memory => "pvsim: memory\n",
         SourceStop::Refused => "",
         SourceStop::Write => "pvsim: write\n",
+    }
+}
+
+// The text of why no image was made of a directory.
+fn import_text(stop: ImportStop) -> &'static str {
+    match stop {
+        ImportStop::Read => "pvsim: read\n",
+        ImportStop::Memory => "pvsim: memory\n",
+        ImportStop::Refused => "",
+        ImportStop::WriteLines | ImportStop::WriteImage => "pvsim: write\n",
     }
 }
 
@@ -160,6 +182,17 @@ fn source_status(stop: SourceStop) -> u8
     }
 }
 
+// The status of a directory that was not imported, or not whole.
+fn import_status(stop: ImportStop) -> u8
+    ensures { result ≡ import_status_of stop }
+{
+    match stop {
+        ImportStop::Read | ImportStop::WriteLines | ImportStop::WriteImage => 4,
+        ImportStop::Memory => 3,
+        ImportStop::Refused => 1,
+    }
+}
+
 impl Fault {
     /// The exit status: 1 for refused input, 3 for memory, and 4 for a failed read or write.
     pub fn status(&self) -> u8
@@ -172,13 +205,18 @@ impl Fault {
             Fault::Auditing(stop) => audit_status(*stop),
             Fault::Asking(stop) => ask_status(*stop),
             Fault::Source(stop) => source_status(*stop),
+            Fault::Importing(stop) => import_status(*stop),
         }
     }
 
-    /// Whether it was told already, on the standard error: that of a source whose lines are at fault.
+    /// Whether it was told already, on the standard error: that of a source whose lines are at fault, and that of a directory
+    /// of which something has no room in an image.
     pub fn is_told(&self) -> bool
         ensures { result ≡ is_told self.now }
     {
-        matches!(self, Fault::Source(SourceStop::Refused))
+        matches!(
+            self,
+            Fault::Source(SourceStop::Refused) | Fault::Importing(ImportStop::Refused)
+        )
     }
 }

@@ -7,8 +7,10 @@ ghost use Rattle.pv_cli_commands.specs.Streams.{disk_of};
 use crate::asking::{ask_run, ask_tree_of};
 use crate::auditing::audit_files;
 use crate::command::Command;
+use crate::directories::Directories;
 use crate::fault::Fault;
 use crate::images::run_files;
+use crate::importing::import_directory;
 use crate::listing::list_file;
 use crate::making::make_file;
 use crate::migrating::migrate_file;
@@ -27,6 +29,9 @@ use std::alloc::Global;
 /// - `RunImage` runs the image in a file under the schedule in another, writes the trace to the standard output, and
 ///   then the image that the run leaves to a third file.
 /// - `MigrateImage` makes an image of version 2 of the image in a file, and writes it to another file.
+/// - `ImportDirectory` makes the image of a directory, and writes it to a file. What an image can't have, and what could not be
+///   added to it, is told on the standard error, in a line for each path; then nothing is written to the file, unless only what
+///   an image can't have was told, and that is to be left out.
 /// - `AuditImage` runs the image in a file under the schedule in another, and writes to the standard output what is
 ///   found of the file of a path, or of all files.
 /// - `WriteSource` writes the manifest or bundle that the source of its file stands for, or that of the standard input for `-`,
@@ -41,16 +46,16 @@ use std::alloc::Global;
 ///
 /// # Errors
 ///
-/// `Run`, of `ListImage` `Listing`, of `MigrateImage` `Migrating`, of `AuditImage` `Auditing`, of `WriteSource` `Source`, of `Ask` and `AskTree`
+/// `Run`, of `ListImage` `Listing`, of `MigrateImage` `Migrating`, of `ImportDirectory` `Importing`, of `AuditImage` `Auditing`, of `WriteSource` `Source`, of `Ask` and `AskTree`
 /// `Asking`: a file did not open or could not be read, the input was refused, memory was refused, or the output could not be written. Where
 /// the input was refused, nothing was written.
 #[tactic(auto, using(crate::proofs::Outcomes::failed_with_status))]
-pub fn perform<F: Files + Drop, I: Source + Drop, O: Sink + Drop, E: Sink + Drop>(
+pub fn perform<F: Files + Directories + Drop, I: Source + Drop, O: Sink + Drop, E: Sink + Drop>(
     alloc: Global,
     command: Command<'_>,
     system: &mut HostSystem<F, I, O, E>,
 ) -> Result<(), Fault>
-    ensures does { Performs (disk_of F.Files F.Reader.Source F.Writer.Sink) I.Source O.Sink E.Sink command.entry system.old system.new result }
+    ensures does { Performs (disk_of F.Files F.Reader.Source F.Writer.Sink) F.entries I.Source O.Sink E.Sink command.entry system.old system.new result }
     ensures flushed { Flushes O.Sink system.old.output system.new.output result }
     ensures failed { IfErr result (λ fault. status_of fault ≢ 0) }
 
@@ -82,6 +87,12 @@ pub fn perform<F: Files + Drop, I: Source + Drop, O: Sink + Drop, E: Sink + Drop
             blocks,
             inodes,
         } => migrate_file(alloc, files, image, out, blocks, inodes),
+        Command::ImportDirectory {
+            directory,
+            image,
+            version,
+            skips,
+        } => import_directory(alloc, files, directory, image, version, skips, errors),
         Command::AuditImage {
             image,
             schedule,

@@ -22,6 +22,11 @@ impl<'a> HostFiles<'a> {
     {
         HostFiles { rt }
     }
+
+    // The runtime.
+    pub(crate) fn runtime(&self) -> &'a HostRuntime {
+        self.rt
+    }
 }
 
 impl<'a> Files for HostFiles<'a> {

@@ -1,14 +1,16 @@
 //! Files, sources and sinks over what the system reads and writes.
 //!
 //! `files` has the system's files by their names: one that is opened for reading, and one that is made, or emptied, at its
-//! first write. `input` is the standard input, and `output` an output stream; all count what fails. Of their bytes no clause
+//! first write. `directories` has the system's directories by their names, which tell what they have. `input` is the standard input, and `output` an output stream; all count what fails. Of their bytes no clause
 //! says anything: what a file or a stream of the system gives or takes is not known. That they meet the traits is proved.
 #![tactic(auto)]
 
+pub mod directories;
 pub mod files;
 pub mod input;
 pub mod output;
 
+pub use directories::{OpenedDirectory, ReadFile};
 pub use files::{HostFiles, OpenedFile, WrittenFile};
 pub use input::Input;
 pub use output::Output;

@@ -14,7 +14,7 @@ use Rattle.clap.specs.declared.parser.matches.ArgMatches.TheViews.{out-SubComman
 use Rattle.clap.proofs.OnLiterals.{clap_on_literals}
 use Rattle.clap.specs.Words.{is_simple, is_simple_and_free, subcommand_of}
 use Rattle.pv_cli_commands.specs.declared.command.Command.{Command}
-use Rattle.pv_cli_commands.specs.declared.command.Command.TheVariants.{RunTree, MakeImage, ListImage, RunImage, MigrateImage, AuditImage, WriteSource, Ask, AskTree}
+use Rattle.pv_cli_commands.specs.declared.command.Command.TheVariants.{RunTree, MakeImage, ListImage, RunImage, MigrateImage, ImportDirectory, AuditImage, WriteSource, Ask, AskTree}
 use Rattle.pv_cli_commands.specs.declared.command.RunInput.{RunInput}
 use Rattle.pv_cli_commands.specs.declared.command.RunInput.TheVariants.{Files, Bundle}
 use Rattle.pv_cli_commands.specs.declared.command.TreeInput.{TreeInput}
@@ -83,6 +83,7 @@ module _ (entered : Option (Text × List Row)) where
   no_plain_command tree source made ran (RunImage image schedule out) plain is = ran image.now schedule.now out.now is.0 is.1 is.2
   no_plain_command tree source made ran (ListImage image) plain is = absurd plain
   no_plain_command tree source made ran (MigrateImage image out blocks inodes) plain is = absurd plain
+  no_plain_command tree source made ran (ImportDirectory directory image version skips) plain is = absurd plain
   no_plain_command tree source made ran (AuditImage image schedule path) plain is = absurd plain
   no_plain_command tree source made ran (Ask question run) plain is = absurd plain
   no_plain_command tree source made ran (AskTree question tree-of) plain is = absurd plain
@@ -109,6 +110,7 @@ module _ (entered : Option (Text × List Row)) where
   no_command plain list cat audit asks (RunImage image schedule out) without is = plain (RunImage image schedule out) tt is
   no_command plain list cat audit asks (ListImage image) without is = list (Image image) is
   no_command plain list cat audit asks (MigrateImage image out blocks inodes) without is = absurd without
+  no_command plain list cat audit asks (ImportDirectory directory image version skips) without is = absurd without
   no_command plain list cat audit asks (AuditImage image schedule path) without is = audit (Files image schedule) (option_map (λ text. text.now) path) is
   no_command plain list cat audit asks (Ask State run) without is = asks State run tt is
   no_command plain list cat audit asks (Ask Explain run) without is = asks Explain run tt is
@@ -126,29 +128,31 @@ module _ (entered : Option (Text × List Row)) where
   pub no_command_at_all :
       ((command : Command) → IsWithoutNumbers command → IsCommandIn entered command → ⊥)
       → ((image out blocks inodes : Text) → HasTexts entered image out blocks inodes → ⊥)
+      → ((directory image : Text) → entered_text entered (codes "import") (codes "DIR") ≡ Some directory → entered_text entered (codes "import") (codes "IMAGE") ≡ Some image → ⊥)
       → ((tree : TreeInput) → IsWholeTreeIn entered (codes "turns") tree → ⊥)
       → ((tree : TreeInput) → IsWholeTreeIn entered (codes "explore") tree → ⊥)
       → ((tree : TreeInput) → IsWholeTreeIn entered (codes "graph") tree → ⊥)
       → ((pid : Option ℕ) (run : RunInput) → IsQuestionIn entered (Reach pid) run → ⊥)
       → (command : Command) → IsCommandIn entered command → ⊥
-  no_command_at_all other migrates turns explores graphs reaches (RunTree file) is = other (RunTree file) tt is
-  no_command_at_all other migrates turns explores graphs reaches (WriteSource file) is = other (WriteSource file) tt is
-  no_command_at_all other migrates turns explores graphs reaches (ListImage image) is = other (ListImage image) tt is
-  no_command_at_all other migrates turns explores graphs reaches (MakeImage manifest image) is = other (MakeImage manifest image) tt is
-  no_command_at_all other migrates turns explores graphs reaches (RunImage image schedule out) is = other (RunImage image schedule out) tt is
-  no_command_at_all other migrates turns explores graphs reaches (AuditImage image schedule path) is = other (AuditImage image schedule path) tt is
-  no_command_at_all other migrates turns explores graphs reaches (MigrateImage image out blocks inodes) is =
+  no_command_at_all other migrates imports turns explores graphs reaches (RunTree file) is = other (RunTree file) tt is
+  no_command_at_all other migrates imports turns explores graphs reaches (WriteSource file) is = other (WriteSource file) tt is
+  no_command_at_all other migrates imports turns explores graphs reaches (ListImage image) is = other (ListImage image) tt is
+  no_command_at_all other migrates imports turns explores graphs reaches (MakeImage manifest image) is = other (MakeImage manifest image) tt is
+  no_command_at_all other migrates imports turns explores graphs reaches (RunImage image schedule out) is = other (RunImage image schedule out) tt is
+  no_command_at_all other migrates imports turns explores graphs reaches (AuditImage image schedule path) is = other (AuditImage image schedule path) tt is
+  no_command_at_all other migrates imports turns explores graphs reaches (MigrateImage image out blocks inodes) is =
       migrates image.now out.now is.2.word is.3.word (record { has_image = is.0; has_out = is.1; has_blocks = is.2.is_entered; has_inodes = is.3.is_entered })
-  no_command_at_all other migrates turns explores graphs reaches (Ask State run) is = other (Ask State run) tt is
-  no_command_at_all other migrates turns explores graphs reaches (Ask Explain run) is = other (Ask Explain run) tt is
-  no_command_at_all other migrates turns explores graphs reaches (Ask Needs run) is = other (Ask Needs run) tt is
-  no_command_at_all other migrates turns explores graphs reaches (Ask (Reach pid) run) is = reaches pid run is
-  no_command_at_all other migrates turns explores graphs reaches (Ask (Audit path) run) is = other (Ask (Audit path) run) tt is
-  no_command_at_all other migrates turns explores graphs reaches (AskTree Listing tree) is = other (AskTree Listing tree) tt is
-  no_command_at_all other migrates turns explores graphs reaches (AskTree (File path) tree) is = other (AskTree (File path) tree) tt is
-  no_command_at_all other migrates turns explores graphs reaches (AskTree (Turns slice steps) tree) is = turns tree is.0
-  no_command_at_all other migrates turns explores graphs reaches (AskTree (Explore states) tree) is = explores tree is.0
-  no_command_at_all other migrates turns explores graphs reaches (AskTree (Graph states lists_tree) tree) is = graphs tree is.0
+  no_command_at_all other migrates imports turns explores graphs reaches (ImportDirectory directory image version skips) is = imports directory.now image.now is.0 is.1
+  no_command_at_all other migrates imports turns explores graphs reaches (Ask State run) is = other (Ask State run) tt is
+  no_command_at_all other migrates imports turns explores graphs reaches (Ask Explain run) is = other (Ask Explain run) tt is
+  no_command_at_all other migrates imports turns explores graphs reaches (Ask Needs run) is = other (Ask Needs run) tt is
+  no_command_at_all other migrates imports turns explores graphs reaches (Ask (Reach pid) run) is = reaches pid run is
+  no_command_at_all other migrates imports turns explores graphs reaches (Ask (Audit path) run) is = other (Ask (Audit path) run) tt is
+  no_command_at_all other migrates imports turns explores graphs reaches (AskTree Listing tree) is = other (AskTree Listing tree) tt is
+  no_command_at_all other migrates imports turns explores graphs reaches (AskTree (File path) tree) is = other (AskTree (File path) tree) tt is
+  no_command_at_all other migrates imports turns explores graphs reaches (AskTree (Turns slice steps) tree) is = turns tree is.0
+  no_command_at_all other migrates imports turns explores graphs reaches (AskTree (Explore states) tree) is = explores tree is.0
+  no_command_at_all other migrates imports turns explores graphs reaches (AskTree (Graph states lists_tree) tree) is = graphs tree is.0
 
   -- one text stands after what is run, and after what has a tree
   module _ (command last : Text) where
@@ -180,6 +184,7 @@ migration-stands entered texts (WriteSource file) h is = absurd is
 migration-stands entered texts (ListImage image) h is = absurd is
 migration-stands entered texts (MakeImage manifest image) h is = absurd is
 migration-stands entered texts (RunImage image schedule out) h is = absurd is
+migration-stands entered texts (ImportDirectory directory image version skips) h is = absurd is
 migration-stands entered texts (AuditImage image schedule path) h is = absurd is
 migration-stands entered texts (Ask question run) h is = absurd is
 migration-stands entered texts (AskTree question tree) h is = absurd is

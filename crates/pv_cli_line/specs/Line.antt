@@ -6,8 +6,10 @@ use Rattle.clap.specs.declared.error.kind.ErrorKind.{ErrorKind}
 use Rattle.clap.specs.declared.error.kind.ErrorKind.TheVariants.{OutOfMemory, MissingRequiredArgument}
 use Rattle.pv_model.specs.Grammar.Arguments.{in_range}
 use Rattle.pv_model.specs.Grammar.Lines.{decimal_of}
+use Rattle.pv_model.specs.declared.version.Version.{Version}
+use Rattle.pv_model.specs.declared.version.Version.TheVariants.{V1, V2}
 use Rattle.pv_cli_commands.specs.declared.command.Command.{Command}
-use Rattle.pv_cli_commands.specs.declared.command.Command.TheVariants.{RunTree, MakeImage, ListImage, RunImage, MigrateImage, AuditImage, WriteSource, Ask, AskTree}
+use Rattle.pv_cli_commands.specs.declared.command.Command.TheVariants.{RunTree, MakeImage, ListImage, RunImage, MigrateImage, ImportDirectory, AuditImage, WriteSource, Ask, AskTree}
 use Rattle.pv_cli_commands.specs.declared.command.RunInput.{RunInput}
 use Rattle.pv_cli_commands.specs.declared.command.RunInput.TheVariants.{Files, Bundle}
 use Rattle.pv_cli_commands.specs.declared.command.TreeInput.{TreeInput}
@@ -62,6 +64,11 @@ abbrev pub states_in : Option Text → Option ℕ
 states_in None = Some 1000000
 states_in (Some word) = if_positive (size_in word)
 
+-- the version of an image that a word spells: 1, where there is no word
+abbrev pub version_in : Option Text → Option Version
+version_in None = Some V1
+version_in (Some word) = if bytes_eq word (codes "1") then Some V1 else (if bytes_eq word (codes "2") then Some V2 else None)
+
 -- a text is entered that spells a number
 pub record SpellsSize (entered : Option (Text × List Row)) (command argument : Text) (size : ℕ) : Type 0 where
   pub word : Text
@@ -105,6 +112,10 @@ steps_entered entered = count_in 1000 (entered_text entered (codes "turns") (cod
 -- the number of states of a search that is entered, or that where none is
 abbrev pub states_entered : Option (Text × List Row) → Text → Option ℕ
 states_entered entered command = states_in (entered_text entered command (codes "states"))
+
+-- the version that is entered, or that where none is
+abbrev pub version_entered : Option (Text × List Row) → Option Version
+version_entered entered = version_in (entered_text entered (codes "import") (codes "version"))
 
 -- a question of a tree stands there, and what has the tree
 abbrev pub IsTreeQuestionIn : Option (Text × List Row) → TreeQuestion → TreeInput → Type 0
@@ -150,6 +161,9 @@ IsCommandIn entered (RunImage image schedule out) =
 IsCommandIn entered (MigrateImage image out blocks inodes) =
     (entered_text entered (codes "migrate") (codes "IMAGE") ≡ Some image.now) × (entered_text entered (codes "migrate") (codes "OUT") ≡ Some out.now)
     × SpellsSize entered (codes "migrate") (codes "BLOCKS") blocks × SpellsSize entered (codes "migrate") (codes "INODES") inodes
+IsCommandIn entered (ImportDirectory directory image version skips) =
+    (entered_text entered (codes "import") (codes "DIR") ≡ Some directory.now) × (entered_text entered (codes "import") (codes "IMAGE") ≡ Some image.now)
+    × (version_entered entered ≡ Some version) × (is_given (entered_text entered (codes "import") (codes "skip")) ≡ skips)
 IsCommandIn entered (AuditImage image schedule path) =
     IsRunIn entered (codes "audit") (codes "PATH") (Files image schedule) (option_map (λ text. text.now) path)
 IsCommandIn entered (WriteSource file) = entered_text entered (codes "source") (codes "FILE") ≡ Some file.now
@@ -180,6 +194,7 @@ IsPlain command = ⊥
 -- a command in which no number stands
 abbrev pub IsWithoutNumbers : Command → Type 0
 IsWithoutNumbers (MigrateImage image out blocks inodes) = ⊥
+IsWithoutNumbers (ImportDirectory directory image version skips) = ⊥
 IsWithoutNumbers (Ask (Reach pid) run) = ⊥
 IsWithoutNumbers (AskTree (Turns slice steps) tree) = ⊥
 IsWithoutNumbers (AskTree (Explore states) tree) = ⊥
@@ -247,10 +262,18 @@ pub record LacksStates (entered : Option (Text × List Row)) (command : Text) : 
   pub are_entered : IsWholeTreeIn entered command tree
   pub is_none : states_entered entered command ≡ None
 
+-- a directory and the file of its image were entered, and the version is none
+pub record LacksVersion (entered : Option (Text × List Row)) : Type 0 where
+  pub directory : Text
+  pub image : Text
+  pub is_directory : entered_text entered (codes "import") (codes "DIR") ≡ Some directory
+  pub is_image : entered_text entered (codes "import") (codes "IMAGE") ≡ Some image
+  pub is_none : version_entered entered ≡ None
+
 -- a text that is to be a number is none
 abbrev pub LacksNumber : Option (Text × List Row) → Type 0
 LacksNumber entered =
-    LacksSize entered ⊎ (LacksProcess entered ⊎ (LacksCount entered ⊎ (LacksStates entered (codes "explore") ⊎ LacksStates entered (codes "graph"))))
+    LacksSize entered ⊎ (LacksProcess entered ⊎ (LacksCount entered ⊎ (LacksStates entered (codes "explore") ⊎ (LacksStates entered (codes "graph") ⊎ LacksVersion entered))))
 
 -- what stands in the matches of a subcommand
 abbrev pub IsFoundIn : Option (Text × List Row) → Found → Type 0

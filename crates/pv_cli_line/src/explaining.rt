@@ -2,6 +2,7 @@
 //!
 //! No contract speaks of the words. Each line begins with two blanks.
 use pv_cli_commands::{Command, Fault, Files, RunInput, TreeInput};
+use pv_host_copy::ImportStop;
 use pv_model::{ImageFault, ListFault, ManifestFault, MigrateFault, RunFault};
 use pv_questions::AskStop;
 use pv_run::{AuditStop, MigrateStop};
@@ -16,6 +17,8 @@ use std::convert::AsStr;
 enum Cause {
     // A file that could not be opened or read.
     Reading,
+    // A directory, or something in it, that could not be read.
+    Directory,
     // The file that is written.
     Writing,
     // The standard output.
@@ -61,16 +64,21 @@ fn cause_of(fault: Fault) -> Cause {
         Fault::Listing(ListFault::Read)
         | Fault::Migrating(MigrateStop::Read)
         | Fault::Source(SourceStop::Read) => Cause::Reading,
+        Fault::Importing(ImportStop::Read) => Cause::Directory,
         Fault::Listing(ListFault::Write)
         | Fault::Auditing(AuditStop::Write)
         | Fault::Asking(AskStop::Write)
         | Fault::Source(SourceStop::Write) => Cause::Output,
-        Fault::Migrating(MigrateStop::Write) => Cause::Writing,
+        Fault::Migrating(MigrateStop::Write) | Fault::Importing(ImportStop::WriteImage) => {
+            Cause::Writing
+        }
         Fault::Listing(ListFault::Memory | ListFault::Image(ImageFault::Memory))
         | Fault::Migrating(
             MigrateStop::Refused(MigrateFault::Memory | MigrateFault::Image(ImageFault::Memory)),
         )
-        | Fault::Source(SourceStop::Memory | SourceStop::Refused) => Cause::Nothing,
+        | Fault::Source(SourceStop::Memory | SourceStop::Refused)
+        | Fault::Importing(ImportStop::Memory | ImportStop::Refused | ImportStop::WriteLines) =>
+            Cause::Nothing,
         Fault::Listing(ListFault::Image(_))
         | Fault::Migrating(MigrateStop::Refused(_))
         | Fault::Auditing(AuditStop::Path(_))
@@ -147,6 +155,11 @@ fn names_of(command: Command<'_>) -> Names<'_> {
             schedule,
             out,
         } => image_named(image, Some(schedule), Some(out)),
+        Command::ImportDirectory {
+            directory,
+            image,
+            ..
+        } => image_named(directory, None, Some(image)),
         Command::MigrateImage { image, out, .. } => image_named(image, None, Some(out)),
         Command::AuditImage {
             image,
@@ -361,6 +374,7 @@ fn explanation<F: Files>(
             Some(name) => push_turn(alloc, &mut out, files, name, line)?,
             None => push_text(alloc, &mut out, files, names, None)?,
         },
+        Cause::Directory => push_line(&mut out, names.first)?,
         Cause::Image => match names.first_file() {
             Some(name) => push_line(&mut out, name)?,
             None => push_line(&mut out, "standard input")?,
@@ -388,7 +402,7 @@ pub(crate) fn explain<F: Files, E: Sink>(
 // Tells what is wanted of a word that is to be a number. Where a write fails, nothing more is told.
 pub(crate) fn explain_number<E: Sink>(errors: &mut E) {
     let text =
-        "  want a decimal number without leading zeros: PID, BLOCKS and INODES from 0 to 4294967295, K and N from 1 to 65536\n";
+        "  want a decimal number without leading zeros: PID, BLOCKS and INODES from 0 to 4294967295, K and N from 1 to 65536, V 1 or 2\n";
     let _written = write_through(errors, text.as_bytes());
 }
 

@@ -5,7 +5,7 @@ ghost use Rattle.pv_cli_line.specs.Line.{HasTexts, IsCommandIn, IsFoundIn, IsMig
 
 use crate::texts::{
     RunTexts, TreeTexts, count_of, is_flag_given, run_in, run_texts_in, size_of, states_of,
-    text_of, tree_in, tree_texts_in,
+    text_of, tree_in, tree_texts_in, version_of,
 };
 use clap::ArgMatches;
 use pv_cli_commands::{Command, RunInput, TreeInput};
@@ -264,6 +264,27 @@ fn migrate_in<'a>(matches: &ArgMatches<'a>) -> Option<Found<'a>>
     }
 }
 
+// `import`, where the matches are those.
+fn import_in<'a>(matches: &ArgMatches<'a>) -> Option<Found<'a>>
+    ensures found { IfSome result (IsFoundIn (subcommand_rows_of matches.now)) }
+    ensures none { result ≡ None → (directory image : List ℕ)
+        → entered_text (subcommand_rows_of matches.now) (codes "import") (codes "DIR") ≡ Some directory
+        → entered_text (subcommand_rows_of matches.now) (codes "import") (codes "IMAGE") ≡ Some image → ⊥ }
+{
+    let directory = text_of(matches, "import", "DIR")?;
+    let image = text_of(matches, "import", "IMAGE")?;
+    let Some(version) = version_of(text_of(matches, "import", "version")) else {
+        return Some(Found::Number);
+    };
+    let skips = is_flag_given(matches, "import", "skip");
+    Some(Found::Command(Command::ImportDirectory {
+        directory,
+        image,
+        version,
+        skips,
+    }))
+}
+
 // A command with no number that stands in the matches of a line.
 #[tactic(auto, using(crate::proofs::LineLemmas::no_command))]
 fn command_in<'a>(matches: &ArgMatches<'a>) -> Option<Command<'a>>
@@ -295,6 +316,9 @@ pub(crate) fn found_in<'a>(matches: &ArgMatches<'a>) -> Option<Found<'a>>
         return Some(Found::Command(command));
     }
     if let Some(found) = migrate_in(matches) {
+        return Some(found);
+    }
+    if let Some(found) = import_in(matches) {
         return Some(found);
     }
     if let Some(found) = turns_in(matches) {

@@ -2,7 +2,7 @@
 ghost use Rattle.std.specs.Prelude.{◌≡◌, false, IfOk, Some};
 ghost use Rattle.clap.specs.Words.{app_of, new_rule, rule_of, with_rule};
 ghost use Rattle.clap.specs.declared.builder.ArgAction.TheVariants.{SetTrue};
-ghost use Rattle.pv_cli_line.specs.Parser.{IsParserOf, audit_app, bundle_app, bundle_rule, cat_app, command_app, explore_app, flag_rule, graph_app, image_app, long_rule, make_image_app, migrate_app, optional_rule, pvsim_app, question_app, history_app, reach_app, state_app, run_app, run_image_app, run_tree_app, search_app, source_app, states_rule, text_rule, tree_app, tree_question_app, turns_app, verbose_rule};
+ghost use Rattle.pv_cli_line.specs.Parser.{IsParserOf, audit_app, bundle_app, bundle_rule, cat_app, command_app, explore_app, flag_rule, graph_app, image_app, long_rule, make_image_app, migrate_app, optional_rule, pvsim_app, question_app, history_app, import_app, reach_app, state_app, run_app, run_image_app, run_tree_app, search_app, source_app, states_rule, text_rule, tree_app, tree_question_app, turns_app, verbose_rule};
 
 use clap::{Arg, ArgAction, Command as Parser};
 use std::alloc::{AllocError, Global};
@@ -292,6 +292,30 @@ fn migrate_parser<'a>(alloc: Global) -> Result<Parser<'a>, AllocError>
     ))
 }
 
+// The parser of `import`.
+fn import_parser<'a>(alloc: Global) -> Result<Parser<'a>, AllocError>
+    ensures { IfOk result (IsParserOf import_app) }
+{
+    command(
+        alloc,
+        "import",
+        "Make the image of a directory: its directories, files and symbolic links; hard links are names of one file",
+    )?
+    .arg(text(alloc, "DIR", "a directory of the system"))?
+    .arg(text(alloc, "IMAGE", "the file that gets the image"))?
+    .arg(option(
+        alloc,
+        "version",
+        "V",
+        "the image's version, 1 or 2; 1 where it is not given",
+    ))?
+    .arg(flag(
+        alloc,
+        "skip",
+        "leave out what an image can't have; it is told with or without",
+    ))
+}
+
 // The parser of the program, with its commands on bundles and sources.
 fn bundle_parser<'a>(alloc: Global) -> Result<Parser<'a>, AllocError>
     ensures { IfOk result (λ parser. app_of parser ≡ bundle_app) }
@@ -372,9 +396,11 @@ fn all_states_parser<'a>(alloc: Global) -> Result<Parser<'a>, AllocError>
         .subcommand(graph_parser(alloc)?)
 }
 
-// The parser of the command line: the same, with the command that migrates an image.
+// The parser of the command line: the same, with the commands that make an image of another and of a directory.
 pub(crate) fn parser<'a>(alloc: Global) -> Result<Parser<'a>, AllocError>
     ensures { IfOk result (λ parser. app_of parser ≡ pvsim_app) }
 {
-    all_states_parser(alloc)?.subcommand(migrate_parser(alloc)?)
+    all_states_parser(alloc)?
+        .subcommand(migrate_parser(alloc)?)?
+        .subcommand(import_parser(alloc)?)
 }

@@ -1,10 +1,11 @@
 //! The texts and numbers of a command in what the parser matches.
 ghost use Rattle.std.specs.Prelude.{◌≡◌, ℕ, List, Option, None, IfSome, option_map};
 ghost use Rattle.clap.specs.Words.{subcommand_rows_of};
-ghost use Rattle.pv_cli_line.specs.Line.{IsRunIn, IsTreeIn, IsWholeRunIn, IsWholeTreeIn, count_in, entered_text, is_given, is_verbose_in, size_in, states_in};
+ghost use Rattle.pv_cli_line.specs.Line.{IsRunIn, IsTreeIn, IsWholeRunIn, IsWholeTreeIn, count_in, entered_text, is_given, is_verbose_in, size_in, states_in, version_in};
 
 use clap::ArgMatches;
 use pv_cli_commands::{RunInput, TreeInput};
+use pv_model::Version;
 use pv_text::words::decimal;
 
 // The text of an argument of a command, where the matches are those of that command.
@@ -73,6 +74,22 @@ pub(crate) fn states_of(word: Option<&str>) -> Option<u32>
         return None;
     }
     Some(states)
+}
+
+// The version that a word spells; where there is no word version 1.
+pub(crate) fn version_of(word: Option<&str>) -> Option<Version>
+    ensures { result ≡ version_in (option_map (λ text. text.now) word.entry) }
+{
+    let Some(word) = word else {
+        return Some(Version::V1);
+    };
+    if word == "1" {
+        return Some(Version::V1);
+    }
+    if word == "2" {
+        return Some(Version::V2);
+    }
+    None
 }
 
 // Whether a flag of a command was given, where the matches are those of that command.

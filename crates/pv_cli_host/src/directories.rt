@@ -1,0 +1,195 @@
+//! The directories of the system.
+ghost use Rattle.std.specs.Prelude.{◌≡◌, ◌-◌, None, vec_len, IfOk};
+ghost use Rattle.pv_host_copy.specs.Telling.{IsNodeBelow};
+
+use crate::files::HostFiles;
+use pv_cli_commands::Directories;
+use pv_host_copy::{HostDirectory, HostEntry, HostFault, HostFile, HostNode, Identity};
+use pv_streams::Failed;
+use std::alloc::{AllocError, Global};
+use std::fs::{File, Metadata};
+use std::io::{ErrorKind, Read};
+use std::os::unix::fs::MetadataExt;
+use std::{fs, io};
+
+// The bits of a mode that let somebody execute a file.
+const EXECUTE: u32 = 0o111;
+
+/// How many levels of directories are read below the one that is opened: more than any image has room for.
+pub const LEVELS: u16 = 4_096;
+
+impl<'a> Directories for HostFiles<'a> {
+    type Directory = OpenedDirectory<'a>;
+
+    ghost entries = { λ _ _. None };
+
+    fn open_directory(&self, alloc: Global, name: &str) -> Result<OpenedDirectory<'a>, HostFault> {
+        OpenedDirectory::open(self.runtime(), alloc, name, LEVELS)
+    }
+}
+
+/// A directory of the system, which tells its names in the order of their bytes. What it has is not known.
+///
+/// Its names were read when it was opened. A symbolic link is told, and not followed. A name or a link's text that is no text
+/// in UTF-8 can't be read, and no level below the last.
+#[derive(Drop)]
+pub struct OpenedDirectory<'a> {
+    rt: &'a HostRuntime,
+    path: String,
+    names: Vec<String>,
+    at: usize,
+    levels: u16,
+}
+
+// What the system's refusal is called.
+fn fault_of(error: io::Error) -> HostFault {
+    if error.kind() == ErrorKind::OutOfMemory {
+        HostFault::Memory
+    } else {
+        HostFault::Read
+    }
+}
+
+// The names of a directory, in the order of their bytes.
+fn names_of(rt: &HostRuntime, alloc: Global, path: &str) -> Result<Vec<String>, HostFault> {
+    let entries = fs::read_dir(rt, path).map_err(fault_of)?;
+    let mut names = Vec::new(alloc);
+    for entry in entries {
+        let entry = entry.map_err(fault_of)?;
+        names.push(String::from_str(alloc, entry.file_name())?)?;
+    }
+    names.sort()?;
+    Ok(names)
+}
+
+// The path of a name in a directory.
+fn path_of(alloc: Global, directory: &str, name: &str) -> Result<String, AllocError> {
+    let mut path = String::from_str(alloc, directory)?;
+    path.push('/')?;
+    path.push_str(name)?;
+    Ok(path)
+}
+
+// What tells a file or a link from every other.
+fn identity_of(metadata: &Metadata) -> Identity {
+    Identity {
+        device: metadata.dev(),
+        inode: metadata.ino(),
+    }
+}
+
+// A symbolic link with its text.
+fn link_at<D: Drop, R: Drop>(
+    rt: &HostRuntime,
+    alloc: Global,
+    path: &str,
+    identity: Identity,
+) -> Result<HostNode<D, R>, HostFault> {
+    let text = fs::read_link(rt, path).map_err(fault_of)?;
+    Ok(HostNode::Link {
+        identity,
+        text: Vec::from_slice(alloc, text.as_str().as_bytes())?,
+    })
+}
+
+// A file, opened.
+fn file_at<D: Drop>(
+    rt: &HostRuntime,
+    path: &str,
+    metadata: &Metadata,
+) -> Result<HostNode<D, ReadFile>, HostFault> {
+    let file = fs::open(rt, path).map_err(fault_of)?;
+    Ok(HostNode::File {
+        identity: identity_of(metadata),
+        executable: metadata.mode() & EXECUTE != 0,
+        reader: ReadFile { file },
+    })
+}
+
+impl<'a> OpenedDirectory<'a> {
+    // The directory of a path, with so many levels below it.
+    fn open(
+        rt: &'a HostRuntime,
+        alloc: Global,
+        path: &str,
+        levels: u16,
+    ) -> Result<OpenedDirectory<'a>, HostFault>
+        ensures { IfOk result (λ directory. directory.levels ≡ levels) }
+    {
+        let names = names_of(rt, alloc, path)?;
+        Ok(OpenedDirectory {
+            rt,
+            path: String::from_str(alloc, path)?,
+            names,
+            at: 0,
+            levels,
+        })
+    }
+
+    // What stands under a path.
+    fn node(
+        &self,
+        alloc: Global,
+        path: &str,
+    ) -> Result<HostNode<OpenedDirectory<'a>, ReadFile>, HostFault>
+        ensures { IfOk result (IsNodeBelow (λ directory. directory.levels) self.now.levels) }
+    {
+        let metadata = fs::symlink_metadata(self.rt, path).map_err(fault_of)?;
+        if metadata.is_dir() {
+            if self.levels == 0 {
+                return Err(HostFault::Read);
+            }
+            let directory = OpenedDirectory::open(self.rt, alloc, path, self.levels - 1)?;
+            return Ok(HostNode::Directory(directory));
+        }
+        if metadata.is_symlink() {
+            return link_at(self.rt, alloc, path, identity_of(&metadata));
+        }
+        if metadata.is_file() {
+            return file_at(self.rt, path, &metadata);
+        }
+        Ok(HostNode::Other)
+    }
+}
+
+impl<'a> HostDirectory for OpenedDirectory<'a> {
+    type Reader = ReadFile;
+
+    ghost rest = { λ _. None };
+
+    ghost left = { λ s. vec_len s.names - s.at };
+
+    ghost height = { λ s. s.levels };
+
+    fn next(
+        &mut self,
+        alloc: Global,
+    ) -> Result<Option<HostEntry<OpenedDirectory<'a>, ReadFile>>, HostFault> {
+        if self.at >= self.names.len() {
+            return Ok(None);
+        }
+        let name = &self.names[self.at];
+        let path = path_of(alloc, self.path.as_str(), name.as_str())?;
+        let node = self.node(alloc, path.as_str())?;
+        let name = Vec::from_slice(alloc, self.names[self.at].as_str().as_bytes())?;
+        self.at += 1;
+        Ok(Some(HostEntry { name, node }))
+    }
+}
+
+/// A file of the system that was opened. What it will give is not known.
+#[derive(Drop)]
+pub struct ReadFile {
+    file: File,
+}
+
+impl HostFile for ReadFile {
+    ghost bytes = { λ _. None };
+
+    fn read(&mut self, buffer: &mut [u8]) -> Result<usize, Failed> {
+        match self.file.read(buffer) {
+            Ok(count) => Ok(count),
+            Err(_) => Err(Failed),
+        }
+    }
+}
