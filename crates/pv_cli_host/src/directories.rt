@@ -78,32 +78,16 @@ fn identity_of(metadata: &Metadata) -> Identity {
     }
 }
 
-// A symbolic link with its text.
-fn link_at<D: Drop, R: Drop>(
-    rt: &HostRuntime,
-    alloc: Global,
-    path: &str,
-    identity: Identity,
-) -> Result<HostNode<D, R>, HostFault> {
+// The text of a symbolic link.
+fn text_of(rt: &HostRuntime, alloc: Global, path: &str) -> Result<Vec<u8>, HostFault> {
     let text = fs::read_link(rt, path).map_err(fault_of)?;
-    Ok(HostNode::Link {
-        identity,
-        text: Vec::from_slice(alloc, text.as_str().as_bytes())?,
-    })
+    Ok(Vec::from_slice(alloc, text.as_str().as_bytes())?)
 }
 
 // A file, opened.
-fn file_at<D: Drop>(
-    rt: &HostRuntime,
-    path: &str,
-    metadata: &Metadata,
-) -> Result<HostNode<D, ReadFile>, HostFault> {
+fn file_of(rt: &HostRuntime, path: &str) -> Result<ReadFile, HostFault> {
     let file = fs::open(rt, path).map_err(fault_of)?;
-    Ok(HostNode::File {
-        identity: identity_of(metadata),
-        executable: metadata.mode() & EXECUTE != 0,
-        reader: ReadFile { file },
-    })
+    Ok(ReadFile { file })
 }
 
 impl<'a> OpenedDirectory<'a> {
@@ -142,11 +126,18 @@ impl<'a> OpenedDirectory<'a> {
             let directory = OpenedDirectory::open(self.rt, alloc, path, self.levels - 1)?;
             return Ok(HostNode::Directory(directory));
         }
+        let identity = identity_of(&metadata);
         if metadata.is_symlink() {
-            return link_at(self.rt, alloc, path, identity_of(&metadata));
+            let text = text_of(self.rt, alloc, path)?;
+            return Ok(HostNode::Link { identity, text });
         }
         if metadata.is_file() {
-            return file_at(self.rt, path, &metadata);
+            let reader = file_of(self.rt, path)?;
+            return Ok(HostNode::File {
+                identity,
+                executable: metadata.mode() & EXECUTE != 0,
+                reader,
+            });
         }
         Ok(HostNode::Other)
     }

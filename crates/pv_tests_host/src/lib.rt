@@ -1,4 +1,4 @@
-//! Tests of images of directories: a directory in memory (`memory`), of which a clause knows everything.
+//! Tests of images of directories, made of directories in memory (`memory`).
 #![tactic(auto)]
 
 pub mod memory;

@@ -1,5 +1,7 @@
-//! Directories in memory, of which a clause knows everything.
-ghost use Rattle.std.specs.Prelude.{◌≡◌, Some, length};
+//! Directories in memory.
+ghost use Rattle.std.specs.Prelude.{ℕ, None, Some, IfOk};
+ghost use Rattle.pv_host_copy.specs.Telling.{IsNodeBelow};
+ghost use Rattle.pv_tests_host.specs.Memory.{levels_of};
 
 use pv_host_copy::{HostDirectory, HostEntry, HostFault, HostFile, HostNode, Identity};
 use pv_streams::Failed;
@@ -75,7 +77,9 @@ impl<'a> HostFile for MemoryFile<'a> {
 fn node_of<'a>(
     alloc: Global,
     leaf: Leaf<'a>,
-) -> Result<HostNode<MemoryDirectory<'a>, MemoryFile<'a>>, HostFault> {
+) -> Result<HostNode<MemoryDirectory<'a>, MemoryFile<'a>>, HostFault>
+    ensures { IfOk result (λ node. (levels : ℕ) → IsNodeBelow levels_of levels node) }
+{
     match leaf {
         Leaf::File {
             inode,
@@ -95,11 +99,11 @@ fn node_of<'a>(
 }
 
 impl<'a> HostDirectory for MemoryDirectory<'a> {
-    ghost use Rattle.pv_tests_host.specs.Memory.{entries_of, levels_of, names_in};
+    ghost use Rattle.pv_tests_host.specs.Memory.{names_in};
 
     type Reader = MemoryFile<'a>;
 
-    ghost rest = { λ s. Some (entries_of s) };
+    ghost rest = { λ _. None };
 
     ghost left = { λ s. names_in s };
 

@@ -87,7 +87,7 @@ fn what_is_left_out_is_told(rt: HostRuntime) {
     let text = [b'a'; 1_024];
     let names = [
         Lower {
-            name: b"a name that is longer than any of version 1",
+            name: b"nnnnnnnnnnnnnnnnnnnnnnnnnnnnnnnnnnnnnnnnnnnnnnnnnnnnnnnnnnnnn",
             leaf: file(2, b""),
         },
         Lower {
@@ -103,7 +103,7 @@ fn what_is_left_out_is_told(rt: HostRuntime) {
         },
     ];
     let expected =
-        b"pvsim: import: \"/a name that is longer than any of version 1\": name\npvsim: import: \"/link\": text\npvsim: import: \"/socket\": kind\n";
+        b"pvsim: import: \"/nnnnnnnnnnnnnnnnnnnnnnnnnnnnnnnnnnnnnnnnnnnnnnnnnnnnnnnnnnnnn\": name\npvsim: import: \"/link\": text\npvsim: import: \"/socket\": kind\n";
     let (answer, length, told) = imported(&rt, Version::V1, false, &names);
     assert!(rt; answer == Err(ImportStop::Refused));
     assert_eq!(rt; length, 0);
