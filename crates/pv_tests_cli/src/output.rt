@@ -1,9 +1,11 @@
 //! Runs of the whole program over an output that takes nothing, also before it is flushed.
 ghost use Rattle.std.specs.Prelude.{[], None};
 
-use pv_cli_commands::{Files, HostSystem};
+use pv_cli_commands::{Directories, Files, HostSystem};
 use pv_cli_line::run;
+use pv_host_copy::HostFault;
 use pv_streams::{Bytes, Failed, Gathered, Sink};
+use pv_tests_host::memory::MemoryDirectory;
 use std::alloc::{AllocError, Global};
 
 // A sink that takes nothing.
@@ -56,6 +58,20 @@ impl Files for NoFiles {
 
     fn write_reason(&self, _alloc: Global, _name: &str) -> Option<String> {
         None
+    }
+}
+
+impl Directories for NoFiles {
+    type Directory = MemoryDirectory<'static>;
+
+    ghost entries = { λ _ _. None };
+
+    fn open_directory(
+        &self,
+        _alloc: Global,
+        _name: &str,
+    ) -> Result<MemoryDirectory<'static>, HostFault> {
+        Err(HostFault::Read)
     }
 }
 
