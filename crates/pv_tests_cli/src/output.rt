@@ -3,9 +3,8 @@ ghost use Rattle.std.specs.Prelude.{[], None};
 
 use pv_cli_commands::{Directories, Files, HostSystem};
 use pv_cli_line::run;
-use pv_host_copy::HostFault;
+use pv_host_copy::{HostDirectory, HostEntry, HostFault, HostFile};
 use pv_streams::{Bytes, Failed, Gathered, Sink};
-use pv_tests_host::memory::MemoryDirectory;
 use std::alloc::{AllocError, Global};
 
 // A sink that takes nothing.
@@ -61,16 +60,38 @@ impl Files for NoFiles {
     }
 }
 
+impl HostFile for Broken {
+    ghost bytes = { λ _. None };
+
+    fn read(&mut self, _buffer: &mut [u8]) -> Result<usize, Failed> {
+        Err(Failed)
+    }
+}
+
+// A directory that has nothing.
+#[derive(Drop)]
+struct Empty;
+
+impl HostDirectory for Empty {
+    type Reader = Broken;
+
+    ghost rest = { λ _. None };
+
+    ghost left = { λ _. 0 };
+
+    ghost height = { λ _. 0 };
+
+    fn next(&mut self, _alloc: Global) -> Result<Option<HostEntry<Empty, Broken>>, HostFault> {
+        Ok(None)
+    }
+}
+
 impl Directories for NoFiles {
-    type Directory = MemoryDirectory<'static>;
+    type Directory = Empty;
 
     ghost entries = { λ _ _. None };
 
-    fn open_directory(
-        &self,
-        _alloc: Global,
-        _name: &str,
-    ) -> Result<MemoryDirectory<'static>, HostFault> {
+    fn open_directory(&self, _alloc: Global, _name: &str) -> Result<Empty, HostFault> {
         Err(HostFault::Read)
     }
 }
