@@ -94,7 +94,8 @@ impl Importing {
         Ok(true)
     }
 
-    /// Keeps a file under a path, or leaves it out.
+    /// Keeps a file under a path, or leaves it out. It stands apart, as the next two, so that the way down takes little stack.
+    #[inline(never)]
     pub(crate) fn keep_file<F: HostFile>(
         &mut self,
         alloc: Global,
@@ -122,6 +123,7 @@ impl Importing {
     }
 
     /// Keeps a link under a path, or leaves it out.
+    #[inline(never)]
     pub(crate) fn keep_link(
         &mut self,
         alloc: Global,
@@ -143,6 +145,7 @@ impl Importing {
     }
 
     /// Keeps a directory under a path, without what is in it, or leaves it out; whether it is kept.
+    #[inline(never)]
     pub(crate) fn keep_directory(&mut self, alloc: Global, path: &[u8]) -> Result<bool, CopyStop>
         ensures keeps { Keeps path.now self.old result self.new }
         ensures version { self.new.version ≡ self.old.version }
