@@ -2,7 +2,8 @@
 -- LastNumbers (the last number given to a process), LiveOnes (numbers of live processes, and the tree where none is live), Ways (states along a way), Booting (a machine
 -- made anew), Finding (how a search goes, step by step), Graphed (what a
 -- graph tells), Explained (the lines of its steps), Rows (states as rows of
--- small numbers).
+-- small numbers), KeptStates (what is kept of states, so that steps are not made twice), Followed (steps that are
+-- followed, and the states at the ends of ways).
 pub mod Planned
 pub mod Turns
 pub mod KeyLists
@@ -11,6 +12,8 @@ pub mod LiveOnes
 pub mod Ways
 pub mod Booting
 pub mod Finding
+pub mod Followed
 pub mod Graphed
 pub mod Explained
 pub mod Rows
+pub mod KeptStates

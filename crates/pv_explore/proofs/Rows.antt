@@ -159,7 +159,7 @@ module _ (parts groups : List Bytes) where
       each [] kept = refl
       each (g ∷ gs) kept = ap₂ (λ (x y : Bytes). x ++ y) (ap (group_bytes parts) (get-number groups (group_row parts g) kept.0.1) ∙ group-back parts g kept.0.0) (each gs kept.1)
 
-  same-rows : (gs hs : List (List Bytes)) → AreKept parts groups hs → state_row parts groups gs ≡ state_row parts groups hs → gs ≡ hs
+  pub same-rows : (gs hs : List (List Bytes)) → AreKept parts groups hs → state_row parts groups gs ≡ state_row parts groups hs → gs ≡ hs
   same-rows gs hs kept same = each gs hs kept (packed-apart (map number_of gs) (map number_of hs) same)
     where
       each : (gs hs : List (List Bytes)) → AreKept parts groups hs → map number_of gs ≡ map number_of hs → gs ≡ hs
@@ -217,7 +217,7 @@ module _ (parts groups parts_now groups_now : List Bytes) (parts_grew : Grew par
       let among : IsAmong groups_now (group_row parts g) = subst (λ (table : List Bytes). IsAmong table (group_row parts g)) (sym groups_grew.is) (among-later groups groups_grew.more (group_row parts g) kept.0.1) in
       ((all-grew parts parts_now g parts_grew kept.0.0, subst (IsAmong groups_now) (sym (row-grew g kept.0.0)) among), kept-grew gs kept.1)
 
-  numbers-grew : (gs : List (List Bytes)) → AreKept parts groups gs → map (λ g. number_in groups_now (group_row parts_now g)) gs ≡ map (λ g. number_in groups (group_row parts g)) gs
+  pub numbers-grew : (gs : List (List Bytes)) → AreKept parts groups gs → map (λ g. number_in groups_now (group_row parts_now g)) gs ≡ map (λ g. number_in groups (group_row parts g)) gs
   numbers-grew [] kept = refl
   numbers-grew (g ∷ gs) kept =
       ap₂ (λ (n : ℕ) (ns : Numbers). n ∷ ns)
@@ -273,7 +273,7 @@ learnt-among old new b is = by (list_any (bytes_eq b) old) refl is
 -- ---- as far as a loop has come
 
 module _ {X Y : Type 0} (h : X → Y) (xs : List X) (i : ℕ) (d : X) where
-  taken-more : i < length xs → take (i + 1) (map h xs) ≡ take i (map h xs) ++ h (get_or xs i d) ∷ []
+  pub taken-more : i < length xs → take (i + 1) (map h xs) ≡ take i (map h xs) ++ h (get_or xs i d) ∷ []
   taken-more within =
       take-map h (i + 1) xs ∙ ap (map h) (take_more xs i d within) ∙ map-append h (take i xs) (get_or xs i d ∷ []) ∙ ap (λ ys. ys ++ h (get_or xs i d) ∷ []) (sym (take-map h i xs))
 

@@ -3,3 +3,4 @@ pub mod Plan
 pub mod Rows
 pub mod Searches
 pub mod Vertices
+pub mod KeptStates

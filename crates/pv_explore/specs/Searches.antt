@@ -1,10 +1,13 @@
 -- What is kept of a search, and the bytes of a step that is told.
-use Rattle.std.specs.Prelude.{ℕ, if◌then◌else◌, List, [], ◌++◌, map, codes, Option, None, Some}
+use Rattle.std.specs.Prelude.{◌≡◌, ℕ, false, if◌then◌else◌, List, [], ◌∷◌, ◌++◌, map, codes, Option, None, Some}
 use Rattle.std.specs.Global.{Vec}
 use Rattle.pv_explore.specs.declared.search.Search.{Search}
-use Rattle.pv_explore.specs.Plan.{Kept, is_told}
+use Rattle.pv_explore.specs.declared.states.Found.{Found}
+use Rattle.pv_explore.specs.declared.states.Found.TheVariants.{Known, Full, New}
+use Rattle.pv_explore.specs.Plan.{Kept, is_told, state_at, state_key}
 use Rattle.pv_model.specs.Answers.Explore.{Move, way_text}
 use Rattle.pv_model.specs.Bytes.{Bytes}
+use Rattle.pv_model.specs.Grammar.Programs.{program_of}
 use Rattle.pv_model.specs.State.{State}
 use Rattle.pv_model.specs.Trace.{text_line}
 use Rattle.pv_session.specs.Running.{stepped}
@@ -25,3 +28,13 @@ told_bytes told pid way text = if is_told told text then [] else move_bytes pid 
 abbrev pub way_of : Option (Vec ℕ) → Option (List ℕ)
 way_of None = None
 way_of (Some way) = Some way.items
+
+-- each state found is the one at the end of its way
+abbrev pub AreAt : State → Kept → Type 0
+AreAt s kept = kept.keys ≡ map (λ way. state_key (state_at program_of s way)) kept.ways
+
+-- with the way to a state that was looked for, where that was added
+abbrev pub with_way : Found → List ℕ → Kept → Kept
+with_way Known way kept = kept
+with_way Full way kept = record kept { complete = false }
+with_way New way kept = record kept { ways = kept.ways ++ way ∷ [] }

@@ -14,6 +14,7 @@ ghost use Rattle.pv_model.specs.Held.{live_processes, named_tree};
 ghost use Rattle.pv_model.specs.Trace.{trace_bytes};
 ghost use Rattle.pv_session.specs.Running.{FailsBy, stepped};
 ghost use Rattle.pv_spelling.specs.Groups.{groups_of, state_groups};
+ghost use Rattle.pv_spelling.specs.Spelled.{spelled, spelled_all};
 ghost use Rattle.pv_streams.specs.Sinks.{and_all, TellsBeginning};
 
 use crate::beginning::Beginning;
@@ -27,7 +28,7 @@ use pv_model::limits::LAST_PROCESS;
 use pv_procs::Processes;
 use pv_script::CallTexts;
 use pv_session::{Session, Stop};
-use pv_spelling::{push_tree, state_groups};
+use pv_spelling::{SpelledGroup, push_tree, spelled_state, state_groups};
 use pv_streams::{Failed, Gathered, Sink};
 use pv_trace::LineBuffer;
 use std::alloc::Global;
@@ -242,6 +243,17 @@ impl Position {
         ensures { IfOk result (λ groups. groups_of groups.items ≡ state_groups self.now) }
     {
         Ok(state_groups(alloc, self.session.parts(), self.last)?)
+    }
+
+    /// The groups of its state, and of each live process what the steps of others depend on.
+    ///
+    /// # Errors
+    ///
+    /// `NoMemory` where memory was refused.
+    pub(crate) fn spelled(&self, alloc: Global) -> Result<Vec<SpelledGroup>, StepFault>
+        ensures { IfOk result (λ groups. spelled_all groups.items ≡ spelled self.now) }
+    {
+        Ok(spelled_state(alloc, self.session.parts(), self.last)?)
     }
 
     /// The bytes by which its tree is known, where no process is live.

@@ -1,8 +1,10 @@
 //! What a search keeps, and how it goes.
 ghost use Rattle.std.specs.Prelude.{◌≡◌, ◌++◌, ◌∷◌, [], true, false, bytes_eq, if◌then◌else◌, slice_get, IfErr, IfOk, OnErr, OnOk};
 ghost use Rattle.std.specs.List.{list_any};
-ghost use Rattle.pv_explore.specs.Plan.{endings_after, first_kept, is_known, is_told, kept_after, kept_after_steps, kept_from, lines_at, live_at, steps_told, told_after, told_from, with_found_at, with_state_at};
-ghost use Rattle.pv_explore.specs.Searches.{kept_of, move_bytes, move_of, told_bytes, way_of};
+ghost use Rattle.pv_explore.specs.Plan.{endings_after, first_kept, is_known, is_told, kept_after, kept_after_steps, kept_from, lines_at, live_at, move_at, state_at, steps_told, told_after, told_from, with_found_at, with_state_at};
+ghost use Rattle.pv_explore.specs.KeptStates.{HasNumber};
+ghost use Rattle.pv_explore.specs.Searches.{AreAt, kept_of, move_bytes, move_of, told_bytes, way_of, with_way};
+ghost use Rattle.pv_laws_states.specs.States.{IsWhole};
 ghost use Rattle.pv_model.specs.Answers.Lines.{answer_bytes};
 ghost use Rattle.pv_model.specs.Grammar.Programs.{program_of};
 ghost use Rattle.pv_model.specs.Stream.{Rose};
@@ -13,7 +15,7 @@ ghost use Rattle.pv_streams.specs.Sinks.{and_all, TellsBeginning};
 use crate::beginning::Beginning;
 use crate::keys::Keys;
 use crate::position::{Position, push_number};
-use crate::states::States;
+use crate::states::{Followed, Found, States};
 use crate::way::Way;
 use pv_answers::{Fragment, Line, Plain};
 use pv_model::StepFault;
@@ -180,7 +182,24 @@ impl Search {
     {
         add_ending(alloc, &mut self.endings, position)?;
         push_way(&mut self.ways, way)?;
-        self.states.add(alloc, groups)
+        let number = self.states.len();
+        self.states.add(alloc, groups)?;
+        let spelled = position.spelled(alloc)?;
+        self.states.note(alloc, number, &spelled)
+    }
+
+    // Keeps the way to a state that was looked for, where that was added.
+    fn keep_way(&mut self, way: Vec<u32>, found: Found) -> Result<(), StepFault>
+        ensures { OnOk result (kept_of self.new ≡ with_way found way.items (kept_of self.old)) }
+    {
+        match found {
+            Found::Known => Ok(()),
+            Found::Full => {
+                self.complete = false;
+                Ok(())
+            }
+            Found::New => push_way(&mut self.ways, way),
+        }
     }
 
     // Keeps a state to which a way leads, where it was not known and is not one too many.
@@ -205,49 +224,105 @@ impl Search {
         self.add(alloc, position, &groups, way)
     }
 
-    // Makes a step of a process, to which a way leads: it is told where its text was not, and its state is kept.
-    fn make_move<W: Sink>(
+    // Makes a step of a process in the state of a number, to which a way leads: it is told where its text was not, it is kept, and so
+    // is its state.
+    fn make_new_move<W: Sink>(
         &mut self,
         alloc: Global,
         limit: u32,
+        number: usize,
         from: Position,
         way: Vec<u32>,
         pid: u32,
         out: &mut W,
     ) -> Result<(), Stop>
+        requires { HasNumber self.old.states number from }
         ensures kept { OnOk result (kept_of self.new ≡ kept_after limit (kept_of self.old) (move_of way.items pid from)) }
         ensures whole { OnOk result (W.written out.new ≡ and_all (W.written out.old) (answer_bytes (lines_at self.old.told (move_of way.items pid from)))) }
         ensures beginning { OnErr result (TellsBeginning (answer_bytes (lines_at self.old.told (move_of way.items pid from))) (W.written out.old) (W.written out.new)) }
         ensures failed { IfErr result (λ stop. FailsBy stop (W.failures out.old) (W.failures out.new)) }
         ensures quiet { OnOk result (W.failures out.new ≡ W.failures out.old) }
     {
+        let _ = from.parts();
         let (position, text) = from.trace(alloc, pid)?;
+        let spelled = position.spelled(alloc)?;
+        self.states.keep_step(alloc, number, pid, &text, &spelled)?;
         tell(&mut self.told, pid, &way, text, out)?;
         self.find(alloc, limit, &position, way)?;
         Ok(())
     }
 
-    // Makes a step of each live process at the end of a way.
+    // Takes a step of a process in the state of a number, which is the one at the end of a way: it is told where its text was not, and
+    // its state is kept. It is made where it can not be followed.
+    fn make_move<W: Sink>(
+        &mut self,
+        alloc: Global,
+        beginning: &Beginning,
+        limit: u32,
+        number: usize,
+        way: &[u32],
+        pid: u32,
+        out: &mut W,
+    ) -> Result<(), Stop>
+        requires whole { IsWhole beginning.now }
+        requires there { HasNumber self.old.states number (state_at program_of beginning.now way.now) }
+        ensures kept { OnOk result (kept_of self.new ≡ kept_after limit (kept_of self.old) (move_at program_of beginning.now way.now pid)) }
+        ensures whole { OnOk result (W.written out.new ≡ and_all (W.written out.old) (answer_bytes (lines_at self.old.told (move_at program_of beginning.now way.now pid)))) }
+        ensures beginning { OnErr result (TellsBeginning (answer_bytes (lines_at self.old.told (move_at program_of beginning.now way.now pid))) (W.written out.old) (W.written out.new)) }
+        ensures failed { IfErr result (λ stop. FailsBy stop (W.failures out.old) (W.failures out.new)) }
+        ensures quiet { OnOk result (W.failures out.new ≡ W.failures out.old) }
+    {
+        let longer = with_number(alloc, way, pid)?;
+        let Some(followed) = self.states.follow(alloc, limit as usize, number, pid)? else {
+            let from = Position::at(alloc, beginning, way)?;
+            return self.make_new_move(alloc, limit, number, from, longer, pid, out);
+        };
+        let Followed { text, found } = followed;
+        tell(&mut self.told, pid, &longer, text, out)?;
+        self.keep_way(longer, found)?;
+        Ok(())
+    }
+
+    // The processes that are live in the state of a number, which is the one at the end of a way.
+    fn live(
+        &self,
+        alloc: Global,
+        beginning: &Beginning,
+        number: usize,
+        way: &[u32],
+    ) -> Result<Vec<u32>, StepFault>
+        requires whole { IsWhole beginning.now }
+        requires there { HasNumber self.now.states number (state_at program_of beginning.now way.now) }
+        ensures { IfOk result (λ pids. pids.items ≡ live_at program_of beginning.now way.now) }
+    {
+        match self.states.live(alloc, number)? {
+            Some(pids) => Ok(pids),
+            None => Position::at(alloc, beginning, way)?.live(alloc),
+        }
+    }
+
+    // Takes a step of each live process in the state of a number, which is the one at the end of a way.
     fn make_moves<W: Sink>(
         &mut self,
         alloc: Global,
         beginning: &Beginning,
         limit: u32,
+        number: usize,
         way: &[u32],
         out: &mut W,
     ) -> Result<(), Stop>
+        requires whole { IsWhole beginning.now }
+        requires there { HasNumber self.old.states number (state_at program_of beginning.now way.now) }
         ensures kept { OnOk result (kept_of self.new ≡ kept_after_steps limit program_of beginning.now way.now (live_at program_of beginning.now way.now) (kept_of self.old)) }
         ensures whole { OnOk result (W.written out.new ≡ and_all (W.written out.old) (answer_bytes (steps_told limit program_of beginning.now way.now (live_at program_of beginning.now way.now) (kept_of self.old)))) }
         ensures beginning { OnErr result (TellsBeginning (answer_bytes (steps_told limit program_of beginning.now way.now (live_at program_of beginning.now way.now) (kept_of self.old))) (W.written out.old) (W.written out.new)) }
         ensures failed { IfErr result (λ stop. FailsBy stop (W.failures out.old) (W.failures out.new)) }
         ensures quiet { OnOk result (W.failures out.new ≡ W.failures out.old) }
     {
-        let pids = Position::at(alloc, beginning, way)?.live(alloc)?;
+        let pids = self.live(alloc, beginning, number, way)?;
         let live = pids.as_slice();
         for pid in live {
-            let from = Position::at(alloc, beginning, way)?;
-            let longer = with_number(alloc, way, *pid)?;
-            self.make_move(alloc, limit, from, longer, *pid, out)?;
+            self.make_move(alloc, beginning, limit, number, way, *pid, out)?;
         }
         Ok(())
     }
@@ -279,17 +354,19 @@ impl Search {
         limit: u32,
         out: &mut W,
     ) -> Result<(), Stop>
+        requires { AreAt beginning.now (kept_of self.old) }
         ensures kept { OnOk result (kept_of self.new ≡ kept_from limit program_of beginning.now limit 0 (kept_of self.old)) }
         ensures whole { OnOk result (W.written out.new ≡ and_all (W.written out.old) (answer_bytes (told_from limit program_of beginning.now limit 0 (kept_of self.old)))) }
         ensures beginning { OnErr result (TellsBeginning (answer_bytes (told_from limit program_of beginning.now limit 0 (kept_of self.old))) (W.written out.old) (W.written out.new)) }
         ensures failed { IfErr result (λ stop. FailsBy stop (W.failures out.old) (W.failures out.new)) }
         ensures quiet { OnOk result (W.failures out.new ≡ W.failures out.old) }
     {
+        let _ = Position::start(alloc, beginning)?.parts();
         for number in 0..limit {
             let Some(way) = self.way(alloc, number as usize)? else {
                 return Ok(());
             };
-            self.make_moves(alloc, beginning, limit, &way, out)?;
+            self.make_moves(alloc, beginning, limit, number as usize, &way, out)?;
         }
         Ok(())
     }

@@ -1,12 +1,16 @@
 //! The states that a search found, each as a row of small numbers.
-ghost use Rattle.std.specs.Prelude.{◌≡◌, ◌++◌, ◌∷◌, [], false, length, position, bytes_eq, IfOk, OnOk};
+ghost use Rattle.std.specs.Prelude.{◌≡◌, ◌++◌, ◌∷◌, [], false, length, map, position, bytes_eq, IfOk, IfSome, OnErr, OnOk};
 ghost use Rattle.std.specs.List.{AllByRecursion, list_any};
-ghost use Rattle.pv_explore.specs.Rows.{AreKept, AreOfState, Grew, IsAmong, group_row, number_in, parts_in, state_row};
+ghost use Rattle.pv_explore.specs.Rows.{AreKept, AreOfState, Grew, IsAmong, IsGroupKept, group_row, number_in, parts_in, state_row};
+ghost use Rattle.pv_explore.specs.KeptStates.{AreKeptBoth, AreLiveAt, ArePlaced, ArePushed, AreSpelledAt, IsFoundIn, IsMade, IsRecalled, IsWholeAt, MayFollow, MayKeep, number_of};
+ghost use Rattle.pv_kept_steps.specs.Edits.{cell_of};
 ghost use Rattle.pv_spelling.specs.Groups.{groups_of, joined};
+ghost use Rattle.pv_spelling.specs.Spelled.{spelled_all, spelled_of};
 
 use crate::keys::Keys;
+use pv_kept_steps::{Cell, KeptSteps, Recalled, live_owners, row_of_cells};
 use pv_model::StepFault;
-use pv_spelling::push_number;
+use pv_spelling::{SpelledGroup, push_number};
 use std::alloc::{AllocError, Global};
 use std::marker::Model;
 
@@ -21,19 +25,43 @@ pub(crate) struct States {
     groups: Keys,
     // Rows of the numbers of groups.
     rows: Keys,
+    // The cells of each state whose steps were not made.
+    cells: Vec<Vec<Cell>>,
+    // What steps gave.
+    steps: KeptSteps,
+}
+
+/// How a state was looked for.
+#[derive(Clone, Copy)]
+pub(crate) enum Found {
+    /// It was there.
+    Known,
+    /// It was not there, and was one too many.
+    Full,
+    /// It was not there, and was added.
+    New,
+}
+
+/// A step that was followed.
+#[derive(Drop)]
+pub(crate) struct Followed {
+    /// The lines that it tells, as a trace has them.
+    pub(crate) text: Vec<u8>,
+    /// How the state that it leads to was looked for.
+    pub(crate) found: Found,
 }
 
 impl Model for States {
     ghost use Rattle.std.specs.Prelude.{List, map};
-    ghost use Rattle.std.specs.List.{AllByRecursion};
-    ghost use Rattle.pv_explore.specs.Rows.{IsRow, state_bytes};
+    ghost use Rattle.pv_explore.specs.KeptStates.{IsFine};
+    ghost use Rattle.pv_explore.specs.Rows.{state_bytes};
     ghost use Rattle.pv_model.specs.Bytes.{Bytes};
 
     ghost Value = { List Bytes };
 
     ghost view = { λ s. map (state_bytes s.parts s.groups) s.rows };
 
-    ghost invariant = { λ s. AllByRecursion (IsRow s.parts s.groups) s.rows };
+    ghost invariant = { λ s. IsFine s.parts s.groups s.rows s.cells.items s.steps.steps.items };
 }
 
 // The row of a group: the number of each part, or how many parts there are for one that is not kept.
@@ -120,6 +148,189 @@ fn learn(
     Ok(())
 }
 
+// ---- cells
+
+// Keeps a group and its parts.
+fn learn_group(
+    alloc: Global,
+    parts: &mut Keys,
+    groups: &mut Keys,
+    group: &[Vec<u8>],
+) -> Result<(), AllocError>
+    ensures parts_grew { Grew parts.old parts.new }
+    ensures groups_grew { Grew groups.old groups.new }
+    ensures kept { OnOk result (IsGroupKept parts.new groups.new (parts_in group.now)) }
+{
+    learn_parts(alloc, parts, group)?;
+    learn_row(alloc, parts, groups, group)
+}
+
+// Keeps a group, and what the steps of others depend on of it.
+fn learn_spelled(
+    alloc: Global,
+    parts: &mut Keys,
+    groups: &mut Keys,
+    group: &SpelledGroup,
+) -> Result<(), AllocError>
+    ensures parts_grew { Grew parts.old parts.new }
+    ensures groups_grew { Grew groups.old groups.new }
+    ensures kept { OnOk result (AreKeptBoth parts.new groups.new (spelled_of group.now ∷ [])) }
+{
+    match group {
+        SpelledGroup::Plain(all) => learn_group(alloc, parts, groups, all),
+        SpelledGroup::Live(_, all, outside) => {
+            learn_group(alloc, parts, groups, all)?;
+            learn_group(alloc, parts, groups, outside)
+        }
+    }
+}
+
+// Keeps the groups of a state, and what the steps of others depend on of them.
+fn learn_all(
+    alloc: Global,
+    parts: &mut Keys,
+    groups: &mut Keys,
+    spelled: &[SpelledGroup],
+) -> Result<(), AllocError>
+    ensures parts_grew { Grew parts.old parts.new }
+    ensures groups_grew { Grew groups.old groups.new }
+    ensures kept { OnOk result (AreKeptBoth parts.new groups.new (spelled_all spelled.now)) }
+{
+    for group in spelled {
+        learn_spelled(alloc, parts, groups, group)?;
+    }
+    Ok(())
+}
+
+// The cell of a group.
+fn cell_of(
+    alloc: Global,
+    parts: &Keys,
+    groups: &Keys,
+    group: &SpelledGroup,
+) -> Result<Cell, AllocError>
+    ensures { IfOk result (λ cell. cell ≡ cell_of (number_of parts.now groups.now) (spelled_of group.now)) }
+{
+    match group {
+        SpelledGroup::Plain(all) => {
+            let number = number_of_group(alloc, parts, groups, all)?;
+            Ok(Cell {
+                number,
+                owner: 0,
+                outside: number,
+            })
+        }
+        SpelledGroup::Live(owner, all, outside) => {
+            let number = number_of_group(alloc, parts, groups, all)?;
+            let outside = number_of_group(alloc, parts, groups, outside)?;
+            Ok(Cell {
+                number,
+                owner: *owner,
+                outside,
+            })
+        }
+    }
+}
+
+// The cells of a state.
+fn cells_of(
+    alloc: Global,
+    parts: &Keys,
+    groups: &Keys,
+    spelled: &[SpelledGroup],
+) -> Result<Vec<Cell>, AllocError>
+    ensures { IfOk result (λ cells. cells.items ≡ map (cell_of (number_of parts.now groups.now)) (spelled_all spelled.now)) }
+{
+    let mut cells = Vec::new(alloc);
+    for group in spelled {
+        cells.push(cell_of(alloc, parts, groups, group)?)?;
+    }
+    Ok(cells)
+}
+
+// ---- steps
+
+// What a step of a process in the state of a number gives, where that was kept, and some process is then live.
+fn recalled(
+    alloc: Global,
+    cells: &[Vec<Cell>],
+    steps: &KeptSteps,
+    number: usize,
+    pid: u32,
+) -> Result<Option<Recalled>, AllocError>
+    ensures { IfOk result (λ made. IfSome made (λ r. IsRecalled cells.now steps.now.steps.items number pid r.text.items r.cells.items)) }
+{
+    let Some(before) = cells.get(number) else {
+        return Ok(None);
+    };
+    if before.is_empty() {
+        return Ok(None);
+    }
+    let Some(made) = steps.recall(alloc, before, pid)? else {
+        return Ok(None);
+    };
+    if live_owners(alloc, &made.cells)?.is_empty() {
+        return Ok(None);
+    }
+    Ok(Some(made))
+}
+
+// Keeps what a step of a process in the state of a number gave, where the cells of that are kept.
+fn keep_made(
+    alloc: Global,
+    cells: &[Vec<Cell>],
+    steps: &mut KeptSteps,
+    number: usize,
+    pid: u32,
+    after: &[Cell],
+    text: &[u8],
+) -> Result<(), AllocError>
+    ensures { MayKeep cells.now number pid after.now text.now steps.old.steps.items steps.new.steps.items }
+{
+    let Some(before) = cells.get(number) else {
+        return Ok(());
+    };
+    if before.is_empty() {
+        return Ok(());
+    }
+    steps.keep(alloc, before, after, pid, text)
+}
+
+// ---- rows
+
+// Adds the cells of the state of a number, where they come next.
+fn push_cells(all: &mut Vec<Vec<Cell>>, number: usize, cells: Vec<Cell>) -> Result<(), AllocError>
+    ensures { ArePushed number cells all.old.items all.new.items }
+{
+    if all.len() == number {
+        all.push(cells)?;
+    }
+    Ok(())
+}
+
+// Looks for a row, and adds it with its cells where it is not there and is not one too many.
+fn place(
+    rows: &mut Keys,
+    all: &mut Vec<Vec<Cell>>,
+    limit: usize,
+    row: Vec<u8>,
+    cells: Vec<Cell>,
+) -> Result<Found, AllocError>
+    ensures found { IfOk result (IsFoundIn limit rows.old rows.new row.items) }
+    ensures placed { ArePlaced row.items cells rows.old rows.new all.old.items all.new.items }
+{
+    if rows.contains(&row) {
+        return Ok(Found::Known);
+    }
+    let number = rows.len();
+    if number >= limit {
+        return Ok(Found::Full);
+    }
+    rows.add(row)?;
+    push_cells(all, number, cells)?;
+    Ok(Found::New)
+}
+
 impl States {
     /// None.
     pub(crate) fn new(alloc: Global) -> States
@@ -129,6 +340,8 @@ impl States {
             parts: Keys::new(alloc),
             groups: Keys::new(alloc),
             rows: Keys::new(alloc),
+            cells: Vec::new(alloc),
+            steps: KeptSteps::new(alloc),
         }
     }
 
@@ -137,6 +350,23 @@ impl States {
         ensures { result ≡ length self.now }
     {
         self.rows.len()
+    }
+
+    /// The processes that are live in the state of a number, ascending, where its cells are kept.
+    ///
+    /// # Errors
+    ///
+    /// `NoMemory` where memory was refused.
+    pub(crate) fn live(&self, alloc: Global, number: usize) -> Result<Option<Vec<u32>>, StepFault>
+        ensures { IfOk result (λ made. IfSome made (λ pids. AreLiveAt self.now number pids.items)) }
+    {
+        let Some(cells) = self.cells.get(number) else {
+            return Ok(None);
+        };
+        if cells.is_empty() {
+            return Ok(None);
+        }
+        Ok(Some(live_owners(alloc, cells)?))
     }
 
     /// Whether a state is one of them, by its groups.
@@ -186,5 +416,79 @@ impl States {
         learn(alloc, &mut self.parts, &mut self.groups, spelled)?;
         let row = row_of_state(alloc, &self.parts, &self.groups, spelled)?;
         Ok(self.rows.learn(alloc, &row)?)
+    }
+
+    /// Keeps what the steps in the state of a number are recalled by, by its groups.
+    ///
+    /// # Errors
+    ///
+    /// `NoMemory` where memory was refused.
+    pub(crate) fn note(
+        &mut self,
+        alloc: Global,
+        number: usize,
+        spelled: &[SpelledGroup],
+    ) -> Result<(), StepFault>
+        requires { AreSpelledAt self.old number (spelled_all spelled.now) }
+        ensures { OnOk result (self.new ≡ self.old) }
+    {
+        learn_all(alloc, &mut self.parts, &mut self.groups, spelled)?;
+        let cells = cells_of(alloc, &self.parts, &self.groups, spelled)?;
+        Ok(push_cells(&mut self.cells, number, cells)?)
+    }
+
+    /// Keeps what a step of a process in the state of a number gave: the lines that it told, as a trace has them, and the groups of
+    /// the state after it.
+    ///
+    /// # Errors
+    ///
+    /// `NoMemory` where memory was refused.
+    pub(crate) fn keep_step(
+        &mut self,
+        alloc: Global,
+        number: usize,
+        pid: u32,
+        text: &[u8],
+        after: &[SpelledGroup],
+    ) -> Result<(), StepFault>
+        requires { IsMade self.old number pid text.now (spelled_all after.now) }
+        ensures { OnOk result (self.new ≡ self.old) }
+    {
+        learn_all(alloc, &mut self.parts, &mut self.groups, after)?;
+        let cells = cells_of(alloc, &self.parts, &self.groups, after)?;
+        Ok(keep_made(
+            alloc,
+            &self.cells,
+            &mut self.steps,
+            number,
+            pid,
+            &cells,
+            text,
+        )?)
+    }
+
+    /// Follows a step of a process in the state of a number, where one that gives the same was kept, and some process is then live:
+    /// the state that it leads to is added where it is not there, and they are fewer than `limit`.
+    ///
+    /// # Errors
+    ///
+    /// `NoMemory` where memory was refused.
+    pub(crate) fn follow(
+        &mut self,
+        alloc: Global,
+        limit: usize,
+        number: usize,
+        pid: u32,
+    ) -> Result<Option<Followed>, StepFault>
+        requires { IsWholeAt self.old number }
+        ensures { IfOk result (MayFollow limit self.old self.new number pid) }
+    {
+        let Some(made) = recalled(alloc, &self.cells, &self.steps, number, pid)? else {
+            return Ok(None);
+        };
+        let Recalled { text, cells } = made;
+        let row = row_of_cells(alloc, &cells)?;
+        let found = place(&mut self.rows, &mut self.cells, limit, row, cells)?;
+        Ok(Some(Followed { text, found }))
     }
 }

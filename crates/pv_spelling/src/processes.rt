@@ -89,7 +89,10 @@ fn push_each_descriptor(key: &mut Vec<u8>, descriptors: &Descriptors) -> Result<
 
 // Adds all descriptors.
 #[tactic(auto, using(crate::proofs::Adding::added_then))]
-fn push_descriptors(key: &mut Vec<u8>, descriptors: &Descriptors) -> Result<(), AllocError>
+pub(crate) fn push_descriptors(
+    key: &mut Vec<u8>,
+    descriptors: &Descriptors,
+) -> Result<(), AllocError>
     ensures { OnOk result (IsAdded (list_numbers (option_numbers descriptor_numbers) descriptors.now) key.old.items key.new.items) }
 {
     descriptors.invariant();
@@ -138,7 +141,7 @@ fn push_each_entry(key: &mut Vec<u8>, table: &Table) -> Result<(), AllocError>
 
 // Adds a table, if there is one.
 #[tactic(auto, using(crate::proofs::Adding::added_then))]
-fn push_table(key: &mut Vec<u8>, table: &Table) -> Result<(), AllocError>
+pub(crate) fn push_table(key: &mut Vec<u8>, table: &Table) -> Result<(), AllocError>
     ensures { OnOk result (IsAdded (option_numbers (list_numbers entry_numbers) table.now.table) key.old.items key.new.items) }
 {
     if table.is_empty() {
@@ -275,7 +278,11 @@ fn group_owned(
 }
 
 // The group of a live process.
-fn group_live(alloc: Global, processes: &Processes, pid: u32) -> Result<Vec<Vec<u8>>, AllocError>
+pub(crate) fn group_live(
+    alloc: Global,
+    processes: &Processes,
+    pid: u32,
+) -> Result<Vec<Vec<u8>>, AllocError>
     requires { IsSome (process_in processes.now pid) }
     ensures { IfOk result (λ group. parts_of group ≡ live_parts pid (process_in processes.now pid)) }
 {
@@ -310,7 +317,7 @@ fn group_ended(
 
 // The group of a process; of a number that nobody has it is empty.
 #[tactic(auto, using(crate::proofs::Owned::group_of_live, crate::proofs::Owned::group_of_ended, crate::proofs::Owned::group_of_nobody))]
-fn group_of_process(
+pub(crate) fn group_of_process(
     alloc: Global,
     processes: &Processes,
     pid: u32,

@@ -1,11 +1,13 @@
 //! Whole states.
 ghost use Rattle.std.specs.Prelude.{◌≡◌, ◌++◌, ◌∷◌, [], length, IfOk};
 ghost use Rattle.pv_spelling.specs.Groups.{counts_part, files_part, groups_of, parts_of, state_groups, tree_part};
+ghost use Rattle.pv_spelling.specs.Spelled.{spelled, spelled_all};
 
 use crate::files::part_of_files;
 use crate::numbers::push_number;
 use crate::parts::{push_group, push_part};
 use crate::processes::{count, push_process_groups};
+use crate::spelled::{SpelledGroup, push_plain, push_plains, push_spelled_processes};
 use crate::trees::{part_of_sizes, push_node_groups};
 use pv_calls_state::Parts;
 use pv_procs::Processes;
@@ -62,4 +64,31 @@ pub fn state_groups(
     push_group(&mut groups, group_of_files(alloc, parts)?)?;
     push_node_groups(alloc, &mut groups, parts.tree())?;
     Ok(groups)
+}
+
+/// All that a state is, as groups of parts, and for each live process what the steps of others depend on. `last` is the last number
+/// that it gave to a process.
+///
+/// # Errors
+///
+/// Where memory was refused.
+pub fn spelled_state(
+    alloc: Global,
+    parts: &Parts,
+    last: u32,
+) -> Result<Vec<SpelledGroup>, AllocError>
+    requires { last ≡ parts.now.last_process }
+    ensures { IfOk result (λ groups. spelled_all groups.items ≡ spelled parts.now) }
+{
+    let mut spelled = Vec::new(alloc);
+    push_plain(
+        &mut spelled,
+        group_of_counts(alloc, parts.processes(), last)?,
+    )?;
+    push_spelled_processes(alloc, &mut spelled, parts.processes())?;
+    push_plain(&mut spelled, group_of_files(alloc, parts)?)?;
+    let mut nodes = Vec::new(alloc);
+    push_node_groups(alloc, &mut nodes, parts.tree())?;
+    push_plains(&mut spelled, nodes)?;
+    Ok(spelled)
 }

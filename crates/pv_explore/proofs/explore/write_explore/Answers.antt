@@ -1,8 +1,9 @@
 use Rattle.std.proofs.Common.{◌∙◌, ℕ, ap, subst, sym, refl}
 use Rattle.std.proofs.lemmas.Result.{err_from_is_err_and}
 use Rattle.pv_explore.specs.Plan.{done_lines, kept_from, told_from}
-use Rattle.pv_explore.specs.Searches.{kept_of}
+use Rattle.pv_explore.specs.Searches.{AreAt, kept_of}
 use Rattle.pv_explore.proofs.Finding.{explore-bytes}
+use Rattle.pv_explore.proofs.Followed.{first-at}
 use Rattle.pv_model.specs.Answers.Lines.{answer_bytes}
 use Rattle.pv_model.specs.Bytes.{Bytes}
 use Rattle.pv_model.specs.Grammar.Programs.{program_of}
@@ -12,6 +13,9 @@ use Rattle.pv_session.specs.declared.session.Stop.{Stop}
 use Rattle.pv_streams.specs.Sinks.{and_all, TellsBeginning}
 use Rattle.pv_streams.proofs.Telling.{begins_first, begins_then, on_err, written_both}
 use Rattle.pv_explore.proofs.explore.write_explore.Goals as goal
+
+pub search-requires : goal.search-requires
+search-requires g c = subst (AreAt c.args.beginning.now) (sym c.in_ok-search.ensures) (first-at c.args.states c.args.beginning.now)
 
 pub returns-in_err-search-2-clause-beginning : goal.returns-in_err-search-2-clause-beginning
 returns-in_err-search-2-clause-beginning g c =

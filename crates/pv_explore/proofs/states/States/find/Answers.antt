@@ -14,4 +14,4 @@ returns c =
     let s = c.requires.0 in
     let is = c.requires.1 in
     c.find.ensures ∙ ap (λ (k : Bytes). position (bytes_eq k) rows) (c.deref.ensures.value ∙ c.in_ok-row.ensures ∙ ap (state_row parts groups) is)
-    ∙ position-row parts groups s rows c.self.invariant ∙ ap₂ (λ (k : Bytes) (rs : List Bytes). position (bytes_eq k) rs) (sym (ap joined is)) c.self.view_is
+    ∙ position-row parts groups s rows c.self.invariant.rows_are ∙ ap₂ (λ (k : Bytes) (rs : List Bytes). position (bytes_eq k) rs) (sym (ap joined is)) c.self.view_is

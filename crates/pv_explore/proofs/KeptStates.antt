@@ -1,0 +1,265 @@
+-- What is kept of states: it stays right when more is kept, and tells the steps of states.
+use Rattle.std.proofs.Common.{◌≡◌, ◌≢◌, ◌∙◌, sym, ap, ap₂, subst, ℕ, zero, suc, ◌+◌, ◌<◌, ◌⊎◌, inl, inr, false, List, [], ◌∷◌, ◌++◌, get_or, length, map, take, bytes_eq, slice_get, Option, None, Some, option_map, refl, arith, ⊎_elim}
+use Rattle.std.specs.Global.{Vec}
+use Rattle.std.specs.Prelude.{Result, Ok, Err, OnOk, OnErr}
+use Rattle.std.proofs.lemmas.List.{length-map}
+use Rattle.pv_explore.specs.declared.states.Found.{Found}
+use Rattle.pv_explore.specs.declared.states.Found.TheVariants.{Known, Full, New}
+use Rattle.pv_explore.proofs.LiveOnes.{ended-numbers}
+use Rattle.std.specs.List.{AllByRecursion, list_any}
+use Rattle.std.proofs.lemmas.List.{length-append, map-append}
+use Rattle.std.proofs.lemmas.Option.{slice_get-map, slice_get_within}
+use Rattle.pv_explore.specs.Plan.{state_key}
+use Rattle.pv_explore.specs.Rows.{Grew, state_row, state_bytes, IsGroupKept, AreKept, IsRow}
+use Rattle.pv_explore.specs.KeptStates.{number_of, AreKeptBoth, AreCellsOf, AreCellsAt, ArePlaced, ArePushed, IsFine, IsFoundIn, IsRecalled, HasNumber, MayKeep}
+use Rattle.pv_explore.proofs.Rows.{any-row, kept-grew, numbers-grew, rows-grew, states-added, rows-added, same-rows, state-back, taken-more}
+use Rattle.pv_kept_steps.specs.declared.cells.Cell.{Cell}
+use Rattle.pv_kept_steps.specs.declared.steps.KeptStep.{KeptStep}
+use Rattle.pv_kept_steps.specs.Edits.{cell_of, number_of_cell, owners}
+use Rattle.pv_kept_steps.specs.Kept.{AreApart, KeepsMore}
+use Rattle.pv_kept_steps.proofs.Again.{IsAgain, cells-more, kept-more}
+use Rattle.pv_kept_steps.proofs.Keys.{groups-spelled}
+use Rattle.pv_kept_steps.proofs.LiveOwners.{owners-are}
+use Rattle.pv_kept_steps.proofs.Recalling.{recalled-again, steps-added, steps-more}
+use Rattle.pv_laws_states.specs.States.{IsWhole}
+use Rattle.pv_model.specs.Answers.Explore.{has_ended}
+use Rattle.pv_model.specs.Bytes.{Bytes, is_empty}
+use Rattle.pv_model.specs.State.{State}
+use Rattle.pv_model.specs.Trace.{trace_bytes}
+use Rattle.pv_laws_explore.proofs.Reading.{same-state_numbers}
+use Rattle.pv_session.specs.Running.{stepped}
+use Rattle.pv_spelling.specs.Groups.{state_groups}
+use Rattle.pv_spelling.specs.Packed.{packed_all}
+use Rattle.pv_spelling.specs.Spelled.{Spelled, plain, spelled}
+use Rattle.pv_spelling.proofs.Apart.{packed-apart}
+use Rattle.pv_spelling.proofs.Grouping.{state-joined}
+
+same-keys : (s t : State) → state_key s ≡ state_key t → s ≡ t
+same-keys s t same = same-state_numbers s t (packed-apart _ _ same)
+
+module _ (parts groups : List Bytes) where
+  pub apart : AreApart (number_of parts groups) (IsGroupKept parts groups)
+  apart g h kept same = let all : g ∷ [] ≡ h ∷ [] = same-rows parts groups (g ∷ []) (h ∷ []) (kept, tt) (ap (λ n. packed_all (n ∷ [])) same) in cc
+
+  -- ---- rows of cells
+
+  numbers-cells : (cs : List Spelled) → map number_of_cell (map (cell_of (number_of parts groups)) cs) ≡ map (number_of parts groups) (map (λ c. c.group) cs)
+  numbers-cells [] = refl
+  numbers-cells (c ∷ cs) = ap (λ ns. number_of parts groups c.group ∷ ns) (numbers-cells cs)
+
+  pub row-of_cells : (t : State) (cells : List Cell) → AreCellsOf parts groups t cells → packed_all (map number_of_cell cells) ≡ state_row parts groups (state_groups t)
+  row-of_cells t cells there =
+      ap (λ (cs : List Cell). packed_all (map number_of_cell cs)) there.are ∙ ap packed_all (numbers-cells (spelled t) ∙ ap (map (number_of parts groups)) (groups-spelled t))
+
+  groups-kept : (cs : List Spelled) → AreKeptBoth parts groups cs → AreKept parts groups (map (λ c. c.group) cs)
+  groups-kept [] kept = tt
+  groups-kept (c ∷ cs) kept = (kept.0.0, groups-kept cs kept.1)
+
+  pub state-kept : (t : State) → AreKeptBoth parts groups (spelled t) → AreKept parts groups (state_groups t)
+  state-kept t kept = subst (AreKept parts groups) (groups-spelled t) (groups-kept (spelled t) kept)
+
+  -- ---- a state of a number
+
+  some-of : (f : Bytes → Bytes) (o : Option Bytes) (b : Bytes) → option_map f o ≡ Some b → (a : Bytes) × (o ≡ Some a) × (f a ≡ b)
+  some-of f None b is = cc
+  some-of f (Some a) b is = let same : f a ≡ b = cc in (a, refl, same)
+
+  module _ (rows : List Bytes) (cells : List (Vec Cell)) (steps : List KeptStep) (fine : IsFine parts groups rows cells steps) where
+    pub cells-at : (k : ℕ) (cs : Vec Cell) (t : State) → HasNumber (map (state_bytes parts groups) rows) k t → slice_get cells k ≡ Some cs → cs.items ≢ [] → AreCellsOf parts groups t cs.items
+    cells-at k cs t number at there =
+        let row = some-of (state_bytes parts groups) (slice_get rows k) (state_key t) (sym (slice_get-map (state_bytes parts groups) rows k) ∙ number) in
+        ⊎_elim (λ none. absurd (there none)) (λ it. same it row.2) (fine.cells_are k cs row.0 at row.1)
+      where
+        same : {row : Bytes} → AreCellsAt parts groups row cs.items → state_bytes parts groups row ≡ state_key t → AreCellsOf parts groups t cs.items
+        same {row} it bytes =
+            let keys : state_key it.state ≡ state_key t =
+            sym (state-joined it.state) ∙ sym (state-back parts groups (state_groups it.state) (state-kept it.state it.cells_are.kept)) ∙ ap (state_bytes parts groups) (sym it.row_is) ∙ bytes in
+            subst (λ (s : State). AreCellsOf parts groups s cs.items) (same-keys it.state t keys) it.cells_are
+
+    -- what is recalled there is what the step gives
+    pub recalled-at : (number pid : ℕ) (text : Bytes) (after : List Cell) → IsRecalled cells steps number pid text after → (t : State) → IsWhole t → HasNumber (map (state_bytes parts groups) rows) number t
+        → IsAgain (number_of parts groups) (IsGroupKept parts groups) apart pid t text after
+    recalled-at number pid text after it t whole there =
+        recalled-again (number_of parts groups) (IsGroupKept parts groups) apart steps fine.steps_are t pid it.before.items text after whole (cells-at number it.before t there it.at it.there) it.was
+
+    -- a row of cells is known where its state is
+    pub known-row : (u : State) (after : List Cell) → AreCellsOf parts groups u after
+        → list_any (bytes_eq (packed_all (map number_of_cell after))) rows ≡ list_any (bytes_eq (state_key u)) (map (state_bytes parts groups) rows)
+    known-row u after there =
+        ap (λ (r : Bytes). list_any (bytes_eq r) rows) (row-of_cells u after there) ∙ any-row parts groups u rows fine.rows_are
+        ∙ ap (λ (k : Bytes). list_any (bytes_eq k) (map (state_bytes parts groups) rows)) (state-joined u)
+
+-- ---- cells of groups
+
+pub plain-cell : (number : List Bytes → ℕ) (n : ℕ) (g : List Bytes) → n ≡ number g → ◌≡◌ {A = Cell} (record { number = n; owner = 0; outside = n }) (cell_of number (plain g))
+plain-cell number n g is = λ i. record { number = is i; owner = 0; outside = is i }
+
+pub live-cell : (number : List Bytes → ℕ) (n m : ℕ) (g : List Bytes) (pid : ℕ) (o : List Bytes) → n ≡ number g → m ≡ number o
+    → ◌≡◌ {A = Cell} (record { number = n; owner = pid; outside = m }) (cell_of number (record { group = g; owner = pid; outside = o }))
+live-cell number n m g pid o is out = λ i. record { number = is i; owner = pid; outside = out i }
+
+module _ {X Y Z : Type 0} (h : X → Y) (xs : List X) (i : ℕ) (d : X) where
+  pub cells-next : (f : Y → Z) (z : Z) (old new : List Z) → i < length xs → z ≡ f (h (get_or xs i d)) → old ≡ map f (take i (map h xs)) → new ≡ old ++ z ∷ [] → new ≡ map f (take (i + 1) (map h xs))
+  cells-next f z old new within is so_far added =
+      added ∙ ap₂ (λ (zs : List Z) (y : Z). zs ++ y ∷ []) so_far is ∙ sym (map-append f (take i (map h xs)) (h (get_or xs i d) ∷ [])) ∙ ap (map f) (sym (taken-more h xs i d within))
+
+-- ---- when more is kept
+
+module _ (parts groups parts_now groups_now : List Bytes) (parts_grew : Grew parts parts_now) (groups_grew : Grew groups groups_now) where
+  pub keeps-more : KeepsMore (number_of parts groups) (IsGroupKept parts groups) (number_of parts_now groups_now) (IsGroupKept parts_now groups_now)
+  keeps-more = record {
+    same = λ g kept.
+        let all : number_of parts_now groups_now g ∷ [] ≡ number_of parts groups g ∷ [] = numbers-grew parts groups parts_now groups_now parts_grew groups_grew (g ∷ []) (kept, tt) in
+        cc;
+    kept = λ g kept. (kept-grew parts groups parts_now groups_now parts_grew groups_grew (g ∷ []) (kept, tt)).0;
+  }
+
+  pub both-grew : (cs : List Spelled) → AreKeptBoth parts groups cs → AreKeptBoth parts_now groups_now cs
+  both-grew cs kept = kept-more (number_of parts groups) (IsGroupKept parts groups) (number_of parts_now groups_now) (IsGroupKept parts_now groups_now) keeps-more cs kept
+
+  pub cells-grew : (s : State) (cells : List Cell) → AreCellsOf parts groups s cells → AreCellsOf parts_now groups_now s cells
+  cells-grew s cells there = cells-more (number_of parts groups) (IsGroupKept parts groups) (number_of parts_now groups_now) (IsGroupKept parts_now groups_now) keeps-more s cells there
+
+  cells-at-grew : (row : Bytes) (cells : List Cell) → AreCellsAt parts groups row cells → AreCellsAt parts_now groups_now row cells
+  cells-at-grew row cells it = record {
+    state = it.state;
+    row_is = it.row_is ∙ ap packed_all (sym (numbers-grew parts groups parts_now groups_now parts_grew groups_grew (state_groups it.state) (state-kept parts groups it.state it.cells_are.kept)));
+    cells_are = cells-grew it.state cells it.cells_are;
+  }
+
+  pub fine-grew : (rows : List Bytes) (cells : List (Vec Cell)) (steps : List KeptStep) → IsFine parts groups rows cells steps → IsFine parts_now groups_now rows cells steps
+  fine-grew rows cells steps fine = record {
+    rows_are = rows-grew parts groups parts_now groups_now parts_grew groups_grew rows fine.rows_are;
+    few = fine.few;
+    cells_are = λ k cs row at there. ⊎_elim inl (λ it. inr (cells-at-grew row cs.items it)) (fine.cells_are k cs row at there);
+    steps_are = steps-more (number_of parts groups) (IsGroupKept parts groups) (number_of parts_now groups_now) (IsGroupKept parts_now groups_now) keeps-more steps fine.steps_are;
+  }
+
+-- ---- a row more
+
+pub get-left : {X : Type 0} (xs ys : List X) (k : ℕ) → k < length xs → slice_get (xs ++ ys) k ≡ slice_get xs k
+get-left [] ys k within = absurd (omega arith)
+get-left (x ∷ xs) ys zero within = refl
+get-left (x ∷ xs) ys (suc k) within = get-left xs ys k (omega arith)
+
+pub fine-row : (parts groups rows new : List Bytes) (row : Bytes) (cells : List (Vec Cell)) (steps : List KeptStep) → IsFine parts groups rows cells steps → new ≡ rows ++ row ∷ [] → AllByRecursion (IsRow parts groups) new
+    → IsFine parts groups new cells steps
+fine-row parts groups rows new row cells steps fine is all = record {
+  rows_are = all;
+  few = (let few = fine.few in omega (arith, ap length is, length-append rows (row ∷ [])));
+  cells_are = λ k cs r at there.
+      let within : k < length rows = (let few = fine.few in omega (arith, slice_get_within cells k cs at)) in
+      fine.cells_are k cs r at (sym (ap (λ (rs : List Bytes). slice_get rs k) is ∙ get-left rows (row ∷ []) k within) ∙ there);
+  steps_are = fine.steps_are;
+}
+
+-- ---- cells more
+
+get-last : {X : Type 0} (xs : List X) (x y : X) (k : ℕ) → slice_get (xs ++ x ∷ []) k ≡ Some y → (slice_get xs k ≡ Some y) ⊎ ((k ≡ length xs) × (x ≡ y))
+get-last [] x y zero at = let same : x ≡ y = cc in inr (refl, same)
+get-last [] x y (suc k) at = cc
+get-last (z ∷ xs) x y zero at = inl at
+get-last (z ∷ xs) x y (suc k) at = ⊎_elim (λ old. inl old) (λ last. inr (ap suc last.0, last.1)) (get-last xs x y k at)
+
+pub get-end : {X : Type 0} (xs : List X) (x : X) → slice_get (xs ++ x ∷ []) (length xs) ≡ Some x
+get-end [] x = refl
+get-end (z ∷ xs) x = get-end xs x
+
+module _ (parts groups rows : List Bytes) (cells : List (Vec Cell)) (steps : List KeptStep) (fine : IsFine parts groups rows cells steps) where
+  pub fine-cells : (cs : Vec Cell) (row : Bytes) (new : List (Vec Cell)) → new ≡ cells ++ cs ∷ [] → slice_get rows (length cells) ≡ Some row → AreCellsAt parts groups row cs.items → IsFine parts groups rows new steps
+  fine-cells cs row new is at it = record {
+    rows_are = fine.rows_are;
+    few = (let within = slice_get_within rows (length cells) row at in omega (arith, within, ap length is, length-append cells (cs ∷ [])));
+    cells_are = λ k c r there other.
+        ⊎_elim (λ old. fine.cells_are k c r old other) (λ last. inr (same c r last.1 (sym at ∙ ap (slice_get rows) (sym last.0) ∙ other)))
+        (get-last cells cs c k (ap (λ (all : List (Vec Cell)). slice_get all k) (sym is) ∙ there));
+    steps_are = fine.steps_are;
+  }
+    where
+      same : (c : Vec Cell) (r : Bytes) → cs ≡ c → Some row ≡ Some r → AreCellsAt parts groups r c.items
+      same c r cells_same rows_same =
+          let row_same : row ≡ r = cc in
+          subst (λ (x : Vec Cell). AreCellsAt parts groups r x.items) cells_same (subst (λ (x : Bytes). AreCellsAt parts groups x cs.items) row_same it)
+
+  pub fine-pushed : (number : ℕ) (cs : Vec Cell) (row : Bytes) (new : List (Vec Cell)) → ArePushed number cs cells new → slice_get rows number ≡ Some row → AreCellsAt parts groups row cs.items → IsFine parts groups rows new steps
+  fine-pushed number cs row new (inl same) at it = subst (λ (all : List (Vec Cell)). IsFine parts groups rows all steps) (sym same) fine
+  fine-pushed number cs row new (inr (is, next)) at it = fine-cells cs row new is (ap (slice_get rows) next ∙ at) it
+
+module _ (parts groups rows : List Bytes) (cells : List (Vec Cell)) (steps : List KeptStep) (fine : IsFine parts groups rows cells steps) where
+  -- cells of the state of a number
+  pub cells-of-number : (number : ℕ) (t : State) (cs : List Cell) → HasNumber (map (state_bytes parts groups) rows) number t → AreCellsOf parts groups t cs
+      → (row : Bytes) × (slice_get rows number ≡ Some row) × AreCellsAt parts groups row cs
+  cells-of-number number t cs there are =
+      let row = some-of parts groups (state_bytes parts groups) (slice_get rows number) (state_key t) (sym (slice_get-map (state_bytes parts groups) rows number) ∙ there) in
+      let it = row-at rows number row.0 fine.rows_are row.1 in
+      let keys : state_key it.state ≡ state_key t =
+      sym (state-joined it.state) ∙ sym (state-back parts groups (state_groups it.state) it.kept) ∙ ap (state_bytes parts groups) (sym it.is) ∙ row.2 in
+      (row.0, row.1, record { state = t; row_is = it.is ∙ ap (λ (s : State). state_row parts groups (state_groups s)) (same-keys it.state t keys); cells_are = are })
+    where
+      row-at : (rs : List Bytes) (k : ℕ) (r : Bytes) → AllByRecursion (IsRow parts groups) rs → slice_get rs k ≡ Some r → IsRow parts groups r
+      row-at [] k r all at = cc
+      row-at (x ∷ rs) zero r all at = let same : x ≡ r = cc in subst (IsRow parts groups) same all.0
+      row-at (x ∷ rs) (suc k) r all at = row-at rs k r all.1 at
+
+  -- a step that is kept
+  pub fine-kept : (number pid : ℕ) (t : State) (after : List Cell) (text : Bytes) (new : List KeptStep) → IsWhole t → HasNumber (map (state_bytes parts groups) rows) number t
+      → AreCellsOf parts groups (stepped t pid).after after → text ≡ trace_bytes (stepped t pid).lines → MayKeep cells number pid after text steps new → IsFine parts groups rows cells new
+  fine-kept number pid t after text new whole there left told (inl same) = subst (IsFine parts groups rows cells) (sym same) fine
+  fine-kept number pid t after text new whole there left told (inr it) = record {
+    rows_are = fine.rows_are;
+    few = fine.few;
+    cells_are = fine.cells_are;
+    steps_are =
+        steps-added (number_of parts groups) (IsGroupKept parts groups) (apart parts groups) t pid it.before.items after text steps new whole
+        (cells-at parts groups rows cells steps fine number it.before t there it.at it.there) left told fine.steps_are it.adds;
+  }
+
+  -- a state that is placed
+  module _ (u : State) (cs : Vec Cell) (are : AreCellsOf parts groups u cs.items) (row : Bytes) (row_is : row ≡ packed_all (map number_of_cell cs.items)) where
+    row-of : row ≡ state_row parts groups (state_groups u)
+    row-of = row_is ∙ row-of_cells parts groups u cs.items are
+
+    kept-of : AreKept parts groups (state_groups u)
+    kept-of = state-kept parts groups u are.kept
+
+    pub fine-placed : (rows_now : List Bytes) (cells_now : List (Vec Cell)) → ArePlaced row cs rows rows_now cells cells_now → IsFine parts groups rows_now cells_now steps
+    fine-placed rows_now cells_now (inl same) =
+        subst (λ (rs : List Bytes). IsFine parts groups rs cells_now steps) (sym same.0) (subst (λ (all : List (Vec Cell)). IsFine parts groups rows all steps) (sym same.1) fine)
+    fine-placed rows_now cells_now (inr (is, pushed)) =
+        let all = rows-added parts groups rows fine.rows_are (state_groups u) u refl kept-of rows_now (is ∙ ap (λ (r : Bytes). rows ++ r ∷ []) row-of) in
+        let fine_now = fine-row parts groups rows rows_now row cells steps fine is all in
+        fine-pushed-now rows_now fine_now is pushed
+      where
+        fine-pushed-now : (rs : List Bytes) → IsFine parts groups rs cells steps → rs ≡ rows ++ row ∷ [] → ArePushed (length rows) cs cells cells_now → IsFine parts groups rs cells_now steps
+        fine-pushed-now rs fine_now is (inl same) = subst (λ (all : List (Vec Cell)). IsFine parts groups rs all steps) (sym same) fine_now
+        fine-pushed-now rs fine_now is (inr (more, next)) =
+            fine-cells parts groups rs cells steps fine_now cs row cells_now more (ap (slice_get rs) next ∙ ap (λ (x : List Bytes). slice_get x (length rows)) is ∙ get-end rows row) (record { state = u; row_is = row-of; cells_are = are })
+
+    known-is : list_any (bytes_eq row) rows ≡ list_any (bytes_eq (state_key u)) (map (state_bytes parts groups) rows)
+    known-is = ap (λ (r : Bytes). list_any (bytes_eq r) rows) row_is ∙ known-row parts groups rows cells steps fine u cs.items are
+
+    long : length (map (state_bytes parts groups) rows) ≡ length rows
+    long = length-map rows (state_bytes parts groups)
+
+    pub found-bytes : (limit : ℕ) (rows_now : List Bytes) (found : Found) → IsFoundIn limit rows rows_now row found → IsFoundIn limit (map (state_bytes parts groups) rows) (map (state_bytes parts groups) rows_now) (state_key u) found
+    found-bytes limit rows_now Known it = (sym known-is ∙ it.0, ap (map (state_bytes parts groups)) it.1)
+    found-bytes limit rows_now Full it = (sym known-is ∙ it.0, (let room = it.1 in omega (arith, room, long)), ap (map (state_bytes parts groups)) it.2)
+    found-bytes limit rows_now New it = (
+      sym known-is ∙ it.0,
+      (let room = it.1 in omega (arith, room, long)),
+      states-added parts groups rows fine.rows_are (state_groups u) u refl kept-of rows_now (it.2 ∙ ap (λ (r : Bytes). rows ++ r ∷ []) row-of) ∙ ap (λ (k : Bytes). map (state_bytes parts groups) rows ++ k ∷ []) (state-joined u),
+    )
+
+-- ---- what is live
+
+some-there : (xs : List ℕ) → xs ≢ [] → is_empty xs ≡ false
+some-there [] some = absurd (some refl)
+some-there (x ∷ xs) some = refl
+
+-- some process is live where a cell has an owner
+pub some-live : (parts groups : List Bytes) (u : State) (cells : List Cell) → AreCellsOf parts groups u cells → IsWhole u → owners cells ≢ [] → has_ended u ≡ false
+some-live parts groups u cells are whole some = sym (ended-numbers u (owners cells) (ap owners are.are ∙ owners-are (number_of parts groups) u whole)) ∙ some-there (owners cells) some
+
+pub either : {T E : Type 0} {P Q R : Type 0} (r : Result T E) → OnOk r P → OnErr r Q → (P → R) → (Q → R) → R
+either (Ok x) ok err f g = f ok
+either (Err e) ok err f g = g err

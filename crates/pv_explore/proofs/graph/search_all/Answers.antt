@@ -1,0 +1,7 @@
+use Rattle.std.proofs.Common.{subst, sym}
+use Rattle.pv_explore.specs.Searches.{AreAt}
+use Rattle.pv_explore.proofs.Followed.{first-at}
+use Rattle.pv_explore.proofs.graph.search_all.Goals as goal
+
+pub search-requires : goal.search-requires
+search-requires c = subst (AreAt c.args.beginning.now) (sym c.in_ok-search.ensures) (first-at c.args.states c.args.beginning.now)

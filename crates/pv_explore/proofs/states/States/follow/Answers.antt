@@ -1,0 +1,76 @@
+use Rattle.std.proofs.Common.{◌∙◌, ap, IfSome, List, map, Option, subst, sym}
+use Rattle.std.specs.Global.{Vec}
+use Rattle.pv_explore.specs.KeptStates.{HasNumber, IsFoundIn, IsRecalled}
+use Rattle.pv_explore.specs.Plan.{state_key}
+use Rattle.pv_explore.specs.Rows.{state_bytes}
+use Rattle.pv_explore.proofs.KeptStates.{fine-placed, found-bytes, recalled-at, some-live}
+use Rattle.pv_kept_steps.specs.declared.cells.Cell.{Cell}
+use Rattle.pv_kept_steps.specs.declared.steps.Recalled.{Recalled}
+use Rattle.pv_kept_steps.specs.Edits.{number_of_cell}
+use Rattle.pv_laws_runs.proofs.Ranges.{program_of-spells}
+use Rattle.pv_laws_states.proofs.BySteps.{step-keeps_whole}
+use Rattle.pv_model.specs.Bytes.{Bytes}
+use Rattle.pv_model.specs.Grammar.Programs.{program_of}
+use Rattle.pv_session.specs.Running.{stepped}
+use Rattle.pv_spelling.specs.Packed.{packed_all}
+use Rattle.pv_explore.proofs.states.States.follow.Goals as goal
+
+pub invariant_of-self : goal.invariant_of-self
+invariant_of-self c =
+    let t = c.requires.0 in
+    let whole = c.requires.1 in
+    let number = c.requires.2 in
+    let parts = c.self.inside.parts in
+    let groups = c.self.inside.groups in
+    let rows = c.self.inside.rows in
+    let cells = c.self.inside.cells.items in
+    let steps = c.self.inside.steps.steps.items in
+    let pid = c.args.pid in
+    let cs = c.in-Some.made.cells in
+    let was = subst (λ (o : Option Recalled). IfSome o (λ r. IsRecalled c.deref.result.now steps c.args.number pid r.text.items r.cells.items)) c.in-Some.is c.in_ok-made.ensures in
+    let recalled = subst (λ (all : List (Vec Cell)). IsRecalled all steps c.args.number pid c.in-Some.made.text.items cs.items) c.deref.ensures.value was in
+    let there = subst (λ (keys : List Bytes). HasNumber keys c.args.number t) (sym c.self.view_is) number in
+    let again = recalled-at parts groups rows cells steps c.self.invariant c.args.number pid c.in-Some.made.text.items cs.items recalled t whole there in
+    let row_is = c.in_ok-row.ensures ∙ ap (λ (all : List Cell). packed_all (map number_of_cell all)) c.deref-2.ensures.value in
+    fine-placed parts groups rows cells steps c.self.invariant (stepped t pid).after cs again.cells_are c.in_ok-row.row.items row_is c.place.new.rows c.place.new.all.items c.place.ensures.placed
+
+pub invariant_of-self-2 : goal.invariant_of-self-2
+invariant_of-self-2 c =
+    let t = c.requires.0 in
+    let whole = c.requires.1 in
+    let number = c.requires.2 in
+    let parts = c.self.inside.parts in
+    let groups = c.self.inside.groups in
+    let rows = c.self.inside.rows in
+    let cells = c.self.inside.cells.items in
+    let steps = c.self.inside.steps.steps.items in
+    let pid = c.args.pid in
+    let cs = c.in-Some.made.cells in
+    let was = subst (λ (o : Option Recalled). IfSome o (λ r. IsRecalled c.deref.result.now steps c.args.number pid r.text.items r.cells.items)) c.in-Some.is c.in_ok-made.ensures in
+    let recalled = subst (λ (all : List (Vec Cell)). IsRecalled all steps c.args.number pid c.in-Some.made.text.items cs.items) c.deref.ensures.value was in
+    let there = subst (λ (keys : List Bytes). HasNumber keys c.args.number t) (sym c.self.view_is) number in
+    let again = recalled-at parts groups rows cells steps c.self.invariant c.args.number pid c.in-Some.made.text.items cs.items recalled t whole there in
+    let row_is = c.in_ok-row.ensures ∙ ap (λ (all : List Cell). packed_all (map number_of_cell all)) c.deref-2.ensures.value in
+    fine-placed parts groups rows cells steps c.self.invariant (stepped t pid).after cs again.cells_are c.in_ok-row.row.items row_is c.place.new.rows c.place.new.all.items c.place.ensures.placed
+
+pub returns : goal.returns
+returns c = λ t whole number.
+    let parts = c.self.inside.parts in
+    let groups = c.self.inside.groups in
+    let rows = c.self.inside.rows in
+    let cells = c.self.inside.cells.items in
+    let steps = c.self.inside.steps.steps.items in
+    let pid = c.args.pid in
+    let cs = c.in-Some.made.cells in
+    let was = subst (λ (o : Option Recalled). IfSome o (λ r. IsRecalled c.deref.result.now steps c.args.number pid r.text.items r.cells.items)) c.in-Some.is c.in_ok-made.ensures in
+    let recalled = subst (λ (all : List (Vec Cell)). IsRecalled all steps c.args.number pid c.in-Some.made.text.items cs.items) c.deref.ensures.value was in
+    let there = subst (λ (keys : List Bytes). HasNumber keys c.args.number t) (sym c.self.view_is) number in
+    let again = recalled-at parts groups rows cells steps c.self.invariant c.args.number pid c.in-Some.made.text.items cs.items recalled t whole there in
+    let row_is = c.in_ok-row.ensures ∙ ap (λ (all : List Cell). packed_all (map number_of_cell all)) c.deref-2.ensures.value in
+    let u = (stepped t pid).after in
+    let found = found-bytes parts groups rows cells steps c.self.invariant u cs again.cells_are c.in_ok-row.row.items row_is c.args.limit c.place.new.rows c.in_ok-found.found c.in_ok-found.ensures.found in
+    record {
+      text_is = again.text_is;
+      live = some-live parts groups u cs.items again.cells_are (step-keeps_whole program_of program_of-spells t pid whole) recalled.live;
+      found_is = subst (λ (keys : List Bytes). IsFoundIn c.args.limit keys (map (state_bytes parts groups) c.place.new.rows) (state_key u) c.in_ok-found.found) c.self.view_is found;
+    }

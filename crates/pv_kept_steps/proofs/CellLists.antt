@@ -1,0 +1,78 @@
+-- As far as a loop over cells has come, and edits of cells.
+use Rattle.std.proofs.Common.{◌≡◌, ◌≢◌, ◌∙◌, sym, ap, subst, ℕ, ◌+◌, ◌<◌, Bool, true, false, ◌==◌, if◌then◌else◌, List, [], ◌∷◌, ◌++◌, get_or, length, map, take, Option, None, Some, option_map, slice_get, refl}
+use Rattle.std.specs.Prelude.{position}
+use Rattle.std.specs.List.{AllByRecursion}
+use Rattle.std.proofs.lemmas.Bool.{and_parts, eqb-true}
+use Rattle.std.proofs.lemmas.List.{take_more}
+use Rattle.std.proofs.lemmas.List.Quantifiers.{position-Some}
+use Rattle.std.proofs.lemmas.Option.{slice_get-get_or, slice_get-map}
+use Rattle.pv_model.specs.Bytes.{Bytes}
+use Rattle.pv_spelling.specs.Spelled.{Spelled}
+use Rattle.pv_kept_steps.specs.declared.cells.Cell.{Cell}
+use Rattle.pv_kept_steps.specs.declared.cells.Edit.{Edit}
+use Rattle.pv_kept_steps.specs.declared.cells.Edit.TheVariants.{Keep, Put}
+use Rattle.pv_kept_steps.specs.Edits.{cell_of, owners, stands_as, StoodAt, IsCellEdit, AreCellEdits, IsEdit, AreEdits}
+use Rattle.pv_kept_steps.specs.Kept.{IsKeptBoth, AreApart}
+
+-- ---- owners
+
+owners-append : (cs ds : List Cell) → owners (cs ++ ds) ≡ owners cs ++ owners ds
+owners-append [] ds = refl
+owners-append (c ∷ cs) ds = by (c.owner == 0) (owners-append cs ds)
+  where
+    by : (b : Bool) → owners (cs ++ ds) ≡ owners cs ++ owners ds → (if b then owners (cs ++ ds) else c.owner ∷ owners (cs ++ ds)) ≡ (if b then owners cs else c.owner ∷ owners cs) ++ owners ds
+    by true rest = rest
+    by false rest = ap (λ ns. c.owner ∷ ns) rest
+
+pub owners_next : (cells : List Cell) (i : ℕ) (d : Cell) (old new : List ℕ) → i < length cells → new ≡ old ++ owners (get_or cells i d ∷ []) → old ≡ owners (take i cells) → new ≡ owners (take (i + 1) cells)
+owners_next cells i d old new within is so_far =
+    is ∙ ap (λ (ns : List ℕ). ns ++ owners (get_or cells i d ∷ [])) so_far ∙ sym (owners-append (take i cells) (get_or cells i d ∷ [])) ∙ ap owners (sym (take_more cells i d within))
+
+-- ---- edits
+
+module _ (pid : ℕ) (before : List Cell) where
+  edits-append : (cs : List Cell) (es : List Edit) (c : Cell) (e : Edit) → AreCellEdits pid before cs es → IsCellEdit pid before c e → AreCellEdits pid before (cs ++ c ∷ []) (es ++ e ∷ [])
+  edits-append [] [] c e are one = (one, tt)
+  edits-append [] (x ∷ es) c e are one = absurd are
+  edits-append (x ∷ cs) [] c e are one = absurd are
+  edits-append (x ∷ cs) (y ∷ es) c e are one = (are.0, edits-append cs es c e are.1 one)
+
+  pub edits-next : (cells : List Cell) (i : ℕ) (d : Cell) (old new : List Edit) (e : Edit) → i < length cells → new ≡ old ++ e ∷ [] → IsCellEdit pid before (get_or cells i d) e → AreCellEdits pid before (take i cells) old
+      → AreCellEdits pid before (take (i + 1) cells) new
+  edits-next cells i d old new e within is one so_far =
+      subst (λ (cs : List Cell). AreCellEdits pid before cs new) (sym (take_more cells i d within))
+      (subst (AreCellEdits pid before (take i cells ++ get_or cells i d ∷ [])) (sym is) (edits-append (take i cells) old (get_or cells i d) e so_far one))
+
+pub stood_at : (pid : ℕ) (before : List Cell) (c : Cell) (place : ℕ) → Some place ≡ position (stands_as c) before → c.owner ≢ 0 → c.owner ≢ pid → StoodAt pid before place c
+stood_at pid before c place is alive other =
+    let found = position-Some (stands_as c) before place c (sym is) in record { there = get_or before place c; at = slice_get-get_or before place c found.0; stands = found.1; live = alive; other = other }
+
+-- ---- edits of cells are edits of their groups
+
+module _ (number : List Bytes → ℕ) (IsKept : List Bytes → Type 0) (apart : AreApart number IsKept) (pid : ℕ) (before : List Spelled) where
+  abbrev cells : List Spelled → List Cell
+  cells cs = map (cell_of number) cs
+
+  some-of : (o : Option Spelled) (c : Cell) → option_map (cell_of number) o ≡ Some c → (d : Spelled) × (o ≡ Some d) × (cell_of number d ≡ c)
+  some-of None c is = cc
+  some-of (Some d) c is = let same : cell_of number d ≡ c = cc in (d, refl, same)
+
+  one-spelled : (c : Spelled) (e : Edit) → IsKept c.group → IsCellEdit pid (cells before) (cell_of number c) e → IsEdit number pid before c e
+  one-spelled c (Keep place) kept it =
+      let found = some-of (slice_get before place) it.there (sym (slice_get-map (cell_of number) before place) ∙ it.at) in
+      let tests = and_parts (it.there.number == number c.group) (it.there.owner == c.owner) it.stands in
+      record {
+        there = found.0;
+        at = found.1;
+        group = apart found.0.group c.group kept (ap (λ (x : Cell). x.number) found.2 ∙ eqb-true it.there.number (number c.group) tests.0);
+        owner = ap (λ (x : Cell). x.owner) found.2 ∙ eqb-true it.there.owner c.owner tests.1;
+        live = it.live;
+        other = it.other;
+      }
+  one-spelled c (Put cell) kept it = it
+
+  pub all-spelled : (cs : List Spelled) (es : List Edit) → AllByRecursion (IsKeptBoth number IsKept) cs → AreCellEdits pid (cells before) (cells cs) es → AreEdits number pid before cs es
+  all-spelled [] [] kept are = tt
+  all-spelled [] (e ∷ es) kept are = absurd are
+  all-spelled (c ∷ cs) [] kept are = absurd are
+  all-spelled (c ∷ cs) (e ∷ es) kept are = (one-spelled c e kept.0.0 are.0, all-spelled cs es kept.1 are.1)
