@@ -15,8 +15,9 @@ use std::{fs, io};
 // The bits of a mode that let somebody execute a file.
 const EXECUTE: u32 = 0o111;
 
-/// How many levels of directories are read below the one that is opened: more than any image has room for.
-pub const LEVELS: u16 = 4_096;
+/// How many levels of directories are read below the one that is opened. A deeper one can't be read: each level takes some of the
+/// program's stack.
+pub const LEVELS: u16 = 256;
 
 impl<'a> Directories for HostFiles<'a> {
     type Directory = OpenedDirectory<'a>;
