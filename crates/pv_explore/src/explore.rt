@@ -10,6 +10,7 @@ ghost use Rattle.pv_session.specs.Running.{FailsBy};
 ghost use Rattle.pv_streams.specs.Sinks.{and_all, TellsBeginning};
 
 use crate::beginning::Beginning;
+use crate::progress::Progress;
 use crate::search::Search;
 use crate::way::Count;
 use pv_answers::{Fragment, Line, Plain};
@@ -79,13 +80,16 @@ fn write_done<W: Sink>(out: &mut W, search: &Search) -> Result<(), Failed>
 ///
 /// Where that is all, the text of each step of a live process in each schedule is among those told: see `pv_laws_explore`.
 ///
+/// Meanwhile `progress` shows how far the search is, which ends before the last two lines, also where it stops by a fault.
+///
 /// # Errors
 ///
 /// `Memory` where memory was refused, `Write` where a write failed: the sink was given a beginning of the lines.
-pub fn write_explore<W: Sink>(
+pub fn write_explore<W: Sink, P: Progress>(
     alloc: Global,
     beginning: &Beginning,
     states: u32,
+    progress: &mut P,
     out: &mut W,
 ) -> Result<(), Stop>
     requires { 1 ≤ states }
@@ -95,6 +99,8 @@ pub fn write_explore<W: Sink>(
     ensures quiet { OnOk result (W.failures out.new ≡ W.failures out.old) }
 {
     let mut search = Search::new(alloc, states, beginning)?;
-    search.search(alloc, beginning, states, out)?;
+    let end = search.search(alloc, beginning, states, progress, out);
+    progress.end();
+    end?;
     Ok(write_done(out, &search)?)
 }

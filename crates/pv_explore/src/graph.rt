@@ -16,6 +16,7 @@ ghost use Rattle.pv_streams.specs.Sinks.{and_all, TellsBeginning};
 use crate::beginning::Beginning;
 use crate::explore::write_states;
 use crate::position::Position;
+use crate::progress::Progress;
 use crate::search::Search;
 use crate::states::States;
 use crate::unheard::Unheard;
@@ -196,11 +197,18 @@ fn new_line_buffer(alloc: Global) -> Result<Box<LineBuffer>, StepFault> {
 }
 
 // All states, of which nothing is told.
-fn search_all(alloc: Global, beginning: &Beginning, states: u32) -> Result<Search, StepFault>
+fn search_all<P: Progress>(
+    alloc: Global,
+    beginning: &Beginning,
+    states: u32,
+    progress: &mut P,
+) -> Result<Search, StepFault>
     ensures { IfOk result (λ search. kept_of search ≡ kept_from states program_of beginning.now states 0 (first_kept states program_of beginning.now)) }
 {
     let mut search = Search::new(alloc, states, beginning)?;
-    match search.search(alloc, beginning, states, &mut Unheard) {
+    let end = search.search(alloc, beginning, states, progress, &mut Unheard);
+    progress.end();
+    match end {
         Ok(()) => Ok(search),
         Err(_) => Err(StepFault::NoMemory),
     }
@@ -211,14 +219,18 @@ fn search_all(alloc: Global, beginning: &Beginning, states: u32) -> Result<Searc
 /// its processes reach, and for each live process a line STEP with the number of the state to which its step leads, or that it was
 /// left out, and the step's lines explained. The last line, DONE, has how many states were found and whether that is all.
 ///
+/// All states are found before the first line is written; meanwhile `progress` shows how far the search is, which ends then, also where it
+/// stops by a fault.
+///
 /// # Errors
 ///
 /// `Memory` where memory was refused, `Write` where a write failed: the sink was given a beginning of the lines.
-pub fn write_graph<W: Sink>(
+pub fn write_graph<W: Sink, P: Progress>(
     alloc: Global,
     beginning: &Beginning,
     states: u32,
     tree: bool,
+    progress: &mut P,
     out: &mut W,
 ) -> Result<(), Stop>
     requires { 1 ≤ states }
@@ -227,7 +239,7 @@ pub fn write_graph<W: Sink>(
     ensures failed { IfErr result (λ stop. FailsBy stop (W.failures out.old) (W.failures out.new)) }
     ensures quiet { OnOk result (W.failures out.new ≡ W.failures out.old) }
 {
-    let search = search_all(alloc, beginning, states)?;
+    let search = search_all(alloc, beginning, states, progress)?;
     write_vertices(alloc, beginning, &search, tree, out)?;
     Ok(write_states(out, search.states.len(), search.complete)?)
 }

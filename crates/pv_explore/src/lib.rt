@@ -3,8 +3,8 @@
 //! `beginning` has a machine before its first step, which can be made anew, and `position` a machine at the end of a way, a list
 //! of process numbers. `search` keeps what a search finds: `states`, each as a row of the numbers that its parts have in tables, and
 //! the way to each. `keys` has different byte strings in the order in which they came. `explore` writes what the steps of all states
-//! tell, each text once with a way to it, and `graph` each state with its steps and where they lead. `way` writes a way, and
-//! `unheard` is a sink for what nobody reads.
+//! tell, each text once with a way to it, and `graph` each state with its steps and where they lead. `way` writes a way,
+//! `unheard` is a sink for what nobody reads, and `progress` is where a search says how far it is.
 //!
 //! A clause sees the texts as the definitions have them. `specs/Plan` says how a search goes, and `proofs/Planned` that it finds
 //! and tells what the definitions do.
@@ -15,6 +15,7 @@ mod explore;
 mod graph;
 mod keys;
 mod position;
+mod progress;
 mod search;
 mod states;
 mod unheard;
@@ -23,3 +24,4 @@ mod way;
 pub use beginning::Beginning;
 pub use explore::write_explore;
 pub use graph::write_graph;
+pub use progress::{Progress, Unshown};

@@ -15,6 +15,7 @@ ghost use Rattle.pv_streams.specs.Sinks.{and_all, TellsBeginning};
 use crate::beginning::Beginning;
 use crate::keys::Keys;
 use crate::position::{Position, push_number};
+use crate::progress::Progress;
 use crate::states::{Followed, Found, States};
 use crate::way::Way;
 use pv_answers::{Fragment, Line, Plain};
@@ -342,16 +343,17 @@ impl Search {
     }
 
     /// Goes on from the first state, to at most so many: it makes the steps in all states found, in the order of finding, and tells
-    /// those whose text no step before had.
+    /// those whose text no step before had. Before those of each state it shows how far it is.
     ///
     /// # Errors
     ///
     /// `Memory` where memory was refused, `Write` where a write failed: the sink was given a beginning of the lines.
-    pub(crate) fn search<W: Sink>(
+    pub(crate) fn search<W: Sink, P: Progress>(
         &mut self,
         alloc: Global,
         beginning: &Beginning,
         limit: u32,
+        progress: &mut P,
         out: &mut W,
     ) -> Result<(), Stop>
         requires { AreAt beginning.now (kept_of self.old) }
@@ -366,6 +368,8 @@ impl Search {
             let Some(way) = self.way(alloc, number as usize)? else {
                 return Ok(());
             };
+            let found = self.states.len();
+            progress.show(found, found.saturating_sub(number as usize));
             self.make_moves(alloc, beginning, limit, number as usize, &way, out)?;
         }
         Ok(())

@@ -3,5 +3,5 @@ use Rattle.pv_explore.specs.Searches.{AreAt}
 use Rattle.pv_explore.proofs.Followed.{first-at}
 use Rattle.pv_explore.proofs.graph.search_all.Goals as goal
 
-pub search-requires : goal.search-requires
-search-requires c = subst (AreAt c.args.beginning.now) (sym c.in_ok-search.ensures) (first-at c.args.states c.args.beginning.now)
+pub search-end-requires : goal.search-end-requires
+search-end-requires c = subst (AreAt c.args.beginning.now) (sym c.in_ok-search.ensures) (first-at c.args.states c.args.beginning.now)
