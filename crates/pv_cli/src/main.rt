@@ -1,11 +1,12 @@
 //! `pvsim`: the program of `pv_cli_line` over the files and the streams of its system.
 //!
 //! `main` hands over the words, the files, the standard input, output and errors; the output is gathered, so that many small
-//! writes are one of the system's. Without words, on a terminal, it says first what is read. What is proved of the program is the contract of `run`, over any files and streams.
+//! writes are one of the system's. Without words, on a terminal, it says first what is read. Where the standard error is a terminal, a
+//! search shows there how far it is. What is proved of the program is the contract of `run`, over any files and streams.
 #![tactic(auto)]
 
 use pv_cli_commands::HostSystem;
-use pv_cli_host::{HostFiles, Input, Output};
+use pv_cli_host::{HostFiles, Input, Output, Screen, ScreenWriter, Shown};
 use pv_cli_line::{Fault, LineFault, run, tell};
 use pv_streams::Buffered;
 use std::io::IsTerminal;
@@ -37,16 +38,19 @@ fn greet(rt: &HostRuntime, words: &[String]) {
 }
 
 fn main(rt: HostRuntime) -> ExitCode {
+    let screen = Screen::new(&rt);
+    let writer = ScreenWriter::new(&screen, io::writer(&rt));
     let mut system = HostSystem {
         files: HostFiles::new(&rt),
         input: Input::new(rt.reader()),
-        output: Buffered::new(rt.alloc(), Output::new(io::writer(&rt))),
+        output: Buffered::new(rt.alloc(), Output::new(writer)),
         errors: Output::new(rt.stderr()),
     };
     let status = match words_of(&rt) {
         Ok(words) => {
             greet(&rt, words.as_slice());
-            run(rt.alloc(), words.as_slice(), &mut system)
+            let mut progress = Shown::new(&screen);
+            run(rt.alloc(), words.as_slice(), &mut system, &mut progress)
         }
         Err(fault) => tell(&fault, &mut system),
     };

@@ -7,7 +7,9 @@ use crate::command::{RunInput, TreeInput};
 use crate::fault::Fault;
 use crate::system::Files;
 use pv_model::RunFault;
-use pv_questions::{AskStop, Question, TreeQuestion, ask, ask_bundle, ask_manifest, ask_tree};
+use pv_questions::{
+    AskStop, Progress, Question, TreeQuestion, ask, ask_bundle, ask_manifest, ask_tree,
+};
 use pv_streams::{Failed, Sink, Source};
 use std::alloc::Global;
 
@@ -75,59 +77,63 @@ fn ask_file<F: Files, W: Sink>(
 }
 
 // Answers a question of the tree of the image that a source gives.
-fn ask_tree_from<S: Source, W: Sink>(
+fn ask_tree_from<S: Source, W: Sink, P: Progress>(
     alloc: Global,
     question: TreeQuestion<'_>,
     image: &mut S,
+    progress: &mut P,
     out: &mut W,
 ) -> Result<(), Fault>
     ensures { AsksImageTree S.Source W.Sink question.entry image.old image.new out.old out.new result }
 {
-    ask_tree(alloc, question, image, out)?;
+    ask_tree(alloc, question, image, progress, out)?;
     Ok(())
 }
 
 // Answers a question of the tree of the image in a file.
-fn ask_tree_file<F: Files, W: Sink>(
+fn ask_tree_file<F: Files, W: Sink, P: Progress>(
     alloc: Global,
     files: &F,
     question: TreeQuestion<'_>,
     name: &str,
+    progress: &mut P,
     out: &mut W,
 ) -> Result<(), Fault>
     ensures { AsksImageFile (disk_of F.Files F.Reader.Source F.Writer.Sink) W.Sink files.now question.entry name.now out.old out.new result }
 {
     match files.open(name) {
-        Ok(mut image) => ask_tree_from(alloc, question, &mut image, out),
+        Ok(mut image) => ask_tree_from(alloc, question, &mut image, progress, out),
         Err(Failed) => Err(Fault::Asking(AskStop::Machine(RunFault::Read))),
     }
 }
 
 // Answers a question of the tree of the manifest or the bundle that a source gives.
-fn ask_manifest_from<S: Source, W: Sink>(
+fn ask_manifest_from<S: Source, W: Sink, P: Progress>(
     alloc: Global,
     question: TreeQuestion<'_>,
     manifest: &mut S,
+    progress: &mut P,
     out: &mut W,
 ) -> Result<(), Fault>
     ensures { AsksManifest S.Source W.Sink question.entry manifest.old manifest.new out.old out.new result }
 {
-    ask_manifest(alloc, question, manifest, out)?;
+    ask_manifest(alloc, question, manifest, progress, out)?;
     Ok(())
 }
 
 // Answers a question of the tree of the manifest or the bundle in a file.
-fn ask_manifest_file<F: Files, W: Sink>(
+fn ask_manifest_file<F: Files, W: Sink, P: Progress>(
     alloc: Global,
     files: &F,
     question: TreeQuestion<'_>,
     name: &str,
+    progress: &mut P,
     out: &mut W,
 ) -> Result<(), Fault>
     ensures { AsksManifestFile (disk_of F.Files F.Reader.Source F.Writer.Sink) W.Sink files.now question.entry name.now out.old out.new result }
 {
     match files.open(name) {
-        Ok(mut manifest) => ask_manifest_from(alloc, question, &mut manifest, out),
+        Ok(mut manifest) => ask_manifest_from(alloc, question, &mut manifest, progress, out),
         Err(Failed) => Err(Fault::Asking(AskStop::Machine(RunFault::Read))),
     }
 }
@@ -154,20 +160,23 @@ pub(crate) fn ask_run<F: Files, I: Source, W: Sink>(
 }
 
 // Answers a question of what has a tree: the manifest on the standard input for `-`.
-pub(crate) fn ask_tree_of<F: Files, I: Source, W: Sink>(
+pub(crate) fn ask_tree_of<F: Files, I: Source, W: Sink, P: Progress>(
     alloc: Global,
     files: &F,
     input: &mut I,
     question: TreeQuestion<'_>,
     tree: TreeInput<'_>,
+    progress: &mut P,
     out: &mut W,
 ) -> Result<(), Fault>
     ensures does { AsksTree (disk_of F.Files F.Reader.Source F.Writer.Sink) I.Source W.Sink files.now question.entry tree.entry input.old input.new out.old out.new result }
     ensures unread { ReadsTreeFile tree.entry → input.new ≡ input.old }
 {
     match tree {
-        TreeInput::Image(name) => ask_tree_file(alloc, files, question, name, out),
-        TreeInput::Manifest("-") => ask_manifest_from(alloc, question, input, out),
-        TreeInput::Manifest(name) => ask_manifest_file(alloc, files, question, name, out),
+        TreeInput::Image(name) => ask_tree_file(alloc, files, question, name, progress, out),
+        TreeInput::Manifest("-") => ask_manifest_from(alloc, question, input, progress, out),
+        TreeInput::Manifest(name) => {
+            ask_manifest_file(alloc, files, question, name, progress, out)
+        }
     }
 }

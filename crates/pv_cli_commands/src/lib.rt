@@ -6,7 +6,8 @@
 //! images of version 2, and `importing` those of directories. `system` has the files and streams of a command, and `fault` what a person is told, and the exit status.
 //!
 //! A clause sees of a source what it will give, of a sink what it was given and what is buffered in it, of both how often they
-//! failed, and of files the bytes that a name has, and of directories the entries.
+//! failed, and of files the bytes that a name has, and of directories the entries. Of what shows
+//! the progress of a search it sees nothing.
 #![tactic(auto)]
 
 pub mod asking;
@@ -28,4 +29,5 @@ pub use command::{Command, RunInput, TreeInput};
 pub use directories::Directories;
 pub use fault::Fault;
 pub use performing::perform;
+pub use pv_questions::{Progress, Unshown};
 pub use system::{Files, HostSystem};

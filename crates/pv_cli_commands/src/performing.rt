@@ -17,6 +17,7 @@ use crate::migrating::migrate_file;
 use crate::running::{run_file, run_from};
 use crate::sources::{write_file, write_from};
 use crate::system::{Files, HostSystem};
+use pv_questions::Progress;
 use pv_streams::{Sink, Source};
 use std::alloc::Global;
 
@@ -42,7 +43,7 @@ use std::alloc::Global;
 /// - `AskTree` writes to the standard output what a question of a tree answers: of the tree of the image in a file, or of the
 ///   manifest in one, or of that of the standard input for `-`.
 ///
-/// What was written was flushed, unless a read or a write failed.
+/// What was written was flushed, unless a read or a write failed. A search of states shows on `progress` how far it is.
 ///
 /// # Errors
 ///
@@ -50,10 +51,17 @@ use std::alloc::Global;
 /// `Asking`: a file did not open or could not be read, the input was refused, memory was refused, or the output could not be written. Where
 /// the input was refused, nothing was written.
 #[tactic(auto, using(crate::proofs::Outcomes::failed_with_status))]
-pub fn perform<F: Files + Directories + Drop, I: Source + Drop, O: Sink + Drop, E: Sink + Drop>(
+pub fn perform<
+    F: Files + Directories + Drop,
+    I: Source + Drop,
+    O: Sink + Drop,
+    E: Sink + Drop,
+    P: Progress,
+>(
     alloc: Global,
     command: Command<'_>,
     system: &mut HostSystem<F, I, O, E>,
+    progress: &mut P,
 ) -> Result<(), Fault>
     ensures does { Performs (disk_of F.Files F.Reader.Source F.Writer.Sink) F.entries I.Source O.Sink E.Sink command.entry system.old system.new result }
     ensures flushed { Flushes O.Sink system.old.output system.new.output result }
@@ -102,7 +110,7 @@ pub fn perform<F: Files + Directories + Drop, I: Source + Drop, O: Sink + Drop, 
         Command::WriteSource(name) => write_file(alloc, files, name, output, errors),
         Command::Ask { question, run } => ask_run(alloc, files, input, question, run, output),
         Command::AskTree { question, tree } => {
-            ask_tree_of(alloc, files, input, question, tree, output)
+            ask_tree_of(alloc, files, input, question, tree, progress, output)
         }
     }
 }

@@ -10,7 +10,7 @@ ghost use Rattle.pv_cli_line.specs.Status.{IsStatusOf, line_status, status_of};
 use crate::command::{CommandLine, LineFault, command_line_of};
 use crate::explaining::{asks_for_more, explain, explain_number};
 use crate::fault::Fault;
-use pv_cli_commands::{Directories, Fault as CommandFault, Files, HostSystem, perform};
+use pv_cli_commands::{Directories, Fault as CommandFault, Files, HostSystem, Progress, perform};
 use pv_streams::{Sink, Source, write_whole};
 use std::alloc::Global;
 use std::convert::AsStr;
@@ -117,14 +117,15 @@ fn tell_words<S: AsStr, F: Drop, I: Drop, O: Sink + Drop, E: Sink + Drop>(
 /// The status is 0 where it is done, also where help or the version was asked for; 1 where the input is
 /// refused, 2 where the words are no command line, 3 where memory was refused, and 4 where a read or a
 /// write failed. Where the words have the flag `verbose`, more is told of a fault, in lines that begin with two blanks. With any
-/// status but 4, nothing is buffered in the standard output that was not before.
+/// status but 4, nothing is buffered in the standard output that was not before. A search of states shows on `progress` how far it is.
 pub fn run<
     S: AsStr,
     F: Files + Directories + Drop,
     I: Source + Drop,
     O: Sink + Drop,
     E: Sink + Drop,
->(alloc: Global, words: &[S], system: &mut HostSystem<F, I, O, E>) -> u8
+    P: Progress,
+>(alloc: Global, words: &[S], system: &mut HostSystem<F, I, O, E>, progress: &mut P) -> u8
     ensures comes { (outcome : Result (Unit {0}) Written) × IsStatusOf outcome result
         × ComesTo (disk_of F.Files F.Reader.Source F.Writer.Sink) F.entries I.Source O.Sink E.Sink (map S.text words.now) system.old system.new result outcome }
     ensures flushed { O.buffered system.old.output ≡ 0 → result ≢ 4 → O.buffered system.new.output ≡ 0 }
@@ -133,7 +134,7 @@ pub fn run<
         Ok(line) => line,
         Err(fault) => return tell_words(words, fault, system),
     };
-    match perform(alloc, line.command, system) {
+    match perform(alloc, line.command, system, progress) {
         Ok(()) => 0,
         Err(fault) => tell_all(alloc, line, fault, system),
     }

@@ -4,7 +4,7 @@
 //! change.
 #![tactic(auto)]
 
-use pv_cli_commands::{Command, HostSystem, perform};
+use pv_cli_commands::{Command, HostSystem, Unshown, perform};
 use pv_cli_host::{HostFiles, Input, Output};
 use pv_streams::Buffered;
 use std::io;
@@ -17,7 +17,7 @@ fn main(rt: HostRuntime) -> ExitCode {
         output: Buffered::new(rt.alloc(), Output::new(io::writer(&rt))),
         errors: Output::new(rt.stderr()),
     };
-    match perform(rt.alloc(), Command::RunTree("-"), &mut system) {
+    match perform(rt.alloc(), Command::RunTree("-"), &mut system, &mut Unshown) {
         Ok(()) => ExitCode::SUCCESS,
         Err(fault) => {
             let _written = eprint!(rt; "{fault}");

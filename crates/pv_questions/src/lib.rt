@@ -23,6 +23,7 @@ pub use laws::{
     bundles_answer_as_manifests, images_answer_as_bundles, images_answer_as_manifests,
     manifests_stand_alone,
 };
+pub use pv_explore::{Progress, Unshown};
 pub use question::{Question, TreeQuestion};
 pub use runs::{ask, ask_bundle};
 pub use stop::AskStop;

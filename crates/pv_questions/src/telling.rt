@@ -24,7 +24,7 @@ use crate::stop::AskStop;
 use pv_answers::{write_reach, write_reach_of, write_state};
 use pv_calls_state::Parts;
 use pv_explain::{Explainer, explain_schedule};
-use pv_explore::{Beginning, write_explore, write_graph};
+use pv_explore::{Beginning, Progress, write_explore, write_graph};
 use pv_listing::{ListStop, write_listing};
 use pv_model::{RunFault, Verdict};
 use pv_needs::{write_needs, write_turns};
@@ -229,10 +229,11 @@ pub(crate) fn tell_turns<W: Sink>(
 
 // Writes what can happen under any schedule of a machine.
 #[tactic(auto, using(pv_streams::proofs::Sinks::begins_whole))]
-pub(crate) fn tell_explore<W: Sink>(
+pub(crate) fn tell_explore<W: Sink, P: Progress>(
     alloc: Global,
     beginning: &Beginning,
     states: u32,
+    progress: &mut P,
     out: &mut W,
 ) -> Result<(), AskStop>
     requires { 1 ≤ states }
@@ -243,17 +244,18 @@ pub(crate) fn tell_explore<W: Sink>(
     ensures stopped { IfErr result (λ stop. BufferedOnlyIfUnwritten stop (W.buffered out.new)) }
     ensures failed { result ≡ Err AskStop.Write → Rose (W.failures out.old) (W.failures out.new) }
 {
-    let end = write_explore(alloc, beginning, states, out);
+    let end = write_explore(alloc, beginning, states, progress, out);
     hand_on(end, out)
 }
 
 // Writes the states that any schedule of a machine reaches, and how they hang together.
 #[tactic(auto, using(pv_streams::proofs::Sinks::begins_whole))]
-pub(crate) fn tell_graph<W: Sink>(
+pub(crate) fn tell_graph<W: Sink, P: Progress>(
     alloc: Global,
     beginning: &Beginning,
     states: u32,
     tree: bool,
+    progress: &mut P,
     out: &mut W,
 ) -> Result<(), AskStop>
     requires { 1 ≤ states }
@@ -264,7 +266,7 @@ pub(crate) fn tell_graph<W: Sink>(
     ensures stopped { IfErr result (λ stop. BufferedOnlyIfUnwritten stop (W.buffered out.new)) }
     ensures failed { result ≡ Err AskStop.Write → Rose (W.failures out.old) (W.failures out.new) }
 {
-    let end = write_graph(alloc, beginning, states, tree, out);
+    let end = write_graph(alloc, beginning, states, tree, progress, out);
     hand_on(end, out)
 }
 

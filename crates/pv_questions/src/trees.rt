@@ -11,7 +11,7 @@ use crate::file::file_at;
 use crate::question::TreeQuestion;
 use crate::stop::AskStop;
 use crate::telling::{tell_explore, tell_file, tell_graph, tell_listing, tell_turns};
-use pv_explore::Beginning;
+use pv_explore::{Beginning, Progress};
 use pv_image_manifest::{Bundle, Manifest, build};
 use pv_image_mount::mount;
 use pv_model::{ManifestFault, RunFault};
@@ -94,10 +94,11 @@ fn answer_turns<W: Sink>(
 }
 
 // What can happen under any schedule of the machine that starts on a tree.
-fn answer_explore<W: Sink>(
+fn answer_explore<W: Sink, P: Progress>(
     alloc: Global,
     store: Store,
     states: u32,
+    progress: &mut P,
     out: &mut W,
 ) -> Result<(), AskStop>
     ensures answered { OnOk result (TellsAnswer (tree_answer (TreeQuestion.Explore states) store) (W.written out.old) (W.written out.new)) }
@@ -112,15 +113,16 @@ fn answer_explore<W: Sink>(
         Ok(beginning) => beginning,
         Err(fault) => return Err(AskStop::Machine(RunFault::from(fault))),
     };
-    tell_explore(alloc, &beginning, states.max(1), out)
+    tell_explore(alloc, &beginning, states.max(1), progress, out)
 }
 
 // The states that any schedule of that machine reaches.
-fn answer_graph<W: Sink>(
+fn answer_graph<W: Sink, P: Progress>(
     alloc: Global,
     store: Store,
     states: u32,
     tree: bool,
+    progress: &mut P,
     out: &mut W,
 ) -> Result<(), AskStop>
     ensures answered { OnOk result (TellsAnswer (tree_answer (TreeQuestion.Graph states tree) store) (W.written out.old) (W.written out.new)) }
@@ -135,7 +137,7 @@ fn answer_graph<W: Sink>(
         Ok(beginning) => beginning,
         Err(fault) => return Err(AskStop::Machine(RunFault::from(fault))),
     };
-    tell_graph(alloc, &beginning, states.max(1), tree, out)
+    tell_graph(alloc, &beginning, states.max(1), tree, progress, out)
 }
 
 // The bytes of the file that a path names.
@@ -154,10 +156,11 @@ fn answer_file<W: Sink>(tree: &Tree, path: &[u8], out: &mut W) -> Result<(), Ask
 }
 
 // Answers a question of a tree.
-fn answer<W: Sink>(
+fn answer<W: Sink, P: Progress>(
     alloc: Global,
     question: TreeQuestion<'_>,
     store: Store,
+    progress: &mut P,
     out: &mut W,
 ) -> Result<(), AskStop>
     ensures answered { OnOk result (TellsAnswer (tree_answer question.entry store) (W.written out.old) (W.written out.new)) }
@@ -171,15 +174,18 @@ fn answer<W: Sink>(
         TreeQuestion::Listing => tell_listing(alloc, store.tree(), out),
         TreeQuestion::File(path) => answer_file(store.tree(), path, out),
         TreeQuestion::Turns { slice, steps } => answer_turns(alloc, store, slice, steps, out),
-        TreeQuestion::Explore { states } => answer_explore(alloc, store, states, out),
-        TreeQuestion::Graph { states, tree } => answer_graph(alloc, store, states, tree, out),
+        TreeQuestion::Explore { states } => answer_explore(alloc, store, states, progress, out),
+        TreeQuestion::Graph { states, tree } => {
+            answer_graph(alloc, store, states, tree, progress, out)
+        }
     }
 }
 
 /// Answers a question of the tree of an image.
 ///
 /// The image is read whole, and it is judged before anything is written; for `Turns`, `Explore` and `Graph` the program of `init` is judged next.
-/// Where the answer is `Ok`, `out` has grown by just its text, all of which was flushed.
+/// Where the answer is `Ok`, `out` has grown by just its text, all of which was flushed. The searches of `Explore` and `Graph` show on
+/// `progress` how far they are.
 ///
 /// # Errors
 ///
@@ -190,10 +196,11 @@ fn answer<W: Sink>(
 /// - `Write`: a write failed; `out` has grown by a beginning of the text.
 ///
 /// What was written was flushed, but where a write failed.
-pub fn ask_tree<S: Source, W: Sink>(
+pub fn ask_tree<S: Source, W: Sink, P: Progress>(
     alloc: Global,
     question: TreeQuestion<'_>,
     image: &mut S,
+    progress: &mut P,
     out: &mut W,
 ) -> Result<(), AskStop>
     ensures answered { OnOk result (IfSome (S.remaining image.old) (λ bytes. TellsAnswer (image_tree_answer question.entry bytes) (W.written out.old) (W.written out.new))) }
@@ -208,7 +215,7 @@ pub fn ask_tree<S: Source, W: Sink>(
     ensures write { result ≡ Err AskStop.Write → Rose (W.failures out.old) (W.failures out.new) }
 {
     let store = store_of_image(alloc, image)?;
-    answer(alloc, question, store, out)
+    answer(alloc, question, store, progress, out)
 }
 
 /// Answers a question of the tree that a manifest makes, as `ask_tree` does of an image's. The manifest may be a bundle's: what
@@ -217,10 +224,11 @@ pub fn ask_tree<S: Source, W: Sink>(
 /// # Errors
 ///
 /// As of `ask_tree`; `Machine` has the first fault of the manifest, and then of its entries.
-pub fn ask_manifest<S: Source, W: Sink>(
+pub fn ask_manifest<S: Source, W: Sink, P: Progress>(
     alloc: Global,
     question: TreeQuestion<'_>,
     manifest: &mut S,
+    progress: &mut P,
     out: &mut W,
 ) -> Result<(), AskStop>
     ensures answered { OnOk result (IfSome (S.remaining manifest.old) (λ bytes. TellsAnswer (manifest_tree_answer question.entry bytes) (W.written out.old) (W.written out.new))) }
@@ -235,5 +243,5 @@ pub fn ask_manifest<S: Source, W: Sink>(
     ensures write { result ≡ Err AskStop.Write → Rose (W.failures out.old) (W.failures out.new) }
 {
     let store = store_of_manifest(alloc, manifest)?;
-    answer(alloc, question, store, out)
+    answer(alloc, question, store, progress, out)
 }

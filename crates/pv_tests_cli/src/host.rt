@@ -1,5 +1,6 @@
 //! The streams of the system over a reader and a writer that fail.
-use pv_cli_host::{Input, Output};
+use pv_cli_commands::Progress;
+use pv_cli_host::{Input, Output, Screen, ScreenWriter, Shown};
 use pv_streams::{Failed, Sink, Source};
 use std::io;
 use std::io::{ErrorKind, Read, Write};
@@ -51,4 +52,16 @@ fn an_output_takes_what_its_writer_takes(rt: HostRuntime) {
     assert!(rt; output.write(b"yz") == Ok(0));
     assert!(rt; output.write(b"") == Ok(0));
     assert!(rt; output.flush() == Ok(()));
+}
+
+#[test]
+fn a_screen_leaves_what_is_written_as_it_is(rt: HostRuntime) {
+    let screen = Screen::new(&rt);
+    let mut progress = Shown::new(&screen);
+    let mut writer = ScreenWriter::new(&screen, Once { is_used: false });
+    progress.show(2, 1);
+    assert!(rt; writer.write(b"xyz").ok() == Some(1));
+    progress.show(3, 1);
+    progress.end();
+    assert!(rt; writer.write(b"yz").ok() == Some(0));
 }

@@ -1,7 +1,7 @@
 //! Runs of the whole program over an output that takes nothing, also before it is flushed.
 ghost use Rattle.std.specs.Prelude.{[], None};
 
-use pv_cli_commands::{Directories, Files, HostSystem};
+use pv_cli_commands::{Directories, Files, HostSystem, Unshown};
 use pv_cli_line::run;
 use pv_host_copy::{HostDirectory, HostEntry, HostFault, HostFile};
 use pv_streams::{Bytes, Failed, Gathered, Sink};
@@ -108,7 +108,7 @@ fn an_output_that_takes_nothing_is_a_failed_write(rt: HostRuntime) {
             output: Broken { failures: 0 },
             errors: Gathered::new(rt.alloc()),
         };
-        assert!(rt; run(rt.alloc(), *words, &mut system) == 4);
+        assert!(rt; run(rt.alloc(), *words, &mut system, &mut Unshown) == 4);
         assert!(rt; system.errors.bytes.as_slice() == b"pvsim: write\n".as_slice());
     }
 }
