@@ -1,5 +1,5 @@
 -- An entry added in its directory.
-use Rattle.std.proofs.Common.{◌≡◌, ◌∙◌, ap, ℕ, true, false, Option, None, Some, is_some, Result, Ok, Err, refl}
+use Rattle.std.proofs.Common.{◌≡◌, ◌∙◌, ap, ℕ, true, false, None, Some, is_some, Result, Ok, Err, refl}
 use Rattle.pv_model.specs.declared.fault.ManifestFault.{ManifestFault}
 use Rattle.pv_model.specs.declared.fault.ManifestFault.TheVariants.{Parent, Exists}
 use Rattle.pv_model.specs.Bytes.{Bytes}

@@ -25,7 +25,7 @@ use Rattle.pv_host_copy.specs.Imported.{greatest_tree, IsTreeOf}
 use Rattle.pv_host_copy.specs.Importing.{Holds, Steps, StopsIf}
 use Rattle.pv_host_copy.specs.Lines.{told_line}
 use Rattle.pv_host_copy.specs.Stopped.{IsRefused, StopsCopy, refused_pair}
-use Rattle.pv_host_copy.specs.Written.{Imports, TellsLeftOut, TellsPairs, TellsStop}
+use Rattle.pv_host_copy.specs.Written.{Imports, TellsPairs, TellsStop}
 
 -- what is held at the end
 whole : (v w : Version) (host : HostEntries) (path : Bytes) (before after : Importing) → w ≡ v → path ≡ [] → Holds (greatest_tree v) nothing_gathered before

@@ -10,7 +10,7 @@ use Rattle.pv_model.specs.Bytes.{Bytes}
 use Rattle.pv_model.specs.Grammar.Manifests.{add_entry, and_entries, add_entries, path_of}
 use Rattle.pv_model.specs.Manifest.{Entry, make, further_name}
 use Rattle.pv_model.specs.Room.{greatest_length}
-use Rattle.pv_model.specs.Tree.{Node, Tree, file_node, link_node, is_link_text, directory_node}
+use Rattle.pv_model.specs.Tree.{Node, Tree, file_node, directory_node}
 use Rattle.pv_tree.specs.Holding.{HeldTree}
 use Rattle.pv_host_copy.specs.declared.entry.Identity.{Identity}
 use Rattle.pv_host_copy.specs.declared.fault.CopyStop.{CopyStop}
@@ -18,13 +18,13 @@ use Rattle.pv_host_copy.specs.declared.fault.CopyStop.TheVariants as stop
 use Rattle.pv_host_copy.specs.declared.fault.HostFault.{HostFault}
 use Rattle.pv_host_copy.specs.declared.fault.HostFault.TheVariants as host
 use Rattle.pv_host_copy.specs.declared.fault.Why.{Why}
-use Rattle.pv_host_copy.specs.declared.fault.Why.TheVariants.{Name, Size, Text}
+use Rattle.pv_host_copy.specs.declared.fault.Why.TheVariants.{Name, Size}
 use Rattle.pv_host_copy.specs.declared.first.First.{First}
 use Rattle.pv_host_copy.specs.declared.importing.Importing.{Importing}
 use Rattle.pv_host_copy.specs.declared.told.Told.{Told}
 use Rattle.pv_host_copy.specs.Adding.{Adds, IsUnadded}
 use Rattle.pv_host_copy.specs.Firsts.{first_pair, told_pair}
-use Rattle.pv_host_copy.specs.Gathered.{Gathered, and_entry, and_told, and_first_entry, and_node, and_linked, and_file, and_link, first_of}
+use Rattle.pv_host_copy.specs.Gathered.{Gathered, and_entry, and_told, and_first_entry, and_linked, and_file, first_of}
 use Rattle.pv_host_copy.specs.Importing.{Holds, Steps, Refuses, Stops, StopsIf, Goes, GoesIf, Settles}
 use Rattle.pv_host_copy.specs.Paths.{is_path}
 use Rattle.pv_host_copy.specs.Reading.{IsWhole}

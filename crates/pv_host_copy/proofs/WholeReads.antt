@@ -1,5 +1,5 @@
 -- What is read of a file, read by read.
-use Rattle.std.proofs.Common.{◌≡◌, refl, ◌<◌, ◌≤◌, ◌+◌, ◌++◌, ap, sym, subst, ℕ, [], length, take, length-append, arith, Option, None, Some}
+use Rattle.std.proofs.Common.{◌≡◌, refl, ◌<◌, ◌≤◌, ◌+◌, ◌++◌, sym, subst, ℕ, [], length, length-append, arith, Option, None, Some}
 use Rattle.std.specs.Global.{Vec}
 use Rattle.std.specs.Prelude.{IfSome, IsSome}
 use Rattle.std.proofs.lemmas.List.{append-nil}

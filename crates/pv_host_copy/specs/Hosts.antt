@@ -1,5 +1,5 @@
 -- What a host's directory has: its names in the order of their bytes, with what stands under each.
-use Rattle.std.specs.Prelude.{ℕ, Bool, ◌&&◌, ◌==◌}
+use Rattle.std.specs.Prelude.{Bool, ◌&&◌, ◌==◌}
 use Rattle.pv_model.specs.Bytes.{Bytes}
 use Rattle.pv_host_copy.specs.declared.entry.Identity.{Identity}
 

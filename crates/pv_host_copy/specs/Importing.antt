@@ -1,5 +1,5 @@
 -- What is imported so far, and how it goes on.
-use Rattle.std.specs.Prelude.{◌≡◌, ⊤, if◌then◌else◌, Bool, true, false, [], map, Option, None, Some, Result, Ok, Err, IfSome}
+use Rattle.std.specs.Prelude.{◌≡◌, ⊤, if◌then◌else◌, Bool, true, false, [], map, Option, None, Result, Ok, Err, IfSome}
 use Rattle.pv_model.specs.Bytes.{Bytes}
 use Rattle.pv_model.specs.Grammar.Manifests.{add_entries}
 use Rattle.pv_model.specs.Manifest.{make}

@@ -1,5 +1,6 @@
 pub mod Adding
 pub mod Entries
+pub mod Exported
 pub mod Firsts
 pub mod Gathered
 pub mod Hosts
@@ -8,7 +9,9 @@ pub mod Importing
 pub mod Lines
 pub mod Paths
 pub mod Reading
+pub mod Spelled
 pub mod Stopped
 pub mod Telling
+pub mod Unpacked
 pub mod Walking
 pub mod Written

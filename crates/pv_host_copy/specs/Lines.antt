@@ -1,4 +1,4 @@
--- The lines that tell what is left out, and what could not be added.
+-- The lines that tell what is left out, what could not be added, and what was not made.
 use Rattle.std.specs.Prelude.{◌++◌, codes}
 use Rattle.pv_model.specs.Bytes.{Bytes}
 use Rattle.pv_model.specs.Listing.{listed_path}
@@ -37,3 +37,7 @@ told_line (path, why) = path_line path (ending why)
 -- that of a path that could not be added
 abbrev pub refused_line : Bytes × EntryFault → Bytes
 refused_line (path, fault) = path_line path (refused_ending fault)
+
+-- that of a path under which something was not made
+abbrev pub unmade_line : Bytes → Bytes
+unmade_line path = codes "pvsim: export: " ++ quote (listed_path path) ++ codes ": write\n"

@@ -1,8 +1,8 @@
-//! The lines that tell what is left out, and what could not be added.
+//! The lines that tell what is left out, what could not be added, and what was not made.
 ghost use Rattle.std.specs.Prelude.{◌≡◌, flat_map, map, OnOk};
 ghost use Rattle.pv_streams.specs.Sinks.{and_all};
 ghost use Rattle.pv_host_copy.specs.Firsts.{told_pair};
-ghost use Rattle.pv_host_copy.specs.Lines.{ending, line_front, path_line, refused_ending, refused_line, told_line};
+ghost use Rattle.pv_host_copy.specs.Lines.{ending, line_front, path_line, refused_ending, refused_line, told_line, unmade_line};
 ghost use Rattle.pv_host_copy.specs.Stopped.{refused_pair};
 
 use crate::fault::{EntryFault, Refused, Why};
@@ -82,4 +82,18 @@ pub fn write_refused<W: Sink>(out: &mut W, refused: &Refused) -> Result<(), Fail
     ensures { OnOk result (W.written out.new ≡ and_all (W.written out.old) (refused_line (refused_pair refused.now))) }
 {
     write_path_line(out, &refused.path, refused_ending(refused.fault))
+}
+
+/// Writes the line of a path under which something was not made, or not whole: `pvsim: export: `, the path as a listing has it,
+/// and `write`.
+///
+/// # Errors
+///
+/// `Failed` where a write failed.
+pub fn write_unmade<W: Sink>(out: &mut W, path: &[u8]) -> Result<(), Failed>
+    ensures { OnOk result (W.written out.new ≡ and_all (W.written out.old) (unmade_line path.now)) }
+{
+    write_whole(out, b"pvsim: export: ")?;
+    write_path(out, path)?;
+    write_whole(out, b": write\n")
 }

@@ -1,6 +1,5 @@
 use Rattle.std.proofs.Common.{◌+◌, ◌∙◌, ap, sym, drop, refl, Some}
-use Rattle.std.proofs.Math.ListN.{drop_of_length-le}
-use Rattle.pv_host_copy.proofs.FirstPaths.{next_first, found-first, found-named, sought-step, sought-end}
+use Rattle.pv_host_copy.proofs.FirstPaths.{next_first, found-first}
 use Rattle.pv_host_copy.proofs.first.first_of.Goals as goal
 
 pub loop-first-init : goal.loop-first-init

@@ -1,8 +1,7 @@
-use Rattle.std.proofs.Common.{◌∙◌, ap, arith, refl, subst, sym, length, ◌≤◌, Bool, Option, Some, true, Ok, Err}
+use Rattle.std.proofs.Common.{◌∙◌, arith, refl, subst, sym, Ok, Err}
 use Rattle.std.specs.Prelude.{IfSome}
 use Rattle.pv_host_copy.specs.Gathered.{and_directory, gather}
 use Rattle.pv_host_copy.specs.Importing.{Keeps}
-use Rattle.pv_host_copy.specs.Paths.{below}
 use Rattle.pv_host_copy.specs.Telling.{Tells}
 use Rattle.pv_host_copy.specs.Walking.{GoesByNode}
 use Rattle.pv_host_copy.proofs.Stepping.{goes_if-residual}

@@ -1,4 +1,4 @@
-use Rattle.std.proofs.Common.{◌≡◌, ◌∙◌, ap, refl, sym}
+use Rattle.std.proofs.Common.{◌∙◌, ap, refl, sym}
 use Rattle.std.specs.Prelude.{map}
 use Rattle.pv_model.specs.Manifest.{further_name}
 use Rattle.pv_tree.specs.Holding.{HeldTree}

@@ -1,0 +1,192 @@
+//! The tree of an image as a directory of a host.
+ghost use Rattle.std.specs.Prelude.{◌≡◌, ◌≤◌, false, map, drop, take, vec_len, IsTrue, IsSome, IfOk, OnOk, OnErr};
+ghost use Rattle.std.specs.Option.{option_copied};
+ghost use Rattle.pv_dirs.specs.Trees.{bytes_at};
+ghost use Rattle.pv_listing.specs.Lines.{IsNextChild, last_name};
+ghost use Rattle.pv_model.specs.Tree.{Node, entries_at, is_directory_at, node_at, IsWellFormed};
+ghost use Rattle.pv_host_copy.specs.Exported.{path_pair, Exports, IsMadeNew, Makes, MakesNew};
+ghost use Rattle.pv_host_copy.specs.Spelled.{first_path, spelled_entries, spells_node, spells_within};
+
+use crate::target::{HostTarget, TargetFault};
+use pv_model::Kind;
+use pv_model::limits::ROOT;
+use pv_tree::Tree;
+use std::alloc::{AllocError, Global};
+
+/// Why the tree of an image was not made on a host, or not whole.
+#[derive(Debug, Drop)]
+pub enum ExportStop {
+    /// What stands under this path of the tree was not made, or not whole: a slash before each name.
+    Make(Vec<u8>),
+    /// Memory was refused.
+    Memory,
+}
+
+/// A file or link of an image, and the first path under which it was made.
+#[derive(Drop)]
+pub(crate) struct FirstPath {
+    pub(crate) node: u16,
+    pub(crate) path: Vec<u8>,
+}
+
+// The first path of a file or link, if it was made.
+fn first_path(firsts: &[FirstPath], node: u16) -> Option<&[u8]>
+    ensures { option_copied result ≡ first_path node (map path_pair firsts.now) }
+{
+    for first in firsts {
+        if first.node == node {
+            return Some(first.path.as_slice());
+        }
+    }
+    None
+}
+
+// The bytes of a file, or of a link's text.
+fn content(alloc: Global, tree: &Tree, node: u16) -> Result<Vec<u8>, AllocError>
+    requires used { IsSome (node_at tree.now.tree node) }
+    requires other { is_directory_at tree.now.tree node ≡ false }
+    ensures { IfOk result (λ bytes. bytes.items ≡ bytes_at tree.now.tree node) }
+{
+    let mut bytes = vec![in alloc; 0; tree.size(node) as usize]?;
+    tree.read_at(node, 0, &mut bytes);
+    Ok(bytes)
+}
+
+// Makes a file or link with its content.
+fn make_new<T: HostTarget>(
+    alloc: Global,
+    tree: &Tree,
+    path: &[u8],
+    node: u16,
+    target: &mut T,
+) -> Result<(), TargetFault>
+    requires used { IsSome (node_at tree.now.tree node) }
+    requires other { is_directory_at tree.now.tree node ≡ false }
+    ensures made { OnOk result (IsMadeNew path.now (node_at tree.now.tree node) (T.made target.old) (T.made target.new)) }
+    ensures unmade { OnErr result (T.made target.new ≡ T.made target.old) }
+{
+    let bytes = content(alloc, tree, node)?;
+    match tree.kind(node) {
+        Kind::Symlink => target.make_link(alloc, path, &bytes),
+        Kind::Executable => target.make_file(alloc, path, true, &bytes),
+        _ => target.make_file(alloc, path, false, &bytes),
+    }
+}
+
+// Makes a file or link under its first path, which is kept.
+fn export_new<T: HostTarget>(
+    alloc: Global,
+    tree: &Tree,
+    firsts: &mut Vec<FirstPath>,
+    path: &[u8],
+    node: u16,
+    target: &mut T,
+) -> Result<(), TargetFault>
+    requires used { IsSome (node_at tree.now.tree node) }
+    requires other { is_directory_at tree.now.tree node ≡ false }
+    ensures { MakesNew path.now node (node_at tree.now.tree node) firsts.old.items (T.made target.old) result firsts.new.items (T.made target.new) }
+{
+    make_new(alloc, tree, path, node, target)?;
+    let path = Vec::from_slice(alloc, path)?;
+    firsts.push(FirstPath { node, path })?;
+    Ok(())
+}
+
+// Makes what a node is under a path, a directory without what it has. It stands apart, as the next, so that the way down takes
+// little stack.
+#[inline(never)]
+fn export_node<T: HostTarget>(
+    alloc: Global,
+    tree: &Tree,
+    firsts: &mut Vec<FirstPath>,
+    path: &[u8],
+    node: u16,
+    target: &mut T,
+) -> Result<(), TargetFault>
+    ensures { Makes (spells_node path.now node (node_at tree.now.tree node)) firsts.old.items (T.made target.old) result firsts.new.items (T.made target.new) path.now }
+{
+    if !tree.is_used(node) {
+        return Ok(());
+    }
+    if tree.is_directory(node) {
+        return target.make_directory(alloc, path);
+    }
+    if let Some(first) = first_path(firsts, node) {
+        return target.make_name(alloc, path, first);
+    }
+    export_new(alloc, tree, firsts, path, node, target)
+}
+
+// Puts the next name of a directory at the end of a path, in the place of the one before it, and answers its node:
+// none where no name comes next, and then the path is the directory's. The first `base` bytes are the directory's path,
+// and `before` is a guess of how many of its names come before.
+#[inline(never)]
+fn next_child(
+    tree: &Tree,
+    directory: u16,
+    base: usize,
+    path: &mut Vec<u8>,
+    before: u32,
+) -> Result<Option<u16>, AllocError>
+    requires well_formed { IsWellFormed tree.now.tree }
+    requires directory { IsTrue (is_directory_at tree.now.tree directory) }
+    requires within { base ≤ vec_len path.old }
+    ensures { IfOk result (λ child. IsNextChild (entries_at tree.now.tree directory) (last_name (drop base path.old.items)) (take base path.old.items) child path.new.items) }
+{
+    let next = tree.next_entry(directory, path.get(base + 1..), before);
+    path.truncate(base);
+    let Some((name, child)) = next else {
+        return Ok(None);
+    };
+    path.push(b'/')?;
+    path.extend_from_slice(name.as_slice())?;
+    Ok(Some(child))
+}
+
+// Makes all that a directory at the end of a path has, so deep. Where something is not made, the path ends in its name.
+fn export_within<T: HostTarget>(
+    alloc: Global,
+    tree: &Tree,
+    firsts: &mut Vec<FirstPath>,
+    depth: u16,
+    path: &mut Vec<u8>,
+    node: u16,
+    target: &mut T,
+) -> Result<(), TargetFault>
+    requires { IsWellFormed tree.now.tree }
+    ensures made { Makes (spells_within tree.now.tree depth path.old.items node) firsts.old.items (T.made target.old) result firsts.new.items (T.made target.new) path.new.items }
+    ensures path { OnOk result (path.new.items ≡ path.old.items) }
+{
+    if depth == 0 || !tree.is_directory(node) {
+        return Ok(());
+    }
+    let base = path.len();
+    let mut before = 0;
+    while let Some(child) = next_child(tree, node, base, path, before)? {
+        export_node(alloc, tree, firsts, path, child, target)?;
+        export_within(alloc, tree, firsts, depth - 1, path, child, target)?;
+        before = before.saturating_add(1);
+    }
+    Ok(())
+}
+
+/// Makes what the tree of an image has in an empty directory of a host, in the order of the listing: each directory before
+/// what is in it, and each file or link under its first name, of which the others are further names.
+///
+/// # Errors
+///
+/// - `Make`: what stands under that path was not made, or not whole; all that comes before it was made.
+/// - `Memory`: memory was refused; a beginning was made.
+pub fn export<T: HostTarget>(alloc: Global, tree: &Tree, target: &mut T) -> Result<(), ExportStop>
+    ensures { Exports (spelled_entries tree.now.tree) (T.made target.old) result (T.made target.new) }
+{
+    tree.invariant();
+    let mut firsts = Vec::new(alloc);
+    let mut path = Vec::new(alloc);
+    let depth = tree.sizes().inodes + 1;
+    match export_within(alloc, tree, &mut firsts, depth, &mut path, ROOT, target) {
+        Ok(()) => Ok(()),
+        Err(TargetFault::Make) => Err(ExportStop::Make(path)),
+        Err(TargetFault::Memory) => Err(ExportStop::Memory),
+    }
+}
