@@ -1,4 +1,5 @@
-// Refuses one call of a program: the Nth allocation, open, read or write, as REFUSE=alloc:N, open:N, read:N or write:N asks.
+// Refuses one call of a program: the Nth allocation, open, read, write or making of a directory or a link, as REFUSE=alloc:N,
+// open:N, read:N, write:N or make:N asks.
 // With COUNT=FILE it refuses none and writes how many calls of each kind there were. It is loaded before the C library
 // (LD_PRELOAD). Only calls made after the program's own start count.
 #define _GNU_SOURCE
@@ -9,6 +10,7 @@
 #include <stdio.h>
 #include <stdlib.h>
 #include <string.h>
+#include <sys/stat.h>
 #include <sys/syscall.h>
 #include <unistd.h>
 
@@ -17,8 +19,8 @@ extern void *__libc_calloc(size_t, size_t);
 extern void *__libc_realloc(void *, size_t);
 extern void *__libc_memalign(size_t, size_t);
 
-enum kind { ALLOC, OPEN, READ, WRITE, KINDS };
-static const char *const names[KINDS] = {"alloc", "open", "read", "write"};
+enum kind { ALLOC, OPEN, READ, WRITE, MAKE, KINDS };
+static const char *const names[KINDS] = {"alloc", "open", "read", "write", "make"};
 static long made[KINDS], refused[KINDS];
 static int started;
 
@@ -38,8 +40,9 @@ __attribute__((destructor)) static void tell(void) {
     started = 0;
     const char *file = getenv("COUNT");
     if (!file) return;
-    char text[128];
-    int length = snprintf(text, sizeof text, "alloc %ld\nopen %ld\nread %ld\nwrite %ld\n", made[ALLOC], made[OPEN], made[READ], made[WRITE]);
+    char text[256];
+    int length = 0;
+    for (int kind = 0; kind < KINDS; kind++) length += snprintf(text + length, sizeof text - (size_t)length, "%s %ld\n", names[kind], made[kind]);
     int to = (int)syscall(SYS_openat, AT_FDCWD, file, O_WRONLY | O_CREAT | O_TRUNC, 0600);
     syscall(SYS_write, to, text, (size_t)length);
     syscall(SYS_close, to);
@@ -73,3 +76,7 @@ OPENS_AT(openat64)
 
 ssize_t read(int from, void *to, size_t count) { return is_refused(READ) ? (errno = EIO, -1) : syscall(SYS_read, from, to, count); }
 ssize_t write(int to, const void *from, size_t count) { return is_refused(WRITE) ? (errno = EIO, -1) : syscall(SYS_write, to, from, count); }
+
+int mkdir(const char *path, mode_t mode) { return is_refused(MAKE) ? (errno = EIO, -1) : (int)syscall(SYS_mkdirat, AT_FDCWD, path, mode); }
+int symlink(const char *text, const char *path) { return is_refused(MAKE) ? (errno = EIO, -1) : (int)syscall(SYS_symlinkat, text, AT_FDCWD, path); }
+int link(const char *old, const char *path) { return is_refused(MAKE) ? (errno = EIO, -1) : (int)syscall(SYS_linkat, AT_FDCWD, old, AT_FDCWD, path, 0); }

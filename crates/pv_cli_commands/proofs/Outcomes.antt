@@ -3,6 +3,8 @@ use Rattle.std.proofs.Common.{◌≢◌, Ok, Err}
 use Rattle.std.specs.Prelude.{IfErr}
 use Rattle.pv_host_copy.specs.declared.image.ImportStop.{ImportStop}
 use Rattle.pv_host_copy.specs.declared.image.ImportStop.TheVariants as unimported
+use Rattle.pv_host_copy.specs.declared.unpacking.ExportFault.{ExportFault}
+use Rattle.pv_host_copy.specs.declared.unpacking.ExportFault.TheVariants as unexported
 use Rattle.pv_model.specs.declared.fault.ImageFault.TheVariants.{Memory as ImageMemory}
 use Rattle.pv_model.specs.declared.fault.ManifestFault.TheVariants.{Memory as ManifestMemory}
 use Rattle.pv_model.specs.declared.run_fault.RunFault.{RunFault}
@@ -19,9 +21,9 @@ use Rattle.pv_run.specs.declared.migrating.MigrateStop.TheVariants.{Refused}
 use Rattle.pv_source.specs.declared.source.SourceStop.{SourceStop}
 use Rattle.pv_source.specs.declared.source.SourceStop.TheVariants as unwritten
 use Rattle.pv_cli_commands.specs.declared.fault.Fault.{Fault}
-use Rattle.pv_cli_commands.specs.declared.fault.Fault.TheVariants.{Run, Listing, Migrating, Auditing, Asking, Source, Importing}
+use Rattle.pv_cli_commands.specs.declared.fault.Fault.TheVariants.{Run, Listing, Migrating, Auditing, Asking, Source, Importing, Exporting}
 use Rattle.pv_cli_commands.specs.Faults.{Answer}
-use Rattle.pv_cli_commands.specs.Status.{ask_status_of, audit_status_of, import_status_of, list_status_of, migrate_status_of, run_status_of, source_status_of, status_of}
+use Rattle.pv_cli_commands.specs.Status.{ask_status_of, audit_status_of, export_status_of, import_status_of, list_status_of, migrate_status_of, run_status_of, source_status_of, status_of}
 
 run_status-not_zero : (fault : RunFault) → run_status_of fault ≢ 0
 run_status-not_zero (Image ImageMemory) h = cc
@@ -62,6 +64,15 @@ import_status-not_zero unimported.Refused h = cc
 import_status-not_zero unimported.WriteLines h = cc
 import_status-not_zero unimported.WriteImage h = cc
 
+export_status-not_zero : (fault : ExportFault) → export_status_of fault ≢ 0
+export_status-not_zero unexported.Read h = cc
+export_status-not_zero (unexported.Image ImageMemory) h = cc
+export_status-not_zero (unexported.Image fault) h = cc
+export_status-not_zero unexported.Memory h = cc
+export_status-not_zero unexported.Directory h = cc
+export_status-not_zero unexported.Make h = cc
+export_status-not_zero unexported.WriteLine h = cc
+
 status-not_zero : (fault : Fault) → status_of fault ≢ 0
 status-not_zero (Run fault) = run_status-not_zero fault
 status-not_zero (Listing fault) = list_status-not_zero fault
@@ -70,6 +81,7 @@ status-not_zero (Auditing stop) = audit_status-not_zero stop
 status-not_zero (Asking stop) = ask_status-not_zero stop
 status-not_zero (Source stop) = source_status-not_zero stop
 status-not_zero (Importing stop) = import_status-not_zero stop
+status-not_zero (Exporting fault) = export_status-not_zero fault
 
 -- whatever a command answers
 pub failed_with_status : (answer : Answer) → IfErr answer (λ fault. status_of fault ≢ 0)

@@ -1,14 +1,13 @@
 -- What a command reads and writes.
-use Rattle.std.specs.Prelude.{◌≡◌, ◌≢◌, ⊤, codes, Option, option_map}
-use Rattle.pv_host_copy.specs.Hosts.{HostEntries}
+use Rattle.std.specs.Prelude.{◌≡◌, ◌≢◌, ⊤, codes, option_map}
 use Rattle.pv_model.specs.declared.stream.Sink.{Ghosts as Writing}
 use Rattle.pv_model.specs.declared.stream.Source.{Ghosts as Reading}
-use Rattle.pv_model.specs.Bytes.{Bytes}
 use Rattle.pv_cli_commands.specs.declared.command.Command.{Command}
-use Rattle.pv_cli_commands.specs.declared.command.Command.TheVariants.{RunTree, MakeImage, ListImage, RunImage, MigrateImage, ImportDirectory, AuditImage, WriteSource, Ask, AskTree}
+use Rattle.pv_cli_commands.specs.declared.command.Command.TheVariants.{RunTree, MakeImage, ListImage, RunImage, MigrateImage, ImportDirectory, ExportImage, AuditImage, WriteSource, Ask, AskTree}
 use Rattle.pv_cli_commands.specs.declared.system.HostSystem.{HostSystem}
 use Rattle.pv_cli_commands.specs.Asking.{AsksRun, AsksTree, ReadsRunFiles, ReadsTreeFile}
 use Rattle.pv_cli_commands.specs.Auditing.{AuditsFiles}
+use Rattle.pv_cli_commands.specs.Exporting.{ExportsFile}
 use Rattle.pv_cli_commands.specs.Faults.{Answer}
 use Rattle.pv_cli_commands.specs.Images.{RunsFiles}
 use Rattle.pv_cli_commands.specs.Importing.{ImportsDirectory}
@@ -17,35 +16,38 @@ use Rattle.pv_cli_commands.specs.Making.{MakesFile}
 use Rattle.pv_cli_commands.specs.Migrating.{MigratesFile, sizes_of}
 use Rattle.pv_cli_commands.specs.Running.{RunsBundle, RunsFile}
 use Rattle.pv_cli_commands.specs.Sources.{WritesSource, WritesSourceFile}
-use Rattle.pv_cli_commands.specs.Streams.{Disk, inputs_of}
+use Rattle.pv_cli_commands.specs.Streams.{Disk, Host, inputs_of}
 
--- what was asked for was done, or ended early; of a directory the entries are seen, where they are known
-abbrev pub Performs : {F R V I O E : Type 0} → Disk F R V → (F → Bytes → Option HostEntries) → Reading I → Writing O → Writing E → Command → HostSystem F I O E → HostSystem F I O E → Answer → Type 0
-Performs disk entries reading writing telling (RunTree name) before after answer =
+-- what was asked for was done, or ended early
+abbrev pub Performs : {F R V T I O E : Type 0} → Disk F R V → Host F T → Reading I → Writing O → Writing E → Command → HostSystem F I O E → HostSystem F I O E → Answer → Type 0
+Performs disk host reading writing telling (RunTree name) before after answer =
     (name.now ≡ codes "-" → RunsBundle reading writing before.input after.input before.output after.output answer)
     × (name.now ≢ codes "-" → RunsFile disk writing before.files name.now before.output after.output answer)
-Performs disk entries reading writing telling (MakeImage manifest image) before after answer = MakesFile disk before.files manifest.now image.now answer
-Performs disk entries reading writing telling (ListImage image) before after answer = ListsFile disk writing before.files image.now before.output after.output answer
-Performs disk entries reading writing telling (RunImage image schedule out) before after answer =
+Performs disk host reading writing telling (MakeImage manifest image) before after answer = MakesFile disk before.files manifest.now image.now answer
+Performs disk host reading writing telling (ListImage image) before after answer = ListsFile disk writing before.files image.now before.output after.output answer
+Performs disk host reading writing telling (RunImage image schedule out) before after answer =
     RunsFiles disk writing before.files (inputs_of image.now schedule.now) out.now before.output after.output answer
-Performs disk entries reading writing telling (MigrateImage image out blocks inodes) before after answer = MigratesFile disk before.files image.now out.now (sizes_of blocks inodes) answer
-Performs disk entries reading writing telling (ImportDirectory directory image version skips) before after answer =
-    ImportsDirectory disk telling version skips (entries before.files directory.now) image.now before.errors after.errors answer
-Performs disk entries reading writing telling (AuditImage image schedule path) before after answer =
+Performs disk host reading writing telling (MigrateImage image out blocks inodes) before after answer = MigratesFile disk before.files image.now out.now (sizes_of blocks inodes) answer
+Performs disk host reading writing telling (ImportDirectory directory image version skips) before after answer =
+    ImportsDirectory disk telling version skips (host.entries before.files directory.now) image.now before.errors after.errors answer
+Performs disk host reading writing telling (ExportImage image directory) before after answer =
+    ExportsFile disk host telling before.files image.now directory.now before.errors after.errors answer
+Performs disk host reading writing telling (AuditImage image schedule path) before after answer =
     AuditsFiles disk writing before.files (inputs_of image.now schedule.now) (option_map (λ text. text.now) path) before.output after.output answer
-Performs disk entries reading writing telling (WriteSource name) before after answer =
+Performs disk host reading writing telling (WriteSource name) before after answer =
     (name.now ≡ codes "-" → WritesSource reading writing telling name.now before.input after.input before.output after.output before.errors after.errors answer)
     × (name.now ≢ codes "-" → WritesSourceFile disk writing telling before.files name.now before.output after.output before.errors after.errors answer)
-Performs disk entries reading writing telling (Ask question run) before after answer =
+Performs disk host reading writing telling (Ask question run) before after answer =
     AsksRun disk reading writing before.files question run before.input after.input before.output after.output answer
-Performs disk entries reading writing telling (AskTree question tree) before after answer =
+Performs disk host reading writing telling (AskTree question tree) before after answer =
     AsksTree disk reading writing before.files question tree before.input after.input before.output after.output answer
 
--- the command writes to a file alone
+-- the command writes to a file alone, or makes a directory
 abbrev pub WritesFile : Command → Type 0
 WritesFile (MakeImage manifest image) = ⊤
 WritesFile (MigrateImage image out blocks inodes) = ⊤
 WritesFile (ImportDirectory directory image version skips) = ⊤
+WritesFile (ExportImage image directory) = ⊤
 WritesFile command = ⊥
 
 -- the command reads files alone
@@ -60,4 +62,5 @@ ReadsFiles command = ⊤
 abbrev pub KeepsErrors : Command → Type 0
 KeepsErrors (WriteSource name) = ⊥
 KeepsErrors (ImportDirectory directory image version skips) = ⊥
+KeepsErrors (ExportImage image directory) = ⊥
 KeepsErrors command = ⊤

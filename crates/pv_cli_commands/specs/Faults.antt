@@ -1,6 +1,7 @@
 -- Which command a fault is of.
 use Rattle.std.specs.Prelude.{Result}
 use Rattle.pv_host_copy.specs.declared.image.ImportStop.{ImportStop}
+use Rattle.pv_host_copy.specs.declared.unpacking.ExportFault.{ExportFault}
 use Rattle.pv_model.specs.declared.run_fault.RunFault.{RunFault}
 use Rattle.pv_model.specs.declared.store_fault.ListFault.{ListFault}
 use Rattle.pv_questions.specs.declared.stop.AskStop.{AskStop}
@@ -8,7 +9,7 @@ use Rattle.pv_run.specs.declared.auditing.AuditStop.{AuditStop}
 use Rattle.pv_run.specs.declared.migrating.MigrateStop.{MigrateStop}
 use Rattle.pv_source.specs.declared.source.SourceStop.{SourceStop}
 use Rattle.pv_cli_commands.specs.declared.fault.Fault.{Fault}
-use Rattle.pv_cli_commands.specs.declared.fault.Fault.TheVariants.{Run, Listing, Migrating, Auditing, Asking, Source, Importing}
+use Rattle.pv_cli_commands.specs.declared.fault.Fault.TheVariants.{Run, Listing, Migrating, Auditing, Asking, Source, Importing, Exporting}
 
 -- what a command answers
 abbrev pub Answer : Type 0
@@ -48,3 +49,8 @@ IsOfSource holds fault = ⊥
 abbrev pub IsOfImporting : (ImportStop → Type 0) → Fault → Type 0
 IsOfImporting holds (Importing stop) = holds stop
 IsOfImporting holds fault = ⊥
+
+-- it is why the tree of an image was not made, of which this holds
+abbrev pub IsOfExporting : (ExportFault → Type 0) → Fault → Type 0
+IsOfExporting holds (Exporting fault) = holds fault
+IsOfExporting holds fault = ⊥

@@ -2,6 +2,7 @@ pub mod Asking
 pub mod Auditing
 pub mod Commands
 pub mod Created
+pub mod Exporting
 pub mod Faults
 pub mod Images
 pub mod Importing

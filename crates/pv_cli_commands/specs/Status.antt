@@ -2,6 +2,8 @@
 use Rattle.std.specs.Prelude.{◌≡◌, ◌≢◌, ℕ, Bool, true, false, Result, Ok, Err}
 use Rattle.pv_host_copy.specs.declared.image.ImportStop.{ImportStop}
 use Rattle.pv_host_copy.specs.declared.image.ImportStop.TheVariants as unimported
+use Rattle.pv_host_copy.specs.declared.unpacking.ExportFault.{ExportFault}
+use Rattle.pv_host_copy.specs.declared.unpacking.ExportFault.TheVariants as unexported
 use Rattle.pv_model.specs.declared.fault.ImageFault.TheVariants.{Memory as ImageMemory}
 use Rattle.pv_model.specs.declared.fault.ManifestFault.TheVariants.{Memory as ManifestMemory}
 use Rattle.pv_model.specs.declared.run_fault.RunFault.{RunFault}
@@ -19,7 +21,7 @@ use Rattle.pv_run.specs.declared.migrating.MigrateStop.TheVariants.{Read as Migr
 use Rattle.pv_source.specs.declared.source.SourceStop.{SourceStop}
 use Rattle.pv_source.specs.declared.source.SourceStop.TheVariants as unwritten
 use Rattle.pv_cli_commands.specs.declared.fault.Fault.{Fault}
-use Rattle.pv_cli_commands.specs.declared.fault.Fault.TheVariants.{Run, Listing, Migrating, Auditing, Asking, Source, Importing}
+use Rattle.pv_cli_commands.specs.declared.fault.Fault.TheVariants.{Run, Listing, Migrating, Auditing, Asking, Source, Importing, Exporting}
 use Rattle.pv_cli_commands.specs.Faults.{Answer}
 
 abbrev pub run_status_of : RunFault → ℕ
@@ -74,6 +76,15 @@ import_status_of unimported.Refused = 1
 import_status_of unimported.WriteLines = 4
 import_status_of unimported.WriteImage = 4
 
+abbrev pub export_status_of : ExportFault → ℕ
+export_status_of unexported.Read = 4
+export_status_of (unexported.Image ImageMemory) = 3
+export_status_of (unexported.Image fault) = 1
+export_status_of unexported.Memory = 3
+export_status_of unexported.Directory = 4
+export_status_of unexported.Make = 4
+export_status_of unexported.WriteLine = 4
+
 abbrev pub status_of : Fault → ℕ
 status_of (Run fault) = run_status_of fault
 status_of (Listing fault) = list_status_of fault
@@ -82,11 +93,13 @@ status_of (Auditing stop) = audit_status_of stop
 status_of (Asking stop) = ask_status_of stop
 status_of (Source stop) = source_status_of stop
 status_of (Importing stop) = import_status_of stop
+status_of (Exporting fault) = export_status_of fault
 
--- it was told already: the lines of a source that are at fault, and what has no room in an image
+-- it was told already: the lines of a source that are at fault, what has no room in an image, and what was not made of one
 abbrev pub is_told : Fault → Bool
 is_told (Source unwritten.Refused) = true
 is_told (Importing unimported.Refused) = true
+is_told (Exporting unexported.Make) = true
 is_told fault = false
 
 -- what a command ends with

@@ -1,12 +1,14 @@
--- What is seen of the files, the sources and the sinks of a command.
-use Rattle.std.specs.Prelude.{◌≡◌, ◌⊎◌, None}
+-- What is seen of the files, the directories, the sources and the sinks of a command.
+use Rattle.std.specs.Prelude.{◌≡◌, ◌⊎◌, List, Option, None}
+use Rattle.pv_host_copy.specs.Hosts.{HostEntries}
 use Rattle.pv_model.specs.declared.stream.Sink.{Ghosts as Writing}
 use Rattle.pv_model.specs.declared.stream.Source.{Ghosts as Reading}
 use Rattle.pv_model.specs.Bytes.{Bytes}
+use Rattle.pv_model.specs.Manifest.{Entry}
 use Rattle.pv_model.specs.Stream.{Rose}
 use Rattle.pv_streams.specs.Sources.{FailsToGive}
 use Rattle.pv_cli_commands.specs.declared.system.Files.{Ghosts as Filing}
-use Rattle.pv_cli_commands.specs.Created.{IsCreated}
+use Rattle.pv_cli_commands.specs.Created.{IsCreated, IsEmptied}
 
 -- a sink failed
 abbrev pub FailsToTake : {W : Type 0} → Writing W → W → W → Type 0
@@ -52,3 +54,16 @@ IsUnknown disk files name = disk.files.bytes files name ≡ None
 -- a file to be written has this name, and nothing was written to it
 abbrev pub IsCreatedOn : {F R V : Type 0} → Disk F R V → Bytes → V → Type 0
 IsCreatedOn disk name writer = IsCreated disk.files.file_of disk.writing.written name writer
+
+-- what is seen of directories: the entries that one of a name has, and of one in which a tree is made the name, and what was made
+pub record Host (F T : Type 0) : Type 0 where
+  pub entries : F → Bytes → Option HostEntries
+  pub target_of : T → Bytes
+  pub made : T → Option (List Entry)
+
+abbrev pub host_of : {F T : Type 0} → (F → Bytes → Option HostEntries) → (T → Bytes) → (T → Option (List Entry)) → Host F T
+host_of entries target_of made = record { entries = entries; target_of = target_of; made = made }
+
+-- a directory in which a tree is to be made has this name, and nothing was made in it
+abbrev pub IsEmptiedOn : {F T : Type 0} → Host F T → Bytes → T → Type 0
+IsEmptiedOn host name target = IsEmptied host.target_of host.made name target

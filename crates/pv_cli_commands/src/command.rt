@@ -71,6 +71,13 @@ pub enum Command<'a> {
         /// Whether what an image can't have is left out.
         skips: bool,
     },
+    /// Make a directory of the tree of an image.
+    ExportImage {
+        /// The file of the image.
+        image: &'a str,
+        /// The directory: there is nothing there, or one that has nothing.
+        directory: &'a str,
+    },
     /// Run an image under a schedule, and tell which files of what is left are sealed.
     AuditImage {
         /// The file of the image.

@@ -1,9 +1,9 @@
 //! What a command tells a person, and the exit status.
 ghost use Rattle.std.specs.Prelude.{◌≡◌};
-ghost use Rattle.pv_cli_commands.specs.Status.{ask_status_of, audit_status_of, import_status_of, is_told, list_status_of, migrate_status_of, run_status_of, source_status_of, status_of};
-ghost use Rattle.pv_cli_commands.specs.declared.fault.Fault.TheVariants.{Run as RunVariant, Listing as ListingVariant, Migrating as MigratingVariant, Auditing as AuditingVariant, Asking as AskingVariant, Source as SourceVariant, Importing as ImportingVariant};
+ghost use Rattle.pv_cli_commands.specs.Status.{ask_status_of, audit_status_of, export_status_of, import_status_of, is_told, list_status_of, migrate_status_of, run_status_of, source_status_of, status_of};
+ghost use Rattle.pv_cli_commands.specs.declared.fault.Fault.TheVariants.{Run as RunVariant, Listing as ListingVariant, Migrating as MigratingVariant, Auditing as AuditingVariant, Asking as AskingVariant, Source as SourceVariant, Importing as ImportingVariant, Exporting as ExportingVariant};
 
-use pv_host_copy::ImportStop;
+use pv_host_copy::{ExportFault, ImportStop};
 use pv_model::{ImageFault, ListFault, ManifestFault, MigrateFault, RunFault};
 use pv_questions::AskStop;
 use pv_run::{AuditStop, MigrateStop};
@@ -36,6 +36,9 @@ pub enum Fault {
     /// No image was made of a directory, or not whole. The text of `Refused` is empty, since it was told.
     #[error("{}", import_text(*.0))]
     Importing(ImportStop),
+    /// The tree of an image was not made in a directory, or not whole.
+    #[error("pvsim: {0}\n")]
+    Exporting(ExportFault),
 }
 
 impl From<RunFault> for Fault {
@@ -91,6 +94,14 @@ impl From<ImportStop> for Fault {
 
     fn from(stop: ImportStop) -> Fault {
         Fault::Importing(stop)
+    }
+}
+
+impl From<ExportFault> for Fault {
+    ghost from_gives = { λ given fault. fault ≡ ExportingVariant given };
+
+    fn from(fault: ExportFault) -> Fault {
+        Fault::Exporting(fault)
     }
 }
 
@@ -193,6 +204,18 @@ fn import_status(stop: ImportStop) -> u8
     }
 }
 
+// The status of an image whose tree was not made in a directory, or not whole.
+fn export_status(fault: ExportFault) -> u8
+    ensures { result ≡ export_status_of fault }
+{
+    match fault {
+        ExportFault::Memory | ExportFault::Image(ImageFault::Memory) => 3,
+        ExportFault::Read | ExportFault::Directory | ExportFault::Make | ExportFault::WriteLine =>
+            4,
+        ExportFault::Image(_) => 1,
+    }
+}
+
 impl Fault {
     /// The exit status: 1 for refused input, 3 for memory, and 4 for a failed read or write.
     pub fn status(&self) -> u8
@@ -206,17 +229,20 @@ impl Fault {
             Fault::Asking(stop) => ask_status(*stop),
             Fault::Source(stop) => source_status(*stop),
             Fault::Importing(stop) => import_status(*stop),
+            Fault::Exporting(fault) => export_status(*fault),
         }
     }
 
-    /// Whether it was told already, on the standard error: that of a source whose lines are at fault, and that of a directory
-    /// of which something has no room in an image.
+    /// Whether it was told already, on the standard error: that of a source whose lines are at fault, that of a directory of
+    /// which something has no room in an image, and that of an image of which something was not made.
     pub fn is_told(&self) -> bool
         ensures { result ≡ is_told self.now }
     {
         matches!(
             self,
-            Fault::Source(SourceStop::Refused) | Fault::Importing(ImportStop::Refused)
+            Fault::Source(SourceStop::Refused)
+                | Fault::Importing(ImportStop::Refused)
+                | Fault::Exporting(ExportFault::Make)
         )
     }
 }

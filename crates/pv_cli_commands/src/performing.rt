@@ -2,12 +2,13 @@
 ghost use Rattle.std.specs.Prelude.{◌≡◌, ◌≢◌, IfErr};
 ghost use Rattle.pv_cli_commands.specs.Commands.{KeepsErrors, Performs, ReadsFiles, WritesFile};
 ghost use Rattle.pv_cli_commands.specs.Status.{Flushes, status_of};
-ghost use Rattle.pv_cli_commands.specs.Streams.{disk_of};
+ghost use Rattle.pv_cli_commands.specs.Streams.{disk_of, host_of};
 
 use crate::asking::{ask_run, ask_tree_of};
 use crate::auditing::audit_files;
 use crate::command::Command;
 use crate::directories::Directories;
+use crate::exporting::export_file;
 use crate::fault::Fault;
 use crate::images::run_files;
 use crate::importing::import_directory;
@@ -33,6 +34,9 @@ use std::alloc::Global;
 /// - `ImportDirectory` makes the image of a directory, and writes it to a file. What an image can't have, and what could not be
 ///   added to it, is told on the standard error, in a line for each path; then nothing is written to the file, unless only what
 ///   an image can't have was told, and that is to be left out.
+/// - `ExportImage` makes what the tree of the image in a file has in a directory, which is made, or has nothing. The image is
+///   read before. Where something could not be made, its path in the image is told on the standard error, and all that comes
+///   before it in the listing was made.
 /// - `AuditImage` runs the image in a file under the schedule in another, and writes to the standard output what is
 ///   found of the file of a path, or of all files.
 /// - `WriteSource` writes the manifest or bundle that the source of its file stands for, or that of the standard input for `-`,
@@ -47,9 +51,10 @@ use std::alloc::Global;
 ///
 /// # Errors
 ///
-/// `Run`, of `ListImage` `Listing`, of `MigrateImage` `Migrating`, of `ImportDirectory` `Importing`, of `AuditImage` `Auditing`, of `WriteSource` `Source`, of `Ask` and `AskTree`
-/// `Asking`: a file did not open or could not be read, the input was refused, memory was refused, or the output could not be written. Where
-/// the input was refused, nothing was written.
+/// `Run`, of `ListImage` `Listing`, of `MigrateImage` `Migrating`, of `ImportDirectory` `Importing`, of `ExportImage`
+/// `Exporting`, of `AuditImage` `Auditing`, of `WriteSource` `Source`, of `Ask` and `AskTree` `Asking`: a file did not open or
+/// could not be read, the input was refused, memory was refused, or the output could not be written. Where the input was
+/// refused, nothing was written.
 #[tactic(auto, using(crate::proofs::Outcomes::failed_with_status))]
 pub fn perform<
     F: Files + Directories + Drop,
@@ -63,7 +68,7 @@ pub fn perform<
     system: &mut HostSystem<F, I, O, E>,
     progress: &mut P,
 ) -> Result<(), Fault>
-    ensures does { Performs (disk_of F.Files F.Reader.Source F.Writer.Sink) F.entries I.Source O.Sink E.Sink command.entry system.old system.new result }
+    ensures does { Performs (disk_of F.Files F.Reader.Source F.Writer.Sink) (host_of F.entries F.target_of F.Target.made) I.Source O.Sink E.Sink command.entry system.old system.new result }
     ensures flushed { Flushes O.Sink system.old.output system.new.output result }
     ensures failed { IfErr result (λ fault. status_of fault ≢ 0) }
 
@@ -101,6 +106,9 @@ pub fn perform<
             version,
             skips,
         } => import_directory(alloc, files, directory, image, version, skips, errors),
+        Command::ExportImage { image, directory } => {
+            export_file(alloc, files, image, directory, errors)
+        }
         Command::AuditImage {
             image,
             schedule,

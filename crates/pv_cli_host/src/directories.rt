@@ -1,10 +1,14 @@
 //! The directories of the system.
 ghost use Rattle.std.specs.Prelude.{◌≡◌, ◌-◌, None, vec_len, IfOk};
+ghost use Rattle.std.specs.String.{string_bytes};
 ghost use Rattle.pv_host_copy.specs.Telling.{IsNodeBelow};
 
 use crate::files::HostFiles;
+use crate::targets::MadeDirectory;
 use pv_cli_commands::Directories;
-use pv_host_copy::{HostDirectory, HostEntry, HostFault, HostFile, HostNode, Identity};
+use pv_host_copy::{
+    HostDirectory, HostEntry, HostFault, HostFile, HostNode, Identity, TargetFault,
+};
 use pv_streams::Failed;
 use std::alloc::{AllocError, Global};
 use std::fs::{File, Metadata};
@@ -22,10 +26,22 @@ pub const LEVELS: u16 = 256;
 impl<'a> Directories for HostFiles<'a> {
     type Directory = OpenedDirectory<'a>;
 
+    type Target = MadeDirectory<'a>;
+
     ghost entries = { λ _ _. None };
+
+    ghost target_of = { λ target. string_bytes target.name };
 
     fn open_directory(&self, alloc: Global, name: &str) -> Result<OpenedDirectory<'a>, HostFault> {
         OpenedDirectory::open(self.runtime(), alloc, name, LEVELS)
+    }
+
+    fn create_directory(
+        &self,
+        alloc: Global,
+        name: &str,
+    ) -> Result<MadeDirectory<'a>, TargetFault> {
+        MadeDirectory::create(self.runtime(), alloc, name)
     }
 }
 

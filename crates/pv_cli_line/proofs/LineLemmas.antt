@@ -14,7 +14,7 @@ use Rattle.clap.specs.declared.parser.matches.ArgMatches.TheViews.{out-SubComman
 use Rattle.clap.proofs.OnLiterals.{clap_on_literals}
 use Rattle.clap.specs.Words.{is_simple, is_simple_and_free, subcommand_of}
 use Rattle.pv_cli_commands.specs.declared.command.Command.{Command}
-use Rattle.pv_cli_commands.specs.declared.command.Command.TheVariants.{RunTree, MakeImage, ListImage, RunImage, MigrateImage, ImportDirectory, AuditImage, WriteSource, Ask, AskTree}
+use Rattle.pv_cli_commands.specs.declared.command.Command.TheVariants.{RunTree, MakeImage, ListImage, RunImage, MigrateImage, ImportDirectory, ExportImage, AuditImage, WriteSource, Ask, AskTree}
 use Rattle.pv_cli_commands.specs.declared.command.RunInput.{RunInput}
 use Rattle.pv_cli_commands.specs.declared.command.RunInput.TheVariants.{Files, Bundle}
 use Rattle.pv_cli_commands.specs.declared.command.TreeInput.{TreeInput}
@@ -76,17 +76,19 @@ module _ (entered : Option (Text × List Row)) where
       → ((manifest image : Text) → entered_text entered (codes "mkimg") (codes "MANIFEST") ≡ Some manifest → entered_text entered (codes "mkimg") (codes "IMAGE") ≡ Some image → ⊥)
       → ((image schedule out : Text) → entered_text entered (codes "run") (codes "IMAGE") ≡ Some image → entered_text entered (codes "run") (codes "SCHEDULE") ≡ Some schedule
       → entered_text entered (codes "run") (codes "OUT") ≡ Some out → ⊥)
+      → ((image directory : Text) → entered_text entered (codes "export") (codes "IMAGE") ≡ Some image → entered_text entered (codes "export") (codes "DIR") ≡ Some directory → ⊥)
       → (command : Command) → IsPlain command → IsCommandIn entered command → ⊥
-  no_plain_command tree source made ran (RunTree file) plain is = let both : None ≡ Some file.now = sym tree ∙ is in cc
-  no_plain_command tree source made ran (WriteSource file) plain is = let both : None ≡ Some file.now = sym source ∙ is in cc
-  no_plain_command tree source made ran (MakeImage manifest image) plain is = made manifest.now image.now is.0 is.1
-  no_plain_command tree source made ran (RunImage image schedule out) plain is = ran image.now schedule.now out.now is.0 is.1 is.2
-  no_plain_command tree source made ran (ListImage image) plain is = absurd plain
-  no_plain_command tree source made ran (MigrateImage image out blocks inodes) plain is = absurd plain
-  no_plain_command tree source made ran (ImportDirectory directory image version skips) plain is = absurd plain
-  no_plain_command tree source made ran (AuditImage image schedule path) plain is = absurd plain
-  no_plain_command tree source made ran (Ask question run) plain is = absurd plain
-  no_plain_command tree source made ran (AskTree question tree-of) plain is = absurd plain
+  no_plain_command tree source made ran exports (RunTree file) plain is = let both : None ≡ Some file.now = sym tree ∙ is in cc
+  no_plain_command tree source made ran exports (WriteSource file) plain is = let both : None ≡ Some file.now = sym source ∙ is in cc
+  no_plain_command tree source made ran exports (MakeImage manifest image) plain is = made manifest.now image.now is.0 is.1
+  no_plain_command tree source made ran exports (RunImage image schedule out) plain is = ran image.now schedule.now out.now is.0 is.1 is.2
+  no_plain_command tree source made ran exports (ExportImage image directory) plain is = exports image.now directory.now is.0 is.1
+  no_plain_command tree source made ran exports (ListImage image) plain is = absurd plain
+  no_plain_command tree source made ran exports (MigrateImage image out blocks inodes) plain is = absurd plain
+  no_plain_command tree source made ran exports (ImportDirectory directory image version skips) plain is = absurd plain
+  no_plain_command tree source made ran exports (AuditImage image schedule path) plain is = absurd plain
+  no_plain_command tree source made ran exports (Ask question run) plain is = absurd plain
+  no_plain_command tree source made ran exports (AskTree question tree-of) plain is = absurd plain
 
   pub no_plain_question :
       ((run : RunInput) → IsWholeRunIn entered (codes "state") run → ⊥) → ((run : RunInput) → IsWholeRunIn entered (codes "explain") run → ⊥)
@@ -108,6 +110,7 @@ module _ (entered : Option (Text × List Row)) where
   no_command plain list cat audit asks (WriteSource file) without is = plain (WriteSource file) tt is
   no_command plain list cat audit asks (MakeImage manifest image) without is = plain (MakeImage manifest image) tt is
   no_command plain list cat audit asks (RunImage image schedule out) without is = plain (RunImage image schedule out) tt is
+  no_command plain list cat audit asks (ExportImage image directory) without is = plain (ExportImage image directory) tt is
   no_command plain list cat audit asks (ListImage image) without is = list (Image image) is
   no_command plain list cat audit asks (MigrateImage image out blocks inodes) without is = absurd without
   no_command plain list cat audit asks (ImportDirectory directory image version skips) without is = absurd without
@@ -139,6 +142,7 @@ module _ (entered : Option (Text × List Row)) where
   no_command_at_all other migrates imports turns explores graphs reaches (ListImage image) is = other (ListImage image) tt is
   no_command_at_all other migrates imports turns explores graphs reaches (MakeImage manifest image) is = other (MakeImage manifest image) tt is
   no_command_at_all other migrates imports turns explores graphs reaches (RunImage image schedule out) is = other (RunImage image schedule out) tt is
+  no_command_at_all other migrates imports turns explores graphs reaches (ExportImage image directory) is = other (ExportImage image directory) tt is
   no_command_at_all other migrates imports turns explores graphs reaches (AuditImage image schedule path) is = other (AuditImage image schedule path) tt is
   no_command_at_all other migrates imports turns explores graphs reaches (MigrateImage image out blocks inodes) is =
       migrates image.now out.now is.2.word is.3.word (record { has_image = is.0; has_out = is.1; has_blocks = is.2.is_entered; has_inodes = is.3.is_entered })
@@ -185,6 +189,7 @@ migration-stands entered texts (ListImage image) h is = absurd is
 migration-stands entered texts (MakeImage manifest image) h is = absurd is
 migration-stands entered texts (RunImage image schedule out) h is = absurd is
 migration-stands entered texts (ImportDirectory directory image version skips) h is = absurd is
+migration-stands entered texts (ExportImage image directory) h is = absurd is
 migration-stands entered texts (AuditImage image schedule path) h is = absurd is
 migration-stands entered texts (Ask question run) h is = absurd is
 migration-stands entered texts (AskTree question tree) h is = absurd is

@@ -9,7 +9,7 @@ use Rattle.pv_model.specs.Grammar.Lines.{decimal_of}
 use Rattle.pv_model.specs.declared.version.Version.{Version}
 use Rattle.pv_model.specs.declared.version.Version.TheVariants.{V1, V2}
 use Rattle.pv_cli_commands.specs.declared.command.Command.{Command}
-use Rattle.pv_cli_commands.specs.declared.command.Command.TheVariants.{RunTree, MakeImage, ListImage, RunImage, MigrateImage, ImportDirectory, AuditImage, WriteSource, Ask, AskTree}
+use Rattle.pv_cli_commands.specs.declared.command.Command.TheVariants.{RunTree, MakeImage, ListImage, RunImage, MigrateImage, ImportDirectory, ExportImage, AuditImage, WriteSource, Ask, AskTree}
 use Rattle.pv_cli_commands.specs.declared.command.RunInput.{RunInput}
 use Rattle.pv_cli_commands.specs.declared.command.RunInput.TheVariants.{Files, Bundle}
 use Rattle.pv_cli_commands.specs.declared.command.TreeInput.{TreeInput}
@@ -164,6 +164,8 @@ IsCommandIn entered (MigrateImage image out blocks inodes) =
 IsCommandIn entered (ImportDirectory directory image version skips) =
     (entered_text entered (codes "import") (codes "DIR") ≡ Some directory.now) × (entered_text entered (codes "import") (codes "IMAGE") ≡ Some image.now)
     × (version_entered entered ≡ Some version) × (is_given (entered_text entered (codes "import") (codes "skip")) ≡ skips)
+IsCommandIn entered (ExportImage image directory) =
+    (entered_text entered (codes "export") (codes "IMAGE") ≡ Some image.now) × (entered_text entered (codes "export") (codes "DIR") ≡ Some directory.now)
 IsCommandIn entered (AuditImage image schedule path) =
     IsRunIn entered (codes "audit") (codes "PATH") (Files image schedule) (option_map (λ text. text.now) path)
 IsCommandIn entered (WriteSource file) = entered_text entered (codes "source") (codes "FILE") ≡ Some file.now
@@ -189,6 +191,7 @@ IsPlain (RunTree file) = ⊤
 IsPlain (WriteSource file) = ⊤
 IsPlain (MakeImage manifest image) = ⊤
 IsPlain (RunImage image schedule out) = ⊤
+IsPlain (ExportImage image directory) = ⊤
 IsPlain command = ⊥
 
 -- a command in which no number stands

@@ -86,6 +86,10 @@ import_app =
     with_rule (with_rule (with_rule (with_rule (command_app (codes "import")) (text_rule (codes "DIR"))) (text_rule (codes "IMAGE"))) (long_rule (codes "version")))
     (flag_rule (codes "skip"))
 
+-- `export IMAGE DIR`
+abbrev pub export_app : App
+export_app = with_rule (with_rule (command_app (codes "export")) (text_rule (codes "IMAGE"))) (text_rule (codes "DIR"))
+
 -- `NAME IMAGE SCHEDULE`, or `NAME --bundle FILE`
 abbrev pub question_app : Text → App
 question_app name =
@@ -130,7 +134,7 @@ abbrev pub search_app : App
 search_app = with_subcommand (with_subcommand tree_question_app explore_app.top) graph_app.top
 
 abbrev pub pvsim_app : App
-pvsim_app = with_subcommand (with_subcommand search_app migrate_app.top) import_app.top
+pvsim_app = with_subcommand (with_subcommand (with_subcommand search_app migrate_app.top) import_app.top) export_app.top
 
 -- a parser that reads just this
 pub record IsParserOf (app : App) (parser : Parser) : Type 0 where

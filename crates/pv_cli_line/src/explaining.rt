@@ -2,7 +2,7 @@
 //!
 //! No contract speaks of the words. Each line begins with two blanks.
 use pv_cli_commands::{Command, Fault, Files, RunInput, TreeInput};
-use pv_host_copy::ImportStop;
+use pv_host_copy::{ExportFault, ImportStop};
 use pv_model::{ImageFault, ListFault, ManifestFault, MigrateFault, RunFault};
 use pv_questions::AskStop;
 use pv_run::{AuditStop, MigrateStop};
@@ -19,6 +19,8 @@ enum Cause {
     Reading,
     // A directory, or something in it, that could not be read.
     Directory,
+    // The directory in which a tree is made.
+    Target,
     // The file that is written.
     Writing,
     // The standard output.
@@ -63,8 +65,10 @@ fn cause_of(fault: Fault) -> Cause {
         | Fault::Asking(AskStop::Machine(fault)) => run_cause(fault),
         Fault::Listing(ListFault::Read)
         | Fault::Migrating(MigrateStop::Read)
-        | Fault::Source(SourceStop::Read) => Cause::Reading,
+        | Fault::Source(SourceStop::Read)
+        | Fault::Exporting(ExportFault::Read) => Cause::Reading,
         Fault::Importing(ImportStop::Read) => Cause::Directory,
+        Fault::Exporting(ExportFault::Directory) => Cause::Target,
         Fault::Listing(ListFault::Write)
         | Fault::Auditing(AuditStop::Write)
         | Fault::Asking(AskStop::Write)
@@ -77,9 +81,15 @@ fn cause_of(fault: Fault) -> Cause {
             MigrateStop::Refused(MigrateFault::Memory | MigrateFault::Image(ImageFault::Memory)),
         )
         | Fault::Source(SourceStop::Memory | SourceStop::Refused)
-        | Fault::Importing(ImportStop::Memory | ImportStop::Refused | ImportStop::WriteLines) =>
-            Cause::Nothing,
+        | Fault::Importing(ImportStop::Memory | ImportStop::Refused | ImportStop::WriteLines)
+        | Fault::Exporting(
+            ExportFault::Memory
+            | ExportFault::Image(ImageFault::Memory)
+            | ExportFault::Make
+            | ExportFault::WriteLine,
+        ) => Cause::Nothing,
         Fault::Listing(ListFault::Image(_))
+        | Fault::Exporting(ExportFault::Image(_))
         | Fault::Migrating(MigrateStop::Refused(_))
         | Fault::Auditing(AuditStop::Path(_))
         | Fault::Asking(AskStop::NoProcess | AskStop::Audited(_) | AskStop::File(_)) => {
@@ -161,6 +171,7 @@ fn names_of(command: Command<'_>) -> Names<'_> {
             ..
         } => image_named(directory, None, Some(image)),
         Command::MigrateImage { image, out, .. } => image_named(image, None, Some(out)),
+        Command::ExportImage { image, directory } => image_named(image, None, Some(directory)),
         Command::AuditImage {
             image,
             schedule,
@@ -366,6 +377,12 @@ fn explanation<F: Files>(
         Cause::Writing => {
             if let Some(name) = names.out {
                 push_reason(alloc, &mut out, name, files.write_reason(alloc, name))?;
+            }
+        }
+        Cause::Target => {
+            if let Some(name) = names.out {
+                let wanted = "want a directory that has nothing, or a name that nothing has";
+                push_line(&mut out, format!(in alloc; "{name}: {wanted}")?.as_str())?;
             }
         }
         Cause::Output => push_line(&mut out, "standard output")?,

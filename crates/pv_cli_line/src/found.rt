@@ -41,6 +41,18 @@ fn run_image_in<'a>(matches: &ArgMatches<'a>) -> Option<Command<'a>>
     })
 }
 
+// `export`, where the matches are those.
+fn export_in<'a>(matches: &ArgMatches<'a>) -> Option<Command<'a>>
+    ensures found { IfSome result (IsCommandIn (subcommand_rows_of matches.now)) }
+    ensures none { result ≡ None → (image directory : List ℕ)
+        → entered_text (subcommand_rows_of matches.now) (codes "export") (codes "IMAGE") ≡ Some image
+        → entered_text (subcommand_rows_of matches.now) (codes "export") (codes "DIR") ≡ Some directory → ⊥ }
+{
+    let image = text_of(matches, "export", "IMAGE")?;
+    let directory = text_of(matches, "export", "DIR")?;
+    Some(Command::ExportImage { image, directory })
+}
+
 // The texts of `migrate`.
 #[derive(Clone, Copy)]
 struct Migration<'a> {
@@ -249,7 +261,10 @@ fn plain_command_in<'a>(matches: &ArgMatches<'a>) -> Option<Command<'a>>
     if let Some(command) = make_image_in(matches) {
         return Some(command);
     }
-    run_image_in(matches)
+    if let Some(command) = run_image_in(matches) {
+        return Some(command);
+    }
+    export_in(matches)
 }
 
 // `migrate`, where the matches are those.

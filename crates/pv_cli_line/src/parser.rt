@@ -2,7 +2,7 @@
 ghost use Rattle.std.specs.Prelude.{◌≡◌, false, IfOk, Some};
 ghost use Rattle.clap.specs.Words.{app_of, new_rule, rule_of, with_rule};
 ghost use Rattle.clap.specs.declared.builder.ArgAction.TheVariants.{SetTrue};
-ghost use Rattle.pv_cli_line.specs.Parser.{IsParserOf, audit_app, bundle_app, bundle_rule, cat_app, command_app, explore_app, flag_rule, graph_app, image_app, long_rule, make_image_app, migrate_app, optional_rule, pvsim_app, question_app, history_app, import_app, reach_app, state_app, run_app, run_image_app, run_tree_app, search_app, source_app, states_rule, text_rule, tree_app, tree_question_app, turns_app, verbose_rule};
+ghost use Rattle.pv_cli_line.specs.Parser.{IsParserOf, audit_app, bundle_app, bundle_rule, cat_app, command_app, explore_app, export_app, flag_rule, graph_app, image_app, long_rule, make_image_app, migrate_app, optional_rule, pvsim_app, question_app, history_app, import_app, reach_app, state_app, run_app, run_image_app, run_tree_app, search_app, source_app, states_rule, text_rule, tree_app, tree_question_app, turns_app, verbose_rule};
 
 use clap::{Arg, ArgAction, Command as Parser};
 use std::alloc::{AllocError, Global};
@@ -316,6 +316,23 @@ fn import_parser<'a>(alloc: Global) -> Result<Parser<'a>, AllocError>
     ))
 }
 
+// The parser of `export`.
+fn export_parser<'a>(alloc: Global) -> Result<Parser<'a>, AllocError>
+    ensures { IfOk result (IsParserOf export_app) }
+{
+    command(
+        alloc,
+        "export",
+        "Make a directory of the tree of an image: its directories, files and symbolic links; further names are hard links",
+    )?
+    .arg(text(alloc, "IMAGE", "an image"))?
+    .arg(text(
+        alloc,
+        "DIR",
+        "the directory that gets the tree: it is made, or has nothing",
+    ))
+}
+
 // The parser of the program, with its commands on bundles and sources.
 fn bundle_parser<'a>(alloc: Global) -> Result<Parser<'a>, AllocError>
     ensures { IfOk result (λ parser. app_of parser ≡ bundle_app) }
@@ -396,11 +413,13 @@ fn all_states_parser<'a>(alloc: Global) -> Result<Parser<'a>, AllocError>
         .subcommand(graph_parser(alloc)?)
 }
 
-// The parser of the command line: the same, with the commands that make an image of another and of a directory.
+// The parser of the command line: the same, with the commands that make an image of another and of a directory, and a directory of
+// an image.
 pub(crate) fn parser<'a>(alloc: Global) -> Result<Parser<'a>, AllocError>
     ensures { IfOk result (λ parser. app_of parser ≡ pvsim_app) }
 {
     all_states_parser(alloc)?
         .subcommand(migrate_parser(alloc)?)?
-        .subcommand(import_parser(alloc)?)
+        .subcommand(import_parser(alloc)?)?
+        .subcommand(export_parser(alloc)?)
 }

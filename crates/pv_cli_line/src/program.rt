@@ -1,7 +1,7 @@
 //! A whole run of the program.
 ghost use Rattle.std.specs.Prelude.{◌≡◌, ◌≢◌, true, map, Err, OnOk, Result};
 ghost use Rattle.pv_cli_commands.specs.Status.{is_told as is_told_by_command, status_of as command_status_of};
-ghost use Rattle.pv_cli_commands.specs.Streams.{disk_of};
+ghost use Rattle.pv_cli_commands.specs.Streams.{disk_of, host_of};
 ghost use Rattle.pv_cli_line.specs.declared.fault.Fault.{Fault as Written};
 ghost use Rattle.pv_cli_line.specs.declared.fault.Fault.TheVariants.{Line as LineVariant};
 ghost use Rattle.pv_cli_line.specs.Program.{ComesTo, TellsErrorsAlone, TellsWhatWasAsked, is_told};
@@ -127,7 +127,7 @@ pub fn run<
     P: Progress,
 >(alloc: Global, words: &[S], system: &mut HostSystem<F, I, O, E>, progress: &mut P) -> u8
     ensures comes { (outcome : Result (Unit {0}) Written) × IsStatusOf outcome result
-        × ComesTo (disk_of F.Files F.Reader.Source F.Writer.Sink) F.entries I.Source O.Sink E.Sink (map S.text words.now) system.old system.new result outcome }
+        × ComesTo (disk_of F.Files F.Reader.Source F.Writer.Sink) (host_of F.entries F.target_of F.Target.made) I.Source O.Sink E.Sink (map S.text words.now) system.old system.new result outcome }
     ensures flushed { O.buffered system.old.output ≡ 0 → result ≢ 4 → O.buffered system.new.output ≡ 0 }
 {
     let line = match command_line_of(alloc, words) {

@@ -3,7 +3,7 @@ ghost use Rattle.std.specs.Prelude.{[], None};
 
 use pv_cli_commands::{Directories, Files, HostSystem, Unshown};
 use pv_cli_line::run;
-use pv_host_copy::{HostDirectory, HostEntry, HostFault, HostFile};
+use pv_host_copy::{HostDirectory, HostEntry, HostFault, HostFile, HostTarget, TargetFault};
 use pv_streams::{Bytes, Failed, Gathered, Sink};
 use std::alloc::{AllocError, Global};
 
@@ -86,13 +86,56 @@ impl HostDirectory for Empty {
     }
 }
 
+// A directory in which nothing can be made.
+#[derive(Drop)]
+struct NoTarget;
+
+impl HostTarget for NoTarget {
+    ghost made = { λ _. None };
+
+    fn make_directory(&mut self, _alloc: Global, _path: &[u8]) -> Result<(), TargetFault> {
+        Err(TargetFault::Make)
+    }
+
+    fn make_file(
+        &mut self,
+        _alloc: Global,
+        _path: &[u8],
+        _executable: bool,
+        _bytes: &[u8],
+    ) -> Result<(), TargetFault> {
+        Err(TargetFault::Make)
+    }
+
+    fn make_link(&mut self, _alloc: Global, _path: &[u8], _text: &[u8]) -> Result<(), TargetFault> {
+        Err(TargetFault::Make)
+    }
+
+    fn make_name(
+        &mut self,
+        _alloc: Global,
+        _path: &[u8],
+        _source: &[u8],
+    ) -> Result<(), TargetFault> {
+        Err(TargetFault::Make)
+    }
+}
+
 impl Directories for NoFiles {
     type Directory = Empty;
 
+    type Target = NoTarget;
+
     ghost entries = { λ _ _. None };
+
+    ghost target_of = { λ _. [] };
 
     fn open_directory(&self, _alloc: Global, _name: &str) -> Result<Empty, HostFault> {
         Err(HostFault::Read)
+    }
+
+    fn create_directory(&self, _alloc: Global, _name: &str) -> Result<NoTarget, TargetFault> {
+        Err(TargetFault::Make)
     }
 }
 
