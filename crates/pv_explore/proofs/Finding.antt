@@ -1,12 +1,11 @@
 -- How a search goes, step by step.
-use Rattle.std.proofs.Common.{◌≡◌, ◌∙◌, sym, ap, ap₂, ℕ, suc, ◌+◌, ◌-◌, ◌<◌, ◌≤◌, Bool, true, false, if◌then◌else◌, nat_le, bytes_eq, List, [], ◌∷◌, ◌++◌, map, length, drop, get_or, slice_get, None, Some, refl, add-one, codes, arith}
+use Rattle.std.proofs.Common.{◌≡◌, ◌∙◌, sym, ap, ap₂, ℕ, suc, ◌+◌, ◌-◌, ◌<◌, ◌≤◌, Bool, true, false, if◌then◌else◌, nat_le, List, [], ◌∷◌, ◌++◌, map, length, drop, get_or, slice_get, None, Some, refl, add-one, codes, arith}
 use Rattle.std.specs.Global.{Vec}
-use Rattle.std.specs.List.{list_any}
 use Rattle.std.proofs.lemmas.Bool.{le-leb, lt-leb}
 use Rattle.std.proofs.lemmas.Grind.{flat_map-append}
 use Rattle.std.proofs.lemmas.List.{drop_all, map-append}
 use Rattle.std.proofs.Math.Seq.{drop-cons}
-use Rattle.pv_explore.specs.Plan.{Kept, endings_after, state_key, is_known, is_told, told_after, lines_at, with_state_at, with_found_at, kept_after, state_at, move_at, live_at, steps_told, kept_after_steps, and_tell, and_keep, told_from, kept_from, first_kept, done_lines}
+use Rattle.pv_explore.specs.Plan.{Kept, is_known, is_told, told_after, lines_at, with_state_at, with_found_at, kept_after, state_at, move_at, live_at, steps_told, kept_after_steps, and_tell, and_keep, told_from, kept_from, first_kept, done_lines}
 use Rattle.pv_explore.specs.Searches.{move_of, move_bytes, told_bytes}
 use Rattle.pv_explore.proofs.Planned.{explore-are, plan-finds}
 use Rattle.pv_model.specs.Answers.Explore.{Move, explore_lines, move_lines, way_text}
@@ -16,8 +15,6 @@ use Rattle.pv_model.specs.Grammar.Programs.{program_of}
 use Rattle.pv_model.specs.State.{State}
 use Rattle.pv_model.specs.Trace.{Line, text_line, trace_bytes}
 use Rattle.pv_session.specs.Running.{stepped}
-use Rattle.pv_spelling.specs.Groups.{joined, state_groups}
-use Rattle.pv_spelling.proofs.Grouping.{state-joined}
 
 -- ---- a state that is found
 
@@ -47,24 +44,11 @@ module _ (limit : ℕ) (kept : Kept) (way : List ℕ) (t : State) where
       by false true = refl
       by false false = refl
 
--- the bytes of groups are those by which the state is known
-pub key-is : (groups : List (List Bytes)) (t : State) → groups ≡ state_groups t → joined groups ≡ state_key t
-key-is groups t is = ap joined is ∙ state-joined t
-
-pub known-is : (b : Bool) (groups : List (List Bytes)) (t : State) (keys : List Bytes) → b ≡ list_any (bytes_eq (joined groups)) keys → groups ≡ state_groups t → b ≡ list_any (bytes_eq (state_key t)) keys
-known-is b groups t keys is same = is ∙ ap (λ k. list_any (bytes_eq k) keys) (key-is groups t same)
-
-pub added-kept : (kept : Kept) (way : List ℕ) (t : State) (groups : List (List Bytes)) (keys endings : List Bytes) (ways : List (List ℕ)) → groups ≡ state_groups t → endings ≡ endings_after kept.endings t
-    → ways ≡ kept.ways ++ way ∷ [] → keys ≡ kept.keys ++ joined groups ∷ [] → record { keys = keys; ways = ways; told = kept.told; endings = endings; complete = kept.complete } ≡ with_state_at kept way t
-added-kept kept way t groups keys endings ways same ending longer added =
-    let keys_are : keys ≡ kept.keys ++ state_key t ∷ [] = added ∙ ap (λ k. kept.keys ++ k ∷ []) (key-is groups t same) in
-    λ i. record { keys = keys_are i; ways = longer i; told = kept.told; endings = ending i; complete = kept.complete }
-
 pub ways-more : (ways new : List (Vec ℕ)) (way : Vec ℕ) → new ≡ ways ++ way ∷ [] → map (λ (w : Vec ℕ). w.items) new ≡ map (λ (w : Vec ℕ). w.items) ways ++ way.items ∷ []
 ways-more ways new way is = ap (map (λ (w : Vec ℕ). w.items)) is ∙ map-append (λ (w : Vec ℕ). w.items) ways (way ∷ [])
 
 -- the first state alone
-pub first-is : (limit : ℕ) (s : State) → with_state_at (record { keys = []; ways = []; told = []; endings = []; complete = true }) [] s ≡ first_kept limit program_of s
+pub first-is : (limit : ℕ) (s : State) → with_found_at 1 (record { keys = []; ways = []; told = []; endings = []; complete = true }) [] s ≡ first_kept limit program_of s
 first-is limit s = refl
 
 -- ---- a step

@@ -5,7 +5,7 @@ use Rattle.std.proofs.lemmas.Option.{slice_get-map, slice_get_within}
 use Rattle.pv_explore.specs.declared.states.Found.{Found}
 use Rattle.pv_explore.specs.declared.states.Found.TheVariants.{Known, Full, New}
 use Rattle.pv_explore.specs.KeptStates.{HasNumber, IsFollowed, IsFoundIn}
-use Rattle.pv_explore.specs.Plan.{Kept, added_to, first_kept, is_known, kept_after, kept_after_steps, move_at, state_at, state_key, told_after, tree_key, with_found_at, with_state_at}
+use Rattle.pv_explore.specs.Plan.{Kept, added_to, endings_after, first_kept, is_known, kept_after, kept_after_steps, move_at, state_at, state_key, told_after, tree_key, with_found_at, with_state_at}
 use Rattle.pv_explore.specs.Searches.{AreAt, move_of, with_way}
 use Rattle.pv_explore.proofs.Finding.{found-full, found-known, found-new}
 use Rattle.pv_explore.proofs.KeptStates.{get-left}
@@ -21,16 +21,30 @@ use Rattle.pv_model.specs.State.{State}
 use Rattle.pv_model.specs.Step.{Run}
 use Rattle.pv_session.specs.Running.{stepped}
 
+-- ---- what is kept of a state that was looked for
+
+module _ (limit : ℕ) (kept : Kept) (way : List ℕ) (u : State) where
+  pub known-found : (keys : List Bytes) → IsFoundIn limit kept.keys keys (state_key u) Known → record kept { keys = keys } ≡ with_found_at limit kept way u
+  known-found keys it = ap (λ (ks : List Bytes). record kept { keys = ks }) it.1 ∙ found-known limit kept way u it.0
+
+  pub full-found : (keys : List Bytes) → IsFoundIn limit kept.keys keys (state_key u) Full → record kept { keys = keys; complete = false } ≡ with_found_at limit kept way u
+  full-found keys it = ap (λ (ks : List Bytes). record kept { keys = ks; complete = false }) it.2 ∙ found-full limit kept way u it.0 it.1
+
+  pub new-found : (keys endings : List Bytes) (ways : List (List ℕ)) → IsFoundIn limit kept.keys keys (state_key u) New → endings ≡ endings_after kept.endings u → ways ≡ kept.ways ++ way ∷ []
+      → record kept { keys = keys; ways = ways; endings = endings } ≡ with_found_at limit kept way u
+  new-found keys endings ways it ending longer =
+      let now : record kept { keys = keys; ways = ways; endings = endings } ≡ with_state_at kept way u = λ i. record { keys = it.2 i; ways = longer i; told = kept.told; endings = ending i; complete = kept.complete } in
+      now ∙ found-new limit kept way u it.0 it.1
+
 -- ---- what is kept after a step that is followed
 
 module _ (limit : ℕ) (kept : Kept) (way : List ℕ) (u : State) (going_on : has_ended u ≡ false) where
   way-found : (keys : List Bytes) (found : Found) → IsFoundIn limit kept.keys keys (state_key u) found → with_way found way (record kept { keys = keys }) ≡ with_found_at limit kept way u
-  way-found keys Known it = ap (λ (ks : List Bytes). record kept { keys = ks }) it.1 ∙ found-known limit kept way u it.0
-  way-found keys Full it = ap (λ (ks : List Bytes). record kept { keys = ks; complete = false }) it.2 ∙ found-full limit kept way u it.0 it.1
+  way-found keys Known it = known-found limit kept way u keys it
+  way-found keys Full it = full-found limit kept way u keys it
   way-found keys New it =
-      ap (λ (ks : List Bytes). record kept { keys = ks; ways = kept.ways ++ way ∷ [] }) it.2
-      ∙ ap (λ b. record kept { keys = kept.keys ++ state_key u ∷ []; ways = kept.ways ++ way ∷ []; endings = if b then added_to kept.endings (tree_key (named_tree u.tree)) else kept.endings }) (sym going_on)
-      ∙ found-new limit kept way u it.0 it.1
+      let ending : kept.endings ≡ endings_after kept.endings u = ap (λ b. if b then added_to kept.endings (tree_key (named_tree u.tree)) else kept.endings) (sym going_on) in
+      new-found limit kept way u keys kept.endings (kept.ways ++ way ∷ []) it ending refl
 
 way-told : (found : Found) (way : List ℕ) (kept : Kept) (told : List Bytes) → with_way found way (record kept { told = told }) ≡ record (with_way found way kept) { told = told }
 way-told Known way kept told = refl

@@ -11,7 +11,7 @@ use Rattle.std.proofs.lemmas.List.{length-append, map-append}
 use Rattle.std.proofs.lemmas.Option.{slice_get-map, slice_get_within}
 use Rattle.pv_explore.specs.Plan.{state_key}
 use Rattle.pv_explore.specs.Rows.{Grew, state_row, state_bytes, IsGroupKept, AreKept, IsRow}
-use Rattle.pv_explore.specs.KeptStates.{number_of, AreKeptBoth, AreCellsOf, AreCellsAt, ArePlaced, ArePushed, IsFine, IsFoundIn, IsRecalled, HasNumber, MayKeep}
+use Rattle.pv_explore.specs.KeptStates.{number_of, AreKeptBoth, AreCellsIn, AreCellsOf, AreCellsAt, AreKeptSteps, ArePlaced, ArePushed, IsFine, IsFoundIn, IsRecalled, HasNumber, MayKeep}
 use Rattle.pv_explore.proofs.Rows.{any-row, kept-grew, numbers-grew, rows-grew, states-added, rows-added, same-rows, state-back, taken-more}
 use Rattle.pv_kept_steps.specs.declared.cells.Cell.{Cell}
 use Rattle.pv_kept_steps.specs.declared.steps.KeptStep.{KeptStep}
@@ -21,6 +21,7 @@ use Rattle.pv_kept_steps.proofs.Again.{IsAgain, cells-more, kept-more}
 use Rattle.pv_kept_steps.proofs.Keys.{groups-spelled}
 use Rattle.pv_kept_steps.proofs.LiveOwners.{owners-are}
 use Rattle.pv_kept_steps.proofs.Recalling.{recalled-again, steps-added, steps-more}
+use Rattle.pv_kept_steps.specs.Steps.{Adds}
 use Rattle.pv_laws_states.specs.States.{IsWhole}
 use Rattle.pv_model.specs.Answers.Explore.{has_ended}
 use Rattle.pv_model.specs.Bytes.{Bytes, is_empty}
@@ -103,6 +104,10 @@ module _ {X Y Z : Type 0} (h : X → Y) (xs : List X) (i : ℕ) (d : X) where
   cells-next f z old new within is so_far added =
       added ∙ ap₂ (λ (zs : List Z) (y : Z). zs ++ y ∷ []) so_far is ∙ sym (map-append f (take i (map h xs)) (h (get_or xs i d) ∷ [])) ∙ ap (map f) (sym (taken-more h xs i d within))
 
+-- cells of groups that are those of a state
+pub cells-of_groups : (parts groups : List Bytes) (s : State) (cs : List Spelled) (cells : List Cell) → AreCellsIn parts groups cs cells → cs ≡ spelled s → AreCellsOf parts groups s cells
+cells-of_groups parts groups s cs cells it is = record { are = it.are ∙ ap (map (cell_of (number_of parts groups))) is; kept = subst (AreKeptBoth parts groups) is it.kept }
+
 -- ---- when more is kept
 
 module _ (parts groups parts_now groups_now : List Bytes) (parts_grew : Grew parts parts_now) (groups_grew : Grew groups groups_now) where
@@ -127,13 +132,26 @@ module _ (parts groups parts_now groups_now : List Bytes) (parts_grew : Grew par
     cells_are = cells-grew it.state cells it.cells_are;
   }
 
+  pub steps-grew : (steps : List KeptStep) → AreKeptSteps parts groups steps → AreKeptSteps parts_now groups_now steps
+  steps-grew steps all = steps-more (number_of parts groups) (IsGroupKept parts groups) (number_of parts_now groups_now) (IsGroupKept parts_now groups_now) keeps-more steps all
+
+  -- and a step more
+  pub step-kept : (t : State) (pid : ℕ) (before after : List Cell) (text : Bytes) (old new : List KeptStep) → IsWhole t → AreCellsOf parts groups t before → AreCellsOf parts_now groups_now (stepped t pid).after after
+      → text ≡ trace_bytes (stepped t pid).lines → AreKeptSteps parts groups old → Adds old new pid before after text → AreKeptSteps parts_now groups_now new
+  step-kept t pid before after text old new whole there left told all adds =
+      steps-added (number_of parts_now groups_now) (IsGroupKept parts_now groups_now) (apart parts_now groups_now) t pid before after text old new whole (cells-grew t before there) left told (steps-grew old all) adds
+
   pub fine-grew : (rows : List Bytes) (cells : List (Vec Cell)) (steps : List KeptStep) → IsFine parts groups rows cells steps → IsFine parts_now groups_now rows cells steps
   fine-grew rows cells steps fine = record {
     rows_are = rows-grew parts groups parts_now groups_now parts_grew groups_grew rows fine.rows_are;
     few = fine.few;
     cells_are = λ k cs row at there. ⊎_elim inl (λ it. inr (cells-at-grew row cs.items it)) (fine.cells_are k cs row at there);
-    steps_are = steps-more (number_of parts groups) (IsGroupKept parts groups) (number_of parts_now groups_now) (IsGroupKept parts_now groups_now) keeps-more steps fine.steps_are;
+    steps_are = steps-grew steps fine.steps_are;
   }
+
+-- with other steps
+pub fine-steps : (parts groups rows : List Bytes) (cells : List (Vec Cell)) (steps new : List KeptStep) → IsFine parts groups rows cells steps → AreKeptSteps parts groups new → IsFine parts groups rows cells new
+fine-steps parts groups rows cells steps new fine all = record { rows_are = fine.rows_are; few = fine.few; cells_are = fine.cells_are; steps_are = all }
 
 -- ---- a row more
 
@@ -181,26 +199,7 @@ module _ (parts groups rows : List Bytes) (cells : List (Vec Cell)) (steps : Lis
           let row_same : row ≡ r = cc in
           subst (λ (x : Vec Cell). AreCellsAt parts groups r x.items) cells_same (subst (λ (x : Bytes). AreCellsAt parts groups x cs.items) row_same it)
 
-  pub fine-pushed : (number : ℕ) (cs : Vec Cell) (row : Bytes) (new : List (Vec Cell)) → ArePushed number cs cells new → slice_get rows number ≡ Some row → AreCellsAt parts groups row cs.items → IsFine parts groups rows new steps
-  fine-pushed number cs row new (inl same) at it = subst (λ (all : List (Vec Cell)). IsFine parts groups rows all steps) (sym same) fine
-  fine-pushed number cs row new (inr (is, next)) at it = fine-cells cs row new is (ap (slice_get rows) next ∙ at) it
-
 module _ (parts groups rows : List Bytes) (cells : List (Vec Cell)) (steps : List KeptStep) (fine : IsFine parts groups rows cells steps) where
-  -- cells of the state of a number
-  pub cells-of-number : (number : ℕ) (t : State) (cs : List Cell) → HasNumber (map (state_bytes parts groups) rows) number t → AreCellsOf parts groups t cs
-      → (row : Bytes) × (slice_get rows number ≡ Some row) × AreCellsAt parts groups row cs
-  cells-of-number number t cs there are =
-      let row = some-of parts groups (state_bytes parts groups) (slice_get rows number) (state_key t) (sym (slice_get-map (state_bytes parts groups) rows number) ∙ there) in
-      let it = row-at rows number row.0 fine.rows_are row.1 in
-      let keys : state_key it.state ≡ state_key t =
-      sym (state-joined it.state) ∙ sym (state-back parts groups (state_groups it.state) it.kept) ∙ ap (state_bytes parts groups) (sym it.is) ∙ row.2 in
-      (row.0, row.1, record { state = t; row_is = it.is ∙ ap (λ (s : State). state_row parts groups (state_groups s)) (same-keys it.state t keys); cells_are = are })
-    where
-      row-at : (rs : List Bytes) (k : ℕ) (r : Bytes) → AllByRecursion (IsRow parts groups) rs → slice_get rs k ≡ Some r → IsRow parts groups r
-      row-at [] k r all at = cc
-      row-at (x ∷ rs) zero r all at = let same : x ≡ r = cc in subst (IsRow parts groups) same all.0
-      row-at (x ∷ rs) (suc k) r all at = row-at rs k r all.1 at
-
   -- a step that is kept
   pub fine-kept : (number pid : ℕ) (t : State) (after : List Cell) (text : Bytes) (new : List KeptStep) → IsWhole t → HasNumber (map (state_bytes parts groups) rows) number t
       → AreCellsOf parts groups (stepped t pid).after after → text ≡ trace_bytes (stepped t pid).lines → MayKeep cells number pid after text steps new → IsFine parts groups rows cells new

@@ -8,7 +8,7 @@ use Rattle.pv_explore.specs.Plan.{state_key}
 use Rattle.pv_explore.specs.Rows.{number_in, group_row, state_row, IsGroupKept, IsRow}
 use Rattle.pv_kept_steps.specs.declared.cells.Cell.{Cell}
 use Rattle.pv_kept_steps.specs.declared.steps.KeptStep.{KeptStep}
-use Rattle.pv_kept_steps.specs.Edits.{owners, step_key}
+use Rattle.pv_kept_steps.specs.Edits.{cell_of, owners, step_key}
 use Rattle.pv_kept_steps.specs.Kept.{AreCells, IsKeptBoth, IsStep}
 use Rattle.pv_explore.specs.declared.states.Followed.{Followed}
 use Rattle.pv_kept_steps.specs.Steps.{Adds, WasKept}
@@ -34,6 +34,11 @@ module _ (parts groups : List Bytes) where
   abbrev pub AreCellsOf : State → List Cell → Type 0
   AreCellsOf s cells = AreCells number_of (IsGroupKept parts groups) s cells
 
+  -- cells are those of groups, which are kept
+  pub record AreCellsIn (cs : List Spelled) (cells : List Cell) : Type 0 where
+    pub are : cells ≡ map (cell_of number_of) cs
+    pub kept : AreKeptBoth cs
+
   -- cells are those of the state of a row
   pub record AreCellsAt (row : Bytes) (cells : List Cell) : Type 0 where
     pub state : State
@@ -43,12 +48,15 @@ module _ (parts groups : List Bytes) where
   abbrev pub IsKeptStepOf : KeptStep → Type 0
   IsKeptStepOf k = IsStep number_of (IsGroupKept parts groups) k.key.items k.text.items k.edits.items
 
+  abbrev pub AreKeptSteps : List KeptStep → Type 0
+  AreKeptSteps steps = AllByRecursion IsKeptStepOf steps
+
   -- what is kept is right: rows are of states, cells are of the states of their rows, where they are not forgotten, and steps gave what is kept of them
   pub record IsFine (rows : List Bytes) (cells : List (Vec Cell)) (steps : List KeptStep) : Type 0 where
     pub rows_are : AllByRecursion (IsRow parts groups) rows
     pub few : length cells ≤ length rows
     pub cells_are : (k : ℕ) (cs : Vec Cell) (row : Bytes) → slice_get cells k ≡ Some cs → slice_get rows k ≡ Some row → (cs.items ≡ []) ⊎ AreCellsAt row cs.items
-    pub steps_are : AllByRecursion IsKeptStepOf steps
+    pub steps_are : AreKeptSteps steps
 
 -- what a step gives is what one gave that was kept, and some process is then live
 pub record IsRecalled (cells : List (Vec Cell)) (steps : List KeptStep) (number pid : ℕ) (text : Bytes) (after : List Cell) : Type 0 where
@@ -97,6 +105,10 @@ IsFoundIn limit old new key Known = (list_any (bytes_eq key) old ≡ true) × (n
 IsFoundIn limit old new key Full = (list_any (bytes_eq key) old ≡ false) × (limit ≤ length old) × (new ≡ old)
 IsFoundIn limit old new key New = (list_any (bytes_eq key) old ≡ false) × (length old < limit) × (new ≡ old ++ key ∷ [])
 
+-- a state of these groups was looked for
+abbrev pub IsFoundBy : ℕ → List Bytes → List Bytes → List Spelled → Found → Type 0
+IsFoundBy limit old new cs found = (t : State) → cs ≡ spelled t → IsFoundIn limit old new (state_key t) found
+
 -- a step in a state was followed: its text, and the state that it leads to, in which some process is live
 pub record IsFollowed (limit : ℕ) (old new : List Bytes) (t : State) (pid : ℕ) (text : Bytes) (found : Found) : Type 0 where
   pub text_is : text ≡ trace_bytes (stepped t pid).lines
@@ -114,10 +126,6 @@ pub record IsMade (keys : List Bytes) (number pid : ℕ) (text : Bytes) (after :
 -- the state of a number is whole
 abbrev pub IsWholeAt : List Bytes → ℕ → Type 0
 IsWholeAt keys number = (t : State) × IsWhole t × HasNumber keys number t
-
--- groups are those of the state of a number
-abbrev pub AreSpelledAt : List Bytes → ℕ → List Spelled → Type 0
-AreSpelledAt keys number cs = (t : State) × (cs ≡ spelled t) × HasNumber keys number t
 
 -- a step of a process in the state of a number was followed, or is not known
 abbrev pub MayFollow : ℕ → List Bytes → List Bytes → ℕ → ℕ → Option Followed → Type 0

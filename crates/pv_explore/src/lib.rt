@@ -10,6 +10,7 @@
 //! and tells what the definitions do.
 #![tactic(auto)]
 
+mod ahead;
 mod beginning;
 mod explore;
 mod graph;

@@ -234,17 +234,6 @@ impl Position {
         self.session.parts()
     }
 
-    /// The groups of parts by which its state is known.
-    ///
-    /// # Errors
-    ///
-    /// `NoMemory` where memory was refused.
-    pub(crate) fn groups(&self, alloc: Global) -> Result<Vec<Vec<Vec<u8>>>, StepFault>
-        ensures { IfOk result (λ groups. groups_of groups.items ≡ state_groups self.now) }
-    {
-        Ok(state_groups(alloc, self.session.parts(), self.last)?)
-    }
-
     /// The groups of its state, and of each live process what the steps of others depend on.
     ///
     /// # Errors

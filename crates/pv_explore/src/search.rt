@@ -1,7 +1,7 @@
 //! What a search keeps, and how it goes.
-ghost use Rattle.std.specs.Prelude.{◌≡◌, ◌++◌, ◌∷◌, [], true, false, bytes_eq, if◌then◌else◌, slice_get, IfErr, IfOk, OnErr, OnOk};
+ghost use Rattle.std.specs.Prelude.{◌≡◌, ◌++◌, ◌∷◌, [], true, bytes_eq, if◌then◌else◌, slice_get, IfErr, IfOk, OnErr, OnOk};
 ghost use Rattle.std.specs.List.{list_any};
-ghost use Rattle.pv_explore.specs.Plan.{endings_after, first_kept, is_known, is_told, kept_after, kept_after_steps, kept_from, lines_at, live_at, move_at, state_at, steps_told, told_after, told_from, with_found_at, with_state_at};
+ghost use Rattle.pv_explore.specs.Plan.{endings_after, first_kept, is_told, kept_after, kept_after_steps, kept_from, lines_at, live_at, move_at, state_at, steps_told, told_after, told_from, with_found_at};
 ghost use Rattle.pv_explore.specs.KeptStates.{HasNumber};
 ghost use Rattle.pv_explore.specs.Searches.{AreAt, kept_of, move_bytes, move_of, told_bytes, way_of, with_way};
 ghost use Rattle.pv_laws_states.specs.States.{IsWhole};
@@ -9,7 +9,7 @@ ghost use Rattle.pv_model.specs.Answers.Lines.{answer_bytes};
 ghost use Rattle.pv_model.specs.Grammar.Programs.{program_of};
 ghost use Rattle.pv_model.specs.Stream.{Rose};
 ghost use Rattle.pv_session.specs.Running.{FailsBy};
-ghost use Rattle.pv_spelling.specs.Groups.{groups_of, state_groups};
+ghost use Rattle.pv_spelling.specs.Spelled.{spelled, spelled_all};
 ghost use Rattle.pv_streams.specs.Sinks.{and_all, TellsBeginning};
 
 use crate::beginning::Beginning;
@@ -21,6 +21,7 @@ use crate::way::Way;
 use pv_answers::{Fragment, Line, Plain};
 use pv_model::StepFault;
 use pv_session::Stop;
+use pv_spelling::SpelledGroup;
 use pv_streams::{Failed, Sink};
 use std::alloc::Global;
 
@@ -164,29 +165,9 @@ impl Search {
     {
         let position = Position::start(alloc, beginning)?;
         let mut search = Search::empty(alloc);
-        let groups = position.groups(alloc)?;
-        search.add(alloc, &position, &groups, Vec::new(alloc))?;
-        Ok(search)
-    }
-
-    // Keeps another state, and the way to it.
-    fn add(
-        &mut self,
-        alloc: Global,
-        position: &Position,
-        groups: &[Vec<Vec<u8>>],
-        way: Vec<u32>,
-    ) -> Result<(), StepFault>
-        requires groups { groups_of groups.now ≡ state_groups position.now }
-        requires other { is_known (kept_of self.old) position.now ≡ false }
-        ensures { OnOk result (kept_of self.new ≡ with_state_at (kept_of self.old) way.items position.now) }
-    {
-        add_ending(alloc, &mut self.endings, position)?;
-        push_way(&mut self.ways, way)?;
-        let number = self.states.len();
-        self.states.add(alloc, groups)?;
         let spelled = position.spelled(alloc)?;
-        self.states.note(alloc, number, &spelled)
+        search.find(alloc, 1, &position, &spelled, Vec::new(alloc))?;
+        Ok(search)
     }
 
     // Keeps the way to a state that was looked for, where that was added.
@@ -203,30 +184,34 @@ impl Search {
         }
     }
 
-    // Keeps a state to which a way leads, where it was not known and is not one too many.
+    // Keeps a state to which a way leads, by its groups, where it was not known and is not one too many.
     fn find(
         &mut self,
         alloc: Global,
         limit: u32,
         position: &Position,
+        groups: &[SpelledGroup],
         way: Vec<u32>,
     ) -> Result<(), StepFault>
+        requires { spelled_all groups.now ≡ spelled position.now }
         ensures { OnOk result (kept_of self.new ≡ with_found_at limit (kept_of self.old) way.items position.now) }
     {
-        let groups = position.groups(alloc)?;
-        let known = self.states.contains(alloc, &groups)?;
-        if known {
-            return Ok(());
+        let found = self.states.find_or_add(alloc, limit as usize, groups)?;
+        match found {
+            Found::Known => Ok(()),
+            Found::Full => {
+                self.complete = false;
+                Ok(())
+            }
+            Found::New => {
+                add_ending(alloc, &mut self.endings, position)?;
+                push_way(&mut self.ways, way)
+            }
         }
-        if self.states.len() >= limit as usize {
-            self.complete = false;
-            return Ok(());
-        }
-        self.add(alloc, position, &groups, way)
     }
 
     // Makes a step of a process in the state of a number, to which a way leads: it is told where its text was not, it is kept, and so
-    // is its state.
+    // is its state. Then the machine goes on ahead.
     fn make_new_move<W: Sink>(
         &mut self,
         alloc: Global,
@@ -249,7 +234,8 @@ impl Search {
         let spelled = position.spelled(alloc)?;
         self.states.keep_step(alloc, number, pid, &text, &spelled)?;
         tell(&mut self.told, pid, &way, text, out)?;
-        self.find(alloc, limit, &position, way)?;
+        self.find(alloc, limit, &position, &spelled, way)?;
+        self.states.go_ahead(alloc, position, &spelled)?;
         Ok(())
     }
 

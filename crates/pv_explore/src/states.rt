@@ -1,13 +1,15 @@
 //! The states that a search found, each as a row of small numbers.
-ghost use Rattle.std.specs.Prelude.{◌≡◌, ◌++◌, ◌∷◌, [], false, length, map, position, bytes_eq, IfOk, IfSome, OnErr, OnOk};
-ghost use Rattle.std.specs.List.{AllByRecursion, list_any};
-ghost use Rattle.pv_explore.specs.Rows.{AreKept, AreOfState, Grew, IsAmong, IsGroupKept, group_row, number_in, parts_in, state_row};
-ghost use Rattle.pv_explore.specs.KeptStates.{AreKeptBoth, AreLiveAt, ArePlaced, ArePushed, AreSpelledAt, IsFoundIn, IsMade, IsRecalled, IsWholeAt, MayFollow, MayKeep, number_of};
+ghost use Rattle.std.specs.Prelude.{◌≡◌, ◌++◌, ◌∷◌, [], length, map, position, bytes_eq, IfOk, IfSome, OnErr, OnOk};
+ghost use Rattle.std.specs.List.{AllByRecursion};
+ghost use Rattle.pv_explore.specs.Rows.{AreOfState, Grew, IsAmong, IsGroupKept, group_row, number_in, parts_in, state_row};
+ghost use Rattle.pv_explore.specs.KeptStates.{AreCellsIn, AreKeptBoth, AreLiveAt, ArePlaced, ArePushed, AreSpelled, IsFoundBy, IsFoundIn, IsMade, IsRecalled, IsWholeAt, MayFollow, MayKeep, number_of};
 ghost use Rattle.pv_kept_steps.specs.Edits.{cell_of};
 ghost use Rattle.pv_spelling.specs.Groups.{groups_of, joined};
-ghost use Rattle.pv_spelling.specs.Spelled.{spelled_all, spelled_of};
+ghost use Rattle.pv_spelling.specs.Spelled.{spelled, spelled_all, spelled_of};
 
+use crate::ahead::make_ahead;
 use crate::keys::Keys;
+use crate::position::Position;
 use pv_kept_steps::{Cell, KeptSteps, Recalled, live_owners, row_of_cells};
 use pv_model::StepFault;
 use pv_spelling::{SpelledGroup, push_number};
@@ -130,24 +132,6 @@ fn learn_row(
     groups.learn(alloc, &row)
 }
 
-// Keeps groups and their parts.
-fn learn(
-    alloc: Global,
-    parts: &mut Keys,
-    groups: &mut Keys,
-    spelled: &[Vec<Vec<u8>>],
-) -> Result<(), AllocError>
-    ensures parts_grew { Grew parts.old parts.new }
-    ensures groups_grew { Grew groups.old groups.new }
-    ensures kept { OnOk result (AreKept parts.new groups.new (groups_of spelled.now)) }
-{
-    for group in spelled {
-        learn_parts(alloc, parts, group)?;
-        learn_row(alloc, parts, groups, group)?;
-    }
-    Ok(())
-}
-
 // ---- cells
 
 // Keeps a group and its parts.
@@ -246,6 +230,21 @@ fn cells_of(
         cells.push(cell_of(alloc, parts, groups, group)?)?;
     }
     Ok(cells)
+}
+
+// The cells of a state: the groups of it are then kept, and what the steps of others depend on of them.
+pub(crate) fn learn_cells(
+    alloc: Global,
+    parts: &mut Keys,
+    groups: &mut Keys,
+    spelled: &[SpelledGroup],
+) -> Result<Vec<Cell>, AllocError>
+    ensures parts_grew { Grew parts.old parts.new }
+    ensures groups_grew { Grew groups.old groups.new }
+    ensures cells { IfOk result (λ cells. AreCellsIn parts.new groups.new (spelled_all spelled.now) cells.items) }
+{
+    learn_all(alloc, parts, groups, spelled)?;
+    cells_of(alloc, parts, groups, spelled)
 }
 
 // ---- steps
@@ -369,23 +368,6 @@ impl States {
         Ok(Some(live_owners(alloc, cells)?))
     }
 
-    /// Whether a state is one of them, by its groups.
-    ///
-    /// # Errors
-    ///
-    /// `NoMemory` where memory was refused.
-    pub(crate) fn contains(
-        &self,
-        alloc: Global,
-        spelled: &[Vec<Vec<u8>>],
-    ) -> Result<bool, StepFault>
-        requires { AreOfState (groups_of spelled.now) }
-        ensures { IfOk result (λ known. known ≡ list_any (bytes_eq (joined (groups_of spelled.now))) self.now) }
-    {
-        let row = row_of_state(alloc, &self.parts, &self.groups, spelled)?;
-        Ok(self.rows.contains(&row))
-    }
-
     /// The number of a state, from 0, by its groups, where it is one of them.
     ///
     /// # Errors
@@ -403,38 +385,24 @@ impl States {
         Ok(self.rows.find(&row))
     }
 
-    /// Adds a state that is not there, by its groups: it then comes last.
+    /// Looks for a state by its groups, and adds it where it is not there, and they are fewer than `limit`: it then comes last.
     ///
     /// # Errors
     ///
     /// `NoMemory` where memory was refused.
-    pub(crate) fn add(&mut self, alloc: Global, spelled: &[Vec<Vec<u8>>]) -> Result<(), StepFault>
-        requires state { AreOfState (groups_of spelled.now) }
-        requires other { list_any (bytes_eq (joined (groups_of spelled.now))) self.old ≡ false }
-        ensures { OnOk result (self.new ≡ self.old ++ joined (groups_of spelled.now) ∷ []) }
-    {
-        learn(alloc, &mut self.parts, &mut self.groups, spelled)?;
-        let row = row_of_state(alloc, &self.parts, &self.groups, spelled)?;
-        Ok(self.rows.learn(alloc, &row)?)
-    }
-
-    /// Keeps what the steps in the state of a number are recalled by, by its groups.
-    ///
-    /// # Errors
-    ///
-    /// `NoMemory` where memory was refused.
-    pub(crate) fn note(
+    pub(crate) fn find_or_add(
         &mut self,
         alloc: Global,
-        number: usize,
+        limit: usize,
         spelled: &[SpelledGroup],
-    ) -> Result<(), StepFault>
-        requires { AreSpelledAt self.old number (spelled_all spelled.now) }
-        ensures { OnOk result (self.new ≡ self.old) }
+    ) -> Result<Found, StepFault>
+        requires { AreSpelled (spelled_all spelled.now) }
+        ensures { IfOk result (IsFoundBy limit self.old self.new (spelled_all spelled.now)) }
     {
-        learn_all(alloc, &mut self.parts, &mut self.groups, spelled)?;
-        let cells = cells_of(alloc, &self.parts, &self.groups, spelled)?;
-        Ok(push_cells(&mut self.cells, number, cells)?)
+        let cells = learn_cells(alloc, &mut self.parts, &mut self.groups, spelled)?;
+        let row = row_of_cells(alloc, &cells)?;
+        let found = place(&mut self.rows, &mut self.cells, limit, row, cells)?;
+        Ok(found)
     }
 
     /// Keeps what a step of a process in the state of a number gave: the lines that it told, as a trace has them, and the groups of
@@ -454,8 +422,7 @@ impl States {
         requires { IsMade self.old number pid text.now (spelled_all after.now) }
         ensures { OnOk result (self.new ≡ self.old) }
     {
-        learn_all(alloc, &mut self.parts, &mut self.groups, after)?;
-        let cells = cells_of(alloc, &self.parts, &self.groups, after)?;
+        let cells = learn_cells(alloc, &mut self.parts, &mut self.groups, after)?;
         Ok(keep_made(
             alloc,
             &self.cells,
@@ -465,6 +432,33 @@ impl States {
             &cells,
             text,
         )?)
+    }
+
+    /// Goes on with a machine: in each state that it reaches it makes a step of a live process that is not kept there, and keeps what
+    /// that gave, as often as `ahead` says at most. `groups` are those of the machine's state.
+    ///
+    /// # Errors
+    ///
+    /// `NoMemory` where memory was refused.
+    pub(crate) fn go_ahead(
+        &mut self,
+        alloc: Global,
+        position: Position,
+        groups: &[SpelledGroup],
+    ) -> Result<(), StepFault>
+        requires { spelled_all groups.now ≡ spelled position }
+        ensures { OnOk result (self.new ≡ self.old) }
+    {
+        let cells = learn_cells(alloc, &mut self.parts, &mut self.groups, groups)?;
+        make_ahead(
+            alloc,
+            &mut self.parts,
+            &mut self.groups,
+            &mut self.steps,
+            position,
+            cells,
+        )?;
+        Ok(())
     }
 
     /// Follows a step of a process in the state of a number, where one that gives the same was kept, and some process is then live:

@@ -91,7 +91,7 @@ module _ (number : List Bytes → ℕ) (IsKept : List Bytes → Type 0) (number_
       let outside : number_now c.outside ≡ number c.outside = more.same c.outside kept.1 in
       λ i. record { number = group i; owner = c.owner; outside = outside i }
 
-  cells-same : (cs : List Spelled) → AllByRecursion (IsKeptBoth number IsKept) cs → map (cell_of number_now) cs ≡ map (cell_of number) cs
+  pub cells-same : (cs : List Spelled) → AllByRecursion (IsKeptBoth number IsKept) cs → map (cell_of number_now) cs ≡ map (cell_of number) cs
   cells-same [] kept = λ i. []
   cells-same (c ∷ cs) kept = ap₂ (λ (x : Cell) xs. x ∷ xs) (cell-same c kept.0) (cells-same cs kept.1)
 

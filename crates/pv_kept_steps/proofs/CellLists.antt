@@ -1,7 +1,7 @@
 -- As far as a loop over cells has come, and edits of cells.
-use Rattle.std.proofs.Common.{◌≡◌, ◌≢◌, ◌∙◌, sym, ap, subst, ℕ, ◌+◌, ◌<◌, Bool, true, false, ◌==◌, if◌then◌else◌, List, [], ◌∷◌, ◌++◌, get_or, length, map, take, Option, None, Some, option_map, slice_get, refl}
+use Rattle.std.proofs.Common.{◌≡◌, ◌≢◌, ◌∙◌, sym, ap, subst, ℕ, ◌+◌, ◌<◌, Bool, true, false, not, ◌||◌, ◌==◌, if◌then◌else◌, List, [], ◌∷◌, ◌++◌, get_or, length, map, take, Option, None, Some, option_map, slice_get, refl}
 use Rattle.std.specs.Prelude.{position}
-use Rattle.std.specs.List.{AllByRecursion}
+use Rattle.std.specs.List.{AllByRecursion, list_any}
 use Rattle.std.proofs.lemmas.Bool.{and_parts, eqb-true}
 use Rattle.std.proofs.lemmas.List.{take_more}
 use Rattle.std.proofs.lemmas.List.Quantifiers.{position-Some}
@@ -11,7 +11,7 @@ use Rattle.pv_spelling.specs.Spelled.{Spelled}
 use Rattle.pv_kept_steps.specs.declared.cells.Cell.{Cell}
 use Rattle.pv_kept_steps.specs.declared.cells.Edit.{Edit}
 use Rattle.pv_kept_steps.specs.declared.cells.Edit.TheVariants.{Keep, Put}
-use Rattle.pv_kept_steps.specs.Edits.{cell_of, owners, stands_as, StoodAt, IsCellEdit, AreCellEdits, IsEdit, AreEdits}
+use Rattle.pv_kept_steps.specs.Edits.{cell_of, is_owned, owners, stands_as, StoodAt, IsCellEdit, AreCellEdits, IsEdit, AreEdits}
 use Rattle.pv_kept_steps.specs.Kept.{IsKeptBoth, AreApart}
 
 -- ---- owners
@@ -27,6 +27,15 @@ owners-append (c ∷ cs) ds = by (c.owner == 0) (owners-append cs ds)
 pub owners_next : (cells : List Cell) (i : ℕ) (d : Cell) (old new : List ℕ) → i < length cells → new ≡ old ++ owners (get_or cells i d ∷ []) → old ≡ owners (take i cells) → new ≡ owners (take (i + 1) cells)
 owners_next cells i d old new within is so_far =
     is ∙ ap (λ (ns : List ℕ). ns ++ owners (get_or cells i d ∷ [])) so_far ∙ sym (owners-append (take i cells) (get_or cells i d ∷ [])) ∙ ap owners (sym (take_more cells i d within))
+
+-- some process is live where a cell has an owner
+pub owners-some : (cells : List Cell) → list_any is_owned cells ≡ true → owners cells ≢ []
+owners-some [] is = λ none. (let no : false ≡ true = is in cc)
+owners-some (c ∷ cs) is = by (c.owner == 0) (owners-some cs) is
+  where
+    by : (b : Bool) → (list_any is_owned cs ≡ true → owners cs ≢ []) → (not b || list_any is_owned cs) ≡ true → (if b then owners cs else c.owner ∷ owners cs) ≢ []
+    by true rest some = rest some
+    by false rest some = λ none. cc
 
 -- ---- edits
 

@@ -1,5 +1,5 @@
 -- The groups of a state after a step, by those of the state before it.
-use Rattle.std.specs.Prelude.{◌≡◌, ◌≢◌, ℕ, Bool, true, ◌&&◌, ◌⊎◌, if◌then◌else◌, ◌==◌, List, [], ◌∷◌, get_or, map, slice_get, Some}
+use Rattle.std.specs.Prelude.{◌≡◌, ◌≢◌, ℕ, Bool, true, not, ◌&&◌, ◌⊎◌, if◌then◌else◌, ◌==◌, List, [], ◌∷◌, get_or, map, slice_get, Some}
 use Rattle.pv_model.specs.Bytes.{Bytes}
 use Rattle.pv_spelling.specs.Packed.{packed_all}
 use Rattle.pv_spelling.specs.Spelled.{Spelled}
@@ -22,6 +22,10 @@ seen_number pid c = if c.owner == pid then c.number else c.outside
 
 abbrev pub number_of_cell : Cell → ℕ
 number_of_cell c = c.number
+
+-- it is of a live process
+abbrev pub is_owned : Cell → Bool
+is_owned c = not (c.owner == 0)
 
 -- the live processes
 abbrev pub owners : List Cell → List ℕ

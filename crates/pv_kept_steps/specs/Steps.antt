@@ -11,6 +11,10 @@ pub record IsFound (steps : List KeptStep) (key : Bytes) (step : KeptStep) : Typ
   pub at : slice_get steps number ≡ Some step
   pub key_is : step.key.items ≡ key
 
+-- a step of a key is there
+abbrev pub HasStep : List KeptStep → Bytes → Type 0
+HasStep steps key = (step : KeptStep) × IsFound steps key step
+
 -- what a step gives is what one of these of its key gave
 pub record WasKept (steps : List KeptStep) (key : Bytes) (cells : List Cell) (text : Bytes) (after : List Cell) : Type 0 where
   pub step : KeptStep

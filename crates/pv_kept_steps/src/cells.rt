@@ -1,6 +1,7 @@
 //! States as cells.
 ghost use Rattle.std.specs.Prelude.{◌≡◌, ◌++◌, ◌∷◌, [], map, position, IfOk, IfSome, OnOk};
-ghost use Rattle.pv_kept_steps.specs.Edits.{AreCellEdits, IsCellEdit, edited, number_of_cell, owners, seen_number, stands_as, step_key};
+ghost use Rattle.std.specs.List.{list_any};
+ghost use Rattle.pv_kept_steps.specs.Edits.{AreCellEdits, IsCellEdit, edited, is_owned, number_of_cell, owners, seen_number, stands_as, step_key};
 ghost use Rattle.pv_spelling.specs.Packed.{packed_all};
 
 use pv_spelling::push_number;
@@ -92,6 +93,13 @@ pub fn live_owners(alloc: Global, cells: &[Cell]) -> Result<Vec<u32>, AllocError
         push_owner(&mut pids, cell)?;
     }
     Ok(pids)
+}
+
+/// Whether some process is live.
+pub fn has_owner(cells: &[Cell]) -> bool
+    ensures { result ≡ list_any is_owned cells.now }
+{
+    cells.iter().any(|cell| cell.owner != 0)
 }
 
 // A cell after a step.

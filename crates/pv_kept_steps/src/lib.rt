@@ -8,5 +8,7 @@
 pub mod cells;
 pub mod steps;
 
-pub use cells::{Cell, Edit, edited_cells, edits_of, live_owners, row_of_cells, step_key};
+pub use cells::{
+    Cell, Edit, edited_cells, edits_of, has_owner, live_owners, row_of_cells, step_key,
+};
 pub use steps::{KeptStep, KeptSteps, Recalled};

@@ -1,5 +1,5 @@
 //! What steps gave.
-ghost use Rattle.std.specs.Prelude.{◌≡◌, ◌++◌, ◌∷◌, [], IfOk, IfSome, OnErr, OnOk};
+ghost use Rattle.std.specs.Prelude.{◌≡◌, ◌++◌, ◌∷◌, [], true, IfOk, IfSome, OnErr, OnOk};
 
 use crate::cells::{Cell, Edit, edited_cells, edits_of, step_key};
 use indexmap::IndexSet;
@@ -45,7 +45,7 @@ fn copy_of(alloc: Global, bytes: &[u8]) -> Result<Vec<u8>, AllocError>
 
 impl KeptSteps {
     ghost use Rattle.pv_kept_steps.specs.Edits.{step_key};
-    ghost use Rattle.pv_kept_steps.specs.Steps.{Adds, IsFound, WasKept};
+    ghost use Rattle.pv_kept_steps.specs.Steps.{Adds, HasStep, IsFound, WasKept};
 
     /// None.
     pub fn new(alloc: Global) -> KeptSteps
@@ -81,6 +81,21 @@ impl KeptSteps {
         Ok(())
     }
 
+    /// Whether what a step of a process gives in a state of these cells is kept, of one of the same key.
+    ///
+    /// # Errors
+    ///
+    /// Where memory was refused.
+    pub fn is_kept(&self, alloc: Global, cells: &[Cell], pid: u32) -> Result<bool, AllocError>
+        ensures { IfOk result (λ kept. kept ≡ true → HasStep self.now.steps.items (step_key pid cells.now)) }
+    {
+        let key = step_key(alloc, cells, pid)?;
+        match self.find(&key) {
+            Some(_) => Ok(true),
+            None => Ok(false),
+        }
+    }
+
     /// What a step of a process gives in a state of these cells, where one of the same key was kept.
     ///
     /// # Errors
@@ -104,7 +119,7 @@ impl KeptSteps {
     }
 
     /// Keeps what a step of a process gave, by the cells of the state before it and of that after it, where each other process that
-    /// is live is as it was.
+    /// is live is as it was, and none of the same key was kept.
     ///
     /// # Errors
     ///
@@ -120,10 +135,13 @@ impl KeptSteps {
         ensures kept { OnOk result (Adds self.old.steps.items self.new.steps.items pid before.now after.now text.now) }
         ensures unchanged { OnErr result (self.new.steps.items ≡ self.old.steps.items) }
     {
+        let key = step_key(alloc, before, pid)?;
+        if self.keys.contains(&key) {
+            return Ok(());
+        }
         let Some(edits) = edits_of(alloc, before, after, pid)? else {
             return Ok(());
         };
-        let key = step_key(alloc, before, pid)?;
         let text = copy_of(alloc, text)?;
         self.add(alloc, KeptStep { key, text, edits })
     }

@@ -1,26 +1,28 @@
-use Rattle.std.proofs.Common.{◌∙◌, ap, sym}
+use Rattle.std.proofs.Common.{subst}
 use Rattle.std.proofs.lemmas.Result.{on_ok_weaker}
+use Rattle.pv_explore.specs.declared.states.Found.{Found}
+use Rattle.pv_explore.specs.KeptStates.{IsFoundIn}
+use Rattle.pv_explore.specs.Plan.{state_key}
 use Rattle.pv_explore.specs.Searches.{kept_of}
-use Rattle.pv_explore.proofs.Finding.{found-full, found-known, found-new, known-is}
-use Rattle.pv_spelling.specs.Groups.{groups_of}
+use Rattle.pv_explore.proofs.Finding.{ways-more}
+use Rattle.pv_explore.proofs.Followed.{full-found, known-found, new-found}
 use Rattle.pv_explore.proofs.search.Search.find.Goals as goal
 
-pub returns-then-known : goal.returns-then-known
-returns-then-known c =
-    let is = known-is c.in_ok-known.known (groups_of c.deref.result.now) c.args.position.now c.args.self.now.states c.in_ok-known.ensures (ap groups_of c.deref.ensures.value ∙ c.in_ok-groups.ensures) in
-    found-known c.args.limit (kept_of c.args.self.now) c.args.way.items c.args.position.now (sym is ∙ c.if-known.true)
+pub returns-in-Known : goal.returns-in-Known
+returns-in-Known c =
+    let t = c.args.position.now in
+    let it = subst (λ (f : Found). IsFoundIn c.args.limit c.args.self.now.states c.find_or_add.new.self (state_key t) f) c.in-Known.is (c.in_ok-found.ensures t c.requires) in
+    known-found c.args.limit (kept_of c.args.self.now) c.args.way.items t c.find_or_add.new.self it
 
-pub returns-then-len-limit : goal.returns-then-len-limit
-returns-then-len-limit c =
-    let is = known-is c.in_ok-known.known (groups_of c.deref.result.now) c.args.position.now c.args.self.now.states c.in_ok-known.ensures (ap groups_of c.deref.ensures.value ∙ c.in_ok-groups.ensures) in
-    found-full c.args.limit (kept_of c.args.self.now) c.args.way.items c.args.position.now (sym is ∙ c.if-known.false) (rw c.len.ensures at c.if-len-limit.true)
+pub returns-in-Full : goal.returns-in-Full
+returns-in-Full c =
+    let t = c.args.position.now in
+    let it = subst (λ (f : Found). IsFoundIn c.args.limit c.args.self.now.states c.find_or_add.new.self (state_key t) f) c.in-Full.is (c.in_ok-found.ensures t c.requires) in
+    full-found c.args.limit (kept_of c.args.self.now) c.args.way.items t c.find_or_add.new.self it
 
-pub add-requires-clause-other : goal.add-requires-clause-other
-add-requires-clause-other c =
-    let is = known-is c.in_ok-known.known (groups_of c.deref.result.now) c.args.position.now c.args.self.now.states c.in_ok-known.ensures (ap groups_of c.deref.ensures.value ∙ c.in_ok-groups.ensures) in
-    sym is ∙ c.if-known.false
-
-pub returns : goal.returns
-returns c =
-    let is = known-is c.in_ok-known.known (groups_of c.deref.result.now) c.args.position.now c.args.self.now.states c.in_ok-known.ensures (ap groups_of c.deref.ensures.value ∙ c.in_ok-groups.ensures) in
-    on_ok_weaker c.add.result (λ added. added ∙ found-new c.args.limit (kept_of c.args.self.now) c.args.way.items c.args.position.now (sym is ∙ c.if-known.false) (rw c.len.ensures at c.if-len-limit.false)) c.add.ensures
+pub returns-in_ok-add_ending-in-New : goal.returns-in_ok-add_ending-in-New
+returns-in_ok-add_ending-in-New c =
+    let t = c.args.position.now in
+    let it = subst (λ (f : Found). IsFoundIn c.args.limit c.args.self.now.states c.find_or_add.new.self (state_key t) f) c.in-New.is (c.in_ok-found.ensures t c.requires) in
+    on_ok_weaker c.push_way.result
+    (λ added. new-found c.args.limit (kept_of c.args.self.now) c.args.way.items t c.find_or_add.new.self _ _ it c.in_ok-add_ending-in-New.ensures (ways-more _ _ c.args.way added)) c.push_way.ensures

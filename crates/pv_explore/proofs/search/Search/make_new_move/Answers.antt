@@ -25,12 +25,18 @@ returns-clause-whole g c =
     let is = lines-bytes c.args.self.now.told c.args.way.items c.args.pid c.args.from c.in_ok-position.text.items c.in_ok-position.ensures.text in
     (rw c.deref-3.ensures.value at c.in_ok-tell.ensures.whole) ∙ ap (and_all (g.W.Sink.written c.args.out.now)) is
 
+pub returns-in_err-go_ahead-clause-beginning : goal.returns-in_err-go_ahead-clause-beginning
+returns-in_err-go_ahead-clause-beginning g c =
+    let is = lines-bytes c.args.self.now.told c.args.way.items c.args.pid c.args.from c.in_ok-position.text.items c.in_ok-position.ensures.text in
+    on_err c.from_residual-in_err-go_ahead.result (begins_whole _ _ _ ((rw c.deref-3.ensures.value at c.in_ok-tell.ensures.whole) ∙ ap (and_all (g.W.Sink.written c.args.out.now)) is))
+
 pub returns-clause-kept : goal.returns-clause-kept
 returns-clause-kept g c =
     let old = kept_of c.args.self.now in
     let now : Kept = record old { keys = c.keep_step.new.self; told = c.tell.new.told } in
     let is : now ≡ record old { told = c.tell.new.told } = ap (λ (keys : List Bytes). record old { keys = keys; told = c.tell.new.told }) c.in_ok-keep_step.ensures in
-    kept-is c.args.limit old now (kept_of c.find.new.self) c.args.way.items c.args.pid c.args.from c.in_ok-position.text.items c.tell.new.told c.in_ok-position.position
+    ap (λ (keys : List Bytes). record (kept_of c.find.new.self) { keys = keys }) c.in_ok-go_ahead.ensures
+    ∙ kept-is c.args.limit old now (kept_of c.find.new.self) c.args.way.items c.args.pid c.args.from c.in_ok-position.text.items c.tell.new.told c.in_ok-position.position
     c.in_ok-position.ensures.text c.in_ok-position.ensures.after c.in_ok-tell.ensures.told is c.in_ok-find.ensures
 
 pub returns-in_err-spelled-clause-beginning : goal.returns-in_err-spelled-clause-beginning

@@ -1,6 +1,6 @@
 use Rattle.std.proofs.Common.{◌≡◌, ◌∙◌, ℕ, [], map, true, ap, ap₂}
 use Rattle.std.specs.Global.{Vec}
-use Rattle.pv_explore.specs.Plan.{Kept, with_state_at}
+use Rattle.pv_explore.specs.Plan.{Kept, with_found_at}
 use Rattle.pv_explore.specs.Searches.{kept_of}
 use Rattle.pv_explore.proofs.Finding.{first-is}
 use Rattle.pv_explore.proofs.search.Search.new.Goals as goal
@@ -16,4 +16,4 @@ returns c =
       endings = is.endings i;
       complete = is.complete i;
     } in
-    c.in_ok-add.ensures ∙ ap₂ (λ k w. with_state_at k w c.in_ok-position.position) empty c.new.ensures.items ∙ ap (with_state_at none []) c.in_ok-position.ensures ∙ first-is c.args.limit c.args.beginning.now
+    c.in_ok-find.ensures ∙ ap₂ (λ k w. with_found_at 1 k w c.in_ok-position.position) empty c.new.ensures.items ∙ ap (with_found_at 1 none []) c.in_ok-position.ensures ∙ first-is c.args.limit c.args.beginning.now

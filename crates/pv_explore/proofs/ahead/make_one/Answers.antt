@@ -1,0 +1,31 @@
+use Rattle.std.proofs.Common.{◌∙◌, ap, List, subst, sym}
+use Rattle.pv_explore.specs.KeptStates.{AreCellsOf, AreKeptSteps}
+use Rattle.pv_explore.proofs.KeptStates.{cells-of_groups, step-kept, steps-grew}
+use Rattle.pv_kept_steps.specs.declared.cells.Cell.{Cell}
+use Rattle.pv_kept_steps.specs.declared.steps.KeptStep.{KeptStep}
+use Rattle.pv_model.specs.State.{State}
+use Rattle.pv_session.specs.Running.{stepped}
+use Rattle.pv_spelling.specs.Spelled.{spelled_all}
+use Rattle.pv_explore.proofs.ahead.make_one.Goals as goal
+
+pub returns-in_err-after-clause-steps : goal.returns-in_err-after-clause-steps
+returns-in_err-after-clause-steps c =
+    steps-grew c.args.parts.now c.args.groups.now c.learn_cells.new.parts c.learn_cells.new.groups c.learn_cells.ensures.parts_grew c.learn_cells.ensures.groups_grew c.args.steps.now.steps.items c.requires.steps
+
+pub returns-in_err-keep-clause-steps : goal.returns-in_err-keep-clause-steps
+returns-in_err-keep-clause-steps c =
+    subst (λ (steps : List KeptStep). AreKeptSteps c.learn_cells.new.parts c.learn_cells.new.groups steps) (sym c.in_err-keep.ensures.unchanged)
+    (steps-grew c.args.parts.now c.args.groups.now c.learn_cells.new.parts c.learn_cells.new.groups c.learn_cells.ensures.parts_grew c.learn_cells.ensures.groups_grew c.args.steps.now.steps.items c.requires.steps)
+
+pub returns-clause-steps : goal.returns-clause-steps
+returns-clause-steps c =
+    let parts = c.learn_cells.new.parts in
+    let groups = c.learn_cells.new.groups in
+    let next = c.in_ok-next.next in
+    let is = ap spelled_all c.deref.ensures.value ∙ c.in_ok-spelled.ensures in
+    let there = cells-of_groups parts groups next (spelled_all c.deref.result.now) c.in_ok-after.after.items c.in_ok-after.ensures.cells is in
+    let left =
+    subst (λ (cs : List Cell). AreCellsOf c.learn_cells.new.parts c.learn_cells.new.groups (stepped c.args.position c.args.pid).after cs) (sym c.deref-2.ensures.value)
+    (subst (λ (s : State). AreCellsOf c.learn_cells.new.parts c.learn_cells.new.groups s c.in_ok-after.after.items) c.in_ok-next.ensures.after there) in
+    step-kept c.args.parts.now c.args.groups.now parts groups c.learn_cells.ensures.parts_grew c.learn_cells.ensures.groups_grew c.args.position c.args.pid c.args.cells.now c.deref-2.result.now c.deref-3.result.now
+    c.args.steps.now.steps.items c.keep.new.self.steps.items c.parts.ensures.whole c.requires.cells left (c.deref-3.ensures.value ∙ c.in_ok-next.ensures.text) c.requires.steps c.in_ok-keep.ensures.kept
