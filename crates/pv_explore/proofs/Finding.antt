@@ -1,11 +1,10 @@
 -- How a search goes, step by step.
-use Rattle.std.proofs.Common.{◌≡◌, ◌∙◌, sym, ap, ap₂, ℕ, suc, ◌+◌, ◌-◌, ◌<◌, ◌≤◌, Bool, true, false, if◌then◌else◌, nat_le, List, [], ◌∷◌, ◌++◌, map, length, drop, get_or, slice_get, None, Some, refl, add-one, codes, arith}
-use Rattle.std.specs.Global.{Vec}
+use Rattle.std.proofs.Common.{◌≡◌, ◌∙◌, sym, ap, ap₂, ℕ, zero, suc, ◌+◌, ◌-◌, ◌<◌, ◌≤◌, Bool, true, false, if◌then◌else◌, nat_le, List, [], ◌∷◌, ◌++◌, map, length, drop, get_or, slice_get, None, Some, refl, add-one, codes, arith}
 use Rattle.std.proofs.lemmas.Bool.{le-leb, lt-leb}
 use Rattle.std.proofs.lemmas.Grind.{flat_map-append}
-use Rattle.std.proofs.lemmas.List.{drop_all, map-append}
+use Rattle.std.proofs.lemmas.List.{drop_all}
 use Rattle.std.proofs.Math.Seq.{drop-cons}
-use Rattle.pv_explore.specs.Plan.{Kept, is_known, is_told, told_after, lines_at, with_state_at, with_found_at, kept_after, state_at, move_at, live_at, steps_told, kept_after_steps, and_tell, and_keep, told_from, kept_from, first_kept, done_lines}
+use Rattle.pv_explore.specs.Plan.{Kept, endings_after, state_key, is_known, is_told, told_after, lines_at, with_state_at, with_found_at, kept_after, state_at, move_at, live_at, steps_told, kept_after_steps, and_tell, and_keep, told_from, kept_from, first_kept, done_lines}
 use Rattle.pv_explore.specs.Searches.{move_of, move_bytes, told_bytes}
 use Rattle.pv_explore.proofs.Planned.{explore-are, plan-finds}
 use Rattle.pv_model.specs.Answers.Explore.{Move, explore_lines, move_lines, way_text}
@@ -44,12 +43,13 @@ module _ (limit : ℕ) (kept : Kept) (way : List ℕ) (t : State) where
       by false true = refl
       by false false = refl
 
-pub ways-more : (ways new : List (Vec ℕ)) (way : Vec ℕ) → new ≡ ways ++ way ∷ [] → map (λ (w : Vec ℕ). w.items) new ≡ map (λ (w : Vec ℕ). w.items) ways ++ way.items ∷ []
-ways-more ways new way is = ap (map (λ (w : Vec ℕ). w.items)) is ∙ map-append (λ (w : Vec ℕ). w.items) ways (way ∷ [])
-
 -- the first state alone
-pub first-is : (limit : ℕ) (s : State) → with_found_at 1 (record { keys = []; ways = []; told = []; endings = []; complete = true }) [] s ≡ first_kept limit program_of s
-first-is limit s = refl
+pub first-is : (limit : ℕ) (s t : State) (keys endings told : List Bytes) (ways : List (List ℕ)) (complete : Bool) → t ≡ s → keys ≡ state_key t ∷ [] → ways ≡ [] ∷ [] → told ≡ [] → endings ≡ endings_after [] t → complete ≡ true
+    → record { keys = keys; ways = ways; told = told; endings = endings; complete = complete } ≡ first_kept limit program_of s
+first-is limit s t keys endings told ways complete first added way none ending all =
+    let kept : record { keys = keys; ways = ways; told = told; endings = endings; complete = complete } ≡ first_kept limit program_of t =
+    λ i. record { keys = added i; ways = way i; told = none i; endings = ending i; complete = all i } in
+    kept ∙ ap (first_kept limit program_of) first
 
 -- ---- a step
 
@@ -76,6 +76,20 @@ kept-is limit kept now after way pid s text told t text_is t_is told_is now_is a
 
 pub move-is : (s from : State) (way longer : List ℕ) (pid : ℕ) → longer ≡ way ++ pid ∷ [] → from ≡ state_at program_of s way → move_of longer pid from ≡ move_at program_of s way pid
 move-is s from way longer pid longer_is from_is = ap (λ w. move_of w pid from) longer_is ∙ ap (move_of (way ++ pid ∷ []) pid) from_is
+
+-- the ways that were there stay
+pub way-stays : (ways more : List (List ℕ)) (number : ℕ) (way : List ℕ) → slice_get ways number ≡ Some way → slice_get (ways ++ more) number ≡ Some way
+way-stays [] more number way at = cc
+way-stays (w ∷ ways) more zero way at = at
+way-stays (w ∷ ways) more (suc number) way at = way-stays ways more number way at
+
+pub kept-way : (limit : ℕ) (kept after : Kept) (m : Move) (number : ℕ) (way : List ℕ) → after ≡ kept_after limit kept m → slice_get kept.ways number ≡ Some way → slice_get after.ways number ≡ Some way
+kept-way limit kept after m number way after_is at = ap (λ (k : Kept). slice_get k.ways number) after_is ∙ by (is_known kept m.stepped.after) (nat_le limit (length kept.keys))
+  where
+    by : (a b : Bool) → slice_get (if a then kept else if b then record kept { complete = false } else with_state_at kept m.way m.stepped.after).ways number ≡ Some way
+    by true b = at
+    by false true = at
+    by false false = way-stays kept.ways (m.way ∷ []) number way at
 
 -- ---- the steps in a state
 

@@ -1,12 +1,12 @@
 -- Steps that are followed, and the states at the ends of ways.
-use Rattle.std.proofs.Common.{◌≡◌, ◌∙◌, sym, ap, ap₂, ℕ, Bool, true, false, if◌then◌else◌, List, [], ◌∷◌, ◌++◌, length, nat_le, option_map, slice_get, Some, refl, subst}
-use Rattle.std.proofs.lemmas.List.{map-append}
-use Rattle.std.proofs.lemmas.Option.{slice_get-map, slice_get_within}
+use Rattle.std.proofs.Common.{◌≡◌, ◌∙◌, sym, ap, ap₂, ℕ, ◌<◌, ◌≤◌, Bool, true, false, if◌then◌else◌, List, [], ◌∷◌, ◌++◌, length, nat_le, option_map, slice_get, None, Some, refl, subst, arith}
+use Rattle.std.proofs.lemmas.List.{length-map, map-append}
+use Rattle.std.proofs.lemmas.Option.{slice_get-get_or, slice_get-map, slice_get_past, slice_get_within}
 use Rattle.pv_explore.specs.declared.states.Found.{Found}
 use Rattle.pv_explore.specs.declared.states.Found.TheVariants.{Known, Full, New}
 use Rattle.pv_explore.specs.KeptStates.{HasNumber, IsFollowed, IsFoundIn}
-use Rattle.pv_explore.specs.Plan.{Kept, added_to, endings_after, first_kept, is_known, kept_after, kept_after_steps, move_at, state_at, state_key, told_after, tree_key, with_found_at, with_state_at}
-use Rattle.pv_explore.specs.Searches.{AreAt, move_of, with_way}
+use Rattle.pv_explore.specs.Plan.{Kept, added_to, first_kept, is_known, kept_after, kept_after_steps, move_at, state_at, state_key, told_after, tree_key, with_found_at, with_state_at}
+use Rattle.pv_explore.specs.Searches.{AreAt, endings_found, move_of, way_at, with_way}
 use Rattle.pv_explore.proofs.Finding.{found-full, found-known, found-new}
 use Rattle.pv_explore.proofs.KeptStates.{get-left}
 use Rattle.pv_laws_runs.proofs.Ranges.{program_of-spells}
@@ -23,28 +23,28 @@ use Rattle.pv_session.specs.Running.{stepped}
 
 -- ---- what is kept of a state that was looked for
 
-module _ (limit : ℕ) (kept : Kept) (way : List ℕ) (u : State) where
-  pub known-found : (keys : List Bytes) → IsFoundIn limit kept.keys keys (state_key u) Known → record kept { keys = keys } ≡ with_found_at limit kept way u
-  known-found keys it = ap (λ (ks : List Bytes). record kept { keys = ks }) it.1 ∙ found-known limit kept way u it.0
+pub kept-found : (limit : ℕ) (kept : Kept) (way : List ℕ) (u : State) (keys endings : List Bytes) (found : Found) → IsFoundIn limit kept.keys keys (state_key u) found → endings ≡ endings_found found kept.endings u
+    → with_way found way (record kept { keys = keys; endings = endings }) ≡ with_found_at limit kept way u
+kept-found limit kept way u keys endings Known it is = ap₂ (λ (ks es : List Bytes). record kept { keys = ks; endings = es }) it.1 is ∙ found-known limit kept way u it.0
+kept-found limit kept way u keys endings Full it is = ap₂ (λ (ks es : List Bytes). record kept { keys = ks; endings = es; complete = false }) it.2 is ∙ found-full limit kept way u it.0 it.1
+kept-found limit kept way u keys endings New it is = ap₂ (λ (ks es : List Bytes). record kept { keys = ks; endings = es; ways = kept.ways ++ way ∷ [] }) it.2 is ∙ found-new limit kept way u it.0 it.1
 
-  pub full-found : (keys : List Bytes) → IsFoundIn limit kept.keys keys (state_key u) Full → record kept { keys = keys; complete = false } ≡ with_found_at limit kept way u
-  full-found keys it = ap (λ (ks : List Bytes). record kept { keys = ks; complete = false }) it.2 ∙ found-full limit kept way u it.0 it.1
-
-  pub new-found : (keys endings : List Bytes) (ways : List (List ℕ)) → IsFoundIn limit kept.keys keys (state_key u) New → endings ≡ endings_after kept.endings u → ways ≡ kept.ways ++ way ∷ []
-      → record kept { keys = keys; ways = ways; endings = endings } ≡ with_found_at limit kept way u
-  new-found keys endings ways it ending longer =
-      let now : record kept { keys = keys; ways = ways; endings = endings } ≡ with_state_at kept way u = λ i. record { keys = it.2 i; ways = longer i; told = kept.told; endings = ending i; complete = kept.complete } in
-      now ∙ found-new limit kept way u it.0 it.1
+-- the first one is added
+pub first-found : (u : State) (new : List Bytes) (found : Found) → IsFoundIn 1 [] new (state_key u) found → new ≡ state_key u ∷ []
+first-found u new Known it = let no : false ≡ true = it.0 in cc
+first-found u new Full it = let no = it.1 in absurd (omega (arith, no))
+first-found u new New it = it.2
 
 -- ---- what is kept after a step that is followed
 
-module _ (limit : ℕ) (kept : Kept) (way : List ℕ) (u : State) (going_on : has_ended u ≡ false) where
-  way-found : (keys : List Bytes) (found : Found) → IsFoundIn limit kept.keys keys (state_key u) found → with_way found way (record kept { keys = keys }) ≡ with_found_at limit kept way u
-  way-found keys Known it = known-found limit kept way u keys it
-  way-found keys Full it = full-found limit kept way u keys it
-  way-found keys New it =
-      let ending : kept.endings ≡ endings_after kept.endings u = ap (λ b. if b then added_to kept.endings (tree_key (named_tree u.tree)) else kept.endings) (sym going_on) in
-      new-found limit kept way u keys kept.endings (kept.ways ++ way ∷ []) it ending refl
+way-found : (limit : ℕ) (kept : Kept) (way : List ℕ) (u : State) → has_ended u ≡ false → (keys : List Bytes) (found : Found) → IsFoundIn limit kept.keys keys (state_key u) found
+    → with_way found way (record kept { keys = keys }) ≡ with_found_at limit kept way u
+way-found limit kept way u going_on keys found it = kept-found limit kept way u keys kept.endings found it (by found)
+  where
+    by : (f : Found) → kept.endings ≡ endings_found f kept.endings u
+    by Known = refl
+    by Full = refl
+    by New = ap (λ b. if b then added_to kept.endings (tree_key (named_tree u.tree)) else kept.endings) (sym going_on)
 
 way-told : (found : Found) (way : List ℕ) (kept : Kept) (told : List Bytes) → with_way found way (record kept { told = told }) ≡ record (with_way found way kept) { told = told }
 way-told Known way kept told = refl
@@ -71,6 +71,15 @@ module _ (s : State) where
 
   pub number-at : (kept : Kept) (k : ℕ) (way : List ℕ) → AreAt s kept → slice_get kept.ways k ≡ Some way → HasNumber kept.keys k (state_at program_of s way)
   number-at kept k way at is = ap (λ (ks : List Bytes). slice_get ks k) at ∙ slice_get-map key-at kept.ways k ∙ ap (option_map key-at) is
+
+  pub at-long : (kept : Kept) → AreAt s kept → length kept.keys ≡ length kept.ways
+  at-long kept at = ap length at ∙ length-map kept.ways key-at
+
+  pub found-way : (kept : Kept) (number : ℕ) → AreAt s kept → number < length kept.keys → slice_get kept.ways number ≡ Some (way_at kept number)
+  found-way kept number at within = slice_get-get_or kept.ways number [] (let long = at-long kept at in omega (arith, long, within))
+
+  pub found-none : (kept : Kept) (number : ℕ) → AreAt s kept → length kept.keys ≤ number → slice_get kept.ways number ≡ None
+  found-none kept number at past = slice_get_past kept.ways number (let long = at-long kept at in omega (arith, long, past))
 
   module _ (limit : ℕ) where
     at-found : (kept : Kept) (way : List ℕ) (u : State) → u ≡ state_at program_of s way → AreAt s kept → (told : List Bytes) → AreAt s (record (with_found_at limit kept way u) { told = told })

@@ -1,8 +1,9 @@
 -- What is kept of states: it stays right when more is kept, and tells the steps of states.
-use Rattle.std.proofs.Common.{◌≡◌, ◌≢◌, ◌∙◌, sym, ap, ap₂, subst, ℕ, zero, suc, ◌+◌, ◌<◌, ◌⊎◌, inl, inr, false, List, [], ◌∷◌, ◌++◌, get_or, length, map, take, bytes_eq, slice_get, Option, None, Some, option_map, refl, arith, ⊎_elim}
+use Rattle.std.proofs.Common.{◌≡◌, ◌≢◌, ◌∙◌, sym, ap, ap₂, subst, ℕ, zero, suc, ◌+◌, ◌<◌, ◌⊎◌, inl, inr, Bool, true, false, ◌==◌, set, List, [], ◌∷◌, ◌++◌, get_or, length, map, take, bytes_eq, slice_get, Option, None, Some, option_map, refl, arith, ⊎_elim}
 use Rattle.std.specs.Global.{Vec}
 use Rattle.std.specs.Prelude.{Result, Ok, Err, OnOk, OnErr}
-use Rattle.std.proofs.lemmas.List.{length-map}
+use Rattle.std.proofs.lemmas.List.{length-map, length-set}
+use Rattle.std.proofs.lemmas.Bool.{eqb-false, eqb-true}
 use Rattle.pv_explore.specs.declared.states.Found.{Found}
 use Rattle.pv_explore.specs.declared.states.Found.TheVariants.{Known, Full, New}
 use Rattle.pv_explore.proofs.LiveOnes.{ended-numbers}
@@ -11,18 +12,19 @@ use Rattle.std.proofs.lemmas.List.{length-append, map-append}
 use Rattle.std.proofs.lemmas.Option.{slice_get-map, slice_get_within}
 use Rattle.pv_explore.specs.Plan.{state_key}
 use Rattle.pv_explore.specs.Rows.{Grew, state_row, state_bytes, IsGroupKept, AreKept, IsRow}
-use Rattle.pv_explore.specs.KeptStates.{number_of, AreKeptBoth, AreCellsIn, AreCellsOf, AreCellsAt, AreKeptSteps, ArePlaced, ArePushed, IsFine, IsFoundIn, IsRecalled, HasNumber, MayKeep}
-use Rattle.pv_explore.proofs.Rows.{any-row, kept-grew, numbers-grew, rows-grew, states-added, rows-added, same-rows, state-back, taken-more}
+use Rattle.pv_explore.specs.KeptStates.{number_of, AreKeptBoth, AreCellsIn, AreCellsOf, AreCellsAt, AreKeptSteps, AreLetGo, ArePlaced, ArePushed, IsFine, IsFoundIn, IsRecalled, HasNumber, MayKeep}
+use Rattle.pv_explore.proofs.Rows.{all-next, any-row, kept-grew, numbers-grew, rows-grew, states-added, rows-added, same-rows, state-back, taken-more}
 use Rattle.pv_kept_steps.specs.declared.cells.Cell.{Cell}
 use Rattle.pv_kept_steps.specs.declared.steps.KeptStep.{KeptStep}
 use Rattle.pv_kept_steps.specs.Edits.{cell_of, number_of_cell, owners}
-use Rattle.pv_kept_steps.specs.Kept.{AreApart, KeepsMore}
-use Rattle.pv_kept_steps.proofs.Again.{IsAgain, cells-more, kept-more}
+use Rattle.pv_kept_steps.specs.Kept.{AreApart, IsKeptBoth, KeepsMore}
+use Rattle.pv_kept_steps.proofs.Again.{IsAgain, cells-more, cells-same, kept-more}
 use Rattle.pv_kept_steps.proofs.Keys.{groups-spelled}
 use Rattle.pv_kept_steps.proofs.LiveOwners.{owners-are}
 use Rattle.pv_kept_steps.proofs.Recalling.{recalled-again, steps-added, steps-more}
 use Rattle.pv_kept_steps.specs.Steps.{Adds}
 use Rattle.pv_laws_states.specs.States.{IsWhole}
+use Rattle.pv_procs.proofs.Loads.{slice_get-set_other, slice_get-set_same}
 use Rattle.pv_model.specs.Answers.Explore.{has_ended}
 use Rattle.pv_model.specs.Bytes.{Bytes, is_empty}
 use Rattle.pv_model.specs.State.{State}
@@ -92,17 +94,20 @@ module _ (parts groups : List Bytes) where
 
 -- ---- cells of groups
 
-pub plain-cell : (number : List Bytes → ℕ) (n : ℕ) (g : List Bytes) → n ≡ number g → ◌≡◌ {A = Cell} (record { number = n; owner = 0; outside = n }) (cell_of number (plain g))
+plain-cell : (number : List Bytes → ℕ) (n : ℕ) (g : List Bytes) → n ≡ number g → ◌≡◌ {A = Cell} (record { number = n; owner = 0; outside = n }) (cell_of number (plain g))
 plain-cell number n g is = λ i. record { number = is i; owner = 0; outside = is i }
 
-pub live-cell : (number : List Bytes → ℕ) (n m : ℕ) (g : List Bytes) (pid : ℕ) (o : List Bytes) → n ≡ number g → m ≡ number o
+live-cell : (number : List Bytes → ℕ) (n m : ℕ) (g : List Bytes) (pid : ℕ) (o : List Bytes) → n ≡ number g → m ≡ number o
     → ◌≡◌ {A = Cell} (record { number = n; owner = pid; outside = m }) (cell_of number (record { group = g; owner = pid; outside = o }))
 live-cell number n m g pid o is out = λ i. record { number = is i; owner = pid; outside = out i }
 
-module _ {X Y Z : Type 0} (h : X → Y) (xs : List X) (i : ℕ) (d : X) where
-  pub cells-next : (f : Y → Z) (z : Z) (old new : List Z) → i < length xs → z ≡ f (h (get_or xs i d)) → old ≡ map f (take i (map h xs)) → new ≡ old ++ z ∷ [] → new ≡ map f (take (i + 1) (map h xs))
-  cells-next f z old new within is so_far added =
-      added ∙ ap₂ (λ (zs : List Z) (y : Z). zs ++ y ∷ []) so_far is ∙ sym (map-append f (take i (map h xs)) (h (get_or xs i d) ∷ [])) ∙ ap (map f) (sym (taken-more h xs i d within))
+module _ (parts groups : List Bytes) where
+  pub plain-cells : (n : ℕ) (g : List Bytes) → n ≡ number_of parts groups g → IsGroupKept parts groups g → AreCellsIn parts groups (plain g ∷ []) (record { number = n; owner = 0; outside = n } ∷ [])
+  plain-cells n g is kept = record { are = ap (λ (c : Cell). c ∷ []) (plain-cell (number_of parts groups) n g is); kept = ((kept, kept), tt) }
+
+  pub live-cells : (n m : ℕ) (g : List Bytes) (pid : ℕ) (o : List Bytes) → n ≡ number_of parts groups g → m ≡ number_of parts groups o → IsGroupKept parts groups g → IsGroupKept parts groups o
+      → AreCellsIn parts groups (record { group = g; owner = pid; outside = o } ∷ []) (record { number = n; owner = pid; outside = m } ∷ [])
+  live-cells n m g pid o is out kept kept_out = record { are = ap (λ (c : Cell). c ∷ []) (live-cell (number_of parts groups) n m g pid o is out); kept = ((kept, kept_out), tt) }
 
 -- cells of groups that are those of a state
 pub cells-of_groups : (parts groups : List Bytes) (s : State) (cs : List Spelled) (cells : List Cell) → AreCellsIn parts groups cs cells → cs ≡ spelled s → AreCellsOf parts groups s cells
@@ -121,6 +126,25 @@ module _ (parts groups parts_now groups_now : List Bytes) (parts_grew : Grew par
 
   pub both-grew : (cs : List Spelled) → AreKeptBoth parts groups cs → AreKeptBoth parts_now groups_now cs
   both-grew cs kept = kept-more (number_of parts groups) (IsGroupKept parts groups) (number_of parts_now groups_now) (IsGroupKept parts_now groups_now) keeps-more cs kept
+
+  pub cells-in_grew : (cs : List Spelled) (cells : List Cell) → AreCellsIn parts groups cs cells → AreCellsIn parts_now groups_now cs cells
+  cells-in_grew cs cells it = record {
+    are = it.are ∙ sym (cells-same (number_of parts groups) (IsGroupKept parts groups) (number_of parts_now groups_now) (IsGroupKept parts_now groups_now) keeps-more cs it.kept);
+    kept = both-grew cs it.kept;
+  }
+
+  -- and a cell more
+  pub cells-next : {X : Type 0} (h : X → Spelled) (xs : List X) (i : ℕ) (d : X) (cell : Cell) (old new : List Cell) → i < length xs → AreCellsIn parts groups (take i (map h xs)) old → AreCellsIn parts_now groups_now (h (get_or xs i d) ∷ []) (cell ∷ [])
+      → new ≡ old ++ cell ∷ [] → AreCellsIn parts_now groups_now (take (i + 1) (map h xs)) new
+  cells-next h xs i d cell old new within so_far one is =
+      let number = cell_of (number_of parts_now groups_now) in
+      let before = cells-in_grew (take i (map h xs)) old so_far in
+      record {
+        are =
+            is ∙ ap₂ (λ (a b : List Cell). a ++ b) before.are one.are ∙ sym (map-append number (take i (map h xs)) (h (get_or xs i d) ∷ []))
+            ∙ ap (map (cell_of (number_of parts_now groups_now))) (sym (taken-more h xs i d within));
+        kept = all-next h xs i d (IsKeptBoth (number_of parts_now groups_now) (IsGroupKept parts_now groups_now)) within before.kept one.kept.0;
+      }
 
   pub cells-grew : (s : State) (cells : List Cell) → AreCellsOf parts groups s cells → AreCellsOf parts_now groups_now s cells
   cells-grew s cells there = cells-more (number_of parts groups) (IsGroupKept parts groups) (number_of parts_now groups_now) (IsGroupKept parts_now groups_now) keeps-more s cells there
@@ -182,6 +206,29 @@ get-last (z ∷ xs) x y (suc k) at = ⊎_elim (λ old. inl old) (λ last. inr (a
 pub get-end : {X : Type 0} (xs : List X) (x : X) → slice_get (xs ++ x ∷ []) (length xs) ≡ Some x
 get-end [] x = refl
 get-end (z ∷ xs) x = get-end xs x
+
+-- cells that are let go of
+pub let-go : (old new : List (Vec Cell)) (number : ℕ) (v : Vec Cell) → number < length old → new ≡ set old number v → v.items ≡ [] → AreLetGo old new
+let-go old new number v within is none = record { long = ap length is ∙ length-set old number v; each = λ k cs at. each k cs (ap (λ (all : List (Vec Cell)). slice_get all k) (sym is) ∙ at) }
+  where
+    each : (k : ℕ) (cs : Vec Cell) → slice_get (set old number v) k ≡ Some cs → (cs.items ≡ []) ⊎ (slice_get old k ≡ Some cs)
+    each k cs at = by (k == number) refl
+      where
+        by : (b : Bool) → (k == number) ≡ b → (cs.items ≡ []) ⊎ (slice_get old k ≡ Some cs)
+        by true same =
+            let here : slice_get (set old number v) number ≡ Some cs = ap (slice_get (set old number v)) (sym (eqb-true k number same)) ∙ at in
+            let one : Some v ≡ Some cs = sym (slice_get-set_same old number v within) ∙ here in
+            let v_is : v ≡ cs = cc in
+            inl (ap (λ (c : Vec Cell). c.items) (sym v_is) ∙ none)
+        by false other = inr (sym (slice_get-set_other old number k v (eqb-false k number other)) ∙ at)
+
+pub fine-let_go : (parts groups rows : List Bytes) (cells new : List (Vec Cell)) (steps : List KeptStep) → IsFine parts groups rows cells steps → AreLetGo cells new → IsFine parts groups rows new steps
+fine-let_go parts groups rows cells new steps fine it = record {
+  rows_are = fine.rows_are;
+  few = (let few = fine.few in let long = it.long in omega (arith, few, long));
+  cells_are = λ k cs row at there. ⊎_elim inl (λ old. fine.cells_are k cs row old there) (it.each k cs at);
+  steps_are = fine.steps_are;
+}
 
 module _ (parts groups rows : List Bytes) (cells : List (Vec Cell)) (steps : List KeptStep) (fine : IsFine parts groups rows cells steps) where
   pub fine-cells : (cs : Vec Cell) (row : Bytes) (new : List (Vec Cell)) → new ≡ cells ++ cs ∷ [] → slice_get rows (length cells) ≡ Some row → AreCellsAt parts groups row cs.items → IsFine parts groups rows new steps

@@ -4,6 +4,8 @@ use Rattle.std.specs.Prelude.{position}
 use Rattle.std.specs.List.{list_any, position_or_len}
 use Rattle.std.proofs.lemmas.Bool.Decides.{nat_tests}
 use Rattle.std.proofs.lemmas.List.{length-map, map-append}
+use Rattle.std.proofs.lemmas.List.Folds.{list_any_at}
+use Rattle.std.proofs.lemmas.List.Quantifiers.{position-Some}
 use Rattle.pv_model.specs.Bytes.{Bytes}
 
 module _ {X Y : Type 0} (f : X → Y) (p : Y → Bool) where
@@ -50,6 +52,9 @@ module _ {X : Type 0} (p : X → Bool) where
       by : (b : Bool) → Some n ≡ cond b (Some (position_or_len p xs)) None → n ≡ position_or_len p xs
       by true is = cc
       by false is = cc
+
+  pub there-some : (xs : List X) (n : ℕ) (d : X) → Some n ≡ position p xs → list_any p xs ≡ true
+  there-some xs n d is = let at = position-Some p xs n d (sym is) in list_any_at p xs n d at.0 at.1
 
   pub number-none : (xs : List X) (n : ℕ) → None ≡ position p xs → n ≡ length xs → n ≡ position_or_len p xs
   number-none xs n is many = by (nat_lt (position_or_len p xs) (length xs)) refl is

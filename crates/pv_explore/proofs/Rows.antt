@@ -295,6 +295,15 @@ module _ {X Y : Type 0} (h : X → Y) (xs : List X) (i : ℕ) (d : X) where
   pub all-end : (P : Y → Type 0) → length xs ≤ i → AllByRecursion P (take i (map h xs)) → AllByRecursion P (map h xs)
   all-end P past all = subst (AllByRecursion P) (taken-all past) all
 
+-- with another number, of a table that has grown
+pub numbers-now : (old new g : List Bytes) → Grew old new → AllByRecursion (IsAmong old) g → map (number_in new) g ≡ map (number_in old) g
+numbers-now old new g grew all = ap (λ (table : List Bytes). map (number_in table) g) grew.is ∙ numbers-later old grew.more g all
+
+pub row-learnt : {X : Type 0} (h : X → Bytes) (xs : List X) (i : ℕ) (d : X) (old new : List Bytes) (n : ℕ) (row row_now : Bytes) → Grew old new → i < length xs → AllByRecursion (IsAmong old) (take i (map h xs))
+    → n ≡ number_in new (h (get_or xs i d)) → row ≡ packed_all (map (number_in old) (take i (map h xs))) → IsAdded (n ∷ []) row row_now → row_now ≡ packed_all (map (number_in new) (take (i + 1) (map h xs)))
+row-learnt h xs i d old new n row row_now grew within all is so_far added =
+    row-next h xs i d (number_in new) n row row_now within is (so_far ∙ ap packed_all (sym (numbers-now old new (take i (map h xs)) grew all))) added
+
 -- ---- a state more
 
 pub all-more : {X : Type 0} (P : X → Type 0) (xs new : List X) (x : X) → new ≡ xs ++ x ∷ [] → AllByRecursion P xs → P x → AllByRecursion P new

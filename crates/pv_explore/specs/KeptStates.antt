@@ -66,6 +66,11 @@ pub record IsRecalled (cells : List (Vec Cell)) (steps : List KeptStep) (number 
   pub was : WasKept steps (step_key pid before.items) before.items text after
   pub live : owners after ≢ []
 
+-- cells stay as they were, or are let go of
+pub record AreLetGo (old new : List (Vec Cell)) : Type 0 where
+  pub long : length new ≡ length old
+  pub each : (k : ℕ) (cs : Vec Cell) → slice_get new k ≡ Some cs → (cs.items ≡ []) ⊎ (slice_get old k ≡ Some cs)
+
 -- nothing is added, or cells of a number
 abbrev pub ArePushed : ℕ → Vec Cell → List (Vec Cell) → List (Vec Cell) → Type 0
 ArePushed number cs old new = (new ≡ old) ⊎ ((new ≡ old ++ cs ∷ []) × (length old ≡ number))

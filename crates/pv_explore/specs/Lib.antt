@@ -4,3 +4,4 @@ pub mod Rows
 pub mod Searches
 pub mod Vertices
 pub mod KeptStates
+pub mod Ways

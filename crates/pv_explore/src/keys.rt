@@ -91,6 +91,24 @@ impl Keys {
         }
     }
 
+    /// The number of a byte string, from 0, of which a copy is added, if it is not there: it then comes last.
+    ///
+    /// # Errors
+    ///
+    /// Where memory was refused; nothing has then changed.
+    pub fn number(&mut self, alloc: Global, key: &[u8]) -> Result<usize, AllocError>
+        ensures added { OnOk result (self.new ≡ (if list_any (bytes_eq key.now) self.old then self.old else self.old ++ key.now ∷ [])) }
+        ensures number { IfOk result (λ number. number ≡ position_or_len (bytes_eq key.now) self.new) }
+        ensures unchanged { OnErr result (self.new ≡ self.old) }
+    {
+        if let Some(number) = self.find(key) {
+            return Ok(number);
+        }
+        let copy = copy_of(alloc, key)?;
+        self.add(copy)?;
+        Ok(self.find_or_len(key))
+    }
+
     /// Adds a copy of a byte string, if it is not there: it then comes last.
     ///
     /// # Errors

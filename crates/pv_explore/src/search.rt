@@ -1,9 +1,10 @@
 //! What a search keeps, and how it goes.
-ghost use Rattle.std.specs.Prelude.{◌≡◌, ◌++◌, ◌∷◌, [], true, bytes_eq, if◌then◌else◌, slice_get, IfErr, IfOk, OnErr, OnOk};
+ghost use Rattle.std.specs.Prelude.{◌≡◌, ◌<◌, ◌++◌, ◌∷◌, [], true, bytes_eq, length, if◌then◌else◌, slice_get, IfErr, IfOk, OnErr, OnOk};
 ghost use Rattle.std.specs.List.{list_any};
 ghost use Rattle.pv_explore.specs.Plan.{endings_after, first_kept, is_told, kept_after, kept_after_steps, kept_from, lines_at, live_at, move_at, state_at, steps_told, told_after, told_from, with_found_at};
 ghost use Rattle.pv_explore.specs.KeptStates.{HasNumber};
-ghost use Rattle.pv_explore.specs.Searches.{AreAt, kept_of, move_bytes, move_of, told_bytes, way_of, with_way};
+ghost use Rattle.pv_explore.specs.Searches.{AreAt, endings_found, kept_of, move_bytes, move_of, told_bytes, way_at, with_way};
+ghost use Rattle.pv_explore.specs.Ways.{longer, way_of};
 ghost use Rattle.pv_laws_states.specs.States.{IsWhole};
 ghost use Rattle.pv_model.specs.Answers.Lines.{answer_bytes};
 ghost use Rattle.pv_model.specs.Grammar.Programs.{program_of};
@@ -14,10 +15,11 @@ ghost use Rattle.pv_streams.specs.Sinks.{and_all, TellsBeginning};
 
 use crate::beginning::Beginning;
 use crate::keys::Keys;
-use crate::position::{Position, push_number};
+use crate::position::Position;
 use crate::progress::Progress;
 use crate::states::{Followed, Found, States};
 use crate::way::Way;
+use crate::ways::Ways;
 use pv_answers::{Fragment, Line, Plain};
 use pv_model::StepFault;
 use pv_session::Stop;
@@ -31,7 +33,7 @@ pub(crate) struct Search {
     /// The states found, in the order of finding.
     pub(crate) states: States,
     // The way to each.
-    ways: Vec<Vec<u32>>,
+    ways: Ways,
     // The texts that were told.
     told: Keys,
     /// The bytes of the trees in which no process is live.
@@ -42,40 +44,12 @@ pub(crate) struct Search {
 
 // ---- lists
 
-// The same list.
-fn copy_of(alloc: Global, way: &[u32]) -> Result<Vec<u32>, StepFault>
-    ensures { IfOk result (λ copy. copy.items ≡ way.now) }
-{
-    let mut copy = Vec::new(alloc);
-    copy.extend_from_slice(way)?;
-    Ok(copy)
-}
-
-// The list with one number more.
-fn with_number(alloc: Global, way: &[u32], pid: u32) -> Result<Vec<u32>, StepFault>
-    ensures { IfOk result (λ longer. longer.items ≡ way.now ++ pid ∷ []) }
-{
-    let mut longer = copy_of(alloc, way)?;
-    push_number(&mut longer, pid)?;
-    Ok(longer)
-}
-
 // Adds a byte string, if it is not there.
 fn push_key(keys: &mut Keys, key: Vec<u8>) -> Result<(), StepFault>
     ensures { OnOk result (keys.new ≡ (if list_any (bytes_eq key.items) keys.old then keys.old else keys.old ++ key.items ∷ [])) }
 {
     keys.add(key)?;
     Ok(())
-}
-
-// Adds a way.
-fn push_way(ways: &mut Vec<Vec<u32>>, way: Vec<u32>) -> Result<(), StepFault>
-    ensures { OnOk result (ways.new.items ≡ ways.old.items ++ way ∷ []) }
-{
-    match ways.push(way) {
-        Ok(()) => Ok(()),
-        Err(_) => Err(StepFault::NoMemory),
-    }
 }
 
 // ---- what is told
@@ -103,25 +77,45 @@ fn write_move<W: Sink>(out: &mut W, pid: u32, way: &[u32], text: &[u8]) -> Resul
     (line, Plain(text)).write(out)
 }
 
-// Writes a step with its way, where its text was not told.
+// Adds a copy of a byte string, if it is not there.
+fn learn_key(alloc: Global, keys: &mut Keys, key: &[u8]) -> Result<(), StepFault>
+    ensures { OnOk result (keys.new ≡ (if list_any (bytes_eq key.now) keys.old then keys.old else keys.old ++ key.now ∷ [])) }
+{
+    keys.learn(alloc, key)?;
+    Ok(())
+}
+
+// The way to the state of a number, and a step more.
+fn longer_way(alloc: Global, ways: &Ways, number: u32, pid: u32) -> Result<Vec<u32>, StepFault>
+    requires { number < length ways.now }
+    ensures { IfOk result (λ way. way.items ≡ longer ways.now number pid) }
+{
+    Ok(ways.longer(alloc, number, pid)?)
+}
+
+// Writes a step in the state of a number with its way, where its text was not told.
 fn tell<W: Sink>(
+    alloc: Global,
     told: &mut Keys,
+    ways: &Ways,
+    number: u32,
     pid: u32,
-    way: &[u32],
-    text: Vec<u8>,
+    text: &[u8],
     out: &mut W,
 ) -> Result<(), Stop>
-    ensures told { OnOk result (told.new ≡ told_after told.old text.items) }
-    ensures whole { OnOk result (W.written out.new ≡ and_all (W.written out.old) (told_bytes told.old pid way.now text.items)) }
-    ensures beginning { OnErr result (TellsBeginning (told_bytes told.old pid way.now text.items) (W.written out.old) (W.written out.new)) }
+    requires { number < length ways.now }
+    ensures told { OnOk result (told.new ≡ told_after told.old text.now) }
+    ensures whole { OnOk result (W.written out.new ≡ and_all (W.written out.old) (told_bytes told.old pid (longer ways.now number pid) text.now)) }
+    ensures beginning { OnErr result (TellsBeginning (told_bytes told.old pid (longer ways.now number pid) text.now) (W.written out.old) (W.written out.new)) }
     ensures failed { IfErr result (λ stop. FailsBy stop (W.failures out.old) (W.failures out.new)) }
     ensures quiet { OnOk result (W.failures out.new ≡ W.failures out.old) }
 {
-    if is_told(told, &text) {
+    if is_told(told, text) {
         return Ok(());
     }
-    write_move(out, pid, way, &text)?;
-    push_key(told, text)?;
+    let way = longer_way(alloc, ways, number, pid)?;
+    write_move(out, pid, &way, text)?;
+    learn_key(alloc, told, text)?;
     Ok(())
 }
 
@@ -137,18 +131,33 @@ fn add_ending(alloc: Global, endings: &mut Keys, position: &Position) -> Result<
     push_key(endings, position.tree_key(alloc)?)
 }
 
+// Keeps the tree of a state that was looked for, where that was added, and no process is live.
+fn add_found_ending(
+    alloc: Global,
+    endings: &mut Keys,
+    position: &Position,
+    found: Found,
+) -> Result<(), StepFault>
+    ensures { OnOk result (endings.new ≡ endings_found found endings.old position.now) }
+{
+    match found {
+        Found::Known | Found::Full => Ok(()),
+        Found::New => add_ending(alloc, endings, position),
+    }
+}
+
 impl Search {
-    // With nothing.
+    // With no state, and the way to the first.
     fn empty(alloc: Global) -> Search
         ensures states { result.states ≡ [] }
-        ensures ways { result.ways.items ≡ [] }
+        ensures ways { result.ways ≡ [] ∷ [] }
         ensures told { result.told ≡ [] }
         ensures endings { result.endings ≡ [] }
         ensures complete { result.complete ≡ true }
     {
         Search {
             states: States::new(alloc),
-            ways: Vec::new(alloc),
+            ways: Ways::new(alloc),
             told: Keys::new(alloc),
             endings: Keys::new(alloc),
             complete: true,
@@ -166,37 +175,16 @@ impl Search {
         let position = Position::start(alloc, beginning)?;
         let mut search = Search::empty(alloc);
         let spelled = position.spelled(alloc)?;
-        search.find(alloc, 1, &position, &spelled, Vec::new(alloc))?;
+        add_ending(alloc, &mut search.endings, &position)?;
+        let _ = search.states.find_or_add(alloc, 1, &spelled)?;
         Ok(search)
     }
 
-    // Keeps the way to a state that was looked for, where that was added.
-    fn keep_way(&mut self, way: Vec<u32>, found: Found) -> Result<(), StepFault>
-        ensures { OnOk result (kept_of self.new ≡ with_way found way.items (kept_of self.old)) }
+    // Keeps the way to a state that was looked for, to which a step leads from the state of a number, where that was added.
+    fn keep_way(&mut self, number: u32, pid: u32, found: Found) -> Result<(), StepFault>
+        requires { number < length (kept_of self.old).ways }
+        ensures { OnOk result (kept_of self.new ≡ with_way found (longer (kept_of self.old).ways number pid) (kept_of self.old)) }
     {
-        match found {
-            Found::Known => Ok(()),
-            Found::Full => {
-                self.complete = false;
-                Ok(())
-            }
-            Found::New => push_way(&mut self.ways, way),
-        }
-    }
-
-    // Keeps a state to which a way leads, by its groups, where it was not known and is not one too many.
-    fn find(
-        &mut self,
-        alloc: Global,
-        limit: u32,
-        position: &Position,
-        groups: &[SpelledGroup],
-        way: Vec<u32>,
-    ) -> Result<(), StepFault>
-        requires { spelled_all groups.now ≡ spelled position.now }
-        ensures { OnOk result (kept_of self.new ≡ with_found_at limit (kept_of self.old) way.items position.now) }
-    {
-        let found = self.states.find_or_add(alloc, limit as usize, groups)?;
         match found {
             Found::Known => Ok(()),
             Found::Full => {
@@ -204,112 +192,141 @@ impl Search {
                 Ok(())
             }
             Found::New => {
-                add_ending(alloc, &mut self.endings, position)?;
-                push_way(&mut self.ways, way)
+                self.ways.push(number, pid)?;
+                Ok(())
             }
         }
     }
 
-    // Makes a step of a process in the state of a number, to which a way leads: it is told where its text was not, it is kept, and so
-    // is its state. Then the machine goes on ahead.
+    // Keeps a state, by its groups, to which a step leads from the state of a number, where it was not known and is not one too many.
+    fn find(
+        &mut self,
+        alloc: Global,
+        limit: u32,
+        position: &Position,
+        groups: &[SpelledGroup],
+        number: u32,
+        pid: u32,
+    ) -> Result<(), StepFault>
+        requires groups { spelled_all groups.now ≡ spelled position.now }
+        requires found { number < length (kept_of self.old).ways }
+        ensures { OnOk result (kept_of self.new ≡ with_found_at limit (kept_of self.old) (longer (kept_of self.old).ways number pid) position.now) }
+    {
+        let found = self.states.find_or_add(alloc, limit as usize, groups)?;
+        add_found_ending(alloc, &mut self.endings, position, found)?;
+        self.keep_way(number, pid, found)
+    }
+
+    // Makes a step of a process in the state of a number: it is told where its text was not, it is kept, and so is its state. Then the
+    // machine goes on ahead.
     fn make_new_move<W: Sink>(
         &mut self,
         alloc: Global,
         limit: u32,
-        number: usize,
+        number: u32,
         from: Position,
-        way: Vec<u32>,
         pid: u32,
         out: &mut W,
     ) -> Result<(), Stop>
-        requires { HasNumber self.old.states number from }
-        ensures kept { OnOk result (kept_of self.new ≡ kept_after limit (kept_of self.old) (move_of way.items pid from)) }
-        ensures whole { OnOk result (W.written out.new ≡ and_all (W.written out.old) (answer_bytes (lines_at self.old.told (move_of way.items pid from)))) }
-        ensures beginning { OnErr result (TellsBeginning (answer_bytes (lines_at self.old.told (move_of way.items pid from))) (W.written out.old) (W.written out.new)) }
+        requires there { HasNumber self.old.states number from }
+        requires found { number < length (kept_of self.old).ways }
+        ensures kept { OnOk result (kept_of self.new ≡ kept_after limit (kept_of self.old) (move_of (longer (kept_of self.old).ways number pid) pid from)) }
+        ensures whole { OnOk result (W.written out.new ≡ and_all (W.written out.old) (answer_bytes (lines_at self.old.told (move_of (longer (kept_of self.old).ways number pid) pid from)))) }
+        ensures beginning { OnErr result (TellsBeginning (answer_bytes (lines_at self.old.told (move_of (longer (kept_of self.old).ways number pid) pid from))) (W.written out.old) (W.written out.new)) }
         ensures failed { IfErr result (λ stop. FailsBy stop (W.failures out.old) (W.failures out.new)) }
         ensures quiet { OnOk result (W.failures out.new ≡ W.failures out.old) }
     {
         let _ = from.parts();
         let (position, text) = from.trace(alloc, pid)?;
         let spelled = position.spelled(alloc)?;
-        self.states.keep_step(alloc, number, pid, &text, &spelled)?;
-        tell(&mut self.told, pid, &way, text, out)?;
-        self.find(alloc, limit, &position, &spelled, way)?;
+        self.states
+            .keep_step(alloc, number as usize, pid, &text, &spelled)?;
+        tell(alloc, &mut self.told, &self.ways, number, pid, &text, out)?;
+        self.find(alloc, limit, &position, &spelled, number, pid)?;
         self.states.go_ahead(alloc, position, &spelled)?;
         Ok(())
     }
 
-    // Takes a step of a process in the state of a number, which is the one at the end of a way: it is told where its text was not, and
-    // its state is kept. It is made where it can not be followed.
+    // The machine in the state of a number.
+    fn position(
+        &self,
+        alloc: Global,
+        beginning: &Beginning,
+        number: u32,
+    ) -> Result<Position, StepFault>
+        requires { number < length (kept_of self.now).ways }
+        ensures { IfOk result (λ position. position ≡ state_at program_of beginning.now (way_at (kept_of self.now) number)) }
+    {
+        let way = self.ways.at(alloc, number)?;
+        Position::at(alloc, beginning, &way)
+    }
+
+    // Takes a step of a process in the state of a number: it is told where its text was not, and its state is kept. It is made where it
+    // can not be followed.
     fn make_move<W: Sink>(
         &mut self,
         alloc: Global,
         beginning: &Beginning,
         limit: u32,
-        number: usize,
-        way: &[u32],
+        number: u32,
         pid: u32,
         out: &mut W,
     ) -> Result<(), Stop>
         requires whole { IsWhole beginning.now }
-        requires there { HasNumber self.old.states number (state_at program_of beginning.now way.now) }
-        ensures kept { OnOk result (kept_of self.new ≡ kept_after limit (kept_of self.old) (move_at program_of beginning.now way.now pid)) }
-        ensures whole { OnOk result (W.written out.new ≡ and_all (W.written out.old) (answer_bytes (lines_at self.old.told (move_at program_of beginning.now way.now pid)))) }
-        ensures beginning { OnErr result (TellsBeginning (answer_bytes (lines_at self.old.told (move_at program_of beginning.now way.now pid))) (W.written out.old) (W.written out.new)) }
+        requires there { HasNumber self.old.states number (state_at program_of beginning.now (way_at (kept_of self.old) number)) }
+        requires found { number < length (kept_of self.old).ways }
+        ensures kept { OnOk result (kept_of self.new ≡ kept_after limit (kept_of self.old) (move_at program_of beginning.now (way_at (kept_of self.old) number) pid)) }
+        ensures whole { OnOk result (W.written out.new ≡ and_all (W.written out.old) (answer_bytes (lines_at self.old.told (move_at program_of beginning.now (way_at (kept_of self.old) number) pid)))) }
+        ensures beginning { OnErr result (TellsBeginning (answer_bytes (lines_at self.old.told (move_at program_of beginning.now (way_at (kept_of self.old) number) pid))) (W.written out.old) (W.written out.new)) }
         ensures failed { IfErr result (λ stop. FailsBy stop (W.failures out.old) (W.failures out.new)) }
         ensures quiet { OnOk result (W.failures out.new ≡ W.failures out.old) }
     {
-        let longer = with_number(alloc, way, pid)?;
-        let Some(followed) = self.states.follow(alloc, limit as usize, number, pid)? else {
-            let from = Position::at(alloc, beginning, way)?;
-            return self.make_new_move(alloc, limit, number, from, longer, pid, out);
+        let limited = limit as usize;
+        let Some(followed) = self.states.follow(alloc, limited, number as usize, pid)? else {
+            let from = self.position(alloc, beginning, number)?;
+            return self.make_new_move(alloc, limit, number, from, pid, out);
         };
         let Followed { text, found } = followed;
-        tell(&mut self.told, pid, &longer, text, out)?;
-        self.keep_way(longer, found)?;
+        tell(alloc, &mut self.told, &self.ways, number, pid, &text, out)?;
+        self.keep_way(number, pid, found)?;
         Ok(())
     }
 
-    // The processes that are live in the state of a number, which is the one at the end of a way.
-    fn live(
-        &self,
-        alloc: Global,
-        beginning: &Beginning,
-        number: usize,
-        way: &[u32],
-    ) -> Result<Vec<u32>, StepFault>
+    // The processes that are live in the state of a number.
+    fn live(&self, alloc: Global, beginning: &Beginning, number: u32) -> Result<Vec<u32>, StepFault>
         requires whole { IsWhole beginning.now }
-        requires there { HasNumber self.now.states number (state_at program_of beginning.now way.now) }
-        ensures { IfOk result (λ pids. pids.items ≡ live_at program_of beginning.now way.now) }
+        requires there { HasNumber self.now.states number (state_at program_of beginning.now (way_at (kept_of self.now) number)) }
+        requires found { number < length (kept_of self.now).ways }
+        ensures { IfOk result (λ pids. pids.items ≡ live_at program_of beginning.now (way_at (kept_of self.now) number)) }
     {
-        match self.states.live(alloc, number)? {
+        match self.states.live(alloc, number as usize)? {
             Some(pids) => Ok(pids),
-            None => Position::at(alloc, beginning, way)?.live(alloc),
+            None => self.position(alloc, beginning, number)?.live(alloc),
         }
     }
 
-    // Takes a step of each live process in the state of a number, which is the one at the end of a way.
+    // Takes a step of each live process in the state of a number.
     fn make_moves<W: Sink>(
         &mut self,
         alloc: Global,
         beginning: &Beginning,
         limit: u32,
-        number: usize,
-        way: &[u32],
+        number: u32,
         out: &mut W,
     ) -> Result<(), Stop>
         requires whole { IsWhole beginning.now }
-        requires there { HasNumber self.old.states number (state_at program_of beginning.now way.now) }
-        ensures kept { OnOk result (kept_of self.new ≡ kept_after_steps limit program_of beginning.now way.now (live_at program_of beginning.now way.now) (kept_of self.old)) }
-        ensures whole { OnOk result (W.written out.new ≡ and_all (W.written out.old) (answer_bytes (steps_told limit program_of beginning.now way.now (live_at program_of beginning.now way.now) (kept_of self.old)))) }
-        ensures beginning { OnErr result (TellsBeginning (answer_bytes (steps_told limit program_of beginning.now way.now (live_at program_of beginning.now way.now) (kept_of self.old))) (W.written out.old) (W.written out.new)) }
+        requires there { HasNumber self.old.states number (state_at program_of beginning.now (way_at (kept_of self.old) number)) }
+        requires found { number < length (kept_of self.old).ways }
+        ensures kept { OnOk result (kept_of self.new ≡ kept_after_steps limit program_of beginning.now (way_at (kept_of self.old) number) (live_at program_of beginning.now (way_at (kept_of self.old) number)) (kept_of self.old)) }
+        ensures whole { OnOk result (W.written out.new ≡ and_all (W.written out.old) (answer_bytes (steps_told limit program_of beginning.now (way_at (kept_of self.old) number) (live_at program_of beginning.now (way_at (kept_of self.old) number)) (kept_of self.old)))) }
+        ensures beginning { OnErr result (TellsBeginning (answer_bytes (steps_told limit program_of beginning.now (way_at (kept_of self.old) number) (live_at program_of beginning.now (way_at (kept_of self.old) number)) (kept_of self.old))) (W.written out.old) (W.written out.new)) }
         ensures failed { IfErr result (λ stop. FailsBy stop (W.failures out.old) (W.failures out.new)) }
         ensures quiet { OnOk result (W.failures out.new ≡ W.failures out.old) }
     {
-        let pids = self.live(alloc, beginning, number, way)?;
+        let pids = self.live(alloc, beginning, number)?;
         let live = pids.as_slice();
         for pid in live {
-            self.make_move(alloc, beginning, limit, number, way, *pid, out)?;
+            self.make_move(alloc, beginning, limit, number, *pid, out)?;
         }
         Ok(())
     }
@@ -322,10 +339,7 @@ impl Search {
     pub(crate) fn way(&self, alloc: Global, number: usize) -> Result<Option<Vec<u32>>, StepFault>
         ensures { IfOk result (λ way. way_of way ≡ slice_get (kept_of self.now).ways number) }
     {
-        match self.ways.get(number) {
-            Some(way) => Ok(Some(copy_of(alloc, way)?)),
-            None => Ok(None),
-        }
+        Ok(self.ways.way(alloc, number)?)
     }
 
     /// Goes on from the first state, to at most so many: it makes the steps in all states found, in the order of finding, and tells
@@ -351,12 +365,13 @@ impl Search {
     {
         let _ = Position::start(alloc, beginning)?.parts();
         for number in 0..limit {
-            let Some(way) = self.way(alloc, number as usize)? else {
-                return Ok(());
-            };
             let found = self.states.len();
-            progress.show(found, found.saturating_sub(number as usize));
-            self.make_moves(alloc, beginning, limit, number as usize, &way, out)?;
+            if number as usize >= found {
+                return Ok(());
+            }
+            progress.show(found, found - number as usize);
+            self.make_moves(alloc, beginning, limit, number, out)?;
+            self.states.let_go(alloc, number as usize);
         }
         Ok(())
     }

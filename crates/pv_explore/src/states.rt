@@ -1,16 +1,15 @@
 //! The states that a search found, each as a row of small numbers.
-ghost use Rattle.std.specs.Prelude.{◌≡◌, ◌++◌, ◌∷◌, [], length, map, position, bytes_eq, IfOk, IfSome, OnErr, OnOk};
+ghost use Rattle.std.specs.Prelude.{◌≡◌, ◌++◌, ◌∷◌, [], length, position, bytes_eq, IfOk, IfSome, OnErr, OnOk};
 ghost use Rattle.std.specs.List.{AllByRecursion};
 ghost use Rattle.pv_explore.specs.Rows.{AreOfState, Grew, IsAmong, IsGroupKept, group_row, number_in, parts_in, state_row};
-ghost use Rattle.pv_explore.specs.KeptStates.{AreCellsIn, AreKeptBoth, AreLiveAt, ArePlaced, ArePushed, AreSpelled, IsFoundBy, IsFoundIn, IsMade, IsRecalled, IsWholeAt, MayFollow, MayKeep, number_of};
-ghost use Rattle.pv_kept_steps.specs.Edits.{cell_of};
+ghost use Rattle.pv_explore.specs.KeptStates.{AreCellsIn, AreLetGo, AreLiveAt, ArePlaced, ArePushed, AreSpelled, IsFoundBy, IsFoundIn, IsMade, IsRecalled, IsWholeAt, MayFollow, MayKeep, number_of};
 ghost use Rattle.pv_spelling.specs.Groups.{groups_of, joined};
 ghost use Rattle.pv_spelling.specs.Spelled.{spelled, spelled_all, spelled_of};
 
 use crate::ahead::make_ahead;
 use crate::keys::Keys;
 use crate::position::Position;
-use pv_kept_steps::{Cell, KeptSteps, Recalled, live_owners, row_of_cells};
+use pv_kept_steps::{Cell, KeptSteps, Recalled, has_owner, live_owners, row_of_cells};
 use pv_model::StepFault;
 use pv_spelling::{SpelledGroup, push_number};
 use std::alloc::{AllocError, Global};
@@ -107,97 +106,52 @@ fn row_of_state(
     Ok(row)
 }
 
-// Keeps the parts of a group.
-fn learn_parts(alloc: Global, parts: &mut Keys, group: &[Vec<u8>]) -> Result<(), AllocError>
-    ensures grew { Grew parts.old parts.new }
-    ensures kept { OnOk result (AllByRecursion (IsAmong parts.new) (parts_in group.now)) }
-{
-    for part in group {
-        parts.learn(alloc, part)?;
-    }
-    Ok(())
-}
-
-// Keeps a group, of which all parts are kept.
-fn learn_row(
-    alloc: Global,
-    parts: &Keys,
-    groups: &mut Keys,
-    group: &[Vec<u8>],
-) -> Result<(), AllocError>
-    ensures grew { Grew groups.old groups.new }
-    ensures kept { OnOk result (IsAmong groups.new (group_row parts.now (parts_in group.now))) }
-{
-    let row = row_of_group(alloc, parts, group)?;
-    groups.learn(alloc, &row)
-}
-
 // ---- cells
 
-// Keeps a group and its parts.
+// The row of a group: the number of each part, which is then kept.
+fn learn_row(alloc: Global, parts: &mut Keys, group: &[Vec<u8>]) -> Result<Vec<u8>, AllocError>
+    ensures grew { Grew parts.old parts.new }
+    ensures kept { OnOk result (AllByRecursion (IsAmong parts.new) (parts_in group.now)) }
+    ensures row { IfOk result (λ row. row.items ≡ group_row parts.new (parts_in group.now)) }
+{
+    let mut row = Vec::new(alloc);
+    for part in group {
+        let number = parts.number(alloc, part)?;
+        push_number(&mut row, number as u64)?;
+    }
+    Ok(row)
+}
+
+// The number of a group, which is then kept, and so are its parts.
 fn learn_group(
     alloc: Global,
     parts: &mut Keys,
     groups: &mut Keys,
     group: &[Vec<u8>],
-) -> Result<(), AllocError>
+) -> Result<usize, AllocError>
     ensures parts_grew { Grew parts.old parts.new }
     ensures groups_grew { Grew groups.old groups.new }
     ensures kept { OnOk result (IsGroupKept parts.new groups.new (parts_in group.now)) }
+    ensures number { IfOk result (λ number. number ≡ number_of parts.new groups.new (parts_in group.now)) }
 {
-    learn_parts(alloc, parts, group)?;
-    learn_row(alloc, parts, groups, group)
+    let row = learn_row(alloc, parts, group)?;
+    groups.number(alloc, &row)
 }
 
-// Keeps a group, and what the steps of others depend on of it.
-fn learn_spelled(
+// The cell of a group, which is then kept, and so is what the steps of others depend on of it.
+fn learn_cell(
     alloc: Global,
     parts: &mut Keys,
     groups: &mut Keys,
-    group: &SpelledGroup,
-) -> Result<(), AllocError>
-    ensures parts_grew { Grew parts.old parts.new }
-    ensures groups_grew { Grew groups.old groups.new }
-    ensures kept { OnOk result (AreKeptBoth parts.new groups.new (spelled_of group.now ∷ [])) }
-{
-    match group {
-        SpelledGroup::Plain(all) => learn_group(alloc, parts, groups, all),
-        SpelledGroup::Live(_, all, outside) => {
-            learn_group(alloc, parts, groups, all)?;
-            learn_group(alloc, parts, groups, outside)
-        }
-    }
-}
-
-// Keeps the groups of a state, and what the steps of others depend on of them.
-fn learn_all(
-    alloc: Global,
-    parts: &mut Keys,
-    groups: &mut Keys,
-    spelled: &[SpelledGroup],
-) -> Result<(), AllocError>
-    ensures parts_grew { Grew parts.old parts.new }
-    ensures groups_grew { Grew groups.old groups.new }
-    ensures kept { OnOk result (AreKeptBoth parts.new groups.new (spelled_all spelled.now)) }
-{
-    for group in spelled {
-        learn_spelled(alloc, parts, groups, group)?;
-    }
-    Ok(())
-}
-
-// The cell of a group.
-fn cell_of(
-    alloc: Global,
-    parts: &Keys,
-    groups: &Keys,
     group: &SpelledGroup,
 ) -> Result<Cell, AllocError>
-    ensures { IfOk result (λ cell. cell ≡ cell_of (number_of parts.now groups.now) (spelled_of group.now)) }
+    ensures parts_grew { Grew parts.old parts.new }
+    ensures groups_grew { Grew groups.old groups.new }
+    ensures cell { IfOk result (λ cell. AreCellsIn parts.new groups.new (spelled_of group.now ∷ []) (cell ∷ [])) }
 {
     match group {
         SpelledGroup::Plain(all) => {
-            let number = number_of_group(alloc, parts, groups, all)?;
+            let number = learn_group(alloc, parts, groups, all)?;
             Ok(Cell {
                 number,
                 owner: 0,
@@ -205,8 +159,8 @@ fn cell_of(
             })
         }
         SpelledGroup::Live(owner, all, outside) => {
-            let number = number_of_group(alloc, parts, groups, all)?;
-            let outside = number_of_group(alloc, parts, groups, outside)?;
+            let number = learn_group(alloc, parts, groups, all)?;
+            let outside = learn_group(alloc, parts, groups, outside)?;
             Ok(Cell {
                 number,
                 owner: *owner,
@@ -214,22 +168,6 @@ fn cell_of(
             })
         }
     }
-}
-
-// The cells of a state.
-fn cells_of(
-    alloc: Global,
-    parts: &Keys,
-    groups: &Keys,
-    spelled: &[SpelledGroup],
-) -> Result<Vec<Cell>, AllocError>
-    ensures { IfOk result (λ cells. cells.items ≡ map (cell_of (number_of parts.now groups.now)) (spelled_all spelled.now)) }
-{
-    let mut cells = Vec::new(alloc);
-    for group in spelled {
-        cells.push(cell_of(alloc, parts, groups, group)?)?;
-    }
-    Ok(cells)
 }
 
 // The cells of a state: the groups of it are then kept, and what the steps of others depend on of them.
@@ -243,8 +181,12 @@ pub(crate) fn learn_cells(
     ensures groups_grew { Grew groups.old groups.new }
     ensures cells { IfOk result (λ cells. AreCellsIn parts.new groups.new (spelled_all spelled.now) cells.items) }
 {
-    learn_all(alloc, parts, groups, spelled)?;
-    cells_of(alloc, parts, groups, spelled)
+    let mut cells = Vec::new(alloc);
+    for group in spelled {
+        let cell = learn_cell(alloc, parts, groups, group)?;
+        cells.push(cell)?;
+    }
+    Ok(cells)
 }
 
 // ---- steps
@@ -268,10 +210,10 @@ fn recalled(
     let Some(made) = steps.recall(alloc, before, pid)? else {
         return Ok(None);
     };
-    if live_owners(alloc, &made.cells)?.is_empty() {
-        return Ok(None);
+    if has_owner(&made.cells) {
+        return Ok(Some(made));
     }
-    Ok(Some(made))
+    Ok(None)
 }
 
 // Keeps what a step of a process in the state of a number gave, where the cells of that are kept.
@@ -293,6 +235,15 @@ fn keep_made(
         return Ok(());
     }
     steps.keep(alloc, before, after, pid, text)
+}
+
+// Lets go of the cells of the state of a number.
+fn empty_cells(alloc: Global, all: &mut Vec<Vec<Cell>>, number: usize)
+    ensures { AreLetGo all.old.items all.new.items }
+{
+    if number < all.len() {
+        all[number] = Vec::new(alloc);
+    }
 }
 
 // ---- rows
@@ -432,6 +383,13 @@ impl States {
             &cells,
             text,
         )?)
+    }
+
+    /// Lets go of what the steps in the state of a number are recalled by.
+    pub(crate) fn let_go(&mut self, alloc: Global, number: usize)
+        ensures { self.new ≡ self.old }
+    {
+        empty_cells(alloc, &mut self.cells, number);
     }
 
     /// Goes on with a machine: in each state that it reaches it makes a step of a live process that is not kept there, and keeps what

@@ -1,5 +1,6 @@
 use Rattle.std.proofs.Common.{◌∙◌, Some, ap, subst, sym}
-use Rattle.pv_explore.specs.Searches.{kept_of, way_of}
+use Rattle.pv_explore.specs.Searches.{kept_of}
+use Rattle.pv_explore.specs.Ways.{way_of}
 use Rattle.pv_explore.proofs.Graphed.{vertices-next, vertices-none, vertices_left}
 use Rattle.pv_listing.proofs.Rests.{LeavesRest, rest_after, rest_begins, written_begins, written_text}
 use Rattle.pv_model.specs.Bytes.{Bytes}

@@ -3,12 +3,14 @@ use Rattle.std.proofs.lemmas.Bool.Decides.{nat_tests}
 use Rattle.std.proofs.lemmas.Option.{slice_get-get_or}
 use Rattle.pv_kept_steps.specs.declared.cells.Cell.{Cell}
 use Rattle.pv_kept_steps.specs.declared.steps.Recalled.{Recalled}
-use Rattle.pv_kept_steps.specs.Edits.{owners, step_key}
+use Rattle.pv_kept_steps.specs.Edits.{is_owned, step_key}
+use Rattle.pv_kept_steps.proofs.CellLists.{owners-some}
+use Rattle.std.specs.List.{list_any}
 use Rattle.pv_kept_steps.specs.Steps.{WasKept}
 use Rattle.pv_explore.proofs.states.recalled.Goals as goal
 
-pub returns : goal.returns
-returns c =
+pub returns-then-has_owner : goal.returns-then-has_owner
+returns-then-has_owner c =
     let number = c.args.number in
     let cells = c.args.cells.now in
     let before = c.in-Some.before.now in
@@ -24,9 +26,5 @@ returns c =
           let test : true ≡ false = sym (ap (λ n. n == 0) long) ∙ sym c.is_empty.ensures ∙ c.if-is_empty.false in
           cc;
       was = subst (λ (cs : List Cell). WasKept c.args.steps.now.steps.items (step_key c.args.pid cs) cs c.in-Some-2.made.text.items c.in-Some-2.made.cells.items) c.deref.ensures.value made;
-      live = λ none.
-          let nobody = c.in_ok-live_owners.ensures ∙ ap owners c.deref-2.ensures.value ∙ none in
-          let long : vec_len c.in_ok-live_owners.field-0 ≡ 0 = c.in_ok-live_owners.field-0.ok.0 ∙ ap length nobody in
-          let test : true ≡ false = sym (ap (λ n. n == 0) long) ∙ sym c.is_empty-2.ensures ∙ c.if-is_empty-2.false in
-          cc;
+      live = owners-some c.in-Some-2.made.cells.items (ap (list_any is_owned) (sym c.deref-2.ensures.value) ∙ sym c.has_owner.ensures ∙ c.if-has_owner.true);
     }

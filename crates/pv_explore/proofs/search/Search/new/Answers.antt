@@ -1,19 +1,17 @@
-use Rattle.std.proofs.Common.{◌≡◌, ◌∙◌, ℕ, [], map, true, ap, ap₂}
-use Rattle.std.specs.Global.{Vec}
-use Rattle.pv_explore.specs.Plan.{Kept, with_found_at}
-use Rattle.pv_explore.specs.Searches.{kept_of}
+use Rattle.std.proofs.Common.{◌∙◌, ap, subst, List}
+use Rattle.pv_explore.specs.KeptStates.{IsFoundIn}
+use Rattle.pv_explore.specs.Plan.{endings_after, state_key}
 use Rattle.pv_explore.proofs.Finding.{first-is}
+use Rattle.pv_explore.proofs.Followed.{first-found}
+use Rattle.pv_model.specs.Bytes.{Bytes}
+use Rattle.pv_spelling.specs.Spelled.{spelled_all}
 use Rattle.pv_explore.proofs.search.Search.new.Goals as goal
 
 pub returns : goal.returns
 returns c =
-    let none : Kept = record { keys = []; ways = []; told = []; endings = []; complete = true } in
     let is = c.empty-search.ensures in
-    let empty : kept_of c.empty-search.result ≡ none = λ i. record {
-      keys = is.states i;
-      ways = map (λ (w : Vec ℕ). w.items) (is.ways i);
-      told = is.told i;
-      endings = is.endings i;
-      complete = is.complete i;
-    } in
-    c.in_ok-find.ensures ∙ ap₂ (λ k w. with_found_at 1 k w c.in_ok-position.position) empty c.new.ensures.items ∙ ap (with_found_at 1 none []) c.in_ok-position.ensures ∙ first-is c.args.limit c.args.beginning.now
+    let t = c.in_ok-position.position in
+    let new = c.find_or_add.new.self in
+    let found = c.in_ok-find_or_add.ensures t (ap spelled_all c.deref.ensures.value ∙ c.in_ok-spelled.ensures) in
+    let first = first-found t new c.in_ok-find_or_add.field-0 (subst (λ (keys : List Bytes). IsFoundIn 1 keys c.find_or_add.new.self (state_key t) c.in_ok-find_or_add.field-0) is.states found) in
+    first-is c.args.limit c.args.beginning.now t _ _ _ _ _ c.in_ok-position.ensures first is.ways is.told (c.in_ok-add_ending.ensures ∙ ap (λ (endings : List Bytes). endings_after endings t) is.endings) is.complete

@@ -1,0 +1,23 @@
+use Rattle.std.proofs.Common.{[], ◌∷◌, subst}
+use Rattle.pv_explore.specs.KeptStates.{AreCellsIn}
+use Rattle.pv_explore.proofs.KeptStates.{cells-next}
+use Rattle.pv_explore.proofs.Rows.{grew-then}
+use Rattle.pv_spelling.specs.declared.spelled.SpelledGroup.{SpelledGroup}
+use Rattle.pv_spelling.specs.Spelled.{spelled_of}
+use Rattle.pv_explore.proofs.states.learn_cells.Goals as goal
+
+pub loop-group-preserved : goal.loop-group-preserved
+loop-group-preserved c =
+    let parts = c.learn_cell.new.parts in
+    let groups = c.learn_cell.new.groups in
+    let parts_grew = c.learn_cell.ensures.parts_grew in
+    let groups_grew = c.learn_cell.ensures.groups_grew in
+    let cell = c.in_ok-cell.cell in
+    let one = subst (λ (g : SpelledGroup). AreCellsIn c.learn_cell.new.parts c.learn_cell.new.groups (spelled_of g ∷ []) (c.in_ok-cell.cell ∷ [])) c.group-item.is c.in_ok-cell.ensures.cell in
+    record {
+      parts_grew = grew-then c.args.parts.now c.loop-group.parts parts c.loop-group.invariant.parts_grew parts_grew;
+      groups_grew = grew-then c.args.groups.now c.loop-group.groups groups c.loop-group.invariant.groups_grew groups_grew;
+      cells =
+          cells-next c.loop-group.parts c.loop-group.groups parts groups parts_grew groups_grew spelled_of c.args.spelled.now c.loop-group.group-index c.group-item.result cell c.loop-group.cells.items _ c.loop-group-test.true
+          c.loop-group.invariant.cells one c.in_ok-push.ensures.items;
+    }
