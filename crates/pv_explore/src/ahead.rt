@@ -11,7 +11,7 @@ use pv_model::StepFault;
 use std::alloc::{AllocError, Global};
 
 // How many steps a machine makes ahead at most.
-const MOST_AHEAD: usize = 4;
+const MOST_AHEAD: usize = 2;
 
 // The first live process, in a state of these cells, whose step there is not kept.
 fn next_ahead(alloc: Global, steps: &KeptSteps, cells: &[Cell]) -> Result<Option<u32>, AllocError> {
