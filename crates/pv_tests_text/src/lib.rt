@@ -1,4 +1,4 @@
-//! Texts and their readers tried, and what writes traces: programs, schedules and contexts, lines and words.
+//! Texts and their readers tried, and what writes traces: programs, lines and words.
 //!
 //! It has tests alone, a module for each crate that they try (`text`, `script`, `trace`); `answers` has what they compare
 //! by, and `streams` the sinks that they write to.
