@@ -7,7 +7,7 @@ use Rattle.std.proofs.lemmas.Grind.{flat_map-append}
 use Rattle.std.proofs.lemmas.List.{drop_all, length-map}
 use Rattle.std.proofs.Math.Seq.{drop-cons}
 use Rattle.pv_explore.specs.Plan.{Kept, first_kept, kept_from, state_key, state_at, live_at, told_from}
-use Rattle.pv_explore.specs.Vertices.{listed_bytes, step_of, steps_at, vertex_at, vertices_from}
+use Rattle.pv_explore.specs.Vertices.{found_lines, listed_bytes, step_of, steps_at, vertex_at, vertices_from}
 use Rattle.pv_explore.proofs.KeyLists.{position-mapped}
 use Rattle.pv_explore.proofs.Planned.{Finds, plan-finds, same-known, state_of_found, way_of_found}
 use Rattle.pv_model.specs.Answers.Explore.{Found, move, states_found, states_line}
@@ -142,7 +142,5 @@ module _ (limit : ℕ) (s : State) (trees : Bool) (kept : Kept) (some : 1 ≤ li
   pub graph-many : length kept.ways ≡ length kept.keys
   graph-many = as-many limit s trees (told_from limit program_of s limit 0 (first_kept limit program_of s)) kept found-kept
 
-  pub graph-bytes : answer_bytes (vertices_from kept.keys s trees 0 kept.ways) ++ (answer_line_bytes (states_line (length kept.keys) kept.complete) ++ []) ≡ answer_bytes (graph_lines program_of limit trees s)
-  graph-bytes =
-      sym (flat_map-append answer_line_bytes (vertices_from kept.keys s trees 0 kept.ways) (states_line (length kept.keys) kept.complete ∷ []))
-      ∙ ap answer_bytes (graph-are limit s trees (told_from limit program_of s limit 0 (first_kept limit program_of s)) kept found-kept)
+  pub graph-bytes : answer_bytes (found_lines kept s trees) ≡ answer_bytes (graph_lines program_of limit trees s)
+  graph-bytes = ap answer_bytes (graph-are limit s trees (told_from limit program_of s limit 0 (first_kept limit program_of s)) kept found-kept)

@@ -1,8 +1,9 @@
 -- A state of a search with its steps, by what is kept of it.
-use Rattle.std.specs.Prelude.{ℕ, Bool, List, ◌∷◌, ◌++◌, map, flat_map, codes, bytes_eq, position}
+use Rattle.std.specs.Prelude.{ℕ, Bool, List, [], ◌∷◌, ◌++◌, map, flat_map, codes, bytes_eq, length, position}
 use Rattle.std.specs.Fmt.{decimal}
-use Rattle.pv_explore.specs.Plan.{state_key, state_at, live_at}
+use Rattle.pv_explore.specs.Plan.{Kept, state_key, state_at, live_at}
 use Rattle.pv_model.specs.Answers.Explain.{explained_step}
+use Rattle.pv_model.specs.Answers.Explore.{states_line}
 use Rattle.pv_model.specs.Answers.Graph.{leads_to_text, tree_lines, untold}
 use Rattle.pv_model.specs.Answers.Lines.{AnswerLine, answer_bytes, answer_line, counted_from}
 use Rattle.pv_model.specs.Answers.ProcessRecord.{state_lines}
@@ -35,3 +36,7 @@ module _ (keys : List Bytes) where
     -- those from a number on
     abbrev pub vertices_from : Bool → ℕ → List (List ℕ) → List AnswerLine
     vertices_from trees number ways = flat_map (λ e. vertex_at trees e.0 e.1) (counted_from number ways)
+
+-- the lines of the states that a search found, from the first state on, and the last line
+abbrev pub found_lines : Kept → State → Bool → List AnswerLine
+found_lines kept s trees = vertices_from kept.keys s trees 0 kept.ways ++ states_line (length kept.keys) kept.complete ∷ []

@@ -1,6 +1,6 @@
 //! What can happen from a machine's first state on.
 ghost use Rattle.std.specs.Prelude.{◌≡◌, ◌≤◌, IfErr, OnErr, OnOk};
-ghost use Rattle.pv_explore.specs.Plan.{done_lines};
+ghost use Rattle.pv_explore.specs.Plan.{done_lines, first_kept};
 ghost use Rattle.pv_explore.specs.Searches.{kept_of};
 ghost use Rattle.pv_model.specs.Answers.Explore.{completeness_text, endings_line, explore_lines, states_line};
 ghost use Rattle.pv_model.specs.Answers.Lines.{answer_bytes, answer_line_bytes};
@@ -73,6 +73,28 @@ fn write_done<W: Sink>(out: &mut W, search: &Search) -> Result<(), Failed>
     write_endings(out, search.endings.len())
 }
 
+// Searches from the first state on, and writes what that tells, and how it ended.
+fn write_search<W: Sink, P: Progress>(
+    alloc: Global,
+    beginning: &Beginning,
+    states: u32,
+    search: &mut Search,
+    progress: &mut P,
+    out: &mut W,
+) -> Result<(), Stop>
+    requires states { 1 ≤ states }
+    requires first { kept_of search.old ≡ first_kept states program_of beginning.now }
+    ensures whole { OnOk result (W.written out.new ≡ and_all (W.written out.old) (answer_bytes (explore_lines program_of states beginning.now))) }
+    ensures beginning { OnErr result (TellsBeginning (answer_bytes (explore_lines program_of states beginning.now)) (W.written out.old) (W.written out.new)) }
+    ensures failed { IfErr result (λ stop. FailsBy stop (W.failures out.old) (W.failures out.new)) }
+    ensures quiet { OnOk result (W.failures out.new ≡ W.failures out.old) }
+{
+    let end = search.search(alloc, beginning, states, progress, out);
+    progress.end();
+    end?;
+    Ok(write_done(out, search)?)
+}
+
 /// Writes what can happen under any schedule: of the states that steps reach from a machine's first state, at most `states`, in
 /// breadth first order, what their steps tell. For each text of a step that no step before it had there is a line BY with a
 /// shortest way to it, and the text. The last two lines, DONE, have how many states were found and whether that is all, and how
@@ -99,8 +121,5 @@ pub fn write_explore<W: Sink, P: Progress>(
     ensures quiet { OnOk result (W.failures out.new ≡ W.failures out.old) }
 {
     let mut search = Search::new(alloc, states, beginning)?;
-    let end = search.search(alloc, beginning, states, progress, out);
-    progress.end();
-    end?;
-    Ok(write_done(out, &search)?)
+    write_search(alloc, beginning, states, &mut search, progress, out)
 }

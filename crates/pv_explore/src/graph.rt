@@ -3,7 +3,7 @@ ghost use Rattle.std.specs.Prelude.{◌≡◌, ◌≤◌, [], Some, codes, lengt
 ghost use Rattle.std.specs.Fmt.{decimal};
 ghost use Rattle.pv_explore.specs.Plan.{first_kept, kept_from, live_at};
 ghost use Rattle.pv_explore.specs.Searches.{kept_of};
-ghost use Rattle.pv_explore.specs.Vertices.{listed_bytes, steps_at, vertex_at, vertices_from};
+ghost use Rattle.pv_explore.specs.Vertices.{found_lines, listed_bytes, steps_at, vertex_at, vertices_from};
 ghost use Rattle.pv_model.specs.Answers.Graph.{graph_lines, tree_lines};
 ghost use Rattle.pv_model.specs.Answers.Lines.{answer_bytes, answer_line, answer_line_bytes};
 ghost use Rattle.pv_model.specs.Grammar.Lines.{lines_of};
@@ -214,6 +214,24 @@ fn search_all<P: Progress>(
     }
 }
 
+// Writes the states that a search found, and whether that is all.
+fn write_found<W: Sink>(
+    alloc: Global,
+    beginning: &Beginning,
+    search: &Search,
+    tree: bool,
+    out: &mut W,
+) -> Result<(), Stop>
+    requires { length (kept_of search.now).ways ≡ length search.now.states }
+    ensures whole { OnOk result (W.written out.new ≡ and_all (W.written out.old) (answer_bytes (found_lines (kept_of search.now) beginning.now tree))) }
+    ensures beginning { OnErr result (TellsBeginning (answer_bytes (found_lines (kept_of search.now) beginning.now tree)) (W.written out.old) (W.written out.new)) }
+    ensures failed { IfErr result (λ stop. FailsBy stop (W.failures out.old) (W.failures out.new)) }
+    ensures quiet { OnOk result (W.failures out.new ≡ W.failures out.old) }
+{
+    write_vertices(alloc, beginning, search, tree, out)?;
+    Ok(write_states(out, search.states.len(), search.complete)?)
+}
+
 /// Writes the states that steps reach from a machine's first state, at most `states`, in the order of finding, and how they hang
 /// together: for each a line AT with its number from 0, what each process is and has, with `tree` the listing of its tree and what
 /// its processes reach, and for each live process a line STEP with the number of the state to which its step leads, or that it was
@@ -240,6 +258,5 @@ pub fn write_graph<W: Sink, P: Progress>(
     ensures quiet { OnOk result (W.failures out.new ≡ W.failures out.old) }
 {
     let search = search_all(alloc, beginning, states, progress)?;
-    write_vertices(alloc, beginning, &search, tree, out)?;
-    Ok(write_states(out, search.states.len(), search.complete)?)
+    write_found(alloc, beginning, &search, tree, out)
 }

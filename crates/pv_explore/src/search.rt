@@ -1,7 +1,7 @@
 //! What a search keeps, and how it goes.
 ghost use Rattle.std.specs.Prelude.{◌≡◌, ◌<◌, ◌++◌, ◌∷◌, [], true, bytes_eq, length, if◌then◌else◌, slice_get, IfErr, IfOk, OnErr, OnOk};
 ghost use Rattle.std.specs.List.{list_any};
-ghost use Rattle.pv_explore.specs.Plan.{endings_after, first_kept, is_told, kept_after, kept_after_steps, kept_from, lines_at, live_at, move_at, state_at, steps_told, told_after, told_from, with_found_at};
+ghost use Rattle.pv_explore.specs.Plan.{endings_after, first_kept, is_told, kept_after, kept_after_steps, kept_from, lines_at, live_at, move_at, state_at, state_key, steps_told, told_after, told_from, with_found_at};
 ghost use Rattle.pv_explore.specs.KeptStates.{HasNumber};
 ghost use Rattle.pv_explore.specs.Searches.{AreAt, endings_found, kept_of, move_bytes, move_of, told_bytes, way_at, with_way};
 ghost use Rattle.pv_explore.specs.Ways.{longer, way_of};
@@ -146,24 +146,26 @@ fn add_found_ending(
     }
 }
 
-impl Search {
-    // With no state, and the way to the first.
-    fn empty(alloc: Global) -> Search
-        ensures states { result.states ≡ [] }
-        ensures ways { result.ways ≡ [] ∷ [] }
-        ensures told { result.told ≡ [] }
-        ensures endings { result.endings ≡ [] }
-        ensures complete { result.complete ≡ true }
-    {
-        Search {
-            states: States::new(alloc),
-            ways: Ways::new(alloc),
-            told: Keys::new(alloc),
-            endings: Keys::new(alloc),
-            complete: true,
-        }
-    }
+// The first state alone.
+fn first_states(alloc: Global, position: &Position) -> Result<States, StepFault>
+    ensures { IfOk result (λ states. states ≡ state_key position.now ∷ []) }
+{
+    let spelled = position.spelled(alloc)?;
+    let mut states = States::new(alloc);
+    let _ = states.find_or_add(alloc, 1, &spelled)?;
+    Ok(states)
+}
 
+// The tree of the first state, where no process is live in it.
+fn first_endings(alloc: Global, position: &Position) -> Result<Keys, StepFault>
+    ensures { IfOk result (λ endings. endings ≡ endings_after [] position.now) }
+{
+    let mut endings = Keys::new(alloc);
+    add_ending(alloc, &mut endings, position)?;
+    Ok(endings)
+}
+
+impl Search {
     /// With the first state alone.
     ///
     /// # Errors
@@ -173,11 +175,15 @@ impl Search {
         ensures { IfOk result (λ search. kept_of search ≡ first_kept limit program_of beginning.now) }
     {
         let position = Position::start(alloc, beginning)?;
-        let mut search = Search::empty(alloc);
-        let spelled = position.spelled(alloc)?;
-        add_ending(alloc, &mut search.endings, &position)?;
-        let _ = search.states.find_or_add(alloc, 1, &spelled)?;
-        Ok(search)
+        let states = first_states(alloc, &position)?;
+        let endings = first_endings(alloc, &position)?;
+        Ok(Search {
+            states,
+            ways: Ways::new(alloc),
+            told: Keys::new(alloc),
+            endings,
+            complete: true,
+        })
     }
 
     // Keeps the way to a state that was looked for, to which a step leads from the state of a number, where that was added.

@@ -1,59 +1,20 @@
-use Rattle.std.proofs.Common.{◌∙◌, ◌++◌, [], ℕ, length, append-nil, ap, subst, sym}
-use Rattle.std.proofs.lemmas.Result.{err_from_is_err_and}
+use Rattle.std.proofs.Common.{◌≡◌, subst}
+use Rattle.std.specs.Prelude.{OnErr, OnOk}
 use Rattle.pv_explore.specs.Searches.{kept_of}
-use Rattle.pv_explore.specs.Vertices.{vertices_from}
 use Rattle.pv_explore.proofs.Graphed.{graph-bytes, graph-many}
-use Rattle.pv_model.specs.Answers.Explore.{states_line}
-use Rattle.pv_model.specs.Answers.Lines.{answer_bytes, answer_line_bytes}
 use Rattle.pv_model.specs.Bytes.{Bytes}
-use Rattle.pv_model.specs.Stream.{Rose}
-use Rattle.pv_session.specs.Running.{FailsBy}
-use Rattle.pv_session.specs.declared.session.Stop.{Stop}
 use Rattle.pv_streams.specs.Sinks.{and_all, TellsBeginning}
-use Rattle.pv_streams.proofs.Telling.{begins_first, begins_then, on_err, written_both}
 use Rattle.pv_explore.proofs.graph.write_graph.Goals as goal
 
-pub write_vertices-requires : goal.write_vertices-requires
-write_vertices-requires g c = graph-many c.args.states c.args.beginning.now c.args.tree (kept_of c.in_ok-search.search) c.requires c.in_ok-search.ensures
-
-pub returns-in_err-write_vertices-clause-beginning : goal.returns-in_err-write_vertices-clause-beginning
-returns-in_err-write_vertices-clause-beginning g c =
-    let kept = kept_of c.in_ok-search.search in
-    let vertices = answer_bytes (vertices_from kept.keys c.args.beginning.now c.args.tree 0 kept.ways) in
-    let done = answer_line_bytes (states_line (length kept.keys) kept.complete) ++ [] in
-    on_err c.from_residual-in_err-write_vertices.result
-    (subst (λ (bs : Bytes). TellsBeginning bs (g.W.Sink.written c.args.out.now) (g.W.Sink.written c.write_vertices.new.out))
-    (graph-bytes c.args.states c.args.beginning.now c.args.tree kept c.requires c.in_ok-search.ensures) (begins_first vertices done _ _ c.in_err-write_vertices.ensures.beginning))
-
-pub returns-in_err-write_states-clause-beginning : goal.returns-in_err-write_states-clause-beginning
-returns-in_err-write_states-clause-beginning g c =
-    let kept = kept_of c.in_ok-search.search in
-    let vertices = answer_bytes (vertices_from kept.keys c.args.beginning.now c.args.tree 0 kept.ways) in
-    let last = answer_line_bytes (states_line (length kept.keys) kept.complete) in
-    on_err c.from_residual-in_err-write_states.result
-    (subst (λ (bs : Bytes). TellsBeginning bs (g.W.Sink.written c.args.out.now) (g.W.Sink.written c.write_states.new.out))
-    (graph-bytes c.args.states c.args.beginning.now c.args.tree kept c.requires c.in_ok-search.ensures)
-    (begins_then vertices (last ++ []) _ _ _ c.in_ok-write_vertices.ensures.whole (begins_first last [] _ _ (rw c.len.ensures at c.in_err-write_states.ensures.beginning))))
-
-pub returns-in_err-write_states-clause-failed : goal.returns-in_err-write_states-clause-failed
-returns-in_err-write_states-clause-failed g c =
-    let before = g.W.Sink.failures c.args.out.now in
-    let after = g.W.Sink.failures c.write_states.new.out in
-    let p = err_from_is_err_and c.from_residual-in_err-write_states.result c.from_residual-in_err-write_states.ensures.1 in
-    rw p.1 (subst (λ (stop : Stop). FailsBy stop before after) (sym p.2) (subst (λ (n : ℕ). Rose n after) c.in_ok-write_vertices.ensures.quiet c.in_err-write_states.ensures.failed))
+pub write_found-requires : goal.write_found-requires
+write_found-requires g c = graph-many c.args.states c.args.beginning.now c.args.tree (kept_of c.in_ok-search.search) c.requires c.in_ok-search.ensures
 
 pub returns-clause-whole : goal.returns-clause-whole
 returns-clause-whole g c =
-    let kept = kept_of c.in_ok-search.search in
-    let vertices = answer_bytes (vertices_from kept.keys c.args.beginning.now c.args.tree 0 kept.ways) in
-    let last = answer_line_bytes (states_line (length kept.keys) kept.complete) in
-    written_both vertices (last ++ []) _ _ _ c.in_ok-write_vertices.ensures.whole
-    ((rw c.len.ensures at c.in_ok-write_states.ensures.whole) ∙ ap (and_all (g.W.Sink.written c.write_vertices.new.out)) (sym (append-nil last)))
-    ∙ ap (and_all (g.W.Sink.written c.args.out.now)) (graph-bytes c.args.states c.args.beginning.now c.args.tree kept c.requires c.in_ok-search.ensures)
+    subst (λ (bs : Bytes). OnOk c.write_found.result (g.W.Sink.written c.write_found.new.out ≡ and_all (g.W.Sink.written c.args.out.now) bs))
+    (graph-bytes c.args.states c.args.beginning.now c.args.tree (kept_of c.in_ok-search.search) c.requires c.in_ok-search.ensures) c.write_found.ensures.whole
 
-pub returns-in_err-write_vertices-clause-failed : goal.returns-in_err-write_vertices-clause-failed
-returns-in_err-write_vertices-clause-failed g c =
-    let before = g.W.Sink.failures c.args.out.now in
-    let after = g.W.Sink.failures c.write_vertices.new.out in
-    let p = err_from_is_err_and c.from_residual-in_err-write_vertices.result c.from_residual-in_err-write_vertices.ensures.1 in
-    rw p.1 (subst (λ (stop : Stop). FailsBy stop before after) (sym p.2) c.in_err-write_vertices.ensures.failed)
+pub returns-clause-beginning : goal.returns-clause-beginning
+returns-clause-beginning g c =
+    subst (λ (bs : Bytes). OnErr c.write_found.result (TellsBeginning bs (g.W.Sink.written c.args.out.now) (g.W.Sink.written c.write_found.new.out)))
+    (graph-bytes c.args.states c.args.beginning.now c.args.tree (kept_of c.in_ok-search.search) c.requires c.in_ok-search.ensures) c.write_found.ensures.beginning

@@ -12,19 +12,19 @@ use Rattle.pv_session.specs.Running.{FailsBy}
 use Rattle.pv_session.specs.declared.session.Stop.{Stop}
 use Rattle.pv_streams.specs.Sinks.{and_all, TellsBeginning}
 use Rattle.pv_streams.proofs.Telling.{begins_first, begins_then, on_err, written_both}
-use Rattle.pv_explore.proofs.explore.write_explore.Goals as goal
+use Rattle.pv_explore.proofs.explore.write_search.Goals as goal
 
 pub search-end-requires : goal.search-end-requires
-search-end-requires g c = subst (AreAt c.args.beginning.now) (sym c.in_ok-search.ensures) (first-at c.args.states c.args.beginning.now)
+search-end-requires g c = subst (AreAt c.args.beginning.now) (sym c.requires.first) (first-at c.args.states c.args.beginning.now)
 
 pub returns-in_err-end-clause-beginning : goal.returns-in_err-end-clause-beginning
 returns-in_err-end-clause-beginning g c =
     let limit = c.args.states in
     let s = c.args.beginning.now in
-    let first = kept_of c.in_ok-search.search in
+    let first = kept_of c.args.search.now in
     let kept = kept_from limit program_of s limit 0 first in
-    let is = explore-bytes limit s c.requires first kept c.in_ok-search.ensures refl in
-    on_err c.from_residual-in_err-end.result
+    let is = explore-bytes limit s c.requires.states first kept c.requires.first refl in
+    on_err c.from_residual.result
     (subst (λ (bs : Bytes). TellsBeginning bs (g.W.Sink.written c.args.out.now) (g.W.Sink.written c.search-end.new.out)) is
     (begins_first (answer_bytes (told_from limit program_of s limit 0 first)) (answer_bytes (done_lines kept)) _ _ c.in_err-end.ensures.beginning))
 
@@ -32,9 +32,9 @@ pub returns-in_err-write_done-clause-beginning : goal.returns-in_err-write_done-
 returns-in_err-write_done-clause-beginning g c =
     let limit = c.args.states in
     let s = c.args.beginning.now in
-    let first = kept_of c.in_ok-search.search in
+    let first = kept_of c.args.search.now in
     let kept = kept_of c.search-end.new.self in
-    let is = explore-bytes limit s c.requires first kept c.in_ok-search.ensures c.in_ok-end.ensures.kept in
+    let is = explore-bytes limit s c.requires.states first kept c.requires.first c.in_ok-end.ensures.kept in
     on_err c.from_residual-in_err-write_done.result
     (subst (λ (bs : Bytes). TellsBeginning bs (g.W.Sink.written c.args.out.now) (g.W.Sink.written c.write_done.new.out)) is
     (begins_then (answer_bytes (told_from limit program_of s limit 0 first)) (answer_bytes (done_lines kept)) _ _ _ c.in_ok-end.ensures.whole c.in_err-write_done.ensures.beginning))
@@ -50,9 +50,9 @@ pub returns-clause-whole : goal.returns-clause-whole
 returns-clause-whole g c =
     let limit = c.args.states in
     let s = c.args.beginning.now in
-    let first = kept_of c.in_ok-search.search in
+    let first = kept_of c.args.search.now in
     let kept = kept_of c.search-end.new.self in
-    let is = explore-bytes limit s c.requires first kept c.in_ok-search.ensures c.in_ok-end.ensures.kept in
+    let is = explore-bytes limit s c.requires.states first kept c.requires.first c.in_ok-end.ensures.kept in
     written_both (answer_bytes (told_from limit program_of s limit 0 first)) (answer_bytes (done_lines kept)) _ _ _ c.in_ok-end.ensures.whole c.in_ok-write_done.ensures.whole
     ∙ ap (and_all (g.W.Sink.written c.args.out.now)) is
 
@@ -60,5 +60,5 @@ pub returns-in_err-end-clause-failed : goal.returns-in_err-end-clause-failed
 returns-in_err-end-clause-failed g c =
     let before = g.W.Sink.failures c.args.out.now in
     let after = g.W.Sink.failures c.search-end.new.out in
-    let p = err_from_is_err_and c.from_residual-in_err-end.result c.from_residual-in_err-end.ensures.1 in
+    let p = err_from_is_err_and c.from_residual.result c.from_residual.ensures.1 in
     rw p.1 (subst (λ (stop : Stop). FailsBy stop before after) (sym p.2) c.in_err-end.ensures.failed)
