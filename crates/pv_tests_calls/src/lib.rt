@@ -1,7 +1,9 @@
-//! The kernel tried as a whole: machines that start on manifests, and what their calls answer.
+//! The kernel tried as a whole: machines that start on manifests, what their calls answer, and what is found of their files.
 //!
-//! `store_of` makes a tree that a machine may start on. The tests boot kernels on such trees: each call once, as two
-//! lookups answer it, what a process does next, and an execve whose memory is refused.
+//! `store_of` makes a tree that a machine may start on. `calls` boots kernels on such trees: each call once, as two lookups
+//! answer it, what a process does next, and an execve whose memory is refused. `reports` audits all files of a session, and
+//! `verdicts` writes the line of each verdict, to the sinks of `streams`. One audit, and that runs tell nothing of a sealed
+//! file, the program is asked for: `cases/words.txt`.
 #![tactic(auto)]
 
 ghost use Rattle.std.specs.Prelude.{◌≡◌, ◌<◌, ◌+◌, ◌^◌, IfOk, IsTrue, length};
@@ -10,7 +12,13 @@ ghost use Rattle.pv_laws_runs.specs.Starts.{MakesTree};
 ghost use Rattle.pv_laws_trees.specs.Spelled.{are_bytes};
 
 #[cfg(test)]
-mod tests;
+mod calls;
+#[cfg(test)]
+mod reports;
+#[cfg(test)]
+mod streams;
+#[cfg(test)]
+mod verdicts;
 
 use pv_image_manifest::{Manifest, build};
 use pv_laws_runs::starts::manifests_make_first_trees;

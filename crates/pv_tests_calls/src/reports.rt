@@ -1,16 +1,22 @@
 //! Reports of small machines, to sinks of all sizes.
 ghost use Rattle.std.specs.Prelude.{◌<◌, ◌+◌, ◌^◌, length};
 
-use crate::audits::make_steps;
+use crate::store_of;
 use crate::streams::{Narrow, sink_of};
 use pv_listing::ListStop;
 use pv_model::{AuditFault, Errno, Leak, Verdict, Why};
 use pv_run::write_report;
 use pv_session::Session;
-use pv_tests_calls::store_of;
 use std::alloc::Global;
 use std::process::Abort;
 use std::test::Fail;
+
+// Makes so many steps of process 1.
+fn make_steps(rt: &impl Abort, alloc: Global, session: &mut Session, count: u32) {
+    for _step in 0..count {
+        assert!(rt; session.step(alloc, 1).is_ok());
+    }
+}
 
 // A session on the tree of a manifest, after so many steps of process 1.
 fn session_after(
@@ -22,7 +28,7 @@ fn session_after(
     requires { length manifest.now + 1 < 2 ^ 32 }
 {
     let mut session = Session::new(alloc, store_of(alloc, manifest)?)?;
-    make_steps(rt, alloc, &mut session, 1, steps);
+    make_steps(rt, alloc, &mut session, steps);
     Ok(session)
 }
 
