@@ -1,9 +1,12 @@
 -- What the parser is told of the program.
-use Rattle.std.specs.Prelude.{◌≡◌, ℕ, true, false, codes, Some}
+use Rattle.std.specs.Prelude.{◌≡◌, List, [], ◌∷◌, ◌++◌, true, false, codes, fold, map, Some}
 use Rattle.clap.specs.Words.{App, Rule, Text, app_of, new_app, new_rule, with_rule, with_subcommand}
 use Rattle.clap.specs.declared.builder.ArgAction.TheVariants.{Set, SetTrue}
 use Rattle.clap.specs.declared.builder.command.Command.{Command as Parser}
 use Rattle.clap.specs.declared.builder.command.Command.TheViews.{out-Command}
+use Rattle.pv_cli_line.specs.declared.parser.Argument.{Argument}
+use Rattle.pv_cli_line.specs.declared.parser.Argument.TheVariants.{Required, Optional, Named, Flag}
+use Rattle.pv_cli_line.specs.declared.parser.CommandRow.{CommandRow}
 
 -- one text
 abbrev pub optional_rule : Text → Rule
@@ -29,79 +32,47 @@ flag_rule name = record (new_rule name) { action = Some SetTrue; long = Some nam
 abbrev pub verbose_rule : Rule
 verbose_rule = record (flag_rule (codes "verbose")) { short = Some 118 }
 
--- a command: each takes that flag
-abbrev pub command_app : Text → App
-command_app name = with_rule (new_app name) verbose_rule
+-- a command: each takes that flag, and then its own
+abbrev pub command_app : Text → List Rule → App
+command_app name rules = fold with_rule (with_rule (new_app name) verbose_rule) rules
 
--- `run-tree FILE`
-abbrev pub run_tree_app : App
-run_tree_app = with_rule (command_app (codes "run-tree")) (text_rule (codes "FILE"))
+-- `IMAGE`, or `--bundle FILE`
+abbrev pub tree_rules : List Rule
+tree_rules = bundle_rule ∷ optional_rule (codes "IMAGE") ∷ []
 
--- `source FILE`
-abbrev pub source_app : App
-source_app = with_rule (command_app (codes "source")) (text_rule (codes "FILE"))
+-- `IMAGE SCHEDULE`, or `--bundle FILE`
+abbrev pub question_rules : List Rule
+question_rules = tree_rules ++ optional_rule (codes "SCHEDULE") ∷ []
 
--- `mkimg MANIFEST IMAGE`
-abbrev pub make_image_app : App
-make_image_app = with_rule (with_rule (command_app (codes "mkimg")) (text_rule (codes "MANIFEST"))) (text_rule (codes "IMAGE"))
+-- `IMAGE`, or `--bundle FILE`, with `--states N`
+abbrev pub search_rules : List Rule
+search_rules = tree_rules ++ long_rule (codes "states") ∷ []
 
--- `NAME IMAGE`, or `NAME --bundle FILE`
-abbrev pub tree_app : Text → App
-tree_app name = with_rule (with_rule (command_app name) bundle_rule) (optional_rule (codes "IMAGE"))
-
--- `cat IMAGE PATH`, or `cat --bundle FILE PATH`
-abbrev pub cat_app : App
-cat_app = with_rule (tree_app (codes "cat")) (optional_rule (codes "PATH"))
-
--- `turns IMAGE`, or `turns --bundle FILE`, with `--slice K` and `--steps N`
-abbrev pub turns_app : App
-turns_app = with_rule (with_rule (tree_app (codes "turns")) (long_rule (codes "slice"))) (long_rule (codes "steps"))
-
--- the number of states
-abbrev pub states_rule : Rule
-states_rule = long_rule (codes "states")
-
--- `explore IMAGE`, or `explore --bundle FILE`, with `--states N`
-abbrev pub explore_app : App
-explore_app = with_rule (tree_app (codes "explore")) states_rule
-
--- `graph IMAGE`, or `graph --bundle FILE`, with `--states N` and `--tree`
-abbrev pub graph_app : App
-graph_app = with_rule (with_rule (tree_app (codes "graph")) states_rule) (flag_rule (codes "tree"))
-
--- `run IMAGE SCHEDULE OUT`
-abbrev pub run_app : App
-run_app =
-    with_rule (with_rule (with_rule (command_app (codes "run")) (text_rule (codes "IMAGE"))) (text_rule (codes "SCHEDULE"))) (text_rule (codes "OUT"))
-
--- `migrate IMAGE OUT BLOCKS INODES`
-abbrev pub migrate_app : App
-migrate_app =
-    with_rule (with_rule (with_rule (with_rule (command_app (codes "migrate")) (text_rule (codes "IMAGE"))) (text_rule (codes "OUT"))) (text_rule (codes "BLOCKS")))
-    (text_rule (codes "INODES"))
-
--- `import DIR IMAGE`, with `--version V` and `--skip`
-abbrev pub import_app : App
-import_app =
-    with_rule (with_rule (with_rule (with_rule (command_app (codes "import")) (text_rule (codes "DIR"))) (text_rule (codes "IMAGE"))) (long_rule (codes "version")))
-    (flag_rule (codes "skip"))
-
--- `export IMAGE DIR`
-abbrev pub export_app : App
-export_app = with_rule (with_rule (command_app (codes "export")) (text_rule (codes "IMAGE"))) (text_rule (codes "DIR"))
-
--- `NAME IMAGE SCHEDULE`, or `NAME --bundle FILE`
-abbrev pub question_app : Text → App
-question_app name =
-    with_rule (with_rule (with_rule (command_app name) bundle_rule) (optional_rule (codes "IMAGE"))) (optional_rule (codes "SCHEDULE"))
-
--- `reach IMAGE SCHEDULE [PID]`, or `reach --bundle FILE [PID]`
-abbrev pub reach_app : App
-reach_app = with_rule (question_app (codes "reach")) (optional_rule (codes "PID"))
-
--- `audit IMAGE SCHEDULE [PATH]`, or `audit --bundle FILE [PATH]`
-abbrev pub audit_app : App
-audit_app = with_rule (question_app (codes "audit")) (optional_rule (codes "PATH"))
+-- the commands: those on bundles and sources, those that make an image and list one, those that run an image and audit what is left,
+-- the questions of the state that a run leaves, those of its steps, those of a tree and of all states, and those that make an image of
+-- another and of a directory, and a directory of an image
+abbrev pub command_apps : List App
+command_apps =
+    command_app (codes "run-tree") (text_rule (codes "FILE") ∷ [])
+    ∷ command_app (codes "source") (text_rule (codes "FILE") ∷ [])
+    ∷ command_app (codes "mkimg") (text_rule (codes "MANIFEST") ∷ text_rule (codes "IMAGE") ∷ [])
+    ∷ command_app (codes "ls") tree_rules
+    ∷ command_app (codes "run") (text_rule (codes "IMAGE") ∷ text_rule (codes "SCHEDULE") ∷ text_rule (codes "OUT") ∷ [])
+    ∷ command_app (codes "audit") (question_rules ++ optional_rule (codes "PATH") ∷ [])
+    ∷ command_app (codes "state") question_rules
+    ∷ command_app (codes "reach") (question_rules ++ optional_rule (codes "PID") ∷ [])
+    ∷ command_app (codes "explain") question_rules
+    ∷ command_app (codes "needs") question_rules
+    ∷ command_app (codes "cat") (tree_rules ++ optional_rule (codes "PATH") ∷ [])
+    ∷ command_app (codes "turns") (tree_rules ++ long_rule (codes "slice") ∷ long_rule (codes "steps") ∷ [])
+    ∷ command_app (codes "explore") search_rules
+    ∷ command_app (codes "graph") (search_rules ++ flag_rule (codes "tree") ∷ [])
+    ∷ command_app (codes "migrate")
+    (text_rule (codes "IMAGE") ∷ text_rule (codes "OUT") ∷ text_rule (codes "BLOCKS") ∷ text_rule (codes "INODES") ∷ [])
+    ∷ command_app (codes "import")
+    (text_rule (codes "DIR") ∷ text_rule (codes "IMAGE") ∷ long_rule (codes "version") ∷ flag_rule (codes "skip") ∷ [])
+    ∷ command_app (codes "export") (text_rule (codes "IMAGE") ∷ text_rule (codes "DIR") ∷ [])
+    ∷ []
 
 -- the program's own: it has a version, and wants a command
 abbrev pub bare_app : App
@@ -109,32 +80,32 @@ bare_app = record (new_app (codes "pvsim")) {
   top = record (new_app (codes "pvsim")).top { has_version = true; subcommand_required = true };
 }
 
--- with its commands on bundles and sources, then with those that make an image and list one, with those that run an image and audit what is left, with the
--- questions of the state that a run leaves, with those of its steps, with those of a tree, and whole
-abbrev pub bundle_app : App
-bundle_app = with_subcommand (with_subcommand bare_app run_tree_app.top) source_app.top
+-- with a command more
+abbrev pub with_command : App → App → App
+with_command app command = with_subcommand app command.top
 
-abbrev pub image_app : App
-image_app = with_subcommand (with_subcommand bundle_app make_image_app.top) (tree_app (codes "ls")).top
-
-abbrev pub run_image_app : App
-run_image_app = with_subcommand (with_subcommand image_app run_app.top) audit_app.top
-
-abbrev pub state_app : App
-state_app = with_subcommand (with_subcommand run_image_app (question_app (codes "state")).top) reach_app.top
-
-abbrev pub history_app : App
-history_app = with_subcommand (with_subcommand state_app (question_app (codes "explain")).top) (question_app (codes "needs")).top
-
-abbrev pub tree_question_app : App
-tree_question_app = with_subcommand (with_subcommand history_app cat_app.top) turns_app.top
-
--- and those of all states
-abbrev pub search_app : App
-search_app = with_subcommand (with_subcommand tree_question_app explore_app.top) graph_app.top
-
+-- the program, with its commands
 abbrev pub pvsim_app : App
-pvsim_app = with_subcommand (with_subcommand (with_subcommand search_app migrate_app.top) import_app.top) export_app.top
+pvsim_app = fold with_command bare_app command_apps
+
+-- what the parser is told of an argument of the table
+abbrev pub rule_of_argument : Argument → Rule
+rule_of_argument (Required name help) = text_rule name.now
+rule_of_argument (Optional name help) = optional_rule name.now
+rule_of_argument (Named name short value help) = record (long_rule name.now) { short = short }
+rule_of_argument (Flag name short help) = record (flag_rule name.now) { short = short }
+
+-- with more arguments of it
+abbrev pub with_arguments : App → List Argument → App
+with_arguments app arguments = fold with_rule app (map rule_of_argument arguments)
+
+-- a command of it
+abbrev pub app_of_row : CommandRow → App
+app_of_row row = command_app row.name.now (map rule_of_argument row.arguments.now)
+
+-- with more commands of it
+abbrev pub with_rows : App → List CommandRow → App
+with_rows app rows = fold with_command app (map app_of_row rows)
 
 -- a parser that reads just this
 pub record IsParserOf (app : App) (parser : Parser) : Type 0 where
