@@ -1,8 +1,11 @@
 -- What a fault says.
 use Rattle.std.specs.Prelude.{◌≡◌, ℕ, ◌++◌, [], ◌∷◌, Bool, true, ◌&&◌, if◌then◌else◌, nat_le, flat_map, codes}
+use Rattle.std.specs.Fmt.{decimal}
 use Rattle.std.specs.List.{list_all}
 use Rattle.pv_model.specs.Bytes.{Bytes}
 use Rattle.pv_model.specs.Trace.{hex_byte}
+use Rattle.pv_source.specs.declared.explaining.saying.Part.{Part}
+use Rattle.pv_source.specs.declared.explaining.saying.Part.TheVariants.{Plain, Marked, Number, Hex}
 
 -- a byte from 20 to 7E
 abbrev pub is_printable : ℕ → Bool
@@ -19,3 +22,10 @@ said_byte b = if is_printable b then b ∷ [] else codes "\\x" ++ hex_byte b
 -- how bytes are said
 abbrev pub said : Bytes → Bytes
 said bytes = flat_map said_byte bytes
+
+-- how a part is said
+abbrev pub said_part : Part → Bytes
+said_part (Plain bytes) = said bytes.now
+said_part (Marked bytes) = codes "'" ++ said bytes.now ++ codes "'"
+said_part (Number n) = said (decimal n)
+said_part (Hex b) = hex_byte b

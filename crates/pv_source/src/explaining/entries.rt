@@ -1,6 +1,7 @@
 //! What is wrong with a line of a manifest, or of a schedule.
 use super::nearest::nearest;
-use super::saying::{Saying, say, say_marked, say_number};
+use super::saying::Part::{Marked, Number, Plain};
+use super::saying::{Saying, say, say_all};
 use super::texts::{say_after_text, say_link, say_no_text, say_path};
 use super::words::wants_of;
 use crate::blocks::{Block, Kind};
@@ -23,7 +24,10 @@ const WORDS: [&[u8]; 7] = [
     b"schedule",
 ];
 
-// What a line with this first word is to be.
+// What an `exec` line is to be.
+const EXEC: &[u8] = b"exec \"PATH\" <<END, or exec \"PATH\" K and K lines";
+
+// What a line with this first word, and texts after it, is to be.
 fn usage(word: &[u8]) -> &'static [u8] {
     if word == b"dir".as_slice() {
         return b"dir \"PATH\"";
@@ -34,19 +38,7 @@ fn usage(word: &[u8]) -> &'static [u8] {
     if word == b"link".as_slice() {
         return b"link \"PATH\" \"TEXT\"";
     }
-    if word == b"name".as_slice() {
-        return b"name \"NEW\" \"PATH\"";
-    }
-    if word == b"image".as_slice() {
-        return b"image BLOCKS INODES";
-    }
-    b"exec \"PATH\" <<END, or exec \"PATH\" K and K lines"
-}
-
-// Says what a line is to be.
-fn say_usage(out: &mut Saying, word: &[u8]) -> Result<(), AllocError> {
-    say(out, b": want ")?;
-    say(out, usage(word))
+    b"name \"NEW\" \"PATH\""
 }
 
 /// That a source has no line that counts.
@@ -61,52 +53,43 @@ pub fn no_image(alloc: Global) -> Result<Saying, AllocError> {
     Ok(out)
 }
 
-// Says what is wrong with a number of the first line.
-fn say_size(out: &mut Saying, word: &[u8]) -> Result<(), AllocError> {
-    say(out, b"image: ")?;
-    say_marked(out, word)?;
-    say(
-        out,
-        b" is no number: want digits without a sign or leading zeros",
-    )
-}
-
 // Says what is wrong with the first line.
 fn say_image(out: &mut Saying, words: &[u8]) -> Result<(), AllocError> {
     let Some((first, mut rest)) = next_word(words) else {
         return Ok(());
     };
     if first != b"image".as_slice() {
-        say_marked(out, first)?;
-        return say(out, b" stands first: the first line is image BLOCKS INODES");
+        let after = Plain(b" stands first: the first line is image BLOCKS INODES");
+        return say_all(out, &[Marked(first), after]);
     }
     for _ in 0..2 {
         let Some((word, following)) = next_word(rest) else {
-            say(out, b"image: a number is missing")?;
-            return say_usage(out, first);
+            return say(out, b"image: a number is missing: want image BLOCKS INODES");
         };
         if decimal(word).is_none() {
-            return say_size(out, word);
+            let after = Plain(b" is no number: want digits without a sign or leading zeros");
+            return say_all(out, &[Plain(b"image: "), Marked(word), after]);
         }
         rest = following;
     }
     if let Some((word, _)) = next_word(rest) {
-        say(out, b"image: ")?;
-        say_marked(out, word)?;
-        say(out, b" is one too many")?;
+        let after = Plain(b" is one too many: want image BLOCKS INODES");
+        return say_all(out, &[Plain(b"image: "), Marked(word), after]);
     }
-    say_usage(out, first)
+    say(out, b": want image BLOCKS INODES")
 }
 
 // Says which sizes an image may have.
 fn say_sizes(out: &mut Saying) -> Result<(), AllocError> {
-    say(out, b"no image has these sizes: want 1 to ")?;
-    say_number(out, INODES as u32)?;
-    say(out, b" INODES, and at most ")?;
-    say_number(out, BLOCKS_V1 as u32)?;
-    say(
+    say_all(
         out,
-        b" BLOCKS, at least one for each 16 INODES begun and one more",
+        &[
+            Plain(b"no image has these sizes: want 1 to "),
+            Number(INODES as u32),
+            Plain(b" INODES, and at most "),
+            Number(BLOCKS_V1 as u32),
+            Plain(b" BLOCKS, at least one for each 16 INODES begun and one more"),
+        ],
     )
 }
 
@@ -127,18 +110,17 @@ fn say_text(out: &mut Saying, word: &[u8], is_path: bool) -> Result<bool, AllocE
 }
 
 // Says what is wrong with a line of so many texts, of which the first is a path.
-fn say_texts(
+fn say_texts<'a>(
     out: &mut Saying,
-    name: &[u8],
-    arguments: &[u8],
+    name: &'a [u8],
+    arguments: &'a [u8],
     count: u32,
 ) -> Result<(), AllocError> {
     let mut rest = arguments;
     for index in 0..count {
         let Some((word, following)) = next_word(rest) else {
-            say(out, name)?;
-            say(out, b": a text is missing")?;
-            return say_usage(out, name);
+            let what = Plain(b": a text is missing: want ");
+            return say_all(out, &[Plain(name), what, Plain(usage(name))]);
         };
         let is_path = index == 0 || name == b"name".as_slice();
         if say_text(out, word, is_path)? {
@@ -147,11 +129,8 @@ fn say_texts(
         rest = following;
     }
     if let Some((word, _)) = next_word(rest) {
-        say(out, name)?;
-        say(out, b": ")?;
-        say_marked(out, word)?;
-        say(out, b" is one too many")?;
-        return say_usage(out, name);
+        let (what, form) = (Plain(b" is one too many: want "), Plain(usage(name)));
+        return say_all(out, &[Plain(name), Plain(b": "), Marked(word), what, form]);
     }
     say_link(out)
 }
@@ -159,32 +138,20 @@ fn say_texts(
 // Says that a word begins no line of a manifest.
 fn say_no_word(alloc: Global, out: &mut Saying, word: &[u8]) -> Result<(), AllocError> {
     if let [.., b':'] = word {
-        say_marked(out, word)?;
-        return say(
-            out,
-            b" is a label: want it in a program, between exec \"PATH\" <<END and END",
-        );
+        let after = b" is a label: want it in a program, between exec \"PATH\" <<END and END";
+        return say_all(out, &[Marked(word), Plain(after)]);
     }
     if wants_of(word).is_some() {
-        say_marked(out, word)?;
-        return say(
-            out,
-            b" stands outside of a program: want it between exec \"PATH\" <<END and END",
-        );
+        let after = b" stands outside of a program: want it between exec \"PATH\" <<END and END";
+        return say_all(out, &[Marked(word), Plain(after)]);
     }
-    say(out, b"no line of a manifest ")?;
-    say_marked(out, word)?;
-    match nearest(alloc, word, &WORDS)? {
-        Some(name) => {
-            say(out, b": did you mean ")?;
-            say(out, name)?;
-            say(out, b"?")
-        }
-        None => say(
-            out,
-            b": want dir, bytes, exec, link, name or schedule first",
-        ),
-    }
+    let what = Plain(b"no line of a manifest ");
+    let Some(name) = nearest(alloc, word, &WORDS)? else {
+        let after = Plain(b": want dir, bytes, exec, link, name or schedule first");
+        return say_all(out, &[what, Marked(word), after]);
+    };
+    let after = Plain(b": did you mean ");
+    say_all(out, &[what, Marked(word), after, Plain(name), Plain(b"?")])
 }
 
 // Says what is wrong with a line by itself.
@@ -211,43 +178,41 @@ fn takes_lines(word: &[u8]) -> bool {
 
 // Says that an `exec` line has no path, or none of <<END and K.
 fn say_missing(out: &mut Saying, what: &[u8]) -> Result<(), AllocError> {
-    say(out, b"exec: ")?;
-    say(out, what)?;
-    say(out, b" is missing")?;
-    say_usage(out, b"exec")
+    let after = Plain(b" is missing: want ");
+    say_all(out, &[Plain(b"exec: "), Plain(what), after, Plain(EXEC)])
 }
 
 // Says that a word is none of those that say which lines an `exec` line takes.
 fn say_no_end(out: &mut Saying, word: &[u8]) -> Result<(), AllocError> {
-    say(out, b"exec: ")?;
-    say_marked(out, word)?;
     if let [b'<', b'<', ..] = word {
-        return say(
-            out,
-            b" is no mark: want letters alone right after <<, as <<END",
-        );
+        let after = Plain(b" is no mark: want letters alone right after <<, as <<END");
+        return say_all(out, &[Plain(b"exec: "), Marked(word), after]);
     }
-    say(out, b" is neither <<END nor a number of lines")?;
-    say_usage(out, b"exec")
+    let after = Plain(b" is neither <<END nor a number of lines: want ");
+    say_all(out, &[Plain(b"exec: "), Marked(word), after, Plain(EXEC)])
 }
 
 // Says what is wrong with the lines that the last word of an `exec` line takes.
 fn say_lines(out: &mut Saying, is_cut_off: bool, word: &[u8]) -> Result<(), AllocError> {
     if let Some(mark) = mark_of(word) {
-        say(out, b"exec: no line ")?;
-        say_marked(out, mark)?;
-        return say(out, b" after it ends this program");
+        let after = Plain(b" after it ends this program");
+        return say_all(out, &[Plain(b"exec: no line "), Marked(mark), after]);
     }
     if is_cut_off {
-        say(out, b"exec: fewer than ")?;
-        say(out, word)?;
-        return say(out, b" lines stand after it");
+        let after = Plain(b" lines stand after it");
+        return say_all(out, &[Plain(b"exec: fewer than "), Plain(word), after]);
     }
-    say(out, b"exec: ")?;
-    say(out, word)?;
-    say(out, b" lines: at most ")?;
-    say_number(out, PROGRAM_LINES as u32)?;
-    say(out, b" are taken")
+    let (what, most) = (Plain(b" lines: at most "), Number(PROGRAM_LINES as u32));
+    say_all(
+        out,
+        &[
+            Plain(b"exec: "),
+            Plain(word),
+            what,
+            most,
+            Plain(b" are taken"),
+        ],
+    )
 }
 
 // Says what is wrong with an `exec` line.
@@ -273,10 +238,8 @@ fn say_exec(out: &mut Saying, is_cut_off: bool, words: &[u8]) -> Result<(), Allo
     let Some((more, _)) = next_word(rest) else {
         return say_lines(out, is_cut_off, word);
     };
-    say(out, b"exec: ")?;
-    say_marked(out, more)?;
-    say(out, b" is one too many")?;
-    say_usage(out, b"exec")
+    let what = Plain(b" is one too many: want ");
+    say_all(out, &[Plain(b"exec: "), Marked(more), what, Plain(EXEC)])
 }
 
 // Says why what a line makes can't be made.
@@ -289,36 +252,32 @@ fn say_tree(out: &mut Saying, words: &[u8], fault: ManifestFault) -> Result<(), 
     };
     match fault {
         ManifestFault::Parent(_) => say_parent(out, first),
-        ManifestFault::Exists(_) => {
-            say_path_word(out, first)?;
-            say(out, b" is made already, above")
-        }
+        ManifestFault::Exists(_) => say_of_path(out, b"", first, b" is made already, above"),
         ManifestFault::Source(_) => {
-            if let Some((source, _)) = next_word(rest) {
-                say_path_word(out, source)?;
-            }
-            say(
-                out,
-                b" is no file or link of this image: want one that a line above makes",
-            )
+            let Some((source, _)) = next_word(rest) else {
+                return Ok(());
+            };
+            let after = b" is no file or link of this image: want one that a line above makes";
+            say_of_path(out, b"", source, after)
         }
         _ => {
-            say(out, b"no room in the image for ")?;
-            say_path_word(out, first)?;
-            say(
-                out,
-                b": want more BLOCKS or INODES in the first line, or a shorter file",
-            )
+            let after = b": want more BLOCKS or INODES in the first line, or a shorter file";
+            say_of_path(out, b"no room in the image for ", first, after)
         }
     }
 }
 
-// Says the path that a text is.
-fn say_path_word(out: &mut Saying, word: &[u8]) -> Result<(), AllocError> {
-    match text(word) {
-        Some((path, _)) => say_marked(out, path.as_slice()),
-        None => say_marked(out, word),
-    }
+// Says something of the path that a text is, before it and after it.
+fn say_of_path<'a>(
+    out: &mut Saying,
+    before: &'a [u8],
+    word: &'a [u8],
+    after: &'a [u8],
+) -> Result<(), AllocError> {
+    let Some((path, _)) = text(word) else {
+        return Ok(());
+    };
+    say_all(out, &[Plain(before), Marked(path.as_slice()), Plain(after)])
 }
 
 // Says that what is to contain a path is no directory.
@@ -333,11 +292,9 @@ fn say_parent(out: &mut Saying, word: &[u8]) -> Result<(), AllocError> {
             end = at;
         }
     }
-    say_marked(out, &bytes[..end.min(bytes.len())])?;
-    say(
-        out,
-        b" is no directory of this image: want a line dir above",
-    )
+    let above = Marked(&bytes[..end.min(bytes.len())]);
+    let after = Plain(b" is no directory of this image: want a line dir above");
+    say_all(out, &[above, after])
 }
 
 // Says what is wrong with the form of a block's line.
@@ -400,20 +357,17 @@ fn say_turn(out: &mut Saying, text: &[u8]) -> Result<(), AllocError> {
             return Ok(());
         };
         if !is_count(word) {
-            say(out, b"turn: ")?;
-            say_marked(out, word)?;
-            say(out, b" is no number from 1 to ")?;
-            say_number(out, LAST_PROCESS)?;
-            return say(out, b": want PID or PID COUNT");
+            let (what, most) = (Plain(b" is no number from 1 to "), Number(LAST_PROCESS));
+            let after = Plain(b": want PID or PID COUNT");
+            return say_all(out, &[Plain(b"turn: "), Marked(word), what, most, after]);
         }
         rest = following;
     }
     let Some((word, _)) = next_word(rest) else {
         return Ok(());
     };
-    say(out, b"turn: ")?;
-    say_marked(out, word)?;
-    say(out, b" is one too many: want PID or PID COUNT")
+    let after = Plain(b" is one too many: want PID or PID COUNT");
+    say_all(out, &[Plain(b"turn: "), Marked(word), after])
 }
 
 /// What is wrong with a line of a schedule after so many.

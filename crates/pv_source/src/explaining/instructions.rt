@@ -1,6 +1,7 @@
 //! What is wrong with a line of a program.
 use super::nearest::nearest;
-use super::saying::{Saying, say, say_marked, say_number};
+use super::saying::Part::{Marked, Number, Plain};
+use super::saying::{Saying, say, say_all};
 use super::texts::{say_after_text, say_no_text};
 use super::words::{NAMES, Want, say_wrong, wanted, wants_of};
 use crate::programs::{Label, begins_with_letter, is_jump, label_of};
@@ -16,11 +17,9 @@ use std::alloc::{AllocError, Global};
 /// `Err` says that memory was refused.
 pub fn second_label(alloc: Global, label: Option<&[u8]>) -> Result<Saying, AllocError> {
     let mut out = Saying::new(alloc);
-    say(&mut out, b"label ")?;
-    if let Some(label) = label {
-        say_marked(&mut out, label)?;
-    }
-    say(&mut out, b" is set already, above in this program")?;
+    let label = Marked(label.unwrap_or(b""));
+    let after = Plain(b" is set already, above in this program");
+    say_all(&mut out, &[Plain(b"label "), label, after])?;
     Ok(out)
 }
 
@@ -32,9 +31,7 @@ fn say_nearest(
     names: &[&[u8]],
 ) -> Result<(), AllocError> {
     if let Some(name) = nearest(alloc, word, names)? {
-        say(out, b": did you mean ")?;
-        say(out, name)?;
-        say(out, b"?")?;
+        say_all(out, &[Plain(b": did you mean "), Plain(name), Plain(b"?")])?;
     }
     Ok(())
 }
@@ -50,18 +47,15 @@ fn say_no_name(
         return say(out, b"no instruction stands first in the line");
     }
     if let [.., b':'] = word {
-        say_marked(out, word)?;
-        return say(
-            out,
-            b" is no label here: want one a line, a letter and then letters, digits, _ and -",
-        );
+        let after =
+            b" is no label here: want one a line, a letter and then letters, digits, _ and -";
+        return say_all(out, &[Marked(word), Plain(after)]);
     }
     if is_manifest_word(word) {
-        say_marked(out, word)?;
-        return say(out, b" stands in a program: its line END is missing above");
+        let after = Plain(b" stands in a program: its line END is missing above");
+        return say_all(out, &[Marked(word), after]);
     }
-    say(out, b"no call or instruction ")?;
-    say_marked(out, word)?;
+    say_all(out, &[Plain(b"no call or instruction "), Marked(word)])?;
     if let [b' ', b':', ..] = rest {
         return say(out, b": want a label and its colon in one word");
     }
@@ -180,13 +174,11 @@ fn form_of(want: Want) -> &'static [u8] {
 }
 
 // Says what an instruction wants.
-fn say_usage(out: &mut Saying, name: &[u8], wants: &[Want]) -> Result<(), AllocError> {
-    say(out, b": want ")?;
-    say(out, name)?;
-    for want in wants {
-        say(out, form_of(*want))?;
-    }
-    Ok(())
+fn say_usage(out: &mut Saying, name: &[u8], wants: [Want; 3]) -> Result<(), AllocError> {
+    let [first, second, third] = wants;
+    let (first, second) = (Plain(form_of(first)), Plain(form_of(second)));
+    let third = Plain(form_of(third));
+    say_all(out, &[Plain(b": want "), Plain(name), first, second, third])
 }
 
 // Whether a label is set.
@@ -204,12 +196,14 @@ fn say_target(
     if !begins_with_letter(word) {
         return say_wrong(out, Want::Line, word);
     }
-    say(out, b"label ")?;
-    say_marked(out, word)?;
     if is_set(labels, word) {
-        return say(out, b": want it last in its line");
+        let after = Plain(b": want it last in its line");
+        return say_all(out, &[Plain(b"label "), Marked(word), after]);
     }
-    say(out, b" is not set")?;
+    say_all(
+        out,
+        &[Plain(b"label "), Marked(word), Plain(b" is not set")],
+    )?;
     let mut names: Vec<&[u8]> = Vec::new(alloc);
     for label in labels.iter().take(LINES) {
         names.push(label.name)?;
@@ -243,30 +237,30 @@ fn say_argument(
 }
 
 // Says what is wrong after all arguments: a number out of its range, or a word too many.
-fn say_rest(
+fn say_rest<'a>(
     out: &mut Saying,
-    name: &[u8],
-    wants: &[Want],
-    rest: &[u8],
+    name: &'a [u8],
+    wants: [Want; 3],
+    rest: &'a [u8],
     count: u32,
-    last: &[u8],
+    last: &'a [u8],
 ) -> Result<(), AllocError> {
-    say(out, name)?;
     if let Some(more) = after_one_space(rest) {
         let (word, _) = split_word(more);
-        say(out, b": ")?;
-        say_marked(out, word)?;
-        say(out, b" is one too many")?;
+        let after = Plain(b" is one too many");
+        say_all(out, &[Plain(name), Plain(b": "), Marked(word), after])?;
         return say_usage(out, name, wants);
     }
-    say(out, b": ")?;
     if name == b"peek".as_slice() {
+        say(out, b"peek: ")?;
         return say_wrong(out, Want::Place, last);
     }
-    say(out, b"line ")?;
-    say_marked(out, last)?;
-    say(out, b": the program has lines 1 to ")?;
-    say_number(out, count.min(LINES as u32))
+    let what = Plain(b": the program has lines 1 to ");
+    let count = Number(count.min(LINES as u32));
+    say_all(
+        out,
+        &[Plain(name), Plain(b": line "), Marked(last), what, count],
+    )
 }
 
 // Says what is wrong with the arguments of an instruction.
@@ -274,14 +268,14 @@ fn say_arguments(
     alloc: Global,
     out: &mut Saying,
     name: &[u8],
-    wants: &[Want],
+    wants: [Want; 3],
     arguments: &[u8],
     count: u32,
     labels: &[Label],
 ) -> Result<(), AllocError> {
     let mut rest = arguments;
     let mut last = arguments;
-    for want in wants {
+    for want in &wants {
         if *want == Want::Nothing {
             continue;
         }
@@ -289,13 +283,11 @@ fn say_arguments(
             if !rest.is_empty() {
                 return say_after_text(out, rest);
             }
-            say(out, name)?;
-            say(out, b": an argument is missing")?;
+            say_all(out, &[Plain(name), Plain(b": an argument is missing")])?;
             return say_usage(out, name, wants);
         };
         let Some(following) = after_argument(*want, bytes) else {
-            say(out, name)?;
-            say(out, b": ")?;
+            say_all(out, &[Plain(name), Plain(b": ")])?;
             return say_argument(alloc, out, *want, bytes, labels);
         };
         last = bytes;
@@ -322,7 +314,7 @@ fn say_instruction(
     }
     let (word, arguments) = split_word(text);
     match wants_of(word) {
-        Some(wants) => say_arguments(alloc, out, word, &wants, arguments, count, labels),
+        Some(wants) => say_arguments(alloc, out, word, wants, arguments, count, labels),
         None => say_no_name(alloc, out, word, arguments),
     }
 }

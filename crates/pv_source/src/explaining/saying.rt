@@ -1,13 +1,26 @@
 //! Bytes put into words.
-ghost use Rattle.std.specs.Prelude.{◌≡◌, ◌++◌, [], ◌∷◌, true, codes, OnOk};
+ghost use Rattle.std.specs.Prelude.{◌≡◌, ◌++◌, [], ◌∷◌, true, codes, flat_map, OnOk};
 ghost use Rattle.std.specs.Fmt.{decimal};
 ghost use Rattle.pv_model.specs.Trace.{hex_byte};
-ghost use Rattle.pv_source.specs.Saying.{is_printable, IsPrintable, said_byte, said};
+ghost use Rattle.pv_source.specs.Saying.{is_printable, IsPrintable, said_byte, said, said_part};
 
 use itoa::Buffer;
 use pv_model::hex_digit;
 use std::alloc::{AllocError, Global};
 use std::marker::Model;
+
+/// A part of what a fault says.
+#[derive(Clone, Copy)]
+pub enum Part<'a> {
+    /// Bytes: those that are not from 20 to 7E by their numbers.
+    Plain(&'a [u8]),
+    /// Bytes between marks.
+    Marked(&'a [u8]),
+    /// A number.
+    Number(u32),
+    /// A byte by its number: two hexadecimal digits.
+    Hex(u8),
+}
 
 /// What a fault says: bytes from 20 to 7E, which stand in one line.
 #[derive(Drop)]
@@ -55,11 +68,9 @@ impl Saying {
     }
 }
 
-/// Says a byte by its number: two hexadecimal digits.
-///
-/// `Err` says that memory was refused.
+// Says a byte by its number.
 #[tactic(auto, using(crate::proofs::SaidBytes::digit_printable))]
-pub fn say_hex(out: &mut Saying, byte: u8) -> Result<(), AllocError>
+fn say_hex(out: &mut Saying, byte: u8) -> Result<(), AllocError>
     ensures { OnOk result (out.new ≡ out.old ++ hex_byte byte) }
 {
     out.push(hex_digit(byte / 16))?;
@@ -90,10 +101,8 @@ pub fn say(out: &mut Saying, bytes: &[u8]) -> Result<(), AllocError>
     Ok(())
 }
 
-/// Says bytes between marks.
-///
-/// `Err` says that memory was refused.
-pub fn say_marked(out: &mut Saying, bytes: &[u8]) -> Result<(), AllocError>
+// Says bytes between marks.
+fn say_marked(out: &mut Saying, bytes: &[u8]) -> Result<(), AllocError>
     ensures { OnOk result (out.new ≡ out.old ++ codes "'" ++ said bytes.now ++ codes "'") }
 {
     out.push(b'\'')?;
@@ -101,12 +110,34 @@ pub fn say_marked(out: &mut Saying, bytes: &[u8]) -> Result<(), AllocError>
     out.push(b'\'')
 }
 
-/// Says a number.
-///
-/// `Err` says that memory was refused.
-pub fn say_number(out: &mut Saying, n: u32) -> Result<(), AllocError>
+// Says a number.
+fn say_number(out: &mut Saying, n: u32) -> Result<(), AllocError>
     ensures { OnOk result (out.new ≡ out.old ++ said (decimal n)) }
 {
     let mut buffer = Buffer::new();
     say(out, buffer.format(n).as_bytes())
+}
+
+// Says a part.
+fn say_part(out: &mut Saying, part: Part) -> Result<(), AllocError>
+    ensures { OnOk result (out.new ≡ out.old ++ said_part part.entry) }
+{
+    match part {
+        Part::Plain(bytes) => say(out, bytes),
+        Part::Marked(bytes) => say_marked(out, bytes),
+        Part::Number(n) => say_number(out, n),
+        Part::Hex(byte) => say_hex(out, byte),
+    }
+}
+
+/// Says parts, one after another.
+///
+/// `Err` says that memory was refused.
+pub fn say_all(out: &mut Saying, parts: &[Part]) -> Result<(), AllocError>
+    ensures { OnOk result (out.new ≡ out.old ++ flat_map said_part parts.now) }
+{
+    for part in parts {
+        say_part(out, *part)?;
+    }
+    Ok(())
 }

@@ -1,7 +1,8 @@
 //! What is wrong with a text in quotation marks, or with the path that it is.
 ghost use Rattle.std.specs.Prelude.{◌<◌, length, IfSome};
 
-use super::saying::{Saying, say, say_hex, say_marked, say_number};
+use super::saying::Part::{Hex, Marked, Number, Plain};
+use super::saying::{Saying, say, say_all};
 use pv_model::limits::{LINK_TEXT, NAME_V1, TEXT};
 use pv_text::components::split_component;
 use pv_text::lines::{first_of, split_word};
@@ -10,32 +11,31 @@ use std::alloc::AllocError;
 
 // Says what is wrong with an escape, of which these bytes stand after its backslash.
 fn say_escape(out: &mut Saying, bytes: &[u8]) -> Result<(), AllocError> {
-    say(out, b"text has '\\")?;
     let count = match bytes {
         [b'x', ..] => bytes.len().min(3),
         _ => bytes.len().min(1),
     };
-    say(out, &bytes[..count])?;
-    say(out, b"': ")?;
-    match bytes {
-        [b'x', b'0', b'0', ..] => say(out, b"no text has the byte 00"),
-        [] => say(
-            out,
-            b"write \\x22 for a quotation mark, and \\x5c for a backslash",
-        ),
-        _ => say(out, b"want \\xHH with two digits 0 to 9 and a to f"),
-    }
+    let what: &[u8] = match bytes {
+        [b'x', b'0', b'0', ..] => b"': no text has the byte 00",
+        [] => b"': write \\x22 for a quotation mark, and \\x5c for a backslash",
+        _ => b"': want \\xHH with two digits 0 to 9 and a to f",
+    };
+    say_all(
+        out,
+        &[Plain(b"text has '\\"), Plain(&bytes[..count]), Plain(what)],
+    )
 }
 
 // Says what is wrong with a byte that does not stand for itself.
 fn say_wrong_byte(out: &mut Saying, byte: u8) -> Result<(), AllocError> {
-    say(out, b"text has byte ")?;
-    say_hex(out, byte)?;
     if byte == 0 {
-        return say(out, b": no text has it");
+        return say(out, b"text has byte 00: no text has it");
     }
-    say(out, b": write \\x")?;
-    say_hex(out, byte)
+    let said = Hex(byte);
+    say_all(
+        out,
+        &[Plain(b"text has byte "), said, Plain(b": write \\x"), said],
+    )
 }
 
 // Whether a byte is a hexadecimal digit of an escape.
@@ -61,6 +61,15 @@ fn after_character(bytes: &[u8]) -> Option<&[u8]>
     }
 }
 
+// Says that there are more bytes than there may be.
+fn say_too_long(out: &mut Saying, what: &[u8], count: u32, most: u32) -> Result<(), AllocError> {
+    let (between, after) = (Plain(b" bytes: at most "), Plain(b" are allowed"));
+    say_all(
+        out,
+        &[Plain(what), Number(count), between, Number(most), after],
+    )
+}
+
 // Says what is wrong with a text after its quotation mark, whose bytes go on to the one that ends it.
 fn say_inside(out: &mut Saying, inside: &[u8]) -> Result<(), AllocError> {
     let mut rest = inside;
@@ -72,13 +81,7 @@ fn say_inside(out: &mut Saying, inside: &[u8]) -> Result<(), AllocError> {
     match rest {
         [b'\\', escape @ ..] => say_escape(out, escape),
         [byte, ..] => say_wrong_byte(out, *byte),
-        [] => {
-            say(out, b"text has ")?;
-            say_number(out, count)?;
-            say(out, b" bytes: at most ")?;
-            say_number(out, TEXT as u32)?;
-            say(out, b" are allowed")
-        }
+        [] => say_too_long(out, b"text has ", count, TEXT as u32),
     }
 }
 
@@ -86,22 +89,21 @@ fn say_inside(out: &mut Saying, inside: &[u8]) -> Result<(), AllocError> {
 pub fn say_no_text(out: &mut Saying, bytes: &[u8]) -> Result<(), AllocError> {
     let [b'"', following @ ..] = bytes else {
         let (word, _) = split_word(bytes);
-        say_marked(out, word)?;
-        return say(out, b" is no text: write it in quotation marks \"");
+        let after = Plain(b" is no text: write it in quotation marks \"");
+        return say_all(out, &[Marked(word), after]);
     };
     let end = first_of(following, b'"');
     if end < following.len() {
         return say_inside(out, &following[..end]);
     }
-    say(out, b"text has no closing quote: ")?;
-    say(out, bytes)
+    say_all(out, &[Plain(b"text has no closing quote: "), Plain(bytes)])
 }
 
 /// Says what stands right after a text.
 pub fn say_after_text(out: &mut Saying, rest: &[u8]) -> Result<(), AllocError> {
     let (word, _) = split_word(rest);
-    say_marked(out, word)?;
-    say(out, b" stands right after a text: want a blank between")
+    let after = Plain(b" stands right after a text: want a blank between");
+    say_all(out, &[Marked(word), after])
 }
 
 // Says what is wrong with a name of a path.
@@ -113,15 +115,11 @@ fn say_name(out: &mut Saying, name: &[u8]) -> Result<(), AllocError> {
         );
     }
     if name == b".".as_slice() || name == b"..".as_slice() {
-        say(out, b"path has the name ")?;
-        say_marked(out, name)?;
-        return say(out, b": want the names from the root down");
+        let after = Plain(b": want the names from the root down");
+        return say_all(out, &[Plain(b"path has the name "), Marked(name), after]);
     }
-    say(out, b"name has ")?;
-    say_number(out, name.len().min(9_999) as u32)?;
-    say(out, b" bytes: at most ")?;
-    say_number(out, NAME_V1 as u32)?;
-    say(out, b" are allowed")
+    let count = name.len().min(9_999) as u32;
+    say_too_long(out, b"name has ", count, NAME_V1 as u32)
 }
 
 // Whether a name is one of an entry.
@@ -132,8 +130,7 @@ fn is_right_name(name: &[u8]) -> bool {
 /// Says what is wrong with the path of an entry; nothing where it is right.
 pub fn say_path(out: &mut Saying, path: &[u8]) -> Result<bool, AllocError> {
     let [b'/', names @ ..] = path else {
-        say(out, b"path has no slash first: ")?;
-        say_marked(out, path)?;
+        say_all(out, &[Plain(b"path has no slash first: "), Marked(path)])?;
         return Ok(true);
     };
     if names.is_empty() {
@@ -154,7 +151,9 @@ pub fn say_path(out: &mut Saying, path: &[u8]) -> Result<bool, AllocError> {
 
 /// Says which texts a link may have.
 pub fn say_link(out: &mut Saying) -> Result<(), AllocError> {
-    say(out, b"text of a link: want 1 to ")?;
-    say_number(out, LINK_TEXT as u32)?;
-    say(out, b" bytes")
+    let most = Number(LINK_TEXT as u32);
+    say_all(
+        out,
+        &[Plain(b"text of a link: want 1 to "), most, Plain(b" bytes")],
+    )
 }

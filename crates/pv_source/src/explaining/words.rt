@@ -1,5 +1,6 @@
 //! What arguments the names of instructions want, and what is wrong with one that is a word.
-use super::saying::{Saying, say, say_marked};
+use super::saying::Part::{Marked, Plain};
+use super::saying::{Saying, say_all};
 use std::alloc::AllocError;
 
 /// What an argument is to be.
@@ -196,9 +197,9 @@ pub fn wanted(want: Want) -> &'static [u8] {
 
 /// Says that a word is none of what an argument is to be.
 pub fn say_wrong(out: &mut Saying, want: Want, word: &[u8]) -> Result<(), AllocError> {
-    say(out, argument_name(want))?;
-    say(out, b" ")?;
-    say_marked(out, word)?;
-    say(out, b": ")?;
-    say(out, wanted(want))
+    let (name, wanted) = (Plain(argument_name(want)), Plain(wanted(want)));
+    say_all(
+        out,
+        &[name, Plain(b" "), Marked(word), Plain(b": "), wanted],
+    )
 }
