@@ -1,7 +1,7 @@
 //! What is wrong with a line of a manifest, or of a schedule.
 use super::nearest::nearest;
 use super::saying::Part::{Marked, Number, Plain};
-use super::saying::{Saying, say, say_all};
+use super::saying::{Saying, say, say_all, say_word};
 use super::texts::{say_after_text, say_link, say_no_text, say_path};
 use super::words::wants_of;
 use crate::blocks::{Block, Kind};
@@ -24,10 +24,7 @@ const WORDS: [&[u8]; 7] = [
     b"schedule",
 ];
 
-// What an `exec` line is to be.
-const EXEC: &[u8] = b"exec \"PATH\" <<END, or exec \"PATH\" K and K lines";
-
-// What a line with this first word, and texts after it, is to be.
+// What a line with this first word is to be.
 fn usage(word: &[u8]) -> &'static [u8] {
     if word == b"dir".as_slice() {
         return b"dir \"PATH\"";
@@ -38,7 +35,25 @@ fn usage(word: &[u8]) -> &'static [u8] {
     if word == b"link".as_slice() {
         return b"link \"PATH\" \"TEXT\"";
     }
-    b"name \"NEW\" \"PATH\""
+    if word == b"name".as_slice() {
+        return b"name \"NEW\" \"PATH\"";
+    }
+    if word == b"image".as_slice() {
+        return b"image BLOCKS INODES";
+    }
+    b"exec \"PATH\" <<END, or exec \"PATH\" K and K lines"
+}
+
+// Says what is missing in a line with this first word.
+fn say_missing<'a>(out: &mut Saying, name: &'a [u8], what: &'a [u8]) -> Result<(), AllocError> {
+    let (after, form) = (Plain(b" is missing: want "), Plain(usage(name)));
+    say_all(out, &[Plain(name), Plain(b": "), Plain(what), after, form])
+}
+
+// Says that a line with this first word has a word too many.
+fn say_too_many<'a>(out: &mut Saying, name: &'a [u8], word: &'a [u8]) -> Result<(), AllocError> {
+    let (after, form) = (Plain(b" is one too many: want "), Plain(usage(name)));
+    say_all(out, &[Plain(name), Plain(b": "), Marked(word), after, form])
 }
 
 /// That a source has no line that counts.
@@ -59,22 +74,21 @@ fn say_image(out: &mut Saying, words: &[u8]) -> Result<(), AllocError> {
         return Ok(());
     };
     if first != b"image".as_slice() {
-        let after = Plain(b" stands first: the first line is image BLOCKS INODES");
-        return say_all(out, &[Marked(first), after]);
+        let after = b" stands first: the first line is image BLOCKS INODES";
+        return say_word(out, b"", first, after);
     }
     for _ in 0..2 {
         let Some((word, following)) = next_word(rest) else {
-            return say(out, b"image: a number is missing: want image BLOCKS INODES");
+            return say_missing(out, first, b"a number");
         };
         if decimal(word).is_none() {
-            let after = Plain(b" is no number: want digits without a sign or leading zeros");
-            return say_all(out, &[Plain(b"image: "), Marked(word), after]);
+            let after = b" is no number: want digits without a sign or leading zeros";
+            return say_word(out, b"image: ", word, after);
         }
         rest = following;
     }
     if let Some((word, _)) = next_word(rest) {
-        let after = Plain(b" is one too many: want image BLOCKS INODES");
-        return say_all(out, &[Plain(b"image: "), Marked(word), after]);
+        return say_too_many(out, first, word);
     }
     say(out, b": want image BLOCKS INODES")
 }
@@ -110,17 +124,16 @@ fn say_text(out: &mut Saying, word: &[u8], is_path: bool) -> Result<bool, AllocE
 }
 
 // Says what is wrong with a line of so many texts, of which the first is a path.
-fn say_texts<'a>(
+fn say_texts(
     out: &mut Saying,
-    name: &'a [u8],
-    arguments: &'a [u8],
+    name: &[u8],
+    arguments: &[u8],
     count: u32,
 ) -> Result<(), AllocError> {
     let mut rest = arguments;
     for index in 0..count {
         let Some((word, following)) = next_word(rest) else {
-            let what = Plain(b": a text is missing: want ");
-            return say_all(out, &[Plain(name), what, Plain(usage(name))]);
+            return say_missing(out, name, b"a text");
         };
         let is_path = index == 0 || name == b"name".as_slice();
         if say_text(out, word, is_path)? {
@@ -129,8 +142,7 @@ fn say_texts<'a>(
         rest = following;
     }
     if let Some((word, _)) = next_word(rest) {
-        let (what, form) = (Plain(b" is one too many: want "), Plain(usage(name)));
-        return say_all(out, &[Plain(name), Plain(b": "), Marked(word), what, form]);
+        return say_too_many(out, name, word);
     }
     say_link(out)
 }
@@ -139,19 +151,19 @@ fn say_texts<'a>(
 fn say_no_word(alloc: Global, out: &mut Saying, word: &[u8]) -> Result<(), AllocError> {
     if let [.., b':'] = word {
         let after = b" is a label: want it in a program, between exec \"PATH\" <<END and END";
-        return say_all(out, &[Marked(word), Plain(after)]);
+        return say_word(out, b"", word, after);
     }
     if wants_of(word).is_some() {
         let after = b" stands outside of a program: want it between exec \"PATH\" <<END and END";
-        return say_all(out, &[Marked(word), Plain(after)]);
+        return say_word(out, b"", word, after);
     }
-    let what = Plain(b"no line of a manifest ");
+    let what = b"no line of a manifest ";
     let Some(name) = nearest(alloc, word, &WORDS)? else {
-        let after = Plain(b": want dir, bytes, exec, link, name or schedule first");
-        return say_all(out, &[what, Marked(word), after]);
+        let after = b": want dir, bytes, exec, link, name or schedule first";
+        return say_word(out, what, word, after);
     };
-    let after = Plain(b": did you mean ");
-    say_all(out, &[what, Marked(word), after, Plain(name), Plain(b"?")])
+    say_word(out, what, word, b": did you mean ")?;
+    say_all(out, &[Plain(name), Plain(b"?")])
 }
 
 // Says what is wrong with a line by itself.
@@ -176,27 +188,22 @@ fn takes_lines(word: &[u8]) -> bool {
     mark_of(word).is_some() || decimal(word).is_some()
 }
 
-// Says that an `exec` line has no path, or none of <<END and K.
-fn say_missing(out: &mut Saying, what: &[u8]) -> Result<(), AllocError> {
-    let after = Plain(b" is missing: want ");
-    say_all(out, &[Plain(b"exec: "), Plain(what), after, Plain(EXEC)])
-}
-
 // Says that a word is none of those that say which lines an `exec` line takes.
 fn say_no_end(out: &mut Saying, word: &[u8]) -> Result<(), AllocError> {
     if let [b'<', b'<', ..] = word {
-        let after = Plain(b" is no mark: want letters alone right after <<, as <<END");
-        return say_all(out, &[Plain(b"exec: "), Marked(word), after]);
+        let after = b" is no mark: want letters alone right after <<, as <<END";
+        return say_word(out, b"exec: ", word, after);
     }
-    let after = Plain(b" is neither <<END nor a number of lines: want ");
-    say_all(out, &[Plain(b"exec: "), Marked(word), after, Plain(EXEC)])
+    let after = b" is neither <<END nor a number of lines: want ";
+    say_word(out, b"exec: ", word, after)?;
+    say(out, usage(b"exec"))
 }
 
 // Says what is wrong with the lines that the last word of an `exec` line takes.
 fn say_lines(out: &mut Saying, is_cut_off: bool, word: &[u8]) -> Result<(), AllocError> {
     if let Some(mark) = mark_of(word) {
-        let after = Plain(b" after it ends this program");
-        return say_all(out, &[Plain(b"exec: no line "), Marked(mark), after]);
+        let after = b" after it ends this program";
+        return say_word(out, b"exec: no line ", mark, after);
     }
     if is_cut_off {
         let after = Plain(b" lines stand after it");
@@ -221,16 +228,16 @@ fn say_exec(out: &mut Saying, is_cut_off: bool, words: &[u8]) -> Result<(), Allo
         return Ok(());
     };
     let Some((path, rest)) = next_word(rest) else {
-        return say_missing(out, b"the path");
+        return say_missing(out, b"exec", b"the path");
     };
     if takes_lines(path) {
-        return say_missing(out, b"the path");
+        return say_missing(out, b"exec", b"the path");
     }
     if say_text(out, path, true)? {
         return Ok(());
     }
     let Some((word, rest)) = next_word(rest) else {
-        return say_missing(out, b"<<END or a number of lines");
+        return say_missing(out, b"exec", b"<<END or a number of lines");
     };
     if !takes_lines(word) {
         return say_no_end(out, word);
@@ -238,8 +245,7 @@ fn say_exec(out: &mut Saying, is_cut_off: bool, words: &[u8]) -> Result<(), Allo
     let Some((more, _)) = next_word(rest) else {
         return say_lines(out, is_cut_off, word);
     };
-    let what = Plain(b" is one too many: want ");
-    say_all(out, &[Plain(b"exec: "), Marked(more), what, Plain(EXEC)])
+    say_too_many(out, b"exec", more)
 }
 
 // Says why what a line makes can't be made.
@@ -268,16 +274,16 @@ fn say_tree(out: &mut Saying, words: &[u8], fault: ManifestFault) -> Result<(), 
 }
 
 // Says something of the path that a text is, before it and after it.
-fn say_of_path<'a>(
+fn say_of_path(
     out: &mut Saying,
-    before: &'a [u8],
-    word: &'a [u8],
-    after: &'a [u8],
+    before: &[u8],
+    word: &[u8],
+    after: &[u8],
 ) -> Result<(), AllocError> {
     let Some((path, _)) = text(word) else {
         return Ok(());
     };
-    say_all(out, &[Plain(before), Marked(path.as_slice()), Plain(after)])
+    say_word(out, before, path.as_slice(), after)
 }
 
 // Says that what is to contain a path is no directory.
@@ -292,9 +298,8 @@ fn say_parent(out: &mut Saying, word: &[u8]) -> Result<(), AllocError> {
             end = at;
         }
     }
-    let above = Marked(&bytes[..end.min(bytes.len())]);
-    let after = Plain(b" is no directory of this image: want a line dir above");
-    say_all(out, &[above, after])
+    let after = b" is no directory of this image: want a line dir above";
+    say_word(out, b"", &bytes[..end.min(bytes.len())], after)
 }
 
 // Says what is wrong with the form of a block's line.
@@ -349,6 +354,13 @@ fn is_count(word: &[u8]) -> bool {
     }
 }
 
+// Says that a word is no number that a turn may have.
+fn say_no_count(out: &mut Saying, word: &[u8]) -> Result<(), AllocError> {
+    let (what, most) = (Plain(b" is no number from 1 to "), Number(LAST_PROCESS));
+    let after = Plain(b": want PID or PID COUNT");
+    say_all(out, &[Plain(b"turn: "), Marked(word), what, most, after])
+}
+
 // Says what is wrong with a turn.
 fn say_turn(out: &mut Saying, text: &[u8]) -> Result<(), AllocError> {
     let mut rest = text;
@@ -357,17 +369,15 @@ fn say_turn(out: &mut Saying, text: &[u8]) -> Result<(), AllocError> {
             return Ok(());
         };
         if !is_count(word) {
-            let (what, most) = (Plain(b" is no number from 1 to "), Number(LAST_PROCESS));
-            let after = Plain(b": want PID or PID COUNT");
-            return say_all(out, &[Plain(b"turn: "), Marked(word), what, most, after]);
+            return say_no_count(out, word);
         }
         rest = following;
     }
     let Some((word, _)) = next_word(rest) else {
         return Ok(());
     };
-    let after = Plain(b" is one too many: want PID or PID COUNT");
-    say_all(out, &[Plain(b"turn: "), Marked(word), after])
+    let after = b" is one too many: want PID or PID COUNT";
+    say_word(out, b"turn: ", word, after)
 }
 
 /// What is wrong with a line of a schedule after so many.

@@ -1,9 +1,9 @@
 //! What is wrong with a line of a program.
 use super::nearest::nearest;
 use super::saying::Part::{Marked, Number, Plain};
-use super::saying::{Saying, say, say_all};
+use super::saying::{Saying, say, say_all, say_word};
 use super::texts::{say_after_text, say_no_text};
-use super::words::{NAMES, Want, say_wrong, wanted, wants_of};
+use super::words::{NAMES, Want, say_wrong, wants_of};
 use crate::programs::{Label, begins_with_letter, is_jump, label_of};
 use crate::words::{content, last_word, next_word, push_words};
 use pv_model::limits::LINES;
@@ -17,9 +17,8 @@ use std::alloc::{AllocError, Global};
 /// `Err` says that memory was refused.
 pub fn second_label(alloc: Global, label: Option<&[u8]>) -> Result<Saying, AllocError> {
     let mut out = Saying::new(alloc);
-    let label = Marked(label.unwrap_or(b""));
-    let after = Plain(b" is set already, above in this program");
-    say_all(&mut out, &[Plain(b"label "), label, after])?;
+    let after = b" is set already, above in this program";
+    say_word(&mut out, b"label ", label.unwrap_or(b""), after)?;
     Ok(out)
 }
 
@@ -49,13 +48,13 @@ fn say_no_name(
     if let [.., b':'] = word {
         let after =
             b" is no label here: want one a line, a letter and then letters, digits, _ and -";
-        return say_all(out, &[Marked(word), Plain(after)]);
+        return say_word(out, b"", word, after);
     }
     if is_manifest_word(word) {
-        let after = Plain(b" stands in a program: its line END is missing above");
-        return say_all(out, &[Marked(word), after]);
+        let after = b" stands in a program: its line END is missing above";
+        return say_word(out, b"", word, after);
     }
-    say_all(out, &[Plain(b"no call or instruction "), Marked(word)])?;
+    say_word(out, b"no call or instruction ", word, b"")?;
     if let [b' ', b':', ..] = rest {
         return say(out, b": want a label and its colon in one word");
     }
@@ -181,6 +180,12 @@ fn say_usage(out: &mut Saying, name: &[u8], wants: [Want; 3]) -> Result<(), Allo
     say_all(out, &[Plain(b": want "), Plain(name), first, second, third])
 }
 
+// Says that an instruction wants one more argument.
+fn say_missing(out: &mut Saying, name: &[u8], wants: [Want; 3]) -> Result<(), AllocError> {
+    say_all(out, &[Plain(name), Plain(b": an argument is missing")])?;
+    say_usage(out, name, wants)
+}
+
 // Whether a label is set.
 fn is_set(labels: &[Label], name: &[u8]) -> bool {
     labels.iter().any(|label| label.name == name)
@@ -197,13 +202,9 @@ fn say_target(
         return say_wrong(out, Want::Line, word);
     }
     if is_set(labels, word) {
-        let after = Plain(b": want it last in its line");
-        return say_all(out, &[Plain(b"label "), Marked(word), after]);
+        return say_word(out, b"label ", word, b": want it last in its line");
     }
-    say_all(
-        out,
-        &[Plain(b"label "), Marked(word), Plain(b" is not set")],
-    )?;
+    say_word(out, b"label ", word, b" is not set")?;
     let mut names: Vec<&[u8]> = Vec::new(alloc);
     for label in labels.iter().take(LINES) {
         names.push(label.name)?;
@@ -211,14 +212,16 @@ fn say_target(
     say_nearest(alloc, out, word, &names)
 }
 
-// Says what is wrong with an argument.
+// Says what is wrong with an argument of an instruction.
 fn say_argument(
     alloc: Global,
     out: &mut Saying,
+    name: &[u8],
     want: Want,
     bytes: &[u8],
     labels: &[Label],
 ) -> Result<(), AllocError> {
+    say_all(out, &[Plain(name), Plain(b": ")])?;
     let (word, _) = split_word(bytes);
     if word.is_empty() {
         return say(out, b"two blanks stand together, or one at the end");
@@ -283,12 +286,10 @@ fn say_arguments(
             if !rest.is_empty() {
                 return say_after_text(out, rest);
             }
-            say_all(out, &[Plain(name), Plain(b": an argument is missing")])?;
-            return say_usage(out, name, wants);
+            return say_missing(out, name, wants);
         };
         let Some(following) = after_argument(*want, bytes) else {
-            say_all(out, &[Plain(name), Plain(b": ")])?;
-            return say_argument(alloc, out, *want, bytes, labels);
+            return say_argument(alloc, out, name, *want, bytes, labels);
         };
         last = bytes;
         rest = following;

@@ -110,6 +110,22 @@ fn say_marked(out: &mut Saying, bytes: &[u8]) -> Result<(), AllocError>
     out.push(b'\'')
 }
 
+/// Says a word between marks, and bytes before it and after it.
+///
+/// `Err` says that memory was refused.
+pub fn say_word(
+    out: &mut Saying,
+    before: &[u8],
+    word: &[u8],
+    after: &[u8],
+) -> Result<(), AllocError>
+    ensures { OnOk result (out.new ≡ out.old ++ said before.now ++ codes "'" ++ said word.now ++ codes "'" ++ said after.now) }
+{
+    say(out, before)?;
+    say_marked(out, word)?;
+    say(out, after)
+}
+
 // Says a number.
 fn say_number(out: &mut Saying, n: u32) -> Result<(), AllocError>
     ensures { OnOk result (out.new ≡ out.old ++ said (decimal n)) }

@@ -1,8 +1,8 @@
 //! What is wrong with a text in quotation marks, or with the path that it is.
 ghost use Rattle.std.specs.Prelude.{◌<◌, length, IfSome};
 
-use super::saying::Part::{Hex, Marked, Number, Plain};
-use super::saying::{Saying, say, say_all};
+use super::saying::Part::{Hex, Number, Plain};
+use super::saying::{Saying, say, say_all, say_word};
 use pv_model::limits::{LINK_TEXT, NAME_V1, TEXT};
 use pv_text::components::split_component;
 use pv_text::lines::{first_of, split_word};
@@ -89,8 +89,8 @@ fn say_inside(out: &mut Saying, inside: &[u8]) -> Result<(), AllocError> {
 pub fn say_no_text(out: &mut Saying, bytes: &[u8]) -> Result<(), AllocError> {
     let [b'"', following @ ..] = bytes else {
         let (word, _) = split_word(bytes);
-        let after = Plain(b" is no text: write it in quotation marks \"");
-        return say_all(out, &[Marked(word), after]);
+        let after = b" is no text: write it in quotation marks \"";
+        return say_word(out, b"", word, after);
     };
     let end = first_of(following, b'"');
     if end < following.len() {
@@ -102,8 +102,8 @@ pub fn say_no_text(out: &mut Saying, bytes: &[u8]) -> Result<(), AllocError> {
 /// Says what stands right after a text.
 pub fn say_after_text(out: &mut Saying, rest: &[u8]) -> Result<(), AllocError> {
     let (word, _) = split_word(rest);
-    let after = Plain(b" stands right after a text: want a blank between");
-    say_all(out, &[Marked(word), after])
+    let after = b" stands right after a text: want a blank between";
+    say_word(out, b"", word, after)
 }
 
 // Says what is wrong with a name of a path.
@@ -115,8 +115,8 @@ fn say_name(out: &mut Saying, name: &[u8]) -> Result<(), AllocError> {
         );
     }
     if name == b".".as_slice() || name == b"..".as_slice() {
-        let after = Plain(b": want the names from the root down");
-        return say_all(out, &[Plain(b"path has the name "), Marked(name), after]);
+        let after = b": want the names from the root down";
+        return say_word(out, b"path has the name ", name, after);
     }
     let count = name.len().min(9_999) as u32;
     say_too_long(out, b"name has ", count, NAME_V1 as u32)
@@ -130,7 +130,7 @@ fn is_right_name(name: &[u8]) -> bool {
 /// Says what is wrong with the path of an entry; nothing where it is right.
 pub fn say_path(out: &mut Saying, path: &[u8]) -> Result<bool, AllocError> {
     let [b'/', names @ ..] = path else {
-        say_all(out, &[Plain(b"path has no slash first: "), Marked(path)])?;
+        say_word(out, b"path has no slash first: ", path, b"")?;
         return Ok(true);
     };
     if names.is_empty() {
